@@ -1,7 +1,7 @@
 -- Rows that were worked out by hand.
 use Rattle.std.proofs.Common.{◌≡◌, ℕ, zero, suc, ◌+◌, List, [], ◌∷◌, Some, None, refl}
 use Rattle.std.specs.Prelude.{codes, map}
-use Rattle.sieve_parser.specs.Tree.{ArgumentTree, text, text_list, amount, label, InvocationTree, invocation, no_test, one_test, test_list, last, next, CommandsTree, simple, block, no_command, command}
+use Rattle.sieve_parser.specs.Tree.{ArgumentTree, text_list, amount, InvocationTree, invocation, test_list, last, next, CommandsTree, no_command}
 use Rattle.sieve_check.specs.declared.error.CheckError.TheVariants.{MissingCapability, UnknownCapability, BadArguments, Limit}
 use Rattle.sieve_check.specs.declared.causes.ReasonKind.TheVariants as kind
 use Rattle.sieve_check.specs.declared.names.Capability.TheVariants.{Mime, FileInto, Depot}
@@ -9,60 +9,27 @@ use Rattle.sieve_check.specs.declared.names.TestName.TheVariants.{Header, Exists
 use Rattle.sieve_check.specs.declared.typed.Order.TheVariants.{Over}
 use Rattle.sieve_check.specs.Causes.{plain, refusal_for}
 use Rattle.sieve_check.specs.Rules.{Visit, refused_among, fault_of, after_invocation}
-use Rattle.sieve_check.specs.Signatures.{Read, no_tag, reading, test_signature}
+use Rattle.sieve_check.specs.Signatures.{no_tag, reading, test_signature}
 use Rattle.sieve_check.specs.Surroundings.{Context, at_start, first_lacking}
+use Prim.Native.String.{String}
+use Rattle.sieve_check.proofs.Rows.{Gives, str, strs, tag, plain_at, simple_at, last_at, block_at, if_at, read_as}
 
 abbrev keep_at : ℕ → CommandsTree → CommandsTree
-keep_at n others = command (simple (invocation n (codes "keep") [] no_test)) others
+keep_at n others = simple_at n "keep" [] others
 
 abbrev true_at : ℕ → InvocationTree
-true_at n = invocation n (codes "true") [] no_test
-
--- keep; require "regex";
-required_late_and_unknown : fault_of (keep_at 0 (command (simple (invocation 2 (codes "require") (text (codes "regex") ∷ []) no_test)) no_command)) ≡ Some (UnknownCapability 2)
-required_late_and_unknown = refl
-
--- require ["mime", "regex"] "fileinto";
-unknown_before_extra :
-    fault_of (command (simple (invocation 0 (codes "require") (text_list (codes "mime") (codes "regex" ∷ []) ∷ text (codes "fileinto") ∷ []) no_test)) no_command) ≡ Some (UnknownCapability 0)
-unknown_before_extra = refl
-
--- else {} vacation;
-place_before_number :
-    fault_of (command (block (invocation 0 (codes "else") [] no_test) no_command) (command (simple (invocation 3 (codes "vacation") [] no_test)) no_command))
-    ≡ Some (BadArguments 0)
-place_before_number = refl
-
--- if anyof (true, size 10 :over) { vacation; }
-test_before_block :
-    fault_of (command
-    (block
-    (invocation 0 (codes "if") []
-    (one_test (invocation 1 (codes "anyof") [] (test_list (true_at 3) (next (invocation 5 (codes "size") (amount 10 ∷ label (codes "over") ∷ []) no_test) last)))))
-    (command (simple (invocation 10 (codes "vacation") [] no_test)) no_command))
-    no_command)
-    ≡ Some (BadArguments 5)
-test_before_block = refl
-
--- Require ["fileinto", "mime"]; IF true {} elsif size :Over 10 { keep; } Else { keep; } keep;
-faultless :
-    fault_of (command (simple (invocation 0 (codes "Require") (text_list (codes "fileinto") (codes "mime" ∷ []) ∷ []) no_test))
-    (command (block (invocation 7 (codes "IF") [] (one_test (true_at 8))) no_command)
-    (command (block (invocation 11 (codes "elsif") [] (one_test (invocation 12 (codes "size") (label (codes "Over") ∷ amount 10 ∷ []) no_test))) (keep_at 16 no_command))
-    (command (block (invocation 19 (codes "Else") [] no_test) (keep_at 21 no_command)) (keep_at 24 no_command)))))
-    ≡ None
-faultless = refl
+true_at n = plain_at n "true" []
 
 -- what was required is there afterwards, and nothing else
-required : first_lacking (Mime ∷ []) (after_invocation at_start (invocation 0 (codes "require") (text_list (codes "fileinto") (codes "mime" ∷ []) ∷ []) no_test)).required ≡ None
+required : first_lacking (Mime ∷ []) (after_invocation at_start (plain_at 0 "require" (strs "fileinto" ("mime" ∷ []) ∷ []))).required ≡ None
 required = refl
 
-not_all_required : first_lacking (FileInto ∷ []) (after_invocation at_start (invocation 0 (codes "require") (text (codes "mime") ∷ []) no_test)).required ≡ Some FileInto
+not_all_required : first_lacking (FileInto ∷ []) (after_invocation at_start (plain_at 0 "require" (str "mime" ∷ []))).required ≡ Some FileInto
 not_all_required = refl
 
 -- of several the first that isn't there is named, whatever was required before or behind it
 abbrev mime_alone : Context
-mime_alone = after_invocation at_start (invocation 0 (codes "require") (text (codes "mime") ∷ []) no_test)
+mime_alone = after_invocation at_start (plain_at 0 "require" (str "mime" ∷ []))
 
 first_of_two : first_lacking (FileInto ∷ Depot ∷ []) mime_alone.required ≡ Some FileInto
 first_of_two = refl
@@ -72,19 +39,6 @@ second_of_two = refl
 
 none_of_none : first_lacking [] mime_alone.required ≡ None
 none_of_none = refl
-
--- size :over 10, with one tag, with none, with two, and with the tag behind the number
-over_read : reading (test_signature Size) (label (codes "over") ∷ amount 10 ∷ []) ≡ Some (let r : Read = record { tags = record no_tag { order = Some Over }; params = []; name = None; positional = amount 10 ∷ [] } in r)
-over_read = refl
-
-no_tag_read : reading (test_signature Size) (amount 10 ∷ []) ≡ None
-no_tag_read = refl
-
-two_tags_read : reading (test_signature Size) (label (codes "over") ∷ label (codes "under") ∷ amount 10 ∷ []) ≡ None
-two_tags_read = refl
-
-tag_behind : reading (test_signature Size) (amount 10 ∷ label (codes "over") ∷ []) ≡ None
-tag_behind = refl
 
 -- so many names, none the same as another
 abbrev names_numbered : ℕ → List (List ℕ)
@@ -105,6 +59,33 @@ too_many_names = refl
 least_fault : map refusal_for (refused_among [] (brings 0 (names_numbered 128) ∷ record { token = 4; name = codes "set"; names = codes "a" ∷ []; cause = Some (plain kind.Misplaced) } ∷ [])) ≡ BadArguments 4 ∷ []
 least_fault = refl
 
+faults_of_scripts : Gives fault_of (
+    -- keep; require "regex";
+    (keep_at 0 (last_at 2 "require" (str "regex" ∷ [])), Some (UnknownCapability 2)) ∷
+    -- require ["mime", "regex"] "fileinto";
+    (last_at 0 "require" (strs "mime" ("regex" ∷ []) ∷ str "fileinto" ∷ []), Some (UnknownCapability 0)) ∷
+    -- else {} vacation;
+    (block_at 0 "else" [] no_command (last_at 3 "vacation" []), Some (BadArguments 0)) ∷
+    -- if anyof (true, size 10 :over) { vacation; }
+    (
+      if_at 0 "if" (invocation 1 (codes "anyof") [] (test_list (true_at 3) (next (plain_at 5 "size" (amount 10 ∷ tag "over" ∷ [])) last))) (last_at 10 "vacation" []) no_command,
+      Some (BadArguments 5),
+    ) ∷
+    -- Require ["fileinto", "mime"]; IF true {} elsif size :Over 10 { keep; } Else { keep; } keep;
+    (
+      simple_at 0 "Require" (strs "fileinto" ("mime" ∷ []) ∷ []) (if_at 7 "IF" (true_at 8) no_command (if_at 11 "elsif" (plain_at 12 "size" (tag "Over" ∷ amount 10 ∷ [])) (keep_at 16 no_command) (block_at 19 "Else" [] (keep_at 21 no_command) (keep_at 24 no_command)))),
+      None,
+    ) ∷ [])
+faults_of_scripts = refl
+
+readings_of_size : Gives (reading (test_signature Size)) (
+    -- size :over 10, with one tag, with none, with two, and with the tag behind the number
+    (tag "over" ∷ amount 10 ∷ [], read_as (record no_tag { order = Some Over }) (amount 10 ∷ [])) ∷
+    (amount 10 ∷ [], None) ∷  -- no tag read
+    (tag "over" ∷ tag "under" ∷ amount 10 ∷ [], None) ∷  -- two tags read
+    (amount 10 ∷ tag "over" ∷ [], None) ∷ [])  -- tag behind
+readings_of_size = refl
+
 -- ---- strings in tests
 
 -- so many empty strings
@@ -113,128 +94,83 @@ strings_numbered zero = []
 strings_numbered (suc n) = [] ∷ strings_numbered n
 
 abbrev if_test : InvocationTree → CommandsTree
-if_test t = command (block (invocation 0 (codes "if") [] (one_test t)) no_command) no_command
+if_test t = if_at 0 "if" t no_command no_command
 
--- a tag behind a positional argument, an unknown comparator, one in brackets, and one that isn't there
-tag_between : reading (test_signature Header) (text (codes "a") ∷ label (codes "is") ∷ text (codes "b") ∷ []) ≡ None
-tag_between = refl
+readings_of_header : Gives (reading (test_signature Header)) (
+    -- a tag behind a positional argument, an unknown comparator, one in brackets, and one that isn't there
+    (str "a" ∷ tag "is" ∷ str "b" ∷ [], None) ∷
+    (tag "comparator" ∷ str "I;OCTET" ∷ str "a" ∷ str "b" ∷ [], None) ∷  -- unknown comparator
+    (tag "comparator" ∷ strs "i;octet" [] ∷ str "a" ∷ str "b" ∷ [], None) ∷  -- bracketed comparator
+    (tag "comparator" ∷ [], None) ∷  -- no comparator
+    -- two tags of one group
+    (tag "is" ∷ tag "contains" ∷ str "a" ∷ str "b" ∷ [], None) ∷ [])
+readings_of_header = refl
 
-unknown_comparator : reading (test_signature Header) (label (codes "comparator") ∷ text (codes "I;OCTET") ∷ text (codes "a") ∷ text (codes "b") ∷ []) ≡ None
-unknown_comparator = refl
-
-bracketed_comparator : reading (test_signature Header) (label (codes "comparator") ∷ text_list (codes "i;octet") [] ∷ text (codes "a") ∷ text (codes "b") ∷ []) ≡ None
-bracketed_comparator = refl
-
-no_comparator : reading (test_signature Header) (label (codes "comparator") ∷ []) ≡ None
-no_comparator = refl
-
--- two tags of one group, and a tag of another test
-two_kinds : reading (test_signature Header) (label (codes "is") ∷ label (codes "contains") ∷ text (codes "a") ∷ text (codes "b") ∷ []) ≡ None
-two_kinds = refl
-
-kind_of_exists : reading (test_signature Exists) (label (codes "is") ∷ text (codes "a") ∷ []) ≡ None
+-- a tag of another test
+kind_of_exists : reading (test_signature Exists) (tag "is" ∷ str "a" ∷ []) ≡ None
 kind_of_exists = refl
 
--- 512 strings in both lists, beside that of a comparator, and one more
-enough_strings : fault_of (if_test (invocation 1 (codes "header") (label (codes "comparator") ∷ text (codes "i;octet") ∷ text_list [] (strings_numbered 255) ∷ text_list [] (strings_numbered 255) ∷ []) no_test)) ≡ None
-enough_strings = refl
-
-too_many_strings : fault_of (if_test (invocation 1 (codes "header") (text_list [] (strings_numbered 255) ∷ text_list [] (strings_numbered 256) ∷ []) no_test)) ≡ Some (Limit 1)
-too_many_strings = refl
+faults_of_strings : Gives fault_of (
+    -- 512 strings in both lists, beside that of a comparator, and one more
+    (
+      if_test (plain_at 1 "header" (tag "comparator" ∷ str "i;octet" ∷ text_list [] (strings_numbered 255) ∷ text_list [] (strings_numbered 255) ∷ [])),
+      None,
+    ) ∷
+    -- too many strings
+    (if_test (plain_at 1 "header" (text_list [] (strings_numbered 255) ∷ text_list [] (strings_numbered 256) ∷ [])), Some (Limit 1)) ∷ [])
+faults_of_strings = refl
 
 -- ---- tests with :mime
 
 -- if and a test with these arguments, after a require of a capability
-abbrev if_after : List ℕ → List ℕ → List ArgumentTree → CommandsTree
+abbrev if_after : String → String → List ArgumentTree → CommandsTree
 if_after capability name args =
-    command (simple (invocation 0 (codes "require") (text capability ∷ []) no_test)) (command (block (invocation 3 (codes "if") [] (one_test (invocation 4 name args no_test))) no_command) no_command)
+    simple_at 0 "require" (str capability ∷ []) (if_at 3 "if" (plain_at 4 name args) no_command no_command)
 
-abbrev after_mime : List ℕ → List ArgumentTree → CommandsTree
-after_mime name args = if_after (codes "mime") name args
+abbrev after_mime : String → List ArgumentTree → CommandsTree
+after_mime name args = if_after "mime" name args
 
-abbrev after_another : List ℕ → List ArgumentTree → CommandsTree
-after_another name args = if_after (codes "fileinto") name args
+abbrev after_another : String → List ArgumentTree → CommandsTree
+after_another name args = if_after "fileinto" name args
 
 abbrev field_and_key : List ArgumentTree
-field_and_key = text (codes "X") ∷ text (codes "y") ∷ []
+field_and_key = str "X" ∷ str "y" ∷ []
 
 -- header :mime :param ["a", "b"] :anychild "X" "y"
 abbrev of_params : List ArgumentTree
-of_params = label (codes "mime") ∷ label (codes "param") ∷ text_list (codes "a") (codes "b" ∷ []) ∷ label (codes "anychild") ∷ field_and_key
-
-mime_accepted : fault_of (after_mime (codes "header") of_params) ≡ None
-mime_accepted = refl
-
-exists_accepted : fault_of (after_mime (codes "exists") (label (codes "anychild") ∷ label (codes "mime") ∷ text (codes "X") ∷ [])) ≡ None
-exists_accepted = refl
-
--- without the capability, also where the tag stands behind an argument, and as that of a comparator
-mime_missing : fault_of (after_another (codes "header") of_params) ≡ Some (MissingCapability 4)
-mime_missing = refl
-
-mime_missing_behind : fault_of (after_another (codes "header") (text (codes "X") ∷ label (codes "MIME") ∷ text (codes "y") ∷ [])) ≡ Some (MissingCapability 4)
-mime_missing_behind = refl
-
-mime_missing_compared : fault_of (after_another (codes "header") (label (codes "comparator") ∷ label (codes "mime") ∷ field_and_key)) ≡ Some (MissingCapability 4)
-mime_missing_compared = refl
-
-exists_missing : fault_of (after_another (codes "exists") (label (codes "mime") ∷ text (codes "X") ∷ [])) ≡ Some (MissingCapability 4)
-exists_missing = refl
-
-mime_behind : fault_of (after_mime (codes "header") (text (codes "X") ∷ label (codes "mime") ∷ text (codes "y") ∷ [])) ≡ Some (BadArguments 4)
-mime_behind = refl
-
--- what stands only with :mime, with the capability and without
-below_alone : fault_of (after_mime (codes "header") (label (codes "anychild") ∷ field_and_key)) ≡ Some (BadArguments 4)
-below_alone = refl
-
-below_alone_too : fault_of (after_another (codes "header") (label (codes "anychild") ∷ field_and_key)) ≡ Some (BadArguments 4)
-below_alone_too = refl
-
-exists_below_alone : fault_of (after_mime (codes "exists") (label (codes "anychild") ∷ text (codes "X") ∷ [])) ≡ Some (BadArguments 4)
-exists_below_alone = refl
-
-type_alone : fault_of (after_mime (codes "header") (label (codes "type") ∷ field_and_key)) ≡ Some (BadArguments 4)
-type_alone = refl
-
-params_alone : fault_of (after_mime (codes "header") (label (codes "param") ∷ text (codes "a") ∷ field_and_key)) ≡ Some (BadArguments 4)
-params_alone = refl
-
--- tests that don't know the tags, and tags that come twice
-mime_of_size : fault_of (after_another (codes "size") (label (codes "mime") ∷ label (codes "over") ∷ amount 1 ∷ [])) ≡ Some (BadArguments 4)
-mime_of_size = refl
-
-type_of_exists : fault_of (after_mime (codes "exists") (label (codes "mime") ∷ label (codes "type") ∷ text (codes "X") ∷ [])) ≡ Some (BadArguments 4)
-type_of_exists = refl
-
-mime_twice : fault_of (after_mime (codes "header") (label (codes "mime") ∷ label (codes "mime") ∷ field_and_key)) ≡ Some (BadArguments 4)
-mime_twice = refl
-
-below_twice : fault_of (after_mime (codes "header") (label (codes "mime") ∷ label (codes "anychild") ∷ label (codes "anychild") ∷ field_and_key)) ≡ Some (BadArguments 4)
-below_twice = refl
-
-type_and_params : fault_of (after_mime (codes "header") (label (codes "mime") ∷ label (codes "type") ∷ label (codes "param") ∷ text (codes "a") ∷ field_and_key)) ≡ Some (BadArguments 4)
-type_and_params = refl
-
-params_twice : fault_of (after_mime (codes "header") (label (codes "mime") ∷ label (codes "param") ∷ text (codes "a") ∷ label (codes "param") ∷ text (codes "b") ∷ field_and_key)) ≡ Some (BadArguments 4)
-params_twice = refl
-
--- :param with a number, with a tag, and with nothing
-params_of_number : fault_of (after_mime (codes "header") (label (codes "mime") ∷ label (codes "param") ∷ amount 1 ∷ field_and_key)) ≡ Some (BadArguments 4)
-params_of_number = refl
-
-params_of_tag : fault_of (after_mime (codes "header") (label (codes "mime") ∷ label (codes "param") ∷ label (codes "is") ∷ field_and_key)) ≡ Some (BadArguments 4)
-params_of_tag = refl
-
-no_params : fault_of (after_mime (codes "header") (label (codes "mime") ∷ label (codes "param") ∷ [])) ≡ Some (BadArguments 4)
-no_params = refl
+of_params = tag "mime" ∷ tag "param" ∷ strs "a" ("b" ∷ []) ∷ tag "anychild" ∷ field_and_key
 
 -- 512 strings in the three lists, and one more
 abbrev three_lists : ℕ → List ArgumentTree
-three_lists n = label (codes "mime") ∷ label (codes "param") ∷ text_list [] (strings_numbered n) ∷ text_list [] (strings_numbered 169) ∷ text_list [] (strings_numbered 170) ∷ []
+three_lists n = tag "mime" ∷ tag "param" ∷ text_list [] (strings_numbered n) ∷ text_list [] (strings_numbered 169) ∷ text_list [] (strings_numbered 170) ∷ []
 
-enough_of_three : fault_of (after_mime (codes "header") (three_lists 170)) ≡ None
-enough_of_three = refl
-
-too_many_of_three : fault_of (after_mime (codes "header") (three_lists 171)) ≡ Some (Limit 4)
-too_many_of_three = refl
+faults_of_mime : Gives fault_of (
+    (after_mime "header" of_params, None) ∷  -- mime accepted
+    (after_mime "exists" (tag "anychild" ∷ tag "mime" ∷ str "X" ∷ []), None) ∷  -- exists accepted
+    -- without the capability, also where the tag stands behind an argument, and as that of a comparator
+    (after_another "header" of_params, Some (MissingCapability 4)) ∷
+    (after_another "header" (str "X" ∷ tag "MIME" ∷ str "y" ∷ []), Some (MissingCapability 4)) ∷  -- mime missing behind
+    (after_another "header" (tag "comparator" ∷ tag "mime" ∷ field_and_key), Some (MissingCapability 4)) ∷  -- mime missing compared
+    (after_another "exists" (tag "mime" ∷ str "X" ∷ []), Some (MissingCapability 4)) ∷  -- exists missing
+    (after_mime "header" (str "X" ∷ tag "mime" ∷ str "y" ∷ []), Some (BadArguments 4)) ∷  -- mime behind
+    -- what stands only with :mime, with the capability and without
+    (after_mime "header" (tag "anychild" ∷ field_and_key), Some (BadArguments 4)) ∷
+    (after_another "header" (tag "anychild" ∷ field_and_key), Some (BadArguments 4)) ∷  -- below alone too
+    (after_mime "exists" (tag "anychild" ∷ str "X" ∷ []), Some (BadArguments 4)) ∷  -- exists below alone
+    (after_mime "header" (tag "type" ∷ field_and_key), Some (BadArguments 4)) ∷  -- type alone
+    (after_mime "header" (tag "param" ∷ str "a" ∷ field_and_key), Some (BadArguments 4)) ∷  -- params alone
+    -- tests that don't know the tags, and tags that come twice
+    (after_another "size" (tag "mime" ∷ tag "over" ∷ amount 1 ∷ []), Some (BadArguments 4)) ∷
+    (after_mime "exists" (tag "mime" ∷ tag "type" ∷ str "X" ∷ []), Some (BadArguments 4)) ∷  -- type of exists
+    (after_mime "header" (tag "mime" ∷ tag "mime" ∷ field_and_key), Some (BadArguments 4)) ∷  -- mime twice
+    (after_mime "header" (tag "mime" ∷ tag "anychild" ∷ tag "anychild" ∷ field_and_key), Some (BadArguments 4)) ∷  -- below twice
+    (after_mime "header" (tag "mime" ∷ tag "type" ∷ tag "param" ∷ str "a" ∷ field_and_key), Some (BadArguments 4)) ∷  -- type and params
+    -- params twice
+    (after_mime "header" (tag "mime" ∷ tag "param" ∷ str "a" ∷ tag "param" ∷ str "b" ∷ field_and_key), Some (BadArguments 4)) ∷
+    -- :param with a number, with a tag, and with nothing
+    (after_mime "header" (tag "mime" ∷ tag "param" ∷ amount 1 ∷ field_and_key), Some (BadArguments 4)) ∷
+    (after_mime "header" (tag "mime" ∷ tag "param" ∷ tag "is" ∷ field_and_key), Some (BadArguments 4)) ∷  -- params of tag
+    (after_mime "header" (tag "mime" ∷ tag "param" ∷ []), Some (BadArguments 4)) ∷  -- no params
+    (after_mime "header" (three_lists 170), None) ∷  -- enough of three
+    (after_mime "header" (three_lists 171), Some (Limit 4)) ∷ [])  -- too many of three
+faults_of_mime = refl

@@ -17,8 +17,8 @@ use Rattle.sieve_check.specs.declared.names.CommandName.TheVariants.{Require, If
 use Rattle.sieve_check.specs.declared.names.TestName.{TestName}
 use Rattle.sieve_check.specs.declared.names.TestName.TheVariants.{Constant, Not, AllOf, AnyOf, Header, Exists, Size, String, PartSize, PartBody, PartDigest}
 use Rattle.sieve_check.specs.declared.typed.Order.{Order}
-use Rattle.sieve_check.specs.declared.names.Piece.{Piece}
-use Rattle.sieve_check.specs.declared.names.Piece.TheVariants.{Main, Sub, ContentType, Params}
+use Rattle.bytecode_format.specs.declared.selection.Selector.{Selector}
+use Rattle.bytecode_format.specs.declared.selection.Selector.TheVariants.{Param}
 use Rattle.sieve_check.specs.declared.names.Tag.{Tag}
 use Rattle.sieve_check.specs.declared.signature.Signature.{Signature}
 use Rattle.sieve_check.specs.declared.signature.Tags.{Tags}
@@ -26,7 +26,7 @@ use Rattle.sieve_check.specs.Names.{command_named, test_named}
 use Rattle.sieve_check.specs.Signatures.{Read, Given, with_tag, with_argument, reading, command_signature, test_signature}
 use Rattle.sieve_check.specs.Rules.{after_invocation, invocation_of, loops_opened}
 use Rattle.sieve_check.specs.Surroundings.{Context, at_start, has_capability, inside, loops_left}
-use Rattle.sieve_check.specs.Typed.{Template, params_of, TestForm, constant, negation, all_of, any_of, header, exists, size, string, part_size, part_body, part_digest, TestForms, no_test as no_other, test, CommandForm, keep, discard, file_into, set, take_first, store, for_every_part, leave, stop, CommandForms, no_command, command, BranchForms, no_branch, otherwise, branch}
+use Rattle.sieve_check.specs.Typed.{Template, params_of, TestForm, constant, negation, all_of, any_of, header, exists, size, string, part_size, part_body, part_digest, TestForms, no_test as no_other, test, CommandForm, keep, discard, file_into, set, take_first, store, for_every_part, leave, stop, CommandForms, no_command, command, BranchForms, no_branch, otherwise}
 use Rattle.sieve_check.specs.Extent.{strings_extent, test_extent, tests_extent, command_extent, commands_extent, branches_extent}
 use Rattle.sieve_check.specs.FormOf.{InnerForms, none, one, bracketed, number_in, template_of, text_in, setting_in, most_of, taking_in, list_in, of_list, of_lists, match_of, scope_of, selected_by, params_in, header_of, test_of, test_form_of, inner_forms_of, more_forms_of, PartForm, nothing, action, first, next_branch, last, simple_of, block_of, simple_part, block_part, Forms, closed, closed_by, after_none, put, part_of, forms_of, IsFormOf}
 use Rattle.sieve_check.proofs.Options.{step_some, map_some}
@@ -55,9 +55,7 @@ arguments_extent (a ∷ args) = argument_extent a + arguments_extent args
 
 argument_some : (a : ArgumentTree) → 1 ≤ argument_extent a
 argument_some (text s) = omega arith
-argument_some (text_list s ss) = omega arith
-argument_some (amount n) = omega arith
-argument_some (label name) = omega arith
+argument_some _ = omega arith
 
 -- each tag that was read is an argument, as is that of `:param`
 abbrev IsWithin : ℕ → Option Tag → Given → List ArgumentTree → Type 0
@@ -82,26 +80,14 @@ read_fits signature args read h =
 
 text_fits : (xs : List ArgumentTree) (x : List ℕ) → text_in xs ≡ Some x → 2 + length x ≤ arguments_extent xs
 text_fits (text t ∷ []) x h = subst (λ y. 2 + length y ≤ arguments_extent (text t ∷ [])) (same_Some t x h) (omega arith)
-text_fits [] x h = absurd (cc)
-text_fits (text_list t ss ∷ xs) x h = absurd (cc)
-text_fits (amount n ∷ xs) x h = absurd (cc)
-text_fits (label name ∷ xs) x h = absurd (cc)
-text_fits (text t ∷ y ∷ xs) x h = absurd (cc)
+text_fits _ x h = absurd (cc)
 
 setting_fits : (s : Context) (m : Modifiers) (xs : List ArgumentTree) (c : CommandForm) → setting_in s m xs ≡ Some c → command_extent c ≤ 2 + arguments_extent xs
 setting_fits s m (text name ∷ text x ∷ []) c h =
     let value = template_of s x in
     subst (λ c. command_extent c ≤ 2 + arguments_extent (text name ∷ text x ∷ [])) (same_Some (set m (lowercase_of name) value) c h)
     (omega (arith, length-map name to_ascii_lowercase, template_fits (has_capability Variables s.required) x))
-setting_fits s m [] c h = absurd (cc)
-setting_fits s m (text_list t ss ∷ xs) c h = absurd (cc)
-setting_fits s m (amount n ∷ xs) c h = absurd (cc)
-setting_fits s m (label name ∷ xs) c h = absurd (cc)
-setting_fits s m (text t ∷ []) c h = absurd (cc)
-setting_fits s m (text t ∷ text_list y ys ∷ xs) c h = absurd (cc)
-setting_fits s m (text t ∷ amount n ∷ xs) c h = absurd (cc)
-setting_fits s m (text t ∷ label name ∷ xs) c h = absurd (cc)
-setting_fits s m (text t ∷ text y ∷ z ∷ xs) c h = absurd (cc)
+setting_fits s m _ c h = absurd (cc)
 
 taking_fits : (tags : Tags) (xs : List ArgumentTree) (c : CommandForm) → taking_in tags xs ≡ Some c → command_extent c ≤ 2 + arguments_extent xs
 taking_fits tags xs c h =
@@ -112,46 +98,39 @@ taking_fits tags xs c h =
 list_fits : (s : Context) (a : ArgumentTree) (l : List Template) → list_in s a ≡ Some l → strings_extent l ≤ argument_extent a
 list_fits s (text x) l h = subst (λ l. strings_extent l ≤ 2 + length x) (same_Some (template_of s x ∷ []) l h) (omega (arith, templates_fit (has_capability Variables s.required) (x ∷ [])))
 list_fits s (text_list x xs) l h = subst (λ l. strings_extent l ≤ written (x ∷ xs)) (same_Some (map (template_of s) (x ∷ xs)) l h) (templates_fit (has_capability Variables s.required) (x ∷ xs))
-list_fits s (amount n) l h = absurd (cc)
-list_fits s (label name) l h = absurd (cc)
+list_fits s _ l h = absurd (cc)
 
 -- a test that is made of one list, and one of two
 one_list_fits : (s : Context) (make : List Template → TestForm) → ((l : List Template) → test_extent (make l) ≡ 1 + strings_extent l) → (xs : List ArgumentTree) (f : TestForm) → of_list s make xs ≡ Some f → test_extent f ≤ 1 + arguments_extent xs
-one_list_fits s make is [] f h = absurd (cc)
 one_list_fits s make is (a ∷ []) f h =
     let l = map_some (list_in s a) make f h in
     subst (λ x. test_extent x ≤ 1 + arguments_extent (a ∷ [])) (same_Some (make l.0) f l.2) (omega (arith, is l.0, list_fits s a l.0 l.1))
-one_list_fits s make is (a ∷ b ∷ xs) f h = absurd (cc)
+one_list_fits s make is _ f h = absurd (cc)
 
 two_lists_fit : (s : Context) (n : ℕ) (make : List Template → List Template → TestForm) → ((k l : List Template) → test_extent (make k l) ≡ n + strings_extent k + strings_extent l) → (xs : List ArgumentTree) (f : TestForm) → of_lists s make xs ≡ Some f → test_extent f ≤ n + arguments_extent xs
-two_lists_fit s n make is [] f h = absurd (cc)
-two_lists_fit s n make is (a ∷ []) f h = absurd (cc)
 two_lists_fit s n make is (a ∷ b ∷ []) f h =
     let first = step_some (list_in s a) _ f h in
     let second = map_some (list_in s b) (make first.0) f first.2 in
     subst (λ x. test_extent x ≤ n + arguments_extent (a ∷ b ∷ [])) (same_Some (make first.0 second.0) f second.2) (omega (arith, is first.0 second.0, list_fits s a first.0 first.1, list_fits s b second.0 second.1))
-two_lists_fit s n make is (a ∷ b ∷ c ∷ xs) f h = absurd (cc)
+two_lists_fit s n make is _ f h = absurd (cc)
 
 -- a test of fields, with the names of parameters
 params_fit : (s : Context) (params : List ArgumentTree) (names : List Template) → params_in s params ≡ Some names → strings_extent names ≤ arguments_extent params
 params_fit s [] names h = subst (λ names. strings_extent names ≤ 0) (same_Some [] names h) (omega arith)
 params_fit s (a ∷ args) names h = omega (arith, list_fits s a names h)
 
-selected_fits : (piece : Option Piece) (names : List Template) → strings_extent (params_of (selected_by piece names)) ≤ strings_extent names
-selected_fits None names = omega arith
-selected_fits (Some Main) names = omega arith
-selected_fits (Some Sub) names = omega arith
-selected_fits (Some ContentType) names = omega arith
-selected_fits (Some Params) names = omega arith
+selected_fits : (selector : Selector) (names : List Template) → strings_extent (params_of (selected_by selector names)) ≤ strings_extent names
+selected_fits Param names = omega arith
+selected_fits _ names = omega arith
 
 header_fits : (s : Context) (read : Read) (f : TestForm) → header_of s read ≡ Some f → test_extent f ≤ 1 + arguments_extent read.params + arguments_extent read.positional
 header_fits s read f h =
     let names = step_some (params_in s read.params) _ f h in
-    let selected = selected_by read.tags.piece names.0 in
+    let selected = selected_by read.tags.selector names.0 in
     omega (
       arith,
       two_lists_fit s (1 + strings_extent (params_of selected)) (header (match_of read.tags) (scope_of read.tags) selected) (λ k l. omega arith) read.positional f names.2,
-      selected_fits read.tags.piece names.0,
+      selected_fits read.tags.selector names.0,
       params_fit s read.params names.0 names.1,
     )
 
@@ -162,11 +141,8 @@ size_args signature args read order n h is number =
     omega (arith, read_fits signature args read h, some, positional read.positional n number)
   where
     positional : (xs : List ArgumentTree) (n : ℕ) → number_in xs ≡ Some n → 1 ≤ arguments_extent xs
-    positional [] n h = absurd (cc)
     positional (amount m ∷ xs) n h = omega arith
-    positional (text s ∷ xs) n h = absurd (cc)
-    positional (text_list s ss ∷ xs) n h = absurd (cc)
-    positional (label name ∷ xs) n h = absurd (cc)
+    positional _ n h = absurd (cc)
 
 more_strings_fit : (d : ℕ) (ss : List (List ℕ)) → written ss ≤ octets_of (more_strings_spelled d ss)
 more_strings_fit d [] = omega arith
@@ -207,28 +183,7 @@ test_of_fits s PartDigest args read none f h is = omega (arith, one_list_fits s 
 test_of_fits s Header args read none f h is = omega (arith, header_fits s read f is, read_fits (test_signature Header) args read h)
 test_of_fits s String args read none f h is = omega (arith, two_lists_fit s 1 (string (match_of read.tags)) (λ k l. refl) read.positional f is, read_fits (test_signature String) args read h)
 test_of_fits s Exists args read none f h is = omega (arith, one_list_fits s (exists (scope_of read.tags)) (λ l. refl) read.positional f is, read_fits (test_signature Exists) args read h)
-test_of_fits s (Constant b) args read (one t) f h is = absurd (cc)
-test_of_fits s (Constant b) args read (bracketed t ts) f h is = absurd (cc)
-test_of_fits s Not args read none f h is = absurd (cc)
-test_of_fits s Not args read (bracketed t ts) f h is = absurd (cc)
-test_of_fits s AllOf args read none f h is = absurd (cc)
-test_of_fits s AllOf args read (one t) f h is = absurd (cc)
-test_of_fits s AnyOf args read none f h is = absurd (cc)
-test_of_fits s AnyOf args read (one t) f h is = absurd (cc)
-test_of_fits s Header args read (one t) f h is = absurd (cc)
-test_of_fits s Header args read (bracketed t ts) f h is = absurd (cc)
-test_of_fits s Exists args read (one t) f h is = absurd (cc)
-test_of_fits s Exists args read (bracketed t ts) f h is = absurd (cc)
-test_of_fits s Size args read (one t) f h is = absurd (cc)
-test_of_fits s Size args read (bracketed t ts) f h is = absurd (cc)
-test_of_fits s String args read (one t) f h is = absurd (cc)
-test_of_fits s String args read (bracketed t ts) f h is = absurd (cc)
-test_of_fits s PartSize args read (one t) f h is = absurd (cc)
-test_of_fits s PartSize args read (bracketed t ts) f h is = absurd (cc)
-test_of_fits s PartBody args read (one t) f h is = absurd (cc)
-test_of_fits s PartBody args read (bracketed t ts) f h is = absurd (cc)
-test_of_fits s PartDigest args read (one t) f h is = absurd (cc)
-test_of_fits s PartDigest args read (bracketed t ts) f h is = absurd (cc)
+test_of_fits s _ args read _ f h is = absurd (cc)
 
 mutual
   test_fits : (s : Context) (i : InvocationTree) (f : TestForm) (d : ℕ) → test_form_of s i ≡ Some f → test_extent f ≤ octets_of (invocation_spelled d i)
@@ -304,85 +259,21 @@ simple_fits s Take args read none p r h =
     let c = map_some (taking_in read.tags read.positional) action p h in
     subst (λ x. part_extent x ≤ 2 + arguments_extent args) (same_Some (action c.0) p c.2)
     (omega (arith, taking_fits read.tags read.positional c.0 c.1, read_fits (command_signature Take) args read r))
-simple_fits s Require args read (one f) p r h = absurd (cc)
-simple_fits s Require args read (bracketed f fs) p r h = absurd (cc)
-simple_fits s If args read none p r h = absurd (cc)
-simple_fits s If args read (one f) p r h = absurd (cc)
-simple_fits s If args read (bracketed f fs) p r h = absurd (cc)
-simple_fits s Elsif args read none p r h = absurd (cc)
-simple_fits s Elsif args read (one f) p r h = absurd (cc)
-simple_fits s Elsif args read (bracketed f fs) p r h = absurd (cc)
-simple_fits s Else args read none p r h = absurd (cc)
-simple_fits s Else args read (one f) p r h = absurd (cc)
-simple_fits s Else args read (bracketed f fs) p r h = absurd (cc)
-simple_fits s Stop args read (one f) p r h = absurd (cc)
-simple_fits s Stop args read (bracketed f fs) p r h = absurd (cc)
-simple_fits s Keep args read (one f) p r h = absurd (cc)
-simple_fits s Keep args read (bracketed f fs) p r h = absurd (cc)
-simple_fits s Discard args read (one f) p r h = absurd (cc)
-simple_fits s Discard args read (bracketed f fs) p r h = absurd (cc)
-simple_fits s FileInto args read (one f) p r h = absurd (cc)
-simple_fits s FileInto args read (bracketed f fs) p r h = absurd (cc)
-simple_fits s Set args read (one f) p r h = absurd (cc)
-simple_fits s Set args read (bracketed f fs) p r h = absurd (cc)
-simple_fits s ForEveryPart args read none p r h = absurd (cc)
-simple_fits s ForEveryPart args read (one f) p r h = absurd (cc)
-simple_fits s ForEveryPart args read (bracketed f fs) p r h = absurd (cc)
-simple_fits s Break args read (one f) p r h = absurd (cc)
-simple_fits s Break args read (bracketed f fs) p r h = absurd (cc)
-simple_fits s Store args read (one f) p r h = absurd (cc)
-simple_fits s Store args read (bracketed f fs) p r h = absurd (cc)
-simple_fits s Take args read (one f) p r h = absurd (cc)
-simple_fits s Take args read (bracketed f fs) p r h = absurd (cc)
+simple_fits s _ args read _ p r h = absurd (cc)
 
 block_fits : (name : CommandName) (inner : InnerForms) (body : CommandForms) (p : PartForm) → block_of name inner body ≡ Some p → part_extent p ≤ 3 + inner_extent inner + commands_extent body
 block_fits If (one f) body p h = subst (λ x. part_extent x ≤ 3 + test_extent f + commands_extent body) (same_Some (first f body) p h) (omega arith)
 block_fits Elsif (one f) body p h = subst (λ x. part_extent x ≤ 3 + test_extent f + commands_extent body) (same_Some (next_branch f body) p h) (omega arith)
 block_fits Else none body p h = subst (λ x. part_extent x ≤ 3 + 0 + commands_extent body) (same_Some (last body) p h) (omega arith)
 block_fits ForEveryPart none body p h = subst (λ x. part_extent x ≤ 3 + 0 + commands_extent body) (same_Some (action (for_every_part body)) p h) (omega arith)
-block_fits Require none body p h = absurd (cc)
-block_fits Require (one f) body p h = absurd (cc)
-block_fits Require (bracketed f fs) body p h = absurd (cc)
-block_fits If none body p h = absurd (cc)
-block_fits If (bracketed f fs) body p h = absurd (cc)
-block_fits Elsif none body p h = absurd (cc)
-block_fits Elsif (bracketed f fs) body p h = absurd (cc)
-block_fits Else (one f) body p h = absurd (cc)
-block_fits Else (bracketed f fs) body p h = absurd (cc)
-block_fits Stop none body p h = absurd (cc)
-block_fits Stop (one f) body p h = absurd (cc)
-block_fits Stop (bracketed f fs) body p h = absurd (cc)
-block_fits Keep none body p h = absurd (cc)
-block_fits Keep (one f) body p h = absurd (cc)
-block_fits Keep (bracketed f fs) body p h = absurd (cc)
-block_fits Discard none body p h = absurd (cc)
-block_fits Discard (one f) body p h = absurd (cc)
-block_fits Discard (bracketed f fs) body p h = absurd (cc)
-block_fits FileInto none body p h = absurd (cc)
-block_fits FileInto (one f) body p h = absurd (cc)
-block_fits FileInto (bracketed f fs) body p h = absurd (cc)
-block_fits Set none body p h = absurd (cc)
-block_fits Set (one f) body p h = absurd (cc)
-block_fits Set (bracketed f fs) body p h = absurd (cc)
-block_fits ForEveryPart (one f) body p h = absurd (cc)
-block_fits ForEveryPart (bracketed f fs) body p h = absurd (cc)
-block_fits Break none body p h = absurd (cc)
-block_fits Break (one f) body p h = absurd (cc)
-block_fits Break (bracketed f fs) body p h = absurd (cc)
-block_fits Store none body p h = absurd (cc)
-block_fits Store (one f) body p h = absurd (cc)
-block_fits Store (bracketed f fs) body p h = absurd (cc)
-block_fits Take none body p h = absurd (cc)
-block_fits Take (one f) body p h = absurd (cc)
-block_fits Take (bracketed f fs) body p h = absurd (cc)
+block_fits _ _ body p h = absurd (cc)
 
 abbrev forms_extent : Forms → ℕ
 forms_extent r = branches_extent r.branches + commands_extent r.commands
 
 closed_fits : (branches : BranchForms) (commands cs : CommandForms) → closed_by branches commands ≡ Some cs → commands_extent cs ≤ branches_extent branches + commands_extent commands
 closed_fits no_branch commands cs h = let e : commands_extent commands ≡ commands_extent cs = ap commands_extent (same_Some commands cs h) in omega (arith, e)
-closed_fits (otherwise body) commands cs h = absurd (cc)
-closed_fits (branch f body more) commands cs h = absurd (cc)
+closed_fits _ commands cs h = absurd (cc)
 
 put_fits : (p : PartForm) (rest r : Forms) → put p rest ≡ Some r → forms_extent r ≤ part_extent p + forms_extent rest
 put_fits nothing rest r h =

@@ -13,9 +13,9 @@ use Rattle.sieve_parser.specs.Tree.{CommandsTree}
 use Rattle.sieve_check.specs.declared.causes.ReasonKind.TheVariants.{ManyVariables}
 use Rattle.sieve_check.specs.declared.causes.Refused.{Refused}
 use Rattle.sieve_check.specs.declared.error.CheckError.{CheckError}
-use Rattle.sieve_check.specs.declared.error.CheckError.TheVariants.{Memory, UnknownCommand, MissingCapability, UnknownCapability, BadArguments, Limit}
+use Rattle.sieve_check.specs.declared.error.CheckError.TheVariants.{Memory}
 use Rattle.sieve_check.specs.CheckedScript.{IsCheckRefusal}
-use Rattle.sieve_check.specs.Reading.{refused_view}
+use Rattle.sieve_check.specs.ReasonView.{refused_view}
 use Rattle.sieve_check.specs.Causes as causes
 use Rattle.sieve_check.specs.Causes.{plain, refusal_for, refused_for}
 use Rattle.sieve_check.specs.Rules.{Visit, max_reasons, names_past, names_with, visit_cause, refused_after, refused_among, reasons_of, same_reason, fault_of, commands_visits}
@@ -112,8 +112,4 @@ pub refusal_told : (script : CommandsTree) (e f : CheckError) → fault_of scrip
 refusal_told script e f told is = step e (told ∙ ap Some (sym is)) where
   step : (e : CheckError) → fault_of script ≡ Some e → IsCheckRefusal script e
   step Memory h = tt
-  step (UnknownCommand place) h = h
-  step (MissingCapability place) h = h
-  step (UnknownCapability place) h = h
-  step (BadArguments place) h = h
-  step (Limit place) h = h
+  step _ h = h

@@ -1,10 +1,12 @@
 -- Forms that were worked out by hand.
-use Rattle.std.proofs.Common.{◌≡◌, ℕ, true, false, List, [], ◌∷◌, Some, None, refl}
+use Rattle.std.proofs.Common.{◌≡◌, true, false, List, [], ◌∷◌, Some, None, refl}
 use Rattle.std.specs.Prelude.{codes}
 use Rattle.bytecode_format.specs.declared.modifiers.Case.TheVariants.{Lower, Upper}
 use Rattle.glob_match.specs.declared.comparator.Comparator.TheVariants.{Octet, Casemap}
+use Rattle.glob_match.specs.declared.match_type.Match.{Match}
+use Rattle.glob_match.specs.declared.match_type.MatchType.{MatchType}
 use Rattle.glob_match.specs.declared.match_type.MatchType.TheVariants.{Is, Contains, Matches}
-use Rattle.sieve_parser.specs.Tree.{ArgumentTree, text, text_list, amount, label, InvocationTree, invocation, no_test, one_test, CommandsTree, simple, block, no_command, command}
+use Rattle.sieve_parser.specs.Tree.{ArgumentTree, amount, InvocationTree, CommandsTree, no_command}
 use Rattle.sieve_check.specs.declared.names.CommandName.TheVariants.{Set}
 use Rattle.sieve_check.specs.declared.names.TestName.TheVariants.{Header}
 use Rattle.sieve_check.specs.declared.typed.Order.TheVariants.{Over}
@@ -12,93 +14,81 @@ use Rattle.bytecode_format.specs.declared.selection.Scope.TheVariants.{Message, 
 use Rattle.sieve_check.specs.declared.typed.Segment.TheVariants.{Text, Variable, Capture}
 use Rattle.sieve_check.specs.FormOf.{IsFormOf, form_of, template_of, test_form_of}
 use Rattle.sieve_check.specs.Rules.{names_mentioned, test_mentions}
-use Rattle.sieve_check.specs.Signatures.{Read, no_tag, reading, command_signature}
+use Rattle.sieve_check.specs.Signatures.{no_tag, reading, command_signature}
 use Rattle.sieve_check.specs.Surroundings.{Context, at_start, in_block}
-use Rattle.sieve_check.specs.Typed.{Template, Selected, whole, main, sub, content_type, params, TestForm, constant, header, exists, size, string, CommandForms, keep, file_into, set, stop, choice, no_branch, otherwise, branch}
+use Rattle.sieve_check.specs.Typed.{Template, Selected, whole, main, sub, content_type, params, TestForm, constant, header, exists, size, string, CommandForms, keep, file_into, set, stop, choice, otherwise, branch}
 use Rattle.sieve_check.specs.Typed as typed
 use Rattle.sieve_check.specs.Variables.{commands_variables}
+use Prim.Native.String.{String}
+use Rattle.sieve_check.proofs.Rows.{Gives, str, strs, tag, plain_at, simple_at, last_at, block_at, if_at, read_as, as_written, alone}
 
--- a string that is as it is written
-abbrev as_written : List ℕ → Template
-as_written octets = Text octets ∷ []
+-- how is compared without `:comparator`
+abbrev caseless : MatchType → Match
+caseless kind = record { kind = kind; comparator = Casemap }
 
-abbrev simple_at : ℕ → List ℕ → List ArgumentTree → CommandsTree → CommandsTree
-simple_at n name args others = command (simple (invocation n name args no_test)) others
+-- a reference to a variable
+abbrev value_of : String → Template
+value_of name = Variable (codes name) ∷ []
 
 -- ---- commands
 
--- require "fileinto"; fileinto "x";
-filed_form : IsFormOf (simple_at 0 (codes "require") (text (codes "fileinto") ∷ []) (simple_at 3 (codes "fileinto") (text (codes "x") ∷ []) no_command)) (typed.command (file_into (as_written (codes "x"))) typed.no_command)
-filed_form = refl
-
--- require "mime"; if true {} else { keep; } stop;
-one_form :
-    IsFormOf
-    (simple_at 0 (codes "require") (text (codes "mime") ∷ [])
-    (command (block (invocation 3 (codes "if") [] (one_test (invocation 4 (codes "true") [] no_test))) no_command)
-    (command (block (invocation 7 (codes "else") [] no_test) (simple_at 9 (codes "keep") [] no_command))
-    (simple_at 12 (codes "stop") [] no_command))))
-    (typed.command (choice (branch (constant true) typed.no_command (otherwise (typed.command keep typed.no_command)))) (typed.command stop typed.no_command))
-one_form = refl
-
--- keep; else {}
-no_form : form_of (simple_at 0 (codes "keep") [] (command (block (invocation 2 (codes "else") [] no_test) no_command) no_command)) ≡ None
-no_form = refl
+forms_of_commands : Gives form_of (
+    -- require "fileinto"; fileinto "x";
+    (simple_at 0 "require" (str "fileinto" ∷ []) (last_at 3 "fileinto" (str "x" ∷ [])), Some (alone (file_into (as_written "x")))) ∷
+    -- require "mime"; if true {} else { keep; } stop;
+    (
+      simple_at 0 "require" (str "mime" ∷ []) (if_at 3 "if" (plain_at 4 "true" []) no_command (block_at 7 "else" [] (last_at 9 "keep" []) (last_at 12 "stop" []))),
+      Some (typed.command (choice (branch (constant true) typed.no_command (otherwise (alone keep)))) (alone stop)),
+    ) ∷
+    -- keep; else {}
+    (simple_at 0 "keep" [] (block_at 2 "else" [] no_command no_command), None) ∷ [])
+forms_of_commands = refl
 
 -- ---- tests
 
--- size :over 10
-one_test_form : test_form_of at_start (invocation 0 (codes "size") (label (codes "over") ∷ amount 10 ∷ []) no_test) ≡ Some (size Over 10)
-one_test_form = refl
-
--- header "a" ["b", "c"]
-plain_header : test_form_of at_start (invocation 1 (codes "header") (text (codes "a") ∷ text_list (codes "b") (codes "c" ∷ []) ∷ []) no_test)
-    ≡ Some (header (record { kind = Is; comparator = Casemap }) Message whole (as_written (codes "a") ∷ []) (as_written (codes "b") ∷ as_written (codes "c") ∷ []))
-plain_header = refl
-
--- header :Comparator "i;octet" :contains ["a"] "b", and with its tags the other way round
-tagged_header : test_form_of at_start (invocation 1 (codes "header") (label (codes "Comparator") ∷ text (codes "i;octet") ∷ label (codes "contains") ∷ text_list (codes "a") [] ∷ text (codes "b") ∷ []) no_test)
-    ≡ Some (header (record { kind = Contains; comparator = Octet }) Message whole (as_written (codes "a") ∷ []) (as_written (codes "b") ∷ []))
-tagged_header = refl
-
-turned_header : test_form_of at_start (invocation 1 (codes "header") (label (codes "contains") ∷ label (codes "comparator") ∷ text (codes "i;octet") ∷ text (codes "a") ∷ text (codes "b") ∷ []) no_test)
-    ≡ Some (header (record { kind = Contains; comparator = Octet }) Message whole (as_written (codes "a") ∷ []) (as_written (codes "b") ∷ []))
-turned_header = refl
-
--- exists ["a", "b"]
-two_exist : test_form_of at_start (invocation 1 (codes "exists") (text_list (codes "a") (codes "b" ∷ []) ∷ []) no_test) ≡ Some (exists Message (as_written (codes "a") ∷ as_written (codes "b") ∷ []))
-two_exist = refl
-
 -- header :mime :param ["a", "b"] :anychild "X" "y"
 abbrev mime_header : InvocationTree
-mime_header = invocation 4 (codes "header") (label (codes "mime") ∷ label (codes "param") ∷ text_list (codes "a") (codes "b" ∷ []) ∷ label (codes "AnyChild") ∷ text (codes "X") ∷ text (codes "y") ∷ []) no_test
-
-params_form : test_form_of at_start mime_header
-    ≡ Some (header (record { kind = Is; comparator = Casemap }) PartAndBelow (params (as_written (codes "a") ∷ as_written (codes "b") ∷ [])) (as_written (codes "X") ∷ []) (as_written (codes "y") ∷ []))
-params_form = refl
+mime_header = plain_at 4 "header" (tag "mime" ∷ tag "param" ∷ strs "a" ("b" ∷ []) ∷ tag "AnyChild" ∷ str "X" ∷ str "y" ∷ [])
 
 -- header with one more tag behind :mime
-abbrev piece_header : List ℕ → InvocationTree
-piece_header tag = invocation 4 (codes "header") (label tag ∷ label (codes "mime") ∷ text (codes "X") ∷ text (codes "y") ∷ []) no_test
+abbrev selecting_header : String → InvocationTree
+selecting_header name = plain_at 4 "header" (tag name ∷ tag "mime" ∷ str "X" ∷ str "y" ∷ [])
 
-abbrev piece_form : Selected → TestForm
-piece_form selected = header (record { kind = Is; comparator = Casemap }) Part selected (as_written (codes "X") ∷ []) (as_written (codes "y") ∷ [])
+abbrev selecting_form : Selected → TestForm
+selecting_form selected = header (caseless Is) Part selected (as_written "X" ∷ []) (as_written "y" ∷ [])
 
-type_form : test_form_of at_start (piece_header (codes "type")) ≡ Some (piece_form main)
-type_form = refl
-
-subtype_form : test_form_of at_start (piece_header (codes "subtype")) ≡ Some (piece_form sub)
-subtype_form = refl
-
-content_type_form : test_form_of at_start (piece_header (codes "contenttype")) ≡ Some (piece_form content_type)
-content_type_form = refl
-
-plain_mime_form : test_form_of at_start (piece_header (codes "is")) ≡ Some (piece_form whole)
-plain_mime_form = refl
-
--- exists :mime :anychild "X"
-mime_exists : test_form_of at_start (invocation 1 (codes "exists") (label (codes "mime") ∷ label (codes "anychild") ∷ text (codes "X") ∷ []) no_test) ≡ Some (exists PartAndBelow (as_written (codes "X") ∷ []))
-mime_exists = refl
+forms_of_tests : Gives (test_form_of at_start) (
+    -- size :over 10
+    (plain_at 0 "size" (tag "over" ∷ amount 10 ∷ []), Some (size Over 10)) ∷
+    -- header "a" ["b", "c"]
+    (
+      plain_at 1 "header" (str "a" ∷ strs "b" ("c" ∷ []) ∷ []),
+      Some (header (caseless Is) Message whole (as_written "a" ∷ []) (as_written "b" ∷ as_written "c" ∷ [])),
+    ) ∷
+    -- header :Comparator "i;octet" :contains ["a"] "b", and with its tags the other way round
+    (
+      plain_at 1 "header" (tag "Comparator" ∷ str "i;octet" ∷ tag "contains" ∷ strs "a" [] ∷ str "b" ∷ []),
+      Some (header (record { kind = Contains; comparator = Octet }) Message whole (as_written "a" ∷ []) (as_written "b" ∷ [])),
+    ) ∷
+    -- turned header
+    (
+      plain_at 1 "header" (tag "contains" ∷ tag "comparator" ∷ str "i;octet" ∷ str "a" ∷ str "b" ∷ []),
+      Some (header (record { kind = Contains; comparator = Octet }) Message whole (as_written "a" ∷ []) (as_written "b" ∷ [])),
+    ) ∷
+    -- exists ["a", "b"]
+    (plain_at 1 "exists" (strs "a" ("b" ∷ []) ∷ []), Some (exists Message (as_written "a" ∷ as_written "b" ∷ []))) ∷
+    -- params form
+    (
+      mime_header,
+      Some (header (caseless Is) PartAndBelow (params (as_written "a" ∷ as_written "b" ∷ [])) (as_written "X" ∷ []) (as_written "y" ∷ [])),
+    ) ∷
+    (selecting_header "type", Some (selecting_form main)) ∷  -- type form
+    (selecting_header "subtype", Some (selecting_form sub)) ∷  -- subtype form
+    (selecting_header "contenttype", Some (selecting_form content_type)) ∷  -- content type form
+    (selecting_header "is", Some (selecting_form whole)) ∷  -- plain mime form
+    -- exists :mime :anychild "X"
+    (plain_at 1 "exists" (tag "mime" ∷ tag "anychild" ∷ str "X" ∷ []), Some (exists PartAndBelow (as_written "X" ∷ []))) ∷ [])
+forms_of_tests = refl
 
 -- ---- strings with references
 
@@ -106,96 +96,81 @@ mime_exists = refl
 abbrev with_variables : Context
 with_variables = record at_start { required = record at_start.required { variables = true } }
 
--- where they weren't required, a string is as it is written, also one without octets
-not_expanded : template_of at_start (codes "a${b}") ≡ Text (codes "a${b}") ∷ []
-not_expanded = refl
-
-empty_as_written : template_of at_start [] ≡ Text [] ∷ []
-empty_as_written = refl
-
--- names are in lower case; what is no reference stays in its stretch
-expanded : template_of with_variables (codes "A${B_9}${07}${}C") ≡ Text (codes "A") ∷ Variable (codes "b_9") ∷ Capture 7 ∷ Text (codes "${}C") ∷ []
-expanded = refl
-
-empty_expanded : template_of with_variables [] ≡ []
-empty_expanded = refl
-
--- string :matches ["${a}", "b"] "*"
-plain_string : test_form_of with_variables (invocation 1 (codes "string") (label (codes "matches") ∷ text_list (codes "${a}") (codes "b" ∷ []) ∷ text (codes "*") ∷ []) no_test)
-    ≡ Some (string (record { kind = Matches; comparator = Casemap }) ((Variable (codes "a") ∷ []) ∷ as_written (codes "b") ∷ []) (as_written (codes "*") ∷ []))
-plain_string = refl
-
 -- names of headers, keys and folders are expanded, also in blocks
 inside_too : template_of (in_block [] with_variables) (codes "${1}") ≡ Capture 1 ∷ []
 inside_too = refl
 
-expanded_exists : test_form_of with_variables (invocation 1 (codes "exists") (text (codes "x-${a}") ∷ []) no_test) ≡ Some (exists Message ((Text (codes "x-") ∷ Variable (codes "a") ∷ []) ∷ []))
-expanded_exists = refl
-
 -- names of parameters are expanded, and come between those of fields and the keys
 abbrev expanded_params : List ArgumentTree
-expanded_params = label (codes "mime") ∷ label (codes "param") ∷ text (codes "${b}") ∷ text (codes "${a}") ∷ text (codes "${C}") ∷ []
-
-params_between : test_form_of with_variables (invocation 1 (codes "header") expanded_params no_test)
-    ≡ Some (header (record { kind = Is; comparator = Casemap }) Part (params ((Variable (codes "b") ∷ []) ∷ [])) ((Variable (codes "a") ∷ []) ∷ []) ((Variable (codes "c") ∷ []) ∷ []))
-params_between = refl
+expanded_params = tag "mime" ∷ tag "param" ∷ str "${b}" ∷ str "${a}" ∷ str "${C}" ∷ []
 
 names_between : names_mentioned (test_mentions with_variables Header expanded_params) ≡ codes "a" ∷ codes "b" ∷ codes "c" ∷ []
 names_between = refl
+
+strings_as_written : Gives (template_of at_start) (
+    -- where they weren't required, a string is as it is written, also one without octets
+    (codes "a${b}", Text (codes "a${b}") ∷ []) ∷
+    ([], Text [] ∷ []) ∷ [])  -- empty as written
+strings_as_written = refl
+
+strings_expanded : Gives (template_of with_variables) (
+    -- names are in lower case; what is no reference stays in its stretch
+    (codes "A${B_9}${07}${}C", Text (codes "A") ∷ Variable (codes "b_9") ∷ Capture 7 ∷ Text (codes "${}C") ∷ []) ∷
+    ([], []) ∷ [])  -- empty expanded
+strings_expanded = refl
+
+forms_of_expanded_tests : Gives (test_form_of with_variables) (
+    -- string :matches ["${a}", "b"] "*"
+    (
+      plain_at 1 "string" (tag "matches" ∷ strs "${a}" ("b" ∷ []) ∷ str "*" ∷ []),
+      Some (string (caseless Matches) (value_of "a" ∷ as_written "b" ∷ []) (as_written "*" ∷ [])),
+    ) ∷
+    -- expanded exists
+    (plain_at 1 "exists" (str "x-${a}" ∷ []), Some (exists Message ((Text (codes "x-") ∷ Variable (codes "a") ∷ []) ∷ []))) ∷
+    -- params between
+    (
+      plain_at 1 "header" expanded_params,
+      Some (header (caseless Is) Part (params (value_of "b" ∷ [])) (value_of "a" ∷ []) (value_of "c" ∷ [])),
+    ) ∷ [])
+forms_of_expanded_tests = refl
 
 -- ---- set
 
 -- require "variables"; set :UpperFirst :lower "Name" "${0} ${other}";
 abbrev setting : CommandsTree
 setting =
-    simple_at 0 (codes "require") (text (codes "variables") ∷ [])
-    (simple_at 3 (codes "set") (label (codes "UpperFirst") ∷ label (codes "lower") ∷ text (codes "Name") ∷ text (codes "${0} ${other}") ∷ []) no_command)
+    simple_at 0 "require" (str "variables" ∷ [])
+    (last_at 3 "set" (tag "UpperFirst" ∷ tag "lower" ∷ str "Name" ∷ str "${0} ${other}" ∷ []))
 
 abbrev set_form : CommandForms
-set_form = typed.command (set (record { letters = Some Lower; first = Some Upper; quote_wildcard = false; length = false }) (codes "name") (Capture 0 ∷ Text (codes " ") ∷ Variable (codes "other") ∷ [])) typed.no_command
-
-one_set : IsFormOf setting set_form
-one_set = refl
+set_form = alone (set (record { letters = Some Lower; first = Some Upper; quote_wildcard = false; length = false }) (codes "name")
+    (Capture 0 ∷ Text (codes " ") ∷ Variable (codes "other") ∷ []))
 
 -- the variables of the value come before the one that is set
 in_order : commands_variables set_form ≡ codes "other" ∷ codes "name" ∷ []
 in_order = refl
 
 abbrev two_texts : List ArgumentTree
-two_texts = text (codes "a") ∷ text (codes "b") ∷ []
+two_texts = str "a" ∷ str "b" ∷ []
 
-no_modifier : reading (command_signature Set) two_texts ≡ Some (let r : Read = record { tags = no_tag; params = []; name = None; positional = two_texts } in r)
-no_modifier = refl
+one_set : IsFormOf setting set_form
+one_set = refl
 
--- of each precedence at most one, in any order
-all_four : reading (command_signature Set) (label (codes "length") ∷ label (codes "quotewildcard") ∷ label (codes "lowerfirst") ∷ label (codes "upper") ∷ two_texts)
-    ≡ Some (let r : Read = record { tags = record no_tag { modifiers = record { letters = Some Upper; first = Some Lower; quote_wildcard = true; length = true } }; params = []; name = None; positional = two_texts } in r)
-all_four = refl
-
-two_cases : reading (command_signature Set) (label (codes "lower") ∷ label (codes "upper") ∷ two_texts) ≡ None
-two_cases = refl
-
-two_first_cases : reading (command_signature Set) (label (codes "upperfirst") ∷ label (codes "upperfirst") ∷ two_texts) ≡ None
-two_first_cases = refl
-
-length_twice : reading (command_signature Set) (label (codes "length") ∷ label (codes "length") ∷ two_texts) ≡ None
-length_twice = refl
-
-quoted_twice : reading (command_signature Set) (label (codes "quotewildcard") ∷ label (codes "quotewildcard") ∷ two_texts) ≡ None
-quoted_twice = refl
-
--- a modifier between, one string, three, a list, and a tag of tests
-modifier_between : reading (command_signature Set) (text (codes "a") ∷ label (codes "lower") ∷ text (codes "b") ∷ []) ≡ None
-modifier_between = refl
-
-one_text : reading (command_signature Set) (text (codes "a") ∷ []) ≡ None
-one_text = refl
-
-three_texts : reading (command_signature Set) (text (codes "c") ∷ two_texts) ≡ None
-three_texts = refl
-
-bracketed_value : reading (command_signature Set) (text (codes "a") ∷ text_list (codes "b") [] ∷ []) ≡ None
-bracketed_value = refl
-
-kind_of_set : reading (command_signature Set) (label (codes "is") ∷ two_texts) ≡ None
-kind_of_set = refl
+readings_of_set : Gives (reading (command_signature Set)) (
+    (two_texts, read_as no_tag two_texts) ∷  -- no modifier
+    -- of each precedence at most one, in any order
+    (
+      tag "length" ∷ tag "quotewildcard" ∷ tag "lowerfirst" ∷ tag "upper" ∷ two_texts,
+      read_as (record no_tag { modifiers = record { letters = Some Upper; first = Some Lower; quote_wildcard = true; length = true } }) two_texts,
+    ) ∷
+    (tag "lower" ∷ tag "upper" ∷ two_texts, None) ∷  -- two cases
+    (tag "upperfirst" ∷ tag "upperfirst" ∷ two_texts, None) ∷  -- two first cases
+    (tag "length" ∷ tag "length" ∷ two_texts, None) ∷  -- length twice
+    (tag "quotewildcard" ∷ tag "quotewildcard" ∷ two_texts, None) ∷  -- quoted twice
+    -- a modifier between, one string, three, a list, and a tag of tests
+    (str "a" ∷ tag "lower" ∷ str "b" ∷ [], None) ∷
+    (str "a" ∷ [], None) ∷  -- one text
+    (str "c" ∷ two_texts, None) ∷  -- three texts
+    (str "a" ∷ strs "b" [] ∷ [], None) ∷  -- bracketed value
+    (tag "is" ∷ two_texts, None) ∷ [])  -- kind of set
+readings_of_set = refl

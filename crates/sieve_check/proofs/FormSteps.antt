@@ -9,7 +9,7 @@ use Rattle.sieve_parser.specs.declared.tree.Invocation.TheVariants.{WithTest, Wi
 use Rattle.sieve_parser.specs.declared.tree.Command.{Command as Tree}
 use Rattle.sieve_parser.proofs.TestSteps.{tree_test, tree_tests}
 use Rattle.sieve_check.specs.declared.names.CommandName.{CommandName}
-use Rattle.sieve_check.specs.declared.names.CommandName.TheVariants.{Require, If, Elsif, Else, Stop, Keep, Discard, FileInto, Set, ForEveryPart, Break, Store, Take}
+use Rattle.sieve_check.specs.declared.names.CommandName.TheVariants.{Require}
 use Rattle.sieve_check.specs.declared.sequence.Part.{Part}
 use Rattle.sieve_check.specs.declared.sequence.Sequence.{Sequence}
 use Rattle.sieve_check.specs.declared.typed.Test.{Test}
@@ -53,18 +53,7 @@ module _ (s : Context) (list : List Invocation) (i : ℕ) (x : Invocation) (lt :
 -- a command with tests in round brackets and a block is none
 no_block : (name : CommandName) (f : TestForm) (fs : TestForms) (body : CommandForms) → block_of name (bracketed f fs) body ≡ None
 no_block Require f fs body = refl
-no_block If f fs body = refl
-no_block Elsif f fs body = refl
-no_block Else f fs body = refl
-no_block Stop f fs body = refl
-no_block Keep f fs body = refl
-no_block Discard f fs body = refl
-no_block FileInto f fs body = refl
-no_block Set f fs body = refl
-no_block ForEveryPart f fs body = refl
-no_block Break f fs body = refl
-no_block Store f fs body = refl
-no_block Take f fs body = refl
+no_block _ f fs body = refl
 
 no_head : (h : Head) (f : TestForm) (fs : TestForms) (body : CommandForms) → head_block h (bracketed f fs) body ≡ None
 no_head h f fs body = step_none (command_named h.name) _ (λ name. step_none (reading (command_signature name) (arguments_of h)) _ (λ read. no_block name f fs body))
@@ -79,33 +68,11 @@ no_block_part s i h t ts body is = ap (λ x. block_part s x body) (ap invocation
 -- a command with tests and no block is none
 no_simple_test : (s : Context) (name : CommandName) (read : Read) (f : TestForm) → simple_of s name read (one f) ≡ None
 no_simple_test s Require read f = refl
-no_simple_test s If read f = refl
-no_simple_test s Elsif read f = refl
-no_simple_test s Else read f = refl
-no_simple_test s Stop read f = refl
-no_simple_test s Keep read f = refl
-no_simple_test s Discard read f = refl
-no_simple_test s FileInto read f = refl
-no_simple_test s Set read f = refl
-no_simple_test s ForEveryPart read f = refl
-no_simple_test s Break read f = refl
-no_simple_test s Store read f = refl
-no_simple_test s Take read f = refl
+no_simple_test s _ read f = refl
 
 no_simple_tests : (s : Context) (name : CommandName) (read : Read) (f : TestForm) (fs : TestForms) → simple_of s name read (bracketed f fs) ≡ None
 no_simple_tests s Require read f fs = refl
-no_simple_tests s If read f fs = refl
-no_simple_tests s Elsif read f fs = refl
-no_simple_tests s Else read f fs = refl
-no_simple_tests s Stop read f fs = refl
-no_simple_tests s Keep read f fs = refl
-no_simple_tests s Discard read f fs = refl
-no_simple_tests s FileInto read f fs = refl
-no_simple_tests s Set read f fs = refl
-no_simple_tests s ForEveryPart read f fs = refl
-no_simple_tests s Break read f fs = refl
-no_simple_tests s Store read f fs = refl
-no_simple_tests s Take read f fs = refl
+no_simple_tests s _ read f fs = refl
 
 no_simple_part : (s : Context) (h : Head) (inner : InnerForms) → ((name : CommandName) (read : Read) → simple_of s name read inner ≡ None) → head_simple s h inner ≡ None
 no_simple_part s h inner none = step_none (command_named h.name) _ (λ name. step_none (reading (command_signature name) (arguments_of h)) _ (none name))

@@ -18,7 +18,9 @@ pub mod Templates
 pub mod Extent
 pub mod Lists
 pub mod TestExistence
+pub mod CommandExistence
 pub mod Existence
+pub mod Rows
 pub mod Examples
 pub mod ReasonExamples
 pub mod NameSteps

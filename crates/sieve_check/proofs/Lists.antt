@@ -9,10 +9,10 @@ use Rattle.std.proofs.lemmas.List.Elements.{All-nil, All-cons, All-head, All-tai
 use Rattle.std.proofs.lemmas.List.Folds.{list_any-append}
 use Rattle.octets.specs.Limits.{max_segments, max_string, max_test_strings}
 use Rattle.sieve_references.specs.References.{segments}
-use Rattle.sieve_parser.specs.Tree.{ArgumentTree, text, text_list, amount, label}
+use Rattle.sieve_parser.specs.Tree.{ArgumentTree, text, text_list}
 use Rattle.sieve_check.specs.declared.names.Capability.TheVariants.{Variables}
-use Rattle.sieve_check.specs.declared.names.Piece.{Piece}
-use Rattle.sieve_check.specs.declared.names.Piece.TheVariants.{Main, Sub, ContentType, Params}
+use Rattle.bytecode_format.specs.declared.selection.Selector.{Selector}
+use Rattle.bytecode_format.specs.declared.selection.Selector.TheVariants.{Param}
 use Rattle.sieve_check.specs.declared.names.Tag.{Tag}
 use Rattle.sieve_check.specs.declared.string_faults.StringFault.TheVariants.{Long}
 use Rattle.sieve_check.specs.declared.signature.Positional.TheVariants as positional
@@ -100,8 +100,7 @@ expands s = has_capability Variables s.required
 listed : (s : Context) (a : ArgumentTree) → is_list a ≡ true → (list_in s a ≡ Some (map (template_of s) (strings_in a))) × (0 < length (strings_in a))
 listed s (text x) h = (refl, omega arith)
 listed s (text_list x xs) h = (refl, omega arith)
-listed s (amount n) h = absurd (cc)
-listed s (label name) h = absurd (cc)
+listed s _ h = absurd (cc)
 
 -- one list, of which something is made
 pub record OneListed (s : Context) (make : List Template → TestForm) (xs : List ArgumentTree) : Type 0 where
@@ -111,7 +110,6 @@ pub record OneListed (s : Context) (make : List Template → TestForm) (xs : Lis
   pub names : strings_variables list ≡ flat_map (names_at (expands s)) (strings_of xs)
 
 pub one_listed : (s : Context) (make : List Template → TestForm) (xs : List ArgumentTree) → is_positional positional.OneList xs ≡ true → length (strings_of xs) ≤ max_test_strings → All (IsSound (expands s)) (strings_of xs) → OneListed s make xs
-one_listed s make [] h few all = absurd (cc)
 one_listed s make (a ∷ []) h few all =
     let b = expands s in
     let list = listed s a h in
@@ -127,7 +125,7 @@ one_listed s make (a ∷ []) h few all =
       };
       names = templates_names b strings ∙ ap (flat_map (names_at b)) (sym (append-nil strings));
     }
-one_listed s make (a ∷ b ∷ xs) h few all = absurd (cc)
+one_listed s make _ h few all = absurd (cc)
 
 -- two lists
 pub record TwoListed (s : Context) (make : List Template → List Template → TestForm) (xs : List ArgumentTree) : Type 0 where
@@ -138,8 +136,6 @@ pub record TwoListed (s : Context) (make : List Template → List Template → T
   pub names : strings_variables first ++ strings_variables second ≡ flat_map (names_at (expands s)) (strings_of xs)
 
 pub two_listed : (s : Context) (make : List Template → List Template → TestForm) (xs : List ArgumentTree) → is_positional positional.TwoLists xs ≡ true → length (strings_of xs) ≤ max_test_strings → All (IsSound (expands s)) (strings_of xs) → TwoListed s make xs
-two_listed s make [] h few all = absurd (cc)
-two_listed s make (a ∷ []) h few all = absurd (cc)
 two_listed s make (a ∷ c ∷ []) h few all =
     let b = expands s in
     let lists = both_true (is_list a) (is_list c) h in
@@ -167,50 +163,45 @@ two_listed s make (a ∷ c ∷ []) h few all =
           ∙ ap (λ names. flat_map (names_at b) xs ++ names) (templates_names b ys ∙ ap (flat_map (names_at b)) (sym (append-nil ys)))
           ∙ sym (flat_map-append (names_at b) xs (ys ++ []));
     }
-two_listed s make (a ∷ b ∷ c ∷ xs) h few all = absurd (cc)
+two_listed s make _ h few all = absurd (cc)
 
 -- what a test takes of a field
-record Selecting (s : Context) (piece : Option Piece) (params : List ArgumentTree) : Type 0 where
+record Selecting (s : Context) (selector : Selector) (params : List ArgumentTree) : Type 0 where
   names : List Template
   is : params_in s params ≡ Some names
-  some : HasParams (selected_by piece names)
-  same : params_of (selected_by piece names) ≡ map (template_of s) (strings_of params)
+  some : HasParams (selected_by selector names)
+  same : params_of (selected_by selector names) ≡ map (template_of s) (strings_of params)
 
-selecting : (s : Context) (piece : Option Piece) (params : List ArgumentTree) → HasArgument piece params → Selecting s piece params
-selecting s None params none = subst (Selecting s None) (sym none) (record { names = []; is = refl; some = tt; same = refl })
-selecting s (Some Main) params none = subst (Selecting s (Some Main)) (sym none) (record { names = []; is = refl; some = tt; same = refl })
-selecting s (Some Sub) params none = subst (Selecting s (Some Sub)) (sym none) (record { names = []; is = refl; some = tt; same = refl })
-selecting s (Some ContentType) params none = subst (Selecting s (Some ContentType)) (sym none) (record { names = []; is = refl; some = tt; same = refl })
-selecting s (Some Params) params one =
+selecting : (s : Context) (selector : Selector) (params : List ArgumentTree) → HasArgument selector params → Selecting s selector params
+selecting s Param params one =
     let list = listed s one.0 one.2 in
     let strings = strings_in one.0 in
-    subst (Selecting s (Some Params)) (sym one.1) (record {
+    subst (Selecting s Param) (sym one.1) (record {
       names = map (template_of s) strings;
       is = list.0;
       some = omega (arith, list.1, length-map strings (template_of s));
       same = ap (map (template_of s)) (sym (append-nil strings));
     })
+selecting s selector params none = subst (Selecting s selector) (sym none) (record { names = []; is = refl; some = tt; same = refl })
 
 -- two lists and, with `:param`, one between
-pub record ThreeListed (s : Context) (make : Selected → List Template → List Template → TestForm) (piece : Option Piece) (params xs : List ArgumentTree) : Type 0 where
+pub record ThreeListed (s : Context) (make : Selected → List Template → List Template → TestForm) (selector : Selector) (params xs : List ArgumentTree) : Type 0 where
   pub selected : Selected
   pub first : List Template
   pub second : List Template
-  pub is : (params_in s params >>= λ names. of_lists s (make (selected_by piece names)) xs) ≡ Some (make selected first second)
+  pub is : (params_in s params >>= λ names. of_lists s (make (selected_by selector names)) xs) ≡ Some (make selected first second)
   pub bounded : IsBoundedHeader selected first second
   pub names : strings_variables first ++ strings_variables (params_of selected) ++ strings_variables second ≡ flat_map (names_at (expands s)) (strings_of (take 1 xs ++ params ++ drop 1 xs))
 
-pub three_listed : (s : Context) (make : Selected → List Template → List Template → TestForm) (piece : Option Piece) (params xs : List ArgumentTree) → is_positional positional.TwoLists xs ≡ true → HasArgument piece params
-    → length (strings_of (take 1 xs ++ params ++ drop 1 xs)) ≤ max_test_strings → All (IsSound (expands s)) (strings_of (take 1 xs ++ params ++ drop 1 xs)) → ThreeListed s make piece params xs
-three_listed s make piece params [] h has few all = absurd (cc)
-three_listed s make piece params (a ∷ []) h has few all = absurd (cc)
-three_listed s make piece params (a ∷ c ∷ []) h has few all =
+pub three_listed : (s : Context) (make : Selected → List Template → List Template → TestForm) (selector : Selector) (params xs : List ArgumentTree) → is_positional positional.TwoLists xs ≡ true → HasArgument selector params
+    → length (strings_of (take 1 xs ++ params ++ drop 1 xs)) ≤ max_test_strings → All (IsSound (expands s)) (strings_of (take 1 xs ++ params ++ drop 1 xs)) → ThreeListed s make selector params xs
+three_listed s make selector params (a ∷ c ∷ []) h has few all =
     let b = expands s in
     let lists = both_true (is_list a) (is_list c) h in
     let left = listed s a lists.0 in
     let right = listed s c lists.1 in
-    let between = selecting s piece params has in
-    let selected = selected_by piece between.names in
+    let between = selecting s selector params has in
+    let selected = selected_by selector between.names in
     let xs = strings_in a in
     let ys = strings_of params in
     let zs = strings_in c in
@@ -228,7 +219,7 @@ three_listed s make piece params (a ∷ c ∷ []) h has few all =
       selected = selected;
       first = first;
       second = second;
-      is = ap (λ o. o >>= λ names. of_lists s (make (selected_by piece names)) (a ∷ c ∷ [])) between.is
+      is = ap (λ o. o >>= λ names. of_lists s (make (selected_by selector names)) (a ∷ c ∷ [])) between.is
           ∙ ap (λ o. o >>= λ first. option_map (make selected first) (list_in s c)) left.0
           ∙ ap (option_map (make selected first)) right.0;
       bounded = record {
@@ -251,18 +242,14 @@ three_listed s make piece params (a ∷ c ∷ []) h has few all =
           ∙ sym (flat_map-append (names_at b) xs (ys ++ (zs ++ [])))
           ∙ ap (flat_map (names_at b)) (sym strings);
     }
-three_listed s make piece params (a ∷ b ∷ c ∷ xs) h has few all = absurd (cc)
+three_listed s make selector params _ h has few all = absurd (cc)
 
 -- ---- strings without brackets
 
 pub texted : (b : Bool) (xs : List ArgumentTree) → is_positional positional.Text xs ≡ true → has_long_string xs ≡ false → (b ≡ true → list_any is_large (strings_of xs) ≡ false)
     → (x : List ℕ) × (xs ≡ text x ∷ []) × IsSound b x
 texted b (text x ∷ []) h short few = (x, refl, sound b x (either_false (string_has Long x) false short).0 (λ expanded. (either_false (is_large x) false (few expanded)).0))
-texted b [] h short few = absurd (cc)
-texted b (text_list s ss ∷ xs) h short few = absurd (cc)
-texted b (amount n ∷ xs) h short few = absurd (cc)
-texted b (label name ∷ xs) h short few = absurd (cc)
-texted b (text s ∷ x ∷ xs) h short few = absurd (cc)
+texted b _ h short few = absurd (cc)
 
 -- a name, which isn't expanded, and a string
 pub both_texted : (b : Bool) (xs : List ArgumentTree) → is_positional positional.TwoTexts xs ≡ true → has_long_string xs ≡ false → (b ≡ true → list_any is_large (drop 1 (strings_of xs)) ≡ false)
@@ -270,12 +257,4 @@ pub both_texted : (b : Bool) (xs : List ArgumentTree) → is_positional position
 both_texted b (text name ∷ text x ∷ []) h short few =
     let shorts = either_false (string_has Long name) (list_any (string_has Long) (x ∷ [])) short in
     (name, x, refl, sound b x (either_false (string_has Long x) false shorts.1).0 (λ expanded. (either_false (is_large x) false (few expanded)).0))
-both_texted b [] h short few = absurd (cc)
-both_texted b (text_list s ss ∷ xs) h short few = absurd (cc)
-both_texted b (amount n ∷ xs) h short few = absurd (cc)
-both_texted b (label name ∷ xs) h short few = absurd (cc)
-both_texted b (text s ∷ []) h short few = absurd (cc)
-both_texted b (text s ∷ text_list t ts ∷ xs) h short few = absurd (cc)
-both_texted b (text s ∷ amount n ∷ xs) h short few = absurd (cc)
-both_texted b (text s ∷ label name ∷ xs) h short few = absurd (cc)
-both_texted b (text s ∷ text t ∷ x ∷ xs) h short few = absurd (cc)
+both_texted b _ h short few = absurd (cc)

@@ -1,15 +1,14 @@
 -- The names of variables, as they are met.
-use Rattle.std.proofs.Common.{◌≡◌, ℕ, ◌+◌, ◌<◌, ◌≤◌, true, false, ◌||◌, bytes_eq, List, [], ◌∷◌, ◌++◌, length, map, flat_map, drop, take, get_or, refl, sym, ap, subst, ◌∙◌, arith, length-append, add-one, inl, inr}
+use Rattle.std.proofs.Common.{◌≡◌, ℕ, ◌+◌, ◌<◌, true, false, ◌||◌, bytes_eq, List, [], ◌∷◌, ◌++◌, length, map, flat_map, drop, take, get_or, refl, sym, ap, subst, ◌∙◌, arith, length-append, add-one}
 use Rattle.std.proofs.Math.Seq.{drop-cons}
 use Rattle.std.specs.Prelude.{Result, Ok, Err}
 use Rattle.std.specs.Borrow.{Bor}
 use Rattle.std.specs.Global.{Vec}
 use Rattle.std.proofs.lemmas.Grind.{flat_map-append}
-use Rattle.std.proofs.lemmas.Bool.{cases_Bool}
 use Rattle.std.proofs.lemmas.List.{length-map, map-append, take-append-le, take_all}
 use Rattle.octets.specs.Ascii.{lowercase_of}
 use Rattle.octets.specs.Limits.{max_variables}
-use Rattle.octets.specs.Once.{is_listed, with_one, with_more}
+use Rattle.octets.specs.Once.{is_listed, with_more}
 use Rattle.octets.proofs.Once.{more_after, unlisted_added}
 use Rattle.sieve_references.specs.References.{names_in}
 use Rattle.sieve_parser.specs.View.{argument_tree}

@@ -1,14 +1,12 @@
 -- The strings of arguments and of lists, piece by piece.
-use Rattle.std.proofs.Common.{◌≡◌, ◌∙◌, ℕ, ◌+◌, ◌<◌, Bool, List, ◌++◌, Option, Some, None, map, drop, length, get_or, refl, sym, ap}
+use Rattle.std.proofs.Common.{◌≡◌, ◌∙◌, ℕ, ◌+◌, ◌<◌, Bool, List, ◌++◌, Option, Some, None, map, drop, length, get_or, sym, ap}
 use Rattle.std.proofs.lemmas.List.Concat.{flat_map-append}
 use Rattle.std.proofs.lemmas.List.Folds.{find-append}
-use Rattle.std.specs.Borrow.{Bor}
 use Rattle.std.specs.List.{find}
 use Rattle.std.specs.Option.{option_or}
 use Rattle.sieve_parser.specs.View.{argument_tree}
 use Rattle.sieve_parser.specs.declared.tree.Argument.{Argument}
-use Rattle.sieve_check.specs.declared.signature.Lists.{Lists}
-use Rattle.sieve_check.specs.Reading.{all_lists, name_in}
+use Rattle.sieve_parser.specs.Tree.{ArgumentTree}
 use Rattle.sieve_check.specs.Rules.{strings_in, strings_of}
 use Rattle.sieve_check.proofs.FromIndex.{split_at}
 
@@ -17,19 +15,23 @@ pub next_strings : (list : List Argument) (i : ℕ) (x : Argument) → i < lengt
     → strings_of (map argument_tree (drop i list)) ≡ strings_in (argument_tree x) ++ strings_of (map argument_tree (drop (i + 1) list))
 next_strings list i x lt is = ap (λ xs. strings_of (map argument_tree xs)) (split_at list i x lt is)
 
--- the first of two that are lent
-name_or : (x y : Option (Bor (List ℕ))) → name_in (option_or x y) ≡ option_or (name_in x) (name_in y)
-name_or None y = refl
-name_or (Some x) y = refl
+-- the first string of arguments that is so
+abbrev pub among : (List ℕ → Bool) → List ArgumentTree → Option (List ℕ)
+among p args = find p (strings_of args)
 
--- the first string of three lists that is so
-pub found_in_lists : (p : List ℕ → Bool) (lists : Lists) (x y z : Option (Bor (List ℕ))) → name_in x ≡ find p (strings_of (map argument_tree lists.first.now)) → name_in y ≡ find p (strings_of (map argument_tree lists.params.now))
-    → name_in z ≡ find p (strings_of (map argument_tree lists.others.now)) → name_in (option_or (option_or x y) z) ≡ find p (strings_of (all_lists lists))
-found_in_lists p lists x y z hx hy hz =
-    let a = map argument_tree lists.first.now in
-    let b = map argument_tree lists.params.now in
-    let c = map argument_tree lists.others.now in
-    let both = ap (λ o. option_or o (name_in y)) hx ∙ ap (option_or (find p (strings_of a))) hy ∙ sym (find-append p (strings_of a) (strings_of b)) ∙ ap (find p) (sym (flat_map-append strings_in a b)) in
-    name_or (option_or x y) z ∙ ap (λ o. option_or o (name_in z)) (name_or x y ∙ both) ∙ ap (option_or (find p (strings_of (a ++ b)))) hz
-    ∙ sym (find-append p (strings_of (a ++ b)) (strings_of c))
-    ∙ ap (find p) (sym (flat_map-append strings_in (a ++ b) c))
+among_both : (p : List ℕ → Bool) (xs ys : List ArgumentTree) → option_or (among p xs) (among p ys) ≡ among p (xs ++ ys)
+among_both p xs ys = sym (ap (find p) (flat_map-append strings_in xs ys) ∙ find-append p (strings_of xs) (strings_of ys))
+
+-- that of three lists: in the first of them, or else in the second, or else in the third
+module _ (p : List ℕ → Bool) (xs ys zs : List ArgumentTree) where
+  in_all : option_or (option_or (among p xs) (among p ys)) (among p zs) ≡ among p (xs ++ ys ++ zs)
+  in_all = ap (λ o. option_or o (among p zs)) (among_both p xs ys) ∙ among_both p (xs ++ ys) zs
+
+  pub in_first : (x : List ℕ) → Some x ≡ among p xs → Some x ≡ among p (xs ++ ys ++ zs)
+  in_first x h = ap (λ o. option_or (option_or o (among p ys)) (among p zs)) h ∙ in_all
+
+  pub in_second : (x : List ℕ) → None ≡ among p xs → Some x ≡ among p ys → Some x ≡ among p (xs ++ ys ++ zs)
+  in_second x none h = ap (λ o. option_or o (among p zs)) h ∙ ap (λ o. option_or (option_or o (among p ys)) (among p zs)) none ∙ in_all
+
+  pub in_third : None ≡ among p xs → None ≡ among p ys → among p zs ≡ among p (xs ++ ys ++ zs)
+  in_third none none_too = ap (λ o. option_or o (among p zs)) none_too ∙ ap (λ o. option_or (option_or o (among p ys)) (among p zs)) none ∙ in_all

@@ -1,18 +1,17 @@
 -- What holds while tags are read.
 use Rattle.std.proofs.Common.{◌≡◌, ◌∙◌, ◌⊎◌, ℕ, zero, suc, ◌<◌, ◌==◌, Bool, true, false, not, if◌then◌else◌, List, [], ◌∷◌, ◌++◌, take, drop, Option, Some, None, refl, sym, ap, subst, arith, inl, inr}
-use Rattle.std.specs.Prelude.{is_some}
 use Rattle.std.proofs.lemmas.Bool.{eq-eqb}
 use Rattle.std.proofs.lemmas.Option.{same_Some}
-use Rattle.sieve_parser.specs.Tree.{ArgumentTree, text, text_list, amount, label}
-use Rattle.sieve_check.specs.declared.names.Piece.{Piece}
-use Rattle.sieve_check.specs.declared.names.Piece.TheVariants.{Main, Sub, ContentType, Params}
+use Rattle.sieve_parser.specs.Tree.{ArgumentTree, text, amount, label}
+use Rattle.bytecode_format.specs.declared.selection.Selector.{Selector}
+use Rattle.bytecode_format.specs.declared.selection.Selector.TheVariants.{Value, Param}
 use Rattle.sieve_check.specs.declared.names.Tag.{Tag}
-use Rattle.sieve_check.specs.declared.names.Tag.TheVariants.{Order, Kind, Comparator, Letters, FirstLetter, QuoteWildcard, Length, Mime, AnyChild, Select, Name, First}
+use Rattle.sieve_check.specs.declared.names.Tag.TheVariants.{Comparator, Select, Name, First}
 use Rattle.sieve_check.specs.declared.signature.Signature.{Signature}
 use Rattle.sieve_check.specs.declared.signature.Tags.{Tags}
 use Rattle.sieve_check.specs.Names.{comparator_named, tag_named}
 use Rattle.sieve_check.specs.Rules.{lists_read}
-use Rattle.sieve_check.specs.Signatures.{Read, Given, nothing_given, takes_tag, with_tag, tags_with, add_tag, awaited, is_list, with_argument, tags_read, is_complete, reading}
+use Rattle.sieve_check.specs.Signatures.{Read, Given, nothing_given, takes_tag, with_tag, tags_with, add_tag, awaited, selects, is_list, with_argument, tags_read, is_complete, reading}
 use Rattle.sieve_check.proofs.Options.{step_some, map_some, if_some, both_true, not_both}
 
 -- ---- one tag, and its argument
@@ -52,62 +51,33 @@ same_number given more same counted n h = counted n (sym same ∙ h)
 -- of a comparator, a name or a number, and of `:param`; and what was counted stays so
 abbrev pub IsTaken : Tag → ArgumentTree → Given → Given → Type 0
 IsTaken tag a given more =
-    ((((tag ≡ Comparator) ⊎ ((tag ≡ Name) ⊎ (tag ≡ First))) × (more.params ≡ given.params) × (more.tags.piece ≡ given.tags.piece)) ⊎ ((tag ≡ Select Params) × (is_list a ≡ true) × (with_params a given ≡ more)))
+    ((((tag ≡ Comparator) ⊎ ((tag ≡ Name) ⊎ (tag ≡ First))) × (more.params ≡ given.params) × (more.tags.selector ≡ given.tags.selector)) ⊎ ((tag ≡ Select Param) × (is_list a ≡ true) × (with_params a given ≡ more)))
     × (IsCounted given → IsCounted more)
 
 pub argument_taken : (tag : Tag) (a : ArgumentTree) (given more : Given) → with_argument tag a given ≡ Some more → IsTaken tag a given more
 argument_taken Comparator (text s) given more h =
     let c = map_some (comparator_named s) _ more h in
     let same = sym (same_Some _ more c.2) in
-    (inl (inl refl, ap (λ (g : Given). g.params) same, ap (λ (g : Given). g.tags.piece) same), same_number given more (ap (λ (g : Given). g.tags.first) same))
-argument_taken (Select Params) a given more h =
+    (inl (inl refl, ap (λ (g : Given). g.params) same, ap (λ (g : Given). g.tags.selector) same), same_number given more (ap (λ (g : Given). g.tags.first) same))
+argument_taken (Select Param) a given more h =
     let c = if_some (is_list a) (with_params a given) more h in
     let same = same_Some (with_params a given) more c.1 in
     (inr (refl, c.0, same), same_number given more (ap (λ (g : Given). g.tags.first) (sym same)))
 argument_taken Name (text s) given more h =
     let named : Given = record given { name = Some s } in
     let same = sym (same_Some named more h) in
-    (inl (inr (inl refl), ap (λ (g : Given). g.params) same, ap (λ (g : Given). g.tags.piece) same), same_number given more (ap (λ (g : Given). g.tags.first) same))
+    (inl (inr (inl refl), ap (λ (g : Given). g.params) same, ap (λ (g : Given). g.tags.selector) same), same_number given more (ap (λ (g : Given). g.tags.first) same))
 argument_taken First (amount n) given more h =
     let c = number_taken n given more h in
     let counted : IsCounted given → IsCounted more =
     λ counted m is. let same : n ≡ m = same_Some n m (sym (ap (λ (g : Given). g.tags.first) c.1) ∙ is) in omega (arith, c.0, same) in
-    (inl (inr (inr refl), ap (λ (g : Given). g.params) c.1, ap (λ (g : Given). g.tags.piece) c.1), counted)
-argument_taken Comparator (text_list s ss) given more h = absurd (cc)
-argument_taken Comparator (amount n) given more h = absurd (cc)
-argument_taken Comparator (label name) given more h = absurd (cc)
-argument_taken (Order order) a given more h = absurd (cc)
-argument_taken (Kind kind) a given more h = absurd (cc)
-argument_taken (Letters case) a given more h = absurd (cc)
-argument_taken (FirstLetter case) a given more h = absurd (cc)
-argument_taken QuoteWildcard a given more h = absurd (cc)
-argument_taken Length a given more h = absurd (cc)
-argument_taken Mime a given more h = absurd (cc)
-argument_taken AnyChild a given more h = absurd (cc)
-argument_taken (Select Main) a given more h = absurd (cc)
-argument_taken (Select Sub) a given more h = absurd (cc)
-argument_taken (Select ContentType) a given more h = absurd (cc)
-argument_taken Name (text_list s ss) given more h = absurd (cc)
-argument_taken Name (amount n) given more h = absurd (cc)
-argument_taken Name (label name) given more h = absurd (cc)
-argument_taken First (text s) given more h = absurd (cc)
-argument_taken First (text_list s ss) given more h = absurd (cc)
-argument_taken First (label name) given more h = absurd (cc)
+    (inl (inr (inr refl), ap (λ (g : Given). g.params) c.1, ap (λ (g : Given). g.tags.selector) c.1), counted)
+argument_taken _ _ given more h = absurd (cc)
 
 -- a tag by itself gives no number
 tag_counted : (tag : Tag) (given : Given) → IsCounted given → IsCounted (with_more tag given)
-tag_counted (Order order) given counted = counted
-tag_counted (Kind kind) given counted = counted
 tag_counted Comparator given counted = counted
-tag_counted (Letters case) given counted = counted
-tag_counted (FirstLetter case) given counted = counted
-tag_counted QuoteWildcard given counted = counted
-tag_counted Length given counted = counted
-tag_counted Mime given counted = counted
-tag_counted AnyChild given counted = counted
-tag_counted (Select piece) given counted = counted
-tag_counted Name given counted = counted
-tag_counted First given counted = counted
+tag_counted _ given counted = counted
 
 -- ---- what each step keeps
 
@@ -121,15 +91,12 @@ module _ (signature : Signature) (P : Option Tag → Given → List ArgumentTree
 
   module _ (kept : IsKept) where
     pub kept_to_end : (given : Given) (last : Option Tag) (args : List ArgumentTree) (read : Read) → tags_read signature given last args ≡ Some read → P last given args → P None (given_in read) read.positional
-    kept_to_end given None [] read h p = subst (λ (r : Read). P None (given_in r) r.positional) (same_Some _ read h) p
-    kept_to_end given None (text s ∷ args) read h p = subst (λ (r : Read). P None (given_in r) r.positional) (same_Some _ read h) p
-    kept_to_end given None (text_list s ss ∷ args) read h p = subst (λ (r : Read). P None (given_in r) r.positional) (same_Some _ read h) p
-    kept_to_end given None (amount n ∷ args) read h p = subst (λ (r : Read). P None (given_in r) r.positional) (same_Some _ read h) p
     kept_to_end given None (label name ∷ args) read h p =
         let tag = step_some (tag_named name) _ read h in
         let more = step_some (add_tag signature tag.0 given) _ read tag.2 in
         let step = added signature tag.0 given more.0 more.1 in
         kept_to_end more.0 (awaited tag.0) args read more.2 (subst (λ (g : Given). P (awaited tag.0) g args) step.1 (kept.tag tag.0 name given args step.0 p))
+    kept_to_end given None args read h p = subst (λ (r : Read). P None (given_in r) r.positional) (same_Some _ read h) p
     kept_to_end given (Some tag) [] read h p = absurd (cc)
     kept_to_end given (Some tag) (a ∷ args) read h p =
         let more = step_some (with_argument tag a given) _ read h in
@@ -144,53 +111,34 @@ module _ (signature : Signature) (P : Option Tag → Given → List ArgumentTree
 -- ---- the argument of `:param`
 
 -- it is there where that is
-abbrev pub HasArgument : Option Piece → List ArgumentTree → Type 0
-HasArgument None params = params ≡ []
-HasArgument (Some Main) params = params ≡ []
-HasArgument (Some Sub) params = params ≡ []
-HasArgument (Some ContentType) params = params ≡ []
-HasArgument (Some Params) params = (a : ArgumentTree) × (params ≡ a ∷ []) × (is_list a ≡ true)
+abbrev pub HasArgument : Selector → List ArgumentTree → Type 0
+HasArgument Param params = (a : ArgumentTree) × (params ≡ a ∷ []) × (is_list a ≡ true)
+HasArgument _ params = params ≡ []
 
 -- the same, where the last tag may still await its argument
 abbrev Awaits : Option Tag → Given → Type 0
-Awaits (Some (Select Params)) given = given.tags.piece ≡ Some Params
-Awaits _ given = HasArgument given.tags.piece given.params
+Awaits (Some (Select Param)) given = given.tags.selector ≡ Param
+Awaits _ given = HasArgument given.tags.selector given.params
 
 -- and nothing is selected where the signature doesn't say so
 pub record IsSelecting (signature : Signature) (last : Option Tag) (given : Given) (args : List ArgumentTree) : Type 0 where
   pub params : Awaits last given
-  pub unselected : signature.selecting ≡ false → given.tags.piece ≡ None
+  pub unselected : signature.selecting ≡ false → given.tags.selector ≡ Value
 
-none_yet : (o : Option Piece) (params : List ArgumentTree) → not (is_some o) ≡ true → HasArgument o params → params ≡ []
-none_yet None params h has = has
-none_yet (Some piece) params h has = absurd (cc)
+none_yet : (selector : Selector) (params : List ArgumentTree) → not (selects selector) ≡ true → HasArgument selector params → params ≡ []
+none_yet Value params h has = has
+none_yet _ params h has = absurd (cc)
 
 tag_selecting : (signature : Signature) (tag : Tag) (name : List ℕ) (given : Given) (args : List ArgumentTree) → takes_tag signature tag given.tags ≡ true → IsSelecting signature None given (label name ∷ args) → IsSelecting signature (awaited tag) (with_more tag given) args
-tag_selecting signature (Order order) name given args h is = record { params = is.params; unselected = is.unselected }
-tag_selecting signature (Kind kind) name given args h is = record { params = is.params; unselected = is.unselected }
-tag_selecting signature Comparator name given args h is = record { params = is.params; unselected = is.unselected }
-tag_selecting signature (Letters case) name given args h is = record { params = is.params; unselected = is.unselected }
-tag_selecting signature First name given args h is = record { params = is.params; unselected = is.unselected }
-tag_selecting signature (FirstLetter case) name given args h is = record { params = is.params; unselected = is.unselected }
-tag_selecting signature QuoteWildcard name given args h is = record { params = is.params; unselected = is.unselected }
-tag_selecting signature Length name given args h is = record { params = is.params; unselected = is.unselected }
-tag_selecting signature Mime name given args h is = record { params = is.params; unselected = is.unselected }
-tag_selecting signature AnyChild name given args h is = record { params = is.params; unselected = is.unselected }
-tag_selecting signature Name name given args h is = record { params = is.params; unselected = is.unselected }
-tag_selecting signature (Select Main) name given args h is =
-    let taken = both_true signature.selecting _ h in
-    record { params = none_yet given.tags.piece given.params taken.1 is.params; unselected = λ plain. absurd (not_both signature.selecting taken.0 plain) }
-tag_selecting signature (Select Sub) name given args h is =
-    let taken = both_true signature.selecting _ h in
-    record { params = none_yet given.tags.piece given.params taken.1 is.params; unselected = λ plain. absurd (not_both signature.selecting taken.0 plain) }
-tag_selecting signature (Select ContentType) name given args h is =
-    let taken = both_true signature.selecting _ h in
-    record { params = none_yet given.tags.piece given.params taken.1 is.params; unselected = λ plain. absurd (not_both signature.selecting taken.0 plain) }
-tag_selecting signature (Select Params) name given args h is =
+tag_selecting signature (Select Param) name given args h is =
     let taken = both_true signature.selecting _ h in
     record { params = refl; unselected = λ plain. absurd (not_both signature.selecting taken.0 plain) }
+tag_selecting signature (Select _) name given args h is =
+    let taken = both_true signature.selecting _ h in
+    record { params = none_yet given.tags.selector given.params taken.1 is.params; unselected = λ plain. absurd (not_both signature.selecting taken.0 plain) }
+tag_selecting signature _ name given args h is = record { params = is.params; unselected = is.unselected }
 
-plain_awaits : (tag : Tag) (given : Given) → (tag ≡ Comparator) ⊎ ((tag ≡ Name) ⊎ (tag ≡ First)) → Awaits (Some tag) given → HasArgument given.tags.piece given.params
+plain_awaits : (tag : Tag) (given : Given) → (tag ≡ Comparator) ⊎ ((tag ≡ Name) ⊎ (tag ≡ First)) → Awaits (Some tag) given → HasArgument given.tags.selector given.params
 plain_awaits tag given is awaits =
     elim is [
       | inl comparator ↦ subst (λ t. Awaits (Some t) given) comparator awaits
@@ -206,13 +154,13 @@ argument_selecting signature tag a given more args h is =
       | inl c ↦
           let params = plain_awaits tag given c.0 is.params in
           record {
-            params = subst (λ piece. HasArgument piece more.params) (sym c.2) (subst (HasArgument given.tags.piece) (sym c.1) params);
+            params = subst (λ selector. HasArgument selector more.params) (sym c.2) (subst (HasArgument given.tags.selector) (sym c.1) params);
             unselected = λ plain. c.2 ∙ is.unselected plain;
           }
       | inr c ↦
-          let piece : given.tags.piece ≡ Some Params = subst (λ t. Awaits (Some t) given) c.0 is.params in
+          let param : given.tags.selector ≡ Param = subst (λ t. Awaits (Some t) given) c.0 is.params in
           subst (λ (g : Given). IsSelecting signature None g args) c.2 (record {
-            params = subst (λ piece. HasArgument piece (a ∷ [])) (sym piece) (a, refl, c.1);
+            params = subst (λ selector. HasArgument selector (a ∷ [])) (sym param) (a, refl, c.1);
             unselected = is.unselected;
           })
     ]
@@ -239,5 +187,5 @@ none_between (x ∷ xs) = refl
 pub only_behind : (signature : Signature) (args : List ArgumentTree) (read : Read) → signature.selecting ≡ false → reading signature args ≡ Some read → lists_read read ≡ read.positional
 only_behind signature args read plain h =
     let is = selecting_read signature args read h in
-    let params : read.params ≡ [] = subst (λ piece. HasArgument piece read.params) (is.unselected plain) is.params in
+    let params : read.params ≡ [] = subst (λ selector. HasArgument selector read.params) (is.unselected plain) is.params in
     ap (λ params. take 1 read.positional ++ params ++ drop 1 read.positional) params ∙ none_between read.positional

@@ -24,21 +24,15 @@ use Rattle.sieve_check.specs.Variables.{segment_variables, string_variables, str
 
 meant_few : (p : references.Segment) → length (meant p) ≤ 1
 meant_few (stretch octets) = omega arith
-meant_few (variable name) = omega arith
-meant_few (capture n) = omega arith
-meant_few beyond = omega arith
-meant_few foreign = omega arith
+meant_few _ = omega arith
 
 all_few : (ps : List references.Segment) → length (flat_map meant ps) ≤ length ps
 all_few [] = omega arith
 all_few (p ∷ ps) = omega (arith, meant_few p, all_few ps, length-append (meant p) (flat_map meant ps))
 
 meant_fits : (p : references.Segment) → sum_by segment_extent (meant p) ≤ extent_of p
-meant_fits (stretch octets) = omega arith
 meant_fits (variable name) = omega (arith, length-map name to_ascii_lowercase)
-meant_fits (capture n) = omega arith
-meant_fits beyond = omega arith
-meant_fits foreign = omega arith
+meant_fits _ = omega arith
 
 all_fit : (ps : List references.Segment) → sum_by segment_extent (flat_map meant ps) ≤ sum_by extent_of ps
 all_fit [] = omega arith
@@ -46,10 +40,7 @@ all_fit (p ∷ ps) = omega (arith, meant_fits p, all_fit ps, sum_by-append segme
 
 meant_written : (p : references.Segment) → IsWellFormed p → length (meant p) ≤ sum_by segment_extent (meant p)
 meant_written (stretch octets) formed = omega (arith, formed)
-meant_written (variable name) formed = omega arith
-meant_written (capture n) formed = omega arith
-meant_written beyond formed = omega arith
-meant_written foreign formed = omega arith
+meant_written _ formed = omega arith
 
 all_written : (ps : List references.Segment) → All IsWellFormed ps → length (flat_map meant ps) ≤ sum_by segment_extent (flat_map meant ps)
 all_written [] formed = omega arith
@@ -63,11 +54,8 @@ all_written (p ∷ ps) formed = omega (
 
 same_names : (ps : List references.Segment) → flat_map segment_variables (flat_map meant ps) ≡ flat_map names_of ps
 same_names [] = refl
-same_names (stretch octets ∷ ps) = same_names ps
 same_names (variable name ∷ ps) = ap (λ names. lowercase_of name ∷ names) (same_names ps)
-same_names (capture n ∷ ps) = same_names ps
-same_names (beyond ∷ ps) = same_names ps
-same_names (foreign ∷ ps) = same_names ps
+same_names (_ ∷ ps) = same_names ps
 
 all_bounded : (most : ℕ) → most ≤ max_string → (ps : List references.Segment) → All (λ p. extent_of p ≤ most) ps → All IsWellFormed ps → All IsBoundedSegment (flat_map meant ps)
 all_bounded most short [] fit formed = All-nil IsBoundedSegment
@@ -78,8 +66,7 @@ all_bounded most short (p ∷ ps) fit formed =
     with (stretch octets) fits well others = All-cons IsBoundedSegment (Text octets) (flat_map meant ps) (omega (arith, fits, short)) others
     with (variable name) fits well others = All-cons IsBoundedSegment (Variable (lowercase_of name)) (flat_map meant ps) tt others
     with (capture n) fits well others = All-cons IsBoundedSegment (Capture n) (flat_map meant ps) well others
-    with beyond fits well others = others
-    with foreign fits well others = others
+    with _ fits well others = others
 
 -- ---- strings: b says whether variables were required
 

@@ -7,7 +7,7 @@ use Rattle.std.proofs.lemmas.Bool.{ltb-false, ltb-true}
 use Rattle.std.proofs.lemmas.Grind.{flat_map-append}
 use Rattle.std.proofs.lemmas.List.{append-nil}
 use Rattle.octets.specs.Limits.{max_test_strings}
-use Rattle.sieve_parser.specs.Tree.{ArgumentTree, text, text_list, amount, label, InvocationTree, invocation, TestsTree, no_test, one_test, test_list, MoreTests, last as no_more, next}
+use Rattle.sieve_parser.specs.Tree.{ArgumentTree, amount, InvocationTree, invocation, TestsTree, no_test, one_test, test_list, MoreTests, last as no_more, next}
 use Rattle.sieve_check.specs.declared.causes.ReasonKind.{ReasonKind}
 use Rattle.sieve_check.specs.declared.causes.ReasonKind.TheVariants.{UnknownTest, LongString, ManyStrings, Misplaced, WrongTests}
 use Rattle.sieve_check.specs.declared.names.TestName.{TestName}
@@ -76,7 +76,7 @@ pub record TestWellFormed (s : Context) (name : TestName) (args : List ArgumentT
   pub stands : test_may_stand s name ≡ true
   pub same : same_tests (test_signature name).tests tests ≡ true
   pub form : WellFormed (test_signature name) args
-  pub params : HasArgument form.read.tags.piece form.read.params
+  pub params : HasArgument form.read.tags.selector form.read.params
   pub few : length (strings_of (lists_read form.read)) ≤ max_test_strings
   pub sound : All (IsSound (expands s)) (strings_of (lists_read form.read))
 
@@ -144,11 +144,7 @@ unnamed b (x ∷ xs) h = absurd (cc)
 
 numbered : (b : Bool) (xs : List ArgumentTree) → is_positional positional.Number xs ≡ true → (n : ℕ) × (number_in xs ≡ Some n) × ([] ≡ mentioned_at b (expanding (strings_of xs)))
 numbered b (amount n ∷ []) h = (n, refl, sym (expanding_names b []))
-numbered b [] h = absurd (cc)
-numbered b (text s ∷ xs) h = absurd (cc)
-numbered b (text_list s ss ∷ xs) h = absurd (cc)
-numbered b (label name ∷ xs) h = absurd (cc)
-numbered b (amount n ∷ x ∷ xs) h = absurd (cc)
+numbered b _ h = absurd (cc)
 
 -- the names that a test brings by its own arguments
 abbrev own_names : Context → Read → List (List ℕ)
@@ -194,7 +190,7 @@ behind_tags s read alone few sound = record {
 }
 
 made : (s : Context) (name : TestName) (read : Read) (inner : InnerForms) → is_complete (test_signature name) read ≡ true → ((test_signature name).selecting ≡ false → lists_read read ≡ read.positional)
-    → same_tests (test_signature name).tests (inner_kind inner) ≡ true → HasArgument read.tags.piece read.params → length (strings_of (lists_read read)) ≤ max_test_strings → All (IsSound (expands s)) (strings_of (lists_read read)) → IsBoundedInner inner
+    → same_tests (test_signature name).tests (inner_kind inner) ≡ true → HasArgument read.tags.selector read.params → length (strings_of (lists_read read)) ≤ max_test_strings → All (IsSound (expands s)) (strings_of (lists_read read)) → IsBoundedInner inner
     → test_may_stand s name ≡ true → IsInnerIn (length s.loops) inner → Made (length s.loops) (own_names s read ++ inner_variables inner) (test_of s name read inner)
 made s (Constant b) read none complete alone same params few sound inside stands around = record { form = constant b; is = refl; bounded = tt; around = tt; variables = ap (λ names. names ++ []) (none_own s (test_signature (Constant b)) read refl complete (alone refl)) }
 made s Not read (one f) complete alone same params few sound inside stands around = record { form = negation f; is = refl; bounded = inside; around = around; variables = ap (λ names. names ++ test_variables f) (none_own s (test_signature Not) read refl complete (alone refl)) }
@@ -207,7 +203,7 @@ made s PartSize read none complete alone same params few sound inside stands aro
     let parts = complete_parts (test_signature PartSize) read complete in
     sized s part_size (λ order n. tt) (λ order n. ltb-true 0 (length s.loops) stands) (λ order n. refl) read parts.0 parts.1 (alone refl)
 made s Header read none complete alone same params few sound inside stands around =
-    let lists = three_listed s (header (match_of read.tags) (scope_of read.tags)) read.tags.piece read.params read.positional (complete_parts (test_signature Header) read complete).1 params few sound in
+    let lists = three_listed s (header (match_of read.tags) (scope_of read.tags)) read.tags.selector read.params read.positional (complete_parts (test_signature Header) read complete).1 params few sound in
     record { form = header (match_of read.tags) (scope_of read.tags) lists.selected lists.first lists.second; is = lists.is; bounded = lists.bounded; around = tt; variables = listed_names s read _ lists.names }
 made s Exists read none complete alone same params few sound inside stands around =
     let behind = behind_tags s read (alone refl) few sound in
@@ -225,28 +221,7 @@ made s String read none complete alone same params few sound inside stands aroun
     let behind = behind_tags s read (alone refl) few sound in
     let lists = two_listed s (string (match_of read.tags)) read.positional (complete_parts (test_signature String) read complete).1 behind.few behind.sound in
     record { form = string (match_of read.tags) lists.first lists.second; is = lists.is; bounded = lists.bounded; around = tt; variables = positional_names s read _ (alone refl) lists.names }
-made s (Constant b) read (one f) complete alone same params few sound inside stands around = absurd (cc)
-made s (Constant b) read (bracketed f fs) complete alone same params few sound inside stands around = absurd (cc)
-made s Not read none complete alone same params few sound inside stands around = absurd (cc)
-made s Not read (bracketed f fs) complete alone same params few sound inside stands around = absurd (cc)
-made s AllOf read none complete alone same params few sound inside stands around = absurd (cc)
-made s AllOf read (one f) complete alone same params few sound inside stands around = absurd (cc)
-made s AnyOf read none complete alone same params few sound inside stands around = absurd (cc)
-made s AnyOf read (one f) complete alone same params few sound inside stands around = absurd (cc)
-made s Header read (one f) complete alone same params few sound inside stands around = absurd (cc)
-made s Header read (bracketed f fs) complete alone same params few sound inside stands around = absurd (cc)
-made s Exists read (one f) complete alone same params few sound inside stands around = absurd (cc)
-made s Exists read (bracketed f fs) complete alone same params few sound inside stands around = absurd (cc)
-made s Size read (one f) complete alone same params few sound inside stands around = absurd (cc)
-made s Size read (bracketed f fs) complete alone same params few sound inside stands around = absurd (cc)
-made s String read (one f) complete alone same params few sound inside stands around = absurd (cc)
-made s String read (bracketed f fs) complete alone same params few sound inside stands around = absurd (cc)
-made s PartSize read (one f) complete alone same params few sound inside stands around = absurd (cc)
-made s PartSize read (bracketed f fs) complete alone same params few sound inside stands around = absurd (cc)
-made s PartBody read (one f) complete alone same params few sound inside stands around = absurd (cc)
-made s PartBody read (bracketed f fs) complete alone same params few sound inside stands around = absurd (cc)
-made s PartDigest read (one f) complete alone same params few sound inside stands around = absurd (cc)
-made s PartDigest read (bracketed f fs) complete alone same params few sound inside stands around = absurd (cc)
+made s _ read _ complete alone same params few sound inside stands around = absurd (cc)
 
 -- ---- any test
 

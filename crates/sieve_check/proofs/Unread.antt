@@ -25,59 +25,23 @@ IsWhole p args = (first_label args ≡ None) × (nat_lt (length args) (number_of
 one_list : (a : ArgumentTree) → is_list a ≡ true → IsWhole OneList (a ∷ [])
 one_list (text s) h = (refl, refl, refl)
 one_list (text_list s ss) h = (refl, refl, refl)
-one_list (amount n) h = absurd (cc)
-one_list (label name) h = absurd (cc)
+one_list _ h = absurd (cc)
 
 two_lists : (a b : ArgumentTree) → (is_list a && is_list b) ≡ true → IsWhole TwoLists (a ∷ b ∷ [])
 two_lists (text s) (text t) h = (refl, refl, refl)
 two_lists (text s) (text_list t ts) h = (refl, refl, refl)
-two_lists (text s) (amount n) h = absurd (cc)
-two_lists (text s) (label name) h = absurd (cc)
 two_lists (text_list s ss) (text t) h = (refl, refl, refl)
 two_lists (text_list s ss) (text_list t ts) h = (refl, refl, refl)
-two_lists (text_list s ss) (amount n) h = absurd (cc)
-two_lists (text_list s ss) (label name) h = absurd (cc)
-two_lists (amount n) b h = absurd (cc)
-two_lists (label name) b h = absurd (cc)
+two_lists _ _ h = absurd (cc)
 
 whole : (p : Positional) (args : List ArgumentTree) → is_positional p args ≡ true → IsWhole p args
 whole Nothing [] h = (refl, refl, refl)
-whole Nothing (a ∷ args) h = absurd (cc)
-whole Number [] h = absurd (cc)
 whole Number (amount n ∷ []) h = (refl, refl, refl)
-whole Number (text s ∷ []) h = absurd (cc)
-whole Number (text_list s ss ∷ []) h = absurd (cc)
-whole Number (label name ∷ []) h = absurd (cc)
-whole Number (text s ∷ b ∷ args) h = absurd (cc)
-whole Number (text_list s ss ∷ b ∷ args) h = absurd (cc)
-whole Number (amount n ∷ b ∷ args) h = absurd (cc)
-whole Number (label name ∷ b ∷ args) h = absurd (cc)
-whole Text [] h = absurd (cc)
 whole Text (text s ∷ []) h = (refl, refl, refl)
-whole Text (text_list s ss ∷ []) h = absurd (cc)
-whole Text (amount n ∷ []) h = absurd (cc)
-whole Text (label name ∷ []) h = absurd (cc)
-whole Text (text s ∷ b ∷ args) h = absurd (cc)
-whole Text (text_list s ss ∷ b ∷ args) h = absurd (cc)
-whole Text (amount n ∷ b ∷ args) h = absurd (cc)
-whole Text (label name ∷ b ∷ args) h = absurd (cc)
-whole TwoTexts [] h = absurd (cc)
-whole TwoTexts (text_list s ss ∷ args) h = absurd (cc)
-whole TwoTexts (amount n ∷ args) h = absurd (cc)
-whole TwoTexts (label name ∷ args) h = absurd (cc)
-whole TwoTexts (text s ∷ []) h = absurd (cc)
 whole TwoTexts (text s ∷ text t ∷ []) h = (refl, refl, refl)
-whole TwoTexts (text s ∷ text_list t ts ∷ args) h = absurd (cc)
-whole TwoTexts (text s ∷ amount n ∷ args) h = absurd (cc)
-whole TwoTexts (text s ∷ label name ∷ args) h = absurd (cc)
-whole TwoTexts (text s ∷ text t ∷ c ∷ args) h = absurd (cc)
-whole OneList [] h = absurd (cc)
 whole OneList (a ∷ []) h = one_list a h
-whole OneList (a ∷ b ∷ args) h = absurd (cc)
-whole TwoLists [] h = absurd (cc)
-whole TwoLists (a ∷ []) h = absurd (cc)
 whole TwoLists (a ∷ b ∷ []) h = two_lists a b h
-whole TwoLists (a ∷ b ∷ c ∷ args) h = absurd (cc)
+whole _ _ h = absurd (cc)
 
 -- a tag is among them, or they are too few, too many or others, unless they are right
 one_of_four : (late : Option Cause) (few many right : Bool) (x y z : Cause) → (right ≡ true → (late ≡ None) × (few ≡ false) × (many ≡ false))
@@ -144,11 +108,8 @@ either_way (Some x) cause f g k h = h x
 -- where no tag is next, the arguments that are left stand behind the tags
 pub behind_tags : (signature : Signature) (all : List ArgumentTree) (given : Given) (args : List ArgumentTree) → ((name : List ℕ) (rest : List ArgumentTree) → args ≡ label name ∷ rest → ⊥)
     → option_or (positional_cause signature.positional args) (missing_cause signature given.tags all) ≡ rest_cause signature all given None args
-behind_tags signature all given [] none = refl
-behind_tags signature all given (text s ∷ args) none = refl
-behind_tags signature all given (text_list s ss ∷ args) none = refl
-behind_tags signature all given (amount n ∷ args) none = refl
 behind_tags signature all given (label name ∷ args) none = absurd (none name args refl)
+behind_tags signature all given args none = refl
 
 abbrev tag_of : Option Awaiting → Option Tag
 tag_of = option_map (λ (a : Awaiting). a.tag)
@@ -162,10 +123,6 @@ end_of given args = record { tags = given.tags; params = given.params; name = gi
 
 rest_either : (signature : Signature) (all : List ArgumentTree) (given : Given) (last : Option Awaiting) (args : List ArgumentTree)
     → is_some (rest_cause signature all given last args) ≡ not (is_some (tags_read signature given (tag_of last) args >>= complete signature))
-rest_either signature all given None [] = end_either signature all (end_of given [])
-rest_either signature all given None (text s ∷ args) = end_either signature all (end_of given (text s ∷ args))
-rest_either signature all given None (text_list s ss ∷ args) = end_either signature all (end_of given (text_list s ss ∷ args))
-rest_either signature all given None (amount n ∷ args) = end_either signature all (end_of given (amount n ∷ args))
 rest_either signature all given None (label name ∷ args) =
     either_way (tag_named name) (about UnknownTag name)
     (λ tag. or_cause (add_tag signature tag given) (about (untaken_kind signature tag given.tags) name) (λ more. rest_cause signature all more (awaiting name tag) args))
@@ -175,6 +132,7 @@ rest_either signature all given None (label name ∷ args) =
     either_way (add_tag signature tag given) (about (untaken_kind signature tag given.tags) name)
     (λ more. rest_cause signature all more (awaiting name tag) args) (λ more. tags_read signature more (awaited tag) args) (complete signature)
     (λ more. rest_either signature all more (awaiting name tag) args ∙ ap (λ (t : Option Tag). not (is_some (tags_read signature more t args >>= complete signature))) (tag_awaited name (awaited tag))))
+rest_either signature all given None args = end_either signature all (end_of given args)
 rest_either signature all given (Some last) [] = refl
 rest_either signature all given (Some last) (a ∷ args) =
     either_way (with_argument last.tag a given) (about (TagArgument last.tag) last.name)
@@ -212,11 +170,8 @@ behind_tag signature all given args name rest tag tags is named taken =
 -- where no tag is next, and nothing is wrong with what is left
 behind_read : (signature : Signature) (given : Given) (args : List ArgumentTree) → ((name : List ℕ) (rest : List ArgumentTree) → args ≡ label name ∷ rest → ⊥)
     → tags_read signature given None args ≡ Some (end_of given args)
-behind_read signature given [] none = refl
-behind_read signature given (text s ∷ args) none = refl
-behind_read signature given (text_list s ss ∷ args) none = refl
-behind_read signature given (amount n ∷ args) none = refl
 behind_read signature given (label name ∷ args) none = absurd (none name args refl)
+behind_read signature given args none = refl
 
 pub read_to_end : (signature : Signature) (all : List ArgumentTree) (given : Given) (args : List ArgumentTree) → ((name : List ℕ) (rest : List ArgumentTree) → args ≡ label name ∷ rest → ⊥)
     → option_or (positional_cause signature.positional args) (missing_cause signature given.tags all) ≡ None → tags_read signature given None args ≡ tags_read signature nothing_given None all

@@ -1,9 +1,9 @@
 -- Visits, one after another.
-use Rattle.std.proofs.Common.{◌≡◌, ℕ, zero, suc, ◌≤◌, nat_lt, bytes_eq, true, false, if◌then◌else◌, List, [], ◌∷◌, ◌++◌, length, map, take, Some, None, option_map, refl, sym, ap, subst, ◌∙◌, ◌≢◌, arith, length-append}
+use Rattle.std.proofs.Common.{◌≡◌, ℕ, ◌≤◌, nat_lt, bytes_eq, true, false, if◌then◌else◌, List, [], ◌∷◌, ◌++◌, length, map, take, Some, None, option_map, refl, sym, ap, subst, ◌∙◌, ◌≢◌, arith, length-append}
 use Rattle.std.specs.Prelude.{is_some}
 use Rattle.std.specs.Option.{option_or, option_to_list}
 use Rattle.std.proofs.lemmas.Bool.{le-ltb}
-use Rattle.std.proofs.lemmas.List.{append-nil, append_assoc, length-map, map-append, take-append-le, take_all}
+use Rattle.std.proofs.lemmas.List.{append_assoc, length-map, map-append, take_all}
 use Rattle.arrayvec.specs.ArrayVec.{ArrayVec}
 use Rattle.octets.specs.Limits.{max_variables}
 use Rattle.octets.specs.Once.{is_listed, with_one, with_more}
@@ -13,7 +13,7 @@ use Rattle.sieve_check.specs.declared.causes.Refused.{Refused}
 use Rattle.sieve_check.specs.declared.findings.Findings.{Findings}
 use Rattle.sieve_check.specs.Causes as causes
 use Rattle.sieve_check.specs.Causes.{plain, refused_for}
-use Rattle.sieve_check.specs.Reading.{refused_view}
+use Rattle.sieve_check.specs.ReasonView.{refused_view}
 use Rattle.sieve_check.specs.Refusing.{AreVisited, listed, names_after, refused_in}
 use Rattle.sieve_check.specs.Rules.{Visit, max_reasons, names_past, names_with, refused_after, refused_among, same_reason, visit_cause}
 use Rattle.sieve_check.proofs.NameSteps.{shown_len}

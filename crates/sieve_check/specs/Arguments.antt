@@ -1,13 +1,13 @@
 -- What is wrong with arguments that a signature can't read.
 use Rattle.std.specs.Prelude.{ℕ, Bool, true, false, not, ◌&&◌, nat_lt, if◌then◌else◌, List, [], ◌∷◌, length, Option, Some, None, is_some, option_map}
 use Rattle.std.specs.Option.{option_or}
-use Rattle.sieve_parser.specs.Tree.{ArgumentTree, text, text_list, amount, label}
+use Rattle.sieve_parser.specs.Tree.{ArgumentTree, label}
 use Rattle.bytecode_format.specs.declared.modifiers.Case.{Case}
 use Rattle.bytecode_format.specs.declared.modifiers.Case.TheVariants.{Lower, Upper}
 use Rattle.sieve_check.specs.declared.names.Tag.{Tag}
 use Rattle.sieve_check.specs.declared.names.Tag.TheVariants.{Letters, FirstLetter, AnyChild, Select}
 use Rattle.sieve_check.specs.declared.signature.Positional.{Positional}
-use Rattle.sieve_check.specs.declared.signature.Positional.TheVariants.{Nothing, Number, Text, TwoTexts, OneList, TwoLists}
+use Rattle.sieve_check.specs.declared.signature.Positional.TheVariants.{Nothing, TwoTexts, TwoLists}
 use Rattle.sieve_check.specs.declared.signature.Signature.{Signature}
 use Rattle.sieve_check.specs.declared.signature.Tags.{Tags}
 use Rattle.sieve_check.specs.Names.{tag_named}
@@ -41,32 +41,26 @@ untaken_kind signature tag tags =
 abbrev pub first_label : List ArgumentTree → Option (List ℕ)
 first_label [] = None
 first_label (label name ∷ args) = Some name
-first_label (text s ∷ args) = first_label args
-first_label (text_list s ss ∷ args) = first_label args
-first_label (amount n ∷ args) = first_label args
+first_label (_ ∷ args) = first_label args
 
 -- a tag that stands only with `:mime`
 abbrev pub needs_mime : Option Tag → Bool
 needs_mime (Some AnyChild) = true
-needs_mime (Some (Select piece)) = true
+needs_mime (Some (Select selector)) = true
 needs_mime _ = false
 
 -- the name of the first of the arguments that is such a tag
 abbrev pub label_needing_mime : List ArgumentTree → List ℕ
 label_needing_mime [] = []
 label_needing_mime (label name ∷ args) = if needs_mime (tag_named name) then name else label_needing_mime args
-label_needing_mime (text s ∷ args) = label_needing_mime args
-label_needing_mime (text_list s ss ∷ args) = label_needing_mime args
-label_needing_mime (amount n ∷ args) = label_needing_mime args
+label_needing_mime (_ ∷ args) = label_needing_mime args
 
 -- how many arguments stand behind the tags
 abbrev pub number_of : Positional → ℕ
 number_of Nothing = 0
-number_of Number = 1
-number_of Text = 1
 number_of TwoTexts = 2
-number_of OneList = 1
 number_of TwoLists = 2
+number_of _ = 1
 
 -- what is wrong with the arguments behind the tags: a tag is among them, they are too few, too many, or others
 abbrev pub positional_cause : Positional → List ArgumentTree → Option Cause

@@ -3,7 +3,7 @@ use Rattle.std.specs.Prelude.{◌≡◌, ℕ, List, [], ◌∷◌, flat_map, map
 use Rattle.octets.specs.Ascii.{lowercase_of}
 use Rattle.octets.specs.Limits.{max_value}
 use Rattle.sieve_references.specs.References as references
-use Rattle.sieve_parser.specs.Tree.{ArgumentTree, text, text_list, amount, label, InvocationTree, invocation, TestsTree, no_test, one_test, test_list, MoreTests, last as no_more, next, CommandTree, simple, block, CommandsTree, no_command as no_tree, command as tree}
+use Rattle.sieve_parser.specs.Tree.{ArgumentTree, text, text_list, amount, InvocationTree, invocation, TestsTree, no_test, one_test, test_list, MoreTests, last as no_more, next, CommandTree, simple, block, CommandsTree, no_command as no_tree, command as tree}
 use Rattle.glob_match.specs.declared.comparator.Comparator.TheVariants.{Casemap}
 use Rattle.glob_match.specs.declared.match_type.Match.{Match}
 use Rattle.glob_match.specs.declared.match_type.MatchType.TheVariants.{Is}
@@ -17,8 +17,8 @@ use Rattle.sieve_check.specs.declared.typed.Segment.{Segment}
 use Rattle.sieve_check.specs.declared.typed.Segment.TheVariants.{Text, Variable, Capture}
 use Rattle.bytecode_format.specs.declared.modifiers.Modifiers.{Modifiers}
 use Rattle.sieve_check.specs.declared.signature.Tags.{Tags}
-use Rattle.sieve_check.specs.declared.names.Piece.{Piece}
-use Rattle.sieve_check.specs.declared.names.Piece.TheVariants.{Main, Sub, ContentType, Params}
+use Rattle.bytecode_format.specs.declared.selection.Selector.{Selector}
+use Rattle.bytecode_format.specs.declared.selection.Selector.TheVariants.{Value, Main, Sub, ContentType, Param}
 use Rattle.bytecode_format.specs.declared.selection.Scope.{Scope}
 use Rattle.bytecode_format.specs.declared.selection.Scope.TheVariants.{Message, Part, PartAndBelow}
 use Rattle.sieve_check.specs.Names.{command_named, test_named}
@@ -70,8 +70,7 @@ taking_in tags args = option_map (λ name. take_first (most_of tags) (lowercase_
 abbrev pub list_in : Context → ArgumentTree → Option (List Template)
 list_in s (text x) = Some (template_of s x ∷ [])
 list_in s (text_list x xs) = Some (map (template_of s) (x ∷ xs))
-list_in s (amount n) = None
-list_in s (label name) = None
+list_in s _ = None
 
 -- what is made of one list, and of two
 abbrev pub of_list : {A : Type 0} → Context → (List Template → A) → List ArgumentTree → Option A
@@ -91,12 +90,12 @@ abbrev pub scope_of : Tags → Scope
 scope_of tags = if tags.mime then (if tags.any_child then PartAndBelow else Part) else Message
 
 -- what it takes of a field, with the names of the parameters
-abbrev pub selected_by : Option Piece → List Template → Selected
-selected_by None names = whole
-selected_by (Some Main) names = main
-selected_by (Some Sub) names = sub
-selected_by (Some ContentType) names = content_type
-selected_by (Some Params) names = params names
+abbrev pub selected_by : Selector → List Template → Selected
+selected_by Value names = whole
+selected_by Main names = main
+selected_by Sub names = sub
+selected_by ContentType names = content_type
+selected_by Param names = params names
 
 -- the names of the parameters, if they are given
 abbrev pub params_in : Context → List ArgumentTree → Option (List Template)
@@ -107,7 +106,7 @@ params_in s (a ∷ args) = list_in s a
 abbrev pub header_of : Context → Read → Option TestForm
 header_of s read =
     params_in s read.params >>= λ names. of_lists s
-    (header (match_of read.tags) (scope_of read.tags) (selected_by read.tags.piece names)) read.positional
+    (header (match_of read.tags) (scope_of read.tags) (selected_by read.tags.selector names)) read.positional
 
 -- the comparison of a size, that of the message or that of a part
 abbrev pub size_of : (Order → ℕ → TestForm) → Tags → List ArgumentTree → Option TestForm

@@ -11,8 +11,10 @@ pub mod Causes
 pub mod Arguments
 pub mod Rules
 pub mod CheckedScript
-pub mod Reading
+pub mod ReasonView
 -- how the checker goes; nothing public rests on these
 pub mod Refusing
 pub mod Forming
 pub mod Sequences
+-- what the readers of arguments answer, private
+pub mod Reading

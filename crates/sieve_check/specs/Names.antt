@@ -12,7 +12,7 @@ use Rattle.sieve_check.specs.declared.names.TestName.{TestName}
 use Rattle.sieve_check.specs.declared.names.TestName.TheVariants.{Constant, Not, AllOf, AnyOf, Header, Exists, Size, String, PartSize, PartBody, PartDigest}
 use Rattle.sieve_check.specs.declared.names.Tag.{Tag}
 use Rattle.sieve_check.specs.declared.names.Tag.TheVariants.{Order, Kind, Comparator, Letters, FirstLetter, QuoteWildcard, Length, Mime as MimeTag, AnyChild, Select, Name, First}
-use Rattle.sieve_check.specs.declared.names.Piece.TheVariants.{Main, Sub, ContentType, Params}
+use Rattle.bytecode_format.specs.declared.selection.Selector.TheVariants.{Main, Sub, ContentType, Param}
 use Rattle.sieve_check.specs.declared.names.Capability.{Capability}
 use Rattle.sieve_check.specs.declared.names.Capability.TheVariants.{FileInto as FileIntoCapability, Variables, Mime, ForEveryPart as ForEveryPartCapability, Depot, OctetComparator, CasemapComparator}
 
@@ -75,7 +75,7 @@ tag_named name =
     if is_word name (codes "type") then Some (Select Main) else
     if is_word name (codes "subtype") then Some (Select Sub) else
     if is_word name (codes "contenttype") then Some (Select ContentType) else
-    if is_word name (codes "param") then Some (Select Params) else
+    if is_word name (codes "param") then Some (Select Param) else
     if is_word name (codes "name") then Some Name else
     if is_word name (codes "first") then Some First else
     None

@@ -5,27 +5,15 @@ use Rattle.sieve_parser.specs.Tree.{ArgumentTree, text, amount, label}
 use Rattle.sieve_parser.specs.View.{argument_tree}
 use Rattle.sieve_parser.specs.declared.tree.Argument.{Argument}
 use Rattle.sieve_check.specs.declared.causes.Cause.{Cause}
-use Rattle.sieve_check.specs.declared.causes.Reason.{Reason}
 use Rattle.sieve_check.specs.declared.causes.ReasonKind.TheVariants.{TagArgument}
-use Rattle.sieve_check.specs.declared.causes.Refused.{Refused}
 use Rattle.sieve_check.specs.declared.signature.Reading.{Reading}
 use Rattle.sieve_check.specs.declared.names.Tag.{Tag}
 use Rattle.sieve_check.specs.declared.signature.Signature.{Signature}
 use Rattle.sieve_check.specs.declared.signature.Lists.{Lists}
 use Rattle.sieve_check.specs.Arguments.{arguments_cause, awaiting, rest_cause}
-use Rattle.sieve_check.specs.Causes as causes
 use Rattle.sieve_check.specs.Causes.{about}
+use Rattle.sieve_check.specs.ReasonView.{cause_view}
 use Rattle.sieve_check.specs.Signatures.{Read, Given, awaited, is_list, reading, tags_read}
-
--- a cause and a reason, as the definitions see them
-abbrev pub cause_view : Cause → causes.Cause
-cause_view cause = record { kind = cause.kind; subject = cause.subject.now }
-
-abbrev pub reason_view : Reason → causes.Reason
-reason_view reason = record { kind = reason.kind; name = reason.name.now; subject = reason.subject.now }
-
-abbrev pub refused_view : Refused → causes.Refused
-refused_view refused = record { token = refused.token; reason = reason_view refused.reason }
 
 -- the name of the first argument and the arguments after it, if that is a tag
 abbrev pub FirstTag : List ArgumentTree → Option (Bor (List ℕ) × Bor (List Argument)) → Type 0

@@ -16,7 +16,8 @@ use Rattle.sieve_check.specs.declared.signature.Ending.{Ending}
 use Rattle.sieve_check.specs.declared.signature.Tests.{Tests}
 use Rattle.sieve_check.specs.declared.surroundings.Surroundings.{Surroundings}
 use Rattle.sieve_check.specs.declared.variable_names.VariableNames.{VariableNames}
-use Rattle.sieve_check.specs.Reading.{all_lists, cause_view, name_in, refused_view}
+use Rattle.sieve_check.specs.Reading.{all_lists, name_in}
+use Rattle.sieve_check.specs.ReasonView.{cause_view, refused_view}
 use Rattle.sieve_check.specs.Causes as causes
 use Rattle.sieve_check.specs.Rules as rules
 use Rattle.sieve_check.specs.Rules.{Visit, command_visit, head_visits, looks_inside, max_reasons, names_mentioned, names_past, refused_among, same_lack, same_reason, strings_of, test_visit, test_visits}

@@ -4,12 +4,13 @@ use Rattle.std.specs.Prelude.{ℕ, Bool, true, false, not, ◌&&◌, ◌||◌, �
 use Rattle.sieve_parser.specs.Tree.{ArgumentTree, text, text_list, amount, label}
 use Rattle.bytecode_format.specs.Modifiers.{no_modifiers}
 use Rattle.sieve_check.specs.declared.names.CommandName.{CommandName}
-use Rattle.sieve_check.specs.declared.names.CommandName.TheVariants.{Require, If, Elsif, Else, Stop, Keep, Discard, FileInto, Set, ForEveryPart, Break, Store, Take}
+use Rattle.sieve_check.specs.declared.names.CommandName.TheVariants.{Require, If, Elsif, Else, FileInto, Set, ForEveryPart, Break, Store, Take}
 use Rattle.sieve_check.specs.declared.names.TestName.{TestName}
 use Rattle.sieve_check.specs.declared.names.TestName.TheVariants.{Constant, Not, AllOf, AnyOf, Header, Exists, Size, String, PartSize, PartBody, PartDigest}
 use Rattle.sieve_check.specs.declared.names.Tag.{Tag}
 use Rattle.sieve_check.specs.declared.names.Tag.TheVariants.{Order, Kind, Comparator, Letters, FirstLetter, QuoteWildcard, Length, Mime, AnyChild, Select, Name, First}
-use Rattle.sieve_check.specs.declared.names.Piece.TheVariants.{Main, Sub, ContentType, Params}
+use Rattle.bytecode_format.specs.declared.selection.Selector.{Selector}
+use Rattle.bytecode_format.specs.declared.selection.Selector.TheVariants.{Value, Param}
 use Rattle.sieve_check.specs.declared.signature.Positional.{Positional}
 use Rattle.sieve_check.specs.declared.signature.Positional.TheVariants as positional
 use Rattle.sieve_check.specs.declared.signature.Tests.{Tests}
@@ -34,31 +35,20 @@ abbrev pub command_signature : CommandName → Signature
 command_signature Require = record (bare tests.Nothing) { positional = positional.OneList }
 command_signature If = bare tests.One
 command_signature Elsif = bare tests.One
-command_signature Else = bare tests.Nothing
-command_signature Stop = bare tests.Nothing
-command_signature Keep = bare tests.Nothing
-command_signature Discard = bare tests.Nothing
 command_signature FileInto = record (bare tests.Nothing) { positional = positional.Text }
 command_signature Set = record (bare tests.Nothing) { modifying = true; positional = positional.TwoTexts }
 command_signature ForEveryPart = record (bare tests.Nothing) { naming = true }
 command_signature Break = record (bare tests.Nothing) { naming = true }
 command_signature Store = record (bare tests.Nothing) { positional = positional.Text }
 command_signature Take = record (bare tests.Nothing) { limiting = true; positional = positional.Text }
+command_signature _ = bare tests.Nothing
 
 abbrev pub ending_of : CommandName → Ending
-ending_of Require = Semicolon
 ending_of If = Block
 ending_of Elsif = Block
 ending_of Else = Block
-ending_of Stop = Semicolon
-ending_of Keep = Semicolon
-ending_of Discard = Semicolon
-ending_of FileInto = Semicolon
-ending_of Set = Semicolon
 ending_of ForEveryPart = Block
-ending_of Break = Semicolon
-ending_of Store = Semicolon
-ending_of Take = Semicolon
+ending_of _ = Semicolon
 
 -- what each test takes
 abbrev pub test_signature : TestName → Signature
@@ -83,7 +73,7 @@ pub record Read : Type 0 where
   pub positional : List ArgumentTree
 
 abbrev pub no_tag : Tags
-no_tag = record { order = None; kind = None; comparator = None; modifiers = no_modifiers; mime = false; any_child = false; piece = None; named = false; first = None }
+no_tag = record { order = None; kind = None; comparator = None; modifiers = no_modifiers; mime = false; any_child = false; selector = Value; named = false; first = None }
 
 -- what was read of the tags
 pub record Given : Type 0 where
@@ -93,6 +83,11 @@ pub record Given : Type 0 where
 
 abbrev pub nothing_given : Given
 nothing_given = record { tags = no_tag; params = []; name = None }
+
+-- a tag says what is taken of a field
+abbrev pub selects : Selector → Bool
+selects Value = false
+selects _ = true
 
 -- the signature takes the tag, and none of its group was given
 abbrev pub takes_tag : Signature → Tag → Tags → Bool
@@ -105,7 +100,7 @@ takes_tag signature QuoteWildcard tags = signature.modifying && not tags.modifie
 takes_tag signature Length tags = signature.modifying && not tags.modifiers.length
 takes_tag signature Mime tags = signature.scoped && not tags.mime
 takes_tag signature AnyChild tags = signature.scoped && not tags.any_child
-takes_tag signature (Select piece) tags = signature.selecting && not (is_some tags.piece)
+takes_tag signature (Select selector) tags = signature.selecting && not (selects tags.selector)
 takes_tag signature Name tags = signature.naming && not tags.named
 takes_tag signature First tags = signature.limiting && not (is_some tags.first)
 
@@ -120,7 +115,7 @@ with_tag QuoteWildcard tags = record tags { modifiers = record tags.modifiers { 
 with_tag Length tags = record tags { modifiers = record tags.modifiers { length = true } }
 with_tag Mime tags = record tags { mime = true }
 with_tag AnyChild tags = record tags { any_child = true }
-with_tag (Select piece) tags = record tags { piece = Some piece }
+with_tag (Select selector) tags = record tags { selector = selector }
 with_tag Name tags = record tags { named = true }
 with_tag First tags = tags
 
@@ -132,34 +127,23 @@ add_tag signature tag given = option_map (λ tags. record given { tags = tags })
 
 -- the tag, if it takes an argument
 abbrev pub awaited : Tag → Option Tag
-awaited (Order order) = None
-awaited (Kind kind) = None
 awaited Comparator = Some Comparator
-awaited (Letters case) = None
-awaited (FirstLetter case) = None
-awaited QuoteWildcard = None
-awaited Length = None
-awaited Mime = None
-awaited AnyChild = None
-awaited (Select Main) = None
-awaited (Select Sub) = None
-awaited (Select ContentType) = None
-awaited (Select Params) = Some (Select Params)
+awaited (Select Param) = Some (Select Param)
 awaited Name = Some Name
 awaited First = Some First
+awaited _ = None
 
 -- one string, or one list of strings in square brackets
 abbrev pub is_list : ArgumentTree → Bool
 is_list (text s) = true
 is_list (text_list s ss) = true
-is_list (amount n) = false
-is_list (label name) = false
+is_list _ = false
 
 -- a tag's argument: of a comparator one string, its name; of `:param` a list; of `:name` one
 -- string, which is taken as it is written; of `:first` a number, which isn't zero
 abbrev pub with_argument : Tag → ArgumentTree → Given → Option Given
 with_argument Comparator (text s) given = option_map (λ comparator. record given { tags = record given.tags { comparator = Some comparator } }) (comparator_named s)
-with_argument (Select Params) a given = if is_list a then Some (record given { params = a ∷ [] }) else None
+with_argument (Select Param) a given = if is_list a then Some (record given { params = a ∷ [] }) else None
 with_argument Name (text s) given = Some (record given { name = Some s })
 with_argument First (amount n) given = if n == 0 then None else Some (record given { tags = record given.tags { first = Some n } })
 with_argument _ _ given = None
@@ -187,7 +171,7 @@ is_positional _ _ = false
 
 -- tags that stand only with `:mime`
 abbrev pub asks_for_mime : Tags → Bool
-asks_for_mime tags = tags.any_child || is_some tags.piece
+asks_for_mime tags = tags.any_child || selects tags.selector
 
 -- of each group that needs one a tag was given, none stands without what it needs, and the
 -- arguments behind them are right

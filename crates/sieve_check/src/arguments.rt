@@ -4,11 +4,13 @@ ghost use Rattle.std.specs.Option.{option_or};
 ghost use Rattle.sieve_parser.specs.View.{argument_tree};
 ghost use Rattle.sieve_check.specs.Arguments.{first_label, is_second_modifier, label_needing_mime, missing_cause, needs_mime, number_of, positional_cause, untaken_kind};
 ghost use Rattle.sieve_check.specs.Names.{tag_named};
-ghost use Rattle.sieve_check.specs.Reading.{FirstList, FirstNumber, FirstTag, FirstText, Settles, cause_view, left_of, name_in};
+ghost use Rattle.sieve_check.specs.Reading.{FirstList, FirstNumber, FirstTag, FirstText, Settles, left_of, name_in};
+ghost use Rattle.sieve_check.specs.ReasonView.{cause_view};
 
 use crate::causes::{Cause, ReasonKind};
-use crate::names::{Piece, Tag, comparator_named, tag_named};
+use crate::names::{Tag, comparator_named, tag_named};
 use crate::signature::{Positional, Reading, Signature, Tags, is_list};
+use bytecode_format::Selector;
 use octets::Octets;
 use sieve_parser::Argument;
 
@@ -60,16 +62,7 @@ fn is_second_modifier(tag: Tag, tags: Tags) -> bool
     match tag {
         Tag::Letters(case) => tags.modifiers.letters.is_some_and(|other| other != case),
         Tag::FirstLetter(case) => tags.modifiers.first.is_some_and(|other| other != case),
-        Tag::Order(_)
-        | Tag::Kind(_)
-        | Tag::Comparator
-        | Tag::QuoteWildcard
-        | Tag::Length
-        | Tag::Mime
-        | Tag::AnyChild
-        | Tag::Select(_)
-        | Tag::Name
-        | Tag::First => false,
+        _ => false,
     }
 }
 
@@ -105,7 +98,7 @@ fn with_comparator(reading: Reading<'_>) -> Option<Reading<'_>>
 
 // What was read so far, without the list that comes next.
 fn with_params(reading: Reading<'_>) -> Option<Reading<'_>>
-    ensures { Settles reading.entry (Tag.Select Piece.Params) result }
+    ensures { Settles reading.entry (Tag.Select Selector.Param) result }
 {
     let (params, rest) = first_list(reading.positional)?;
     Some(Reading {
@@ -151,21 +144,14 @@ fn with_argument(tag: Tag, reading: Reading<'_>) -> Option<Reading<'_>>
     ensures { Settles reading.entry tag result }
 {
     match tag {
-        Tag::Order(_)
-        | Tag::Kind(_)
-        | Tag::Letters(_)
-        | Tag::FirstLetter(_)
-        | Tag::QuoteWildcard
-        | Tag::Length
-        | Tag::Mime
-        | Tag::AnyChild => Some(reading),
         Tag::Comparator => with_comparator(reading),
-        Tag::Select(piece) => match piece {
-            Piece::Main | Piece::Sub | Piece::ContentType => Some(reading),
-            Piece::Params => with_params(reading),
+        Tag::Select(selector) => match selector {
+            Selector::Param => with_params(reading),
+            _ => Some(reading),
         },
         Tag::Name => with_name(reading),
         Tag::First => with_first(reading),
+        _ => Some(reading),
     }
 }
 

@@ -79,30 +79,13 @@ impl ReasonKind {
             ReasonKind::UnknownCommand | ReasonKind::UnknownTest => Fault::UnknownCommand,
             ReasonKind::MissingCapability(_) => Fault::MissingCapability,
             ReasonKind::UnknownCapability => Fault::UnknownCapability,
-            ReasonKind::UnknownTag
-            | ReasonKind::ForeignTag
-            | ReasonKind::RepeatedTag
-            | ReasonKind::TwoModifiers
-            | ReasonKind::TagArgument(_)
-            | ReasonKind::MissingOrder
-            | ReasonKind::MissingMime
-            | ReasonKind::LateTag
-            | ReasonKind::MissingArgument(_)
-            | ReasonKind::ExtraArgument(_)
-            | ReasonKind::WrongArgument(_)
-            | ReasonKind::WrongTests(_)
-            | ReasonKind::WrongEnding(_)
-            | ReasonKind::Namespace
-            | ReasonKind::CaptureIndex
-            | ReasonKind::VariableName
-            | ReasonKind::NoSuchLoop
-            | ReasonKind::Misplaced => Fault::BadArguments,
             ReasonKind::LongString
             | ReasonKind::ManyStrings
             | ReasonKind::ManySegments
             | ReasonKind::LongName
             | ReasonKind::ManyLoops
             | ReasonKind::ManyVariables => Fault::Limit,
+            _ => Fault::BadArguments,
         }
     }
 }
@@ -117,7 +100,7 @@ pub struct Cause<'t> {
 impl<'t> Cause<'t> {
     ghost use Rattle.std.specs.Prelude.{◌≡◌};
     ghost use Rattle.sieve_check.specs.Causes.{about, plain};
-    ghost use Rattle.sieve_check.specs.Reading.{cause_view};
+    ghost use Rattle.sieve_check.specs.ReasonView.{cause_view};
 
     /// One of this kind, whose subject that is.
     pub fn about(kind: ReasonKind, subject: &'t [u8]) -> Cause<'t>
@@ -153,7 +136,7 @@ pub struct Refused<'t> {
 impl<'t> Refused<'t> {
     ghost use Rattle.std.specs.Prelude.{◌≡◌};
     ghost use Rattle.sieve_check.specs.Causes.{refusal_for, refused_for};
-    ghost use Rattle.sieve_check.specs.Reading.{cause_view, refused_view};
+    ghost use Rattle.sieve_check.specs.ReasonView.{cause_view, refused_view};
 
     // The command or test that begins so, for that cause.
     pub(crate) fn of(head: &'t Head, cause: Cause<'t>) -> Refused<'t>

@@ -3,7 +3,7 @@ ghost use Rattle.std.specs.Prelude.{◌≡◌, IfErr, IfOk, OnOk, None, map, tak
 ghost use Rattle.sieve_parser.specs.View.{commands_tree};
 ghost use Rattle.sieve_check.specs.CheckedScript.{IsCheckRefusal};
 ghost use Rattle.sieve_check.specs.FormOf.{IsFormOf};
-ghost use Rattle.sieve_check.specs.Reading.{refused_view};
+ghost use Rattle.sieve_check.specs.ReasonView.{refused_view};
 ghost use Rattle.sieve_check.specs.Rules.{fault_of, max_reasons, reasons_of};
 ghost use Rattle.sieve_check.specs.TypedView.{commands_form};
 
@@ -26,7 +26,7 @@ use std::alloc::Global;
 /// before an `else`, goes by what is written, wrong or not; a loop has its name where its arguments can be read; one that isn't known
 /// changes nothing for those after it. One with which something is wrong by itself brings no variables; of one that brings too many,
 /// those count for which there is room. A capability that is lacking is told once, and so is that variables are too many. The block
-/// of a loop too many isn't looked at.
+/// of a loop too many isn't looked at, nor are the tests behind a command or test that takes none.
 pub fn reasons_of(script: &Script) -> ArrayVec<Refused<'_>, MAX_REASONS>
     ensures { map refused_view result.items
         ≡ take max_reasons (reasons_of (commands_tree script.now)) }

@@ -37,7 +37,7 @@ impl<'t> Findings<'t> {
     ghost use Rattle.std.specs.List.{list_any};
     ghost use Rattle.octets.specs.Once.{with_one};
     ghost use Rattle.sieve_check.specs.Causes.{refused_for};
-    ghost use Rattle.sieve_check.specs.Reading.{cause_view};
+    ghost use Rattle.sieve_check.specs.ReasonView.{cause_view};
     ghost use Rattle.sieve_check.specs.Refusing.{lack_in, listed, refused_in};
     ghost use Rattle.sieve_check.specs.Rules.{max_reasons, same_reason};
 

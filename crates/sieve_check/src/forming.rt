@@ -173,17 +173,7 @@ fn opened(head: &Head) -> Option<Opening>
     match name {
         CommandName::If => Some(Opening::First),
         CommandName::Elsif => Some(Opening::Next),
-        CommandName::Require
-        | CommandName::Else
-        | CommandName::Stop
-        | CommandName::Keep
-        | CommandName::Discard
-        | CommandName::FileInto
-        | CommandName::Set
-        | CommandName::ForEveryPart
-        | CommandName::Break
-        | CommandName::Store
-        | CommandName::Take => None,
+        _ => None,
     }
 }
 
@@ -208,17 +198,7 @@ fn untested_part(head: &Head, block: Vec<Command>) -> Option<Part>
     match name {
         CommandName::Else => Some(Part::Last(block)),
         CommandName::ForEveryPart => Some(Part::Action(Command::ForEveryPart(block))),
-        CommandName::Require
-        | CommandName::If
-        | CommandName::Elsif
-        | CommandName::Stop
-        | CommandName::Keep
-        | CommandName::Discard
-        | CommandName::FileInto
-        | CommandName::Set
-        | CommandName::Break
-        | CommandName::Store
-        | CommandName::Take => None,
+        _ => None,
     }
 }
 

@@ -37,15 +37,13 @@ mod test_forms;
 mod typed;
 mod variable_names;
 
+pub use bytecode_format::{MAX_LOOPS, MAX_SEGMENTS, MAX_TEST_STRINGS, MAX_VARIABLES};
 pub use causes::{Reason, ReasonKind, Refused};
 pub use checked::Checked;
 pub use checker::{check, reasons_of};
 pub use error::{CheckError, Fault};
 pub use findings::MAX_REASONS;
-pub use loops::MAX_LOOPS;
-pub use names::{Capability, CommandName, Piece, Tag, TestName, command_named, test_named};
-pub use references::{MAX_NAME, MAX_SEGMENTS};
+pub use names::{Capability, CommandName, Tag, TestName, command_named, test_named};
+pub use references::MAX_NAME;
 pub use signature::{Ending, Positional, Tests};
-pub use string_faults::MAX_TEST_STRINGS;
 pub use typed::{Branch, Command, Order, Segment, Selection, Test};
-pub use variable_names::MAX_VARIABLES;

@@ -4,8 +4,7 @@ ghost use Rattle.octets.specs.Limits.{max_loops};
 ghost use Rattle.sieve_check.specs.Reading.{name_in};
 ghost use Rattle.sieve_check.specs.Surroundings.{is_meant};
 
-/// The most open loops.
-pub const MAX_LOOPS: usize = 3;
+use bytecode_format::MAX_LOOPS;
 
 // Whether a loop is meant: each one where none is named, else those of just that name.
 fn is_meant(name: Option<&[u8]>, loop_name: Option<&[u8]>) -> bool

@@ -4,7 +4,8 @@ ghost use Rattle.sieve_parser.specs.View.{argument_tree};
 ghost use Rattle.sieve_references.specs.References.{segments};
 ghost use Rattle.sieve_references.specs.SegmentView.{segment_of};
 ghost use Rattle.sieve_check.specs.declared.signature.Positional.TheVariants.{Text, TwoTexts};
-ghost use Rattle.sieve_check.specs.Reading.{cause_view, left_of, name_in, read_of};
+ghost use Rattle.sieve_check.specs.Reading.{left_of, name_in, read_of};
+ghost use Rattle.sieve_check.specs.ReasonView.{cause_view};
 ghost use Rattle.sieve_check.specs.Refusing.{Adds, context_of, listed, mentions_in};
 ghost use Rattle.sieve_check.specs.Rules.{expanding, large_cause, large_mention_cause, lists_read, long_name, mention_cause, mentions_of, names_mentioned, no_mention, reference_kind, strings_of, where_required};
 ghost use Rattle.sieve_check.specs.Signatures.{command_signature, is_positional};
@@ -137,16 +138,7 @@ impl<'t> Mentions<'t> {
             CommandName::Require => Mentions::none(),
             CommandName::Set => Mentions::of_set(reading),
             CommandName::Take => Mentions::of_take(reading),
-            CommandName::If
-            | CommandName::Elsif
-            | CommandName::Else
-            | CommandName::Stop
-            | CommandName::Keep
-            | CommandName::Discard
-            | CommandName::FileInto
-            | CommandName::ForEveryPart
-            | CommandName::Break
-            | CommandName::Store => Mentions {
+            _ => Mentions {
                 expanded: reading.lists(),
                 set: None,
             },

@@ -3,7 +3,7 @@ ghost use Rattle.std.specs.Prelude.{◌≡◌};
 ghost use Rattle.sieve_check.specs.Names.{capability_named, command_named, comparator_named, is_word, tag_named, test_named};
 
 use crate::typed::Order;
-use bytecode_format::Case;
+use bytecode_format::{Case, Selector};
 use glob_match::{Comparator, MatchType};
 use octets::equal_ignoring_case;
 
@@ -66,7 +66,7 @@ pub enum TestName {
 }
 
 /// The tags that are known, by the group of which at most one may stand.
-#[derive(Clone, Copy, PartialEq, Eq)]
+#[derive(Clone, Copy)]
 pub enum Tag {
     /// `:over` and `:under` (RFC 5228, section 5.9).
     Order(Order),
@@ -86,25 +86,13 @@ pub enum Tag {
     Mime,
     /// `:anychild` (RFC 5703, section 4.1).
     AnyChild,
-    /// `:type`, `:subtype`, `:contenttype`, and `:param`, which takes the parameters' names (RFC 5703, section 4.1).
-    Select(Piece),
+    /// `:type`, `:subtype`, `:contenttype`, and `:param`, which takes the parameters' names (RFC 5703, section 4.1). None selects
+    /// the value.
+    Select(Selector),
     /// `:name`, which takes the name of a loop (RFC 5703, section 3).
     Name,
     /// `:first`, which takes a number of octets, of our own.
     First,
-}
-
-/// What a test may take of a field in place of its value.
-#[derive(Clone, Copy, PartialEq, Eq)]
-pub enum Piece {
-    /// Its media type without the subtype, or its disposition.
-    Main,
-    /// Its subtype.
-    Sub,
-    /// Its media type with the subtype, or its disposition.
-    ContentType,
-    /// The values of parameters.
-    Params,
 }
 
 /// The capabilities that can be required.
@@ -234,13 +222,13 @@ pub fn tag_named(name: &[u8]) -> Option<Tag>
     } else if is_word(name, b"anychild") {
         Some(Tag::AnyChild)
     } else if is_word(name, b"type") {
-        Some(Tag::Select(Piece::Main))
+        Some(Tag::Select(Selector::Main))
     } else if is_word(name, b"subtype") {
-        Some(Tag::Select(Piece::Sub))
+        Some(Tag::Select(Selector::Sub))
     } else if is_word(name, b"contenttype") {
-        Some(Tag::Select(Piece::ContentType))
+        Some(Tag::Select(Selector::ContentType))
     } else if is_word(name, b"param") {
-        Some(Tag::Select(Piece::Params))
+        Some(Tag::Select(Selector::Param))
     } else if is_word(name, b"name") {
         Some(Tag::Name)
     } else if is_word(name, b"first") {

@@ -6,10 +6,8 @@ ghost use Rattle.sieve_references.specs.References.{segments};
 ghost use Rattle.sieve_references.specs.SegmentView.{segment_of};
 ghost use Rattle.sieve_check.specs.Rules.{is_long, is_long_name, is_wrong};
 
+use bytecode_format::MAX_SEGMENTS;
 use sieve_references::{Segment, first_segment};
-
-/// The most segments of a string.
-pub const MAX_SEGMENTS: usize = 256;
 
 /// The most octets of a variable's name.
 pub const MAX_NAME: usize = 32;

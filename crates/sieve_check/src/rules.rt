@@ -1,9 +1,11 @@
 // The static rules: what is wrong with commands and tests (RFC 5228, section 8.2, and each command's own section).
 ghost use Rattle.std.specs.Prelude.{◌≡◌, [], ◌∷◌, map, option_map, take, true};
 ghost use Rattle.sieve_parser.specs.View.{argument_tree, command_tree, commands_tree, invocation_tree, more_tests_of};
-ghost use Rattle.sieve_check.specs.Reading.{cause_view, left_of, read_of};
-ghost use Rattle.sieve_check.specs.Rules.{arguments_of, command_mentions, command_needs, command_visit, command_visits, commands_visits, ending_cause, expanding, head_visits, ill_formed_command, ill_formed_test, is_mime_tag, known_command_cause, known_test_cause, lacking_cause, lists_read, long_string_cause, many_loops_cause, many_strings_cause, max_reasons, may_stand, mentions_of, mime_where_given, misplaced, more_visits, names_mentioned, oversized_command, oversized_test, place_cause, read_command_cause, read_test_cause, reasons_of, strings_of, takes_tests, test_may_stand, test_mentions, test_needs, test_place_cause, test_visit, test_visits, tests_cause, unknown_cause, where_required};
-ghost use Rattle.sieve_check.specs.Signatures.{command_signature, is_positional};
+ghost use Rattle.sieve_check.specs.Reading.{left_of, read_of};
+ghost use Rattle.sieve_check.specs.ReasonView.{cause_view};
+ghost use Rattle.sieve_check.specs.Rules.{arguments_of, command_mentions, command_needs, command_visit, command_visits, commands_visits, ending_cause, expanding, head_visits, ill_formed_command, ill_formed_test, is_mime_tag, known_command_cause, known_test_cause, lacking_cause, lists_read, long_string_cause, looks_inside, many_loops_cause, many_strings_cause, max_reasons, may_stand, mentions_of, mime_where_given, misplaced, more_visits, names_mentioned, oversized_command, oversized_test, place_cause, read_command_cause, read_test_cause, reasons_of, strings_of, takes_tests, test_may_stand, test_mentions, test_needs, test_place_cause, test_visit, test_visits, tests_cause, unknown_cause, where_required};
+ghost use Rattle.sieve_check.specs.Signatures.{command_signature, is_positional, test_signature};
+ghost use Rattle.sieve_check.specs.Names.{command_named, test_named};
 ghost use Rattle.sieve_check.specs.Refusing.{AreVisited, Finds, context_of, looks_inside_as, mentions_in, refused_in, visit_as, visits_as};
 
 use crate::causes::{Cause, ReasonKind};
@@ -22,18 +24,12 @@ fn command_needs(name: CommandName) -> &'static [Capability]
     ensures { result.now ≡ command_needs name }
 {
     match name {
-        CommandName::Require
-        | CommandName::If
-        | CommandName::Elsif
-        | CommandName::Else
-        | CommandName::Stop
-        | CommandName::Keep
-        | CommandName::Discard => &[],
         CommandName::FileInto => &[Capability::FileInto],
         CommandName::Set => &[Capability::Variables],
         CommandName::ForEveryPart | CommandName::Break => &[Capability::ForEveryPart],
         CommandName::Store => &[Capability::Depot],
         CommandName::Take => &[Capability::Variables, Capability::Depot],
+        _ => &[],
     }
 }
 
@@ -42,7 +38,7 @@ fn is_mime_tag(argument: &Argument) -> bool
     ensures { result ≡ is_mime_tag (argument_tree argument.now) }
 {
     match argument {
-        Argument::Tag(name) => tag_named(name.as_slice()) == Some(Tag::Mime),
+        Argument::Tag(name) => matches!(tag_named(name.as_slice()), Some(Tag::Mime)),
         Argument::Text(_) | Argument::TextList(_, _) | Argument::Number(_) => false,
     }
 }
@@ -64,14 +60,10 @@ fn test_needs(name: TestName, head: &Head) -> &'static [Capability]
     ensures { result.now ≡ test_needs name (arguments_of head.now) }
 {
     match name {
-        TestName::Constant(_)
-        | TestName::Not
-        | TestName::AllOf
-        | TestName::AnyOf
-        | TestName::Size => &[],
         TestName::Header | TestName::Exists => mime_where_given(&head.arguments),
         TestName::String => &[Capability::Variables],
         TestName::PartSize | TestName::PartBody | TestName::PartDigest => &[Capability::Depot],
+        _ => &[],
     }
 }
 
@@ -84,13 +76,7 @@ fn may_stand(surroundings: Surroundings<'_>, name: CommandName, reading: Reading
         CommandName::Elsif | CommandName::Else => surroundings.after_if,
         CommandName::Break => surroundings.loops.left_by(reading.name).is_some(),
         CommandName::Store | CommandName::Take => surroundings.loops.are_some(),
-        CommandName::If
-        | CommandName::Stop
-        | CommandName::Keep
-        | CommandName::Discard
-        | CommandName::FileInto
-        | CommandName::Set
-        | CommandName::ForEveryPart => true,
+        _ => true,
     }
 }
 
@@ -102,14 +88,7 @@ fn test_may_stand(surroundings: Surroundings<'_>, name: TestName) -> bool
         TestName::PartSize | TestName::PartBody | TestName::PartDigest => {
             surroundings.loops.are_some()
         }
-        TestName::Constant(_)
-        | TestName::Not
-        | TestName::AllOf
-        | TestName::AnyOf
-        | TestName::Header
-        | TestName::Exists
-        | TestName::Size
-        | TestName::String => true,
+        _ => true,
     }
 }
 
@@ -122,18 +101,7 @@ fn misplaced<'t>(name: CommandName, reading: Reading<'t>) -> Cause<'t>
             Some(loop_name) => Cause::about(ReasonKind::NoSuchLoop, loop_name),
             None => Cause::plain(ReasonKind::Misplaced),
         },
-        CommandName::Require
-        | CommandName::If
-        | CommandName::Elsif
-        | CommandName::Else
-        | CommandName::Stop
-        | CommandName::Keep
-        | CommandName::Discard
-        | CommandName::FileInto
-        | CommandName::Set
-        | CommandName::ForEveryPart
-        | CommandName::Store
-        | CommandName::Take => Cause::plain(ReasonKind::Misplaced),
+        _ => Cause::plain(ReasonKind::Misplaced),
     }
 }
 
@@ -175,18 +143,7 @@ fn unknown_cause(name: CommandName, head: &Head) -> Option<Cause<'_>>
             let string = StringFault::Unknown.first_in(&head.arguments)?;
             Some(Cause::about(ReasonKind::UnknownCapability, string))
         }
-        CommandName::If
-        | CommandName::Elsif
-        | CommandName::Else
-        | CommandName::Stop
-        | CommandName::Keep
-        | CommandName::Discard
-        | CommandName::FileInto
-        | CommandName::Set
-        | CommandName::ForEveryPart
-        | CommandName::Break
-        | CommandName::Store
-        | CommandName::Take => None,
+        _ => None,
     }
 }
 
@@ -326,21 +283,35 @@ fn known_command<'t>(
     }
 }
 
-// The same of any command.
+// Whether a command or test takes tests.
+fn takes_tests(signature: Signature) -> bool
+    ensures { result ≡ takes_tests signature.tests }
+{
+    match signature.tests {
+        Tests::Nothing => false,
+        Tests::One | Tests::Bracketed => true,
+    }
+}
+
+// The same of any command; and whether its tests are looked at.
 fn found_command<'t>(
     surroundings: Surroundings<'_>,
     head: &'t Head,
     tests: Tests,
     ending: Ending,
-) -> Result<Mentions<'t>, Cause<'t>>
-    ensures { Finds (command_visit (context_of surroundings.entry) head.now.token head.now.name
-        (arguments_of head.now) tests ending).names
+) -> (Result<Mentions<'t>, Cause<'t>>, bool)
+    ensures found { Finds (command_visit (context_of surroundings.entry) head.now.token
+        head.now.name (arguments_of head.now) tests ending).names
         (command_visit (context_of surroundings.entry) head.now.token head.now.name
-        (arguments_of head.now) tests ending).cause result }
+        (arguments_of head.now) tests ending).cause result.0 }
+    ensures inside { result.1 ≡ looks_inside command_signature (command_named head.now.name) }
 {
     match command_named(head.name.as_slice()) {
-        Some(name) => known_command(surroundings, name, head, tests, ending),
-        None => Err(Cause::plain(ReasonKind::UnknownCommand)),
+        Some(name) => {
+            let found = known_command(surroundings, name, head, tests, ending);
+            (found, takes_tests(command_signature(name)))
+        }
+        None => (Err(Cause::plain(ReasonKind::UnknownCommand)), true),
     }
 }
 
@@ -421,20 +392,24 @@ fn known_test<'t>(
     }
 }
 
-// The same of any test.
+// The same of any test; and whether its tests are looked at.
 fn found_test<'t>(
     surroundings: Surroundings<'_>,
     head: &'t Head,
     tests: Tests,
-) -> Result<Mentions<'t>, Cause<'t>>
-    ensures { Finds (test_visit (context_of surroundings.entry) head.now.token head.now.name
-        (arguments_of head.now) tests).names
+) -> (Result<Mentions<'t>, Cause<'t>>, bool)
+    ensures found { Finds (test_visit (context_of surroundings.entry) head.now.token
+        head.now.name (arguments_of head.now) tests).names
         (test_visit (context_of surroundings.entry) head.now.token head.now.name
-        (arguments_of head.now) tests).cause result }
+        (arguments_of head.now) tests).cause result.0 }
+    ensures inside { result.1 ≡ looks_inside test_signature (test_named head.now.name) }
 {
     match test_named(head.name.as_slice()) {
-        Some(name) => known_test(surroundings, name, head, tests),
-        None => Err(Cause::plain(ReasonKind::UnknownTest)),
+        Some(name) => {
+            let found = known_test(surroundings, name, head, tests);
+            (found, takes_tests(test_signature(name)))
+        }
+        None => (Err(Cause::plain(ReasonKind::UnknownTest)), true),
     }
 }
 
@@ -444,11 +419,12 @@ fn found<'t>(
     head: &'t Head,
     tests: Tests,
     ending: Option<Ending>,
-) -> Result<Mentions<'t>, Cause<'t>>
-    ensures { Finds (visit_as ending (context_of surroundings.entry) head.now.token
+) -> (Result<Mentions<'t>, Cause<'t>>, bool)
+    ensures found { Finds (visit_as ending (context_of surroundings.entry) head.now.token
         head.now.name (arguments_of head.now) tests).names
         (visit_as ending (context_of surroundings.entry) head.now.token head.now.name
-        (arguments_of head.now) tests).cause result }
+        (arguments_of head.now) tests).cause result.0 }
+    ensures inside { result.1 ≡ looks_inside_as ending head.now.name }
 {
     match ending {
         Some(ending) => found_command(surroundings, head, tests, ending),
@@ -456,19 +432,22 @@ fn found<'t>(
     }
 }
 
-// Looks at a command or test, apart from its tests and its block.
+// Looks at a command or test, apart from its tests and its block. Says whether its tests are looked at: of one that takes none, what
+// stands there may be meant as something else.
 fn alone<'t>(
     findings: &mut Findings<'t>,
     surroundings: Surroundings<'_>,
     head: &'t Head,
     tests: Tests,
     ending: Option<Ending>,
-)
-    ensures { AreVisited findings.old
+) -> bool
+    ensures visited { AreVisited findings.old
         (visit_as ending (context_of surroundings.entry) head.now.token head.now.name
         (arguments_of head.now) tests ∷ []) findings.new }
+    ensures inside { result ≡ looks_inside_as ending head.now.name }
 {
-    match found(surroundings, head, tests, ending) {
+    let (mentions, inside) = found(surroundings, head, tests, ending);
+    match mentions {
         Ok(mentions) => {
             if let Err(kind) = mentions.add_to(&mut findings.names) {
                 findings.refuse(head, Cause::plain(kind));
@@ -476,32 +455,7 @@ fn alone<'t>(
         }
         Err(cause) => findings.refuse(head, cause),
     }
-}
-
-// Whether a command or test takes tests.
-fn takes_tests(signature: Signature) -> bool
-    ensures { result ≡ takes_tests signature.tests }
-{
-    match signature.tests {
-        Tests::Nothing => false,
-        Tests::One | Tests::Bracketed => true,
-    }
-}
-
-// Whether the tests of a command or test are looked at: of one that takes none, what stands there may be meant as something else.
-fn looks_inside(head: &Head, ending: Option<Ending>) -> bool
-    ensures { result ≡ looks_inside_as ending head.now.name }
-{
-    match ending {
-        Some(_) => match command_named(head.name.as_slice()) {
-            Some(name) => takes_tests(command_signature(name)),
-            None => true,
-        },
-        None => match test_named(head.name.as_slice()) {
-            Some(name) => takes_tests(test_signature(name)),
-            None => true,
-        },
-    }
+    inside
 }
 
 // Looks at a command and its tests, apart from its block, or at a test and its own tests.
@@ -517,16 +471,16 @@ fn invocation<'t>(
         findings.new }
 {
     match tree {
-        Invocation::Plain(head) => alone(findings, surroundings, head, Tests::Nothing, ending),
+        Invocation::Plain(head) => {
+            alone(findings, surroundings, head, Tests::Nothing, ending);
+        }
         Invocation::WithTest(head, inner) => {
-            alone(findings, surroundings, head, Tests::One, ending);
-            if looks_inside(head, ending) {
+            if alone(findings, surroundings, head, Tests::One, ending) {
                 invocation(findings, surroundings, inner, None);
             }
         }
         Invocation::WithTests(head, first, others) => {
-            alone(findings, surroundings, head, Tests::Bracketed, ending);
-            if looks_inside(head, ending) {
+            if alone(findings, surroundings, head, Tests::Bracketed, ending) {
                 invocation(findings, surroundings, first, None);
                 tests(findings, surroundings, others);
             }

@@ -4,9 +4,9 @@ ghost use Rattle.std.specs.Prelude.{◌≡◌};
 ghost use Rattle.sieve_parser.specs.View.{argument_tree};
 ghost use Rattle.sieve_check.specs.Signatures.{bare, command_signature, ending_of, is_list, test_signature};
 
-use crate::names::{CommandName, Piece, Tag, TestName};
+use crate::names::{CommandName, Tag, TestName};
 use crate::typed::Order;
-use bytecode_format::Modifiers;
+use bytecode_format::{Modifiers, Selector};
 use glob_match::{Comparator, MatchType};
 use sieve_parser::Argument;
 
@@ -73,7 +73,8 @@ pub struct Tags {
     pub modifiers: Modifiers,
     pub mime: bool,
     pub any_child: bool,
-    pub piece: Option<Piece>,
+    /// The value, where no tag says otherwise.
+    pub selector: Selector,
     pub named: bool,
     /// The number of `:first`, if it stands there, which isn't zero.
     pub first: Option<u64>,
@@ -81,7 +82,7 @@ pub struct Tags {
 
 impl Tags {
     ghost use Rattle.std.specs.Prelude.{◌≡◌};
-    ghost use Rattle.sieve_check.specs.Signatures.{asks_for_mime, no_tag};
+    ghost use Rattle.sieve_check.specs.Signatures.{asks_for_mime, no_tag, selects};
 
     /// None.
     pub fn none() -> Tags
@@ -94,17 +95,24 @@ impl Tags {
             modifiers: Modifiers::none(),
             mime: false,
             any_child: false,
-            piece: None,
+            selector: Selector::Value,
             named: false,
             first: None,
         }
+    }
+
+    /// Whether one of them says what is taken of a field.
+    pub fn select(self) -> bool
+        ensures { result ≡ selects self.selector }
+    {
+        !matches!(self.selector, Selector::Value)
     }
 
     /// Whether one of them stands only with `:mime`.
     pub fn ask_for_mime(self) -> bool
         ensures { result ≡ asks_for_mime self }
     {
-        self.any_child || self.piece.is_some()
+        self.any_child || self.select()
     }
 }
 
@@ -210,9 +218,7 @@ pub fn command_signature(name: CommandName) -> Signature
             ..bare(Tests::Nothing)
         },
         CommandName::If | CommandName::Elsif => bare(Tests::One),
-        CommandName::Else | CommandName::Stop | CommandName::Keep | CommandName::Discard => {
-            bare(Tests::Nothing)
-        }
+        _ => bare(Tests::Nothing),
     }
 }
 
@@ -224,15 +230,7 @@ pub fn ending_of(name: CommandName) -> Ending
         CommandName::If | CommandName::Elsif | CommandName::Else | CommandName::ForEveryPart => {
             Ending::Block
         }
-        CommandName::Require
-        | CommandName::Stop
-        | CommandName::Keep
-        | CommandName::Discard
-        | CommandName::FileInto
-        | CommandName::Set
-        | CommandName::Break
-        | CommandName::Store
-        | CommandName::Take => Ending::Semicolon,
+        _ => Ending::Semicolon,
     }
 }
 
@@ -304,7 +302,7 @@ impl Signature {
             Tag::Length => self.modifying && !tags.modifiers.length,
             Tag::Mime => self.scoped && !tags.mime,
             Tag::AnyChild => self.scoped && !tags.any_child,
-            Tag::Select(_) => self.selecting && tags.piece.is_none(),
+            Tag::Select(_) => self.selecting && !tags.select(),
             Tag::Name => self.naming && !tags.named,
             Tag::First => self.limiting && tags.first.is_none(),
         }
@@ -328,7 +326,7 @@ impl Signature {
             Tag::Length => tags.modifiers.length = true,
             Tag::Mime => tags.mime = true,
             Tag::AnyChild => tags.any_child = true,
-            Tag::Select(piece) => tags.piece = Some(piece),
+            Tag::Select(selector) => tags.selector = selector,
             Tag::Name => tags.named = true,
         }
         Some(tags)

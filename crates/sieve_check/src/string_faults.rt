@@ -7,11 +7,9 @@ ghost use Rattle.sieve_check.specs.Reading.{all_lists, read_of};
 use crate::names::capability_named;
 use crate::references::{has_large_references, has_wrong_reference};
 use crate::signature::{Lists, Reading};
+use bytecode_format::MAX_TEST_STRINGS;
 use octets::{MAX_STRING, Octets};
 use sieve_parser::Argument;
-
-/// The most strings in the lists of one test.
-pub const MAX_TEST_STRINGS: usize = 512;
 
 /// What may be wrong with a string.
 #[derive(Clone, Copy)]
@@ -99,9 +97,13 @@ impl StringFault {
         ensures { name_in result ≡ find (string_has self)
             (strings_of (all_lists lists.entry)) }
     {
-        self.first_in(lists.first)
-            .or(self.first_in(lists.params))
-            .or(self.first_in(lists.others))
+        if let Some(string) = self.first_in(lists.first) {
+            return Some(string);
+        }
+        if let Some(string) = self.first_in(lists.params) {
+            return Some(string);
+        }
+        self.first_in(lists.others)
     }
 }
 

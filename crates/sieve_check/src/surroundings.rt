@@ -186,18 +186,7 @@ impl<'t> Surroundings<'t> {
         };
         match name {
             CommandName::ForEveryPart => self.loops.with(loop_name(&head.arguments)),
-            CommandName::Require
-            | CommandName::If
-            | CommandName::Elsif
-            | CommandName::Else
-            | CommandName::Stop
-            | CommandName::Keep
-            | CommandName::Discard
-            | CommandName::FileInto
-            | CommandName::Set
-            | CommandName::Break
-            | CommandName::Store
-            | CommandName::Take => Some(self.loops),
+            _ => Some(self.loops),
         }
     }
 
@@ -234,18 +223,7 @@ impl<'t> Surroundings<'t> {
     {
         match name {
             CommandName::ForEveryPart => self.loops.are_full(),
-            CommandName::Require
-            | CommandName::If
-            | CommandName::Elsif
-            | CommandName::Else
-            | CommandName::Stop
-            | CommandName::Keep
-            | CommandName::Discard
-            | CommandName::FileInto
-            | CommandName::Set
-            | CommandName::Break
-            | CommandName::Store
-            | CommandName::Take => false,
+            _ => false,
         }
     }
 
@@ -269,16 +247,7 @@ impl<'t> Surroundings<'t> {
                 after_if: true,
                 ..after
             },
-            CommandName::Else
-            | CommandName::Stop
-            | CommandName::Keep
-            | CommandName::Discard
-            | CommandName::FileInto
-            | CommandName::Set
-            | CommandName::ForEveryPart
-            | CommandName::Break
-            | CommandName::Store
-            | CommandName::Take => after,
+            _ => after,
         }
     }
 

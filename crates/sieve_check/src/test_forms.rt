@@ -9,12 +9,12 @@ ghost use Rattle.sieve_check.specs.Surroundings.{Context};
 ghost use Rattle.sieve_check.specs.Typed.{TestForm, TestForms, exists, negation, part_body, part_digest, part_size, size, string};
 ghost use Rattle.sieve_check.specs.TypedView.{selected_form, templates_of, test_form, tests_of};
 
-use crate::names::{Piece, TestName, test_named};
+use crate::names::{TestName, test_named};
 use crate::signature::{Reading, Tags, test_signature};
 use crate::strings::{list_in, lists_in, only_list_in};
 use crate::surroundings::Surroundings;
 use crate::typed::{Segment, Selection, Test};
-use bytecode_format::Scope;
+use bytecode_format::{Scope, Selector};
 use glob_match::{Comparator, Match, MatchType};
 use sieve_parser::{Argument, Head, Invocation};
 use std::alloc::{AllocError, Global};
@@ -53,15 +53,15 @@ fn scope_of(tags: Tags) -> Scope
 }
 
 // What a test takes of a field, with the names of the parameters.
-fn selected_by(piece: Option<Piece>, names: Vec<Vec<Segment>>) -> Selection
-    ensures { selected_form result ≡ selected_by piece (templates_of names.items) }
+fn selected_by(selector: Selector, names: Vec<Vec<Segment>>) -> Selection
+    ensures { selected_form result ≡ selected_by selector (templates_of names.items) }
 {
-    match piece {
-        None => Selection::Value,
-        Some(Piece::Main) => Selection::Main,
-        Some(Piece::Sub) => Selection::Sub,
-        Some(Piece::ContentType) => Selection::ContentType,
-        Some(Piece::Params) => Selection::Params(names),
+    match selector {
+        Selector::Value => Selection::Value,
+        Selector::Main => Selection::Main,
+        Selector::Sub => Selection::Sub,
+        Selector::ContentType => Selection::ContentType,
+        Selector::Param => Selection::Params(names),
     }
 }
 
@@ -92,7 +92,7 @@ fn header(
     let Some(params) = params_in(alloc, surroundings, reading.params)? else {
         return Ok(None);
     };
-    let selection = selected_by(reading.tags.piece, params);
+    let selection = selected_by(reading.tags.selector, params);
     let Some((names, keys)) = lists_in(alloc, surroundings, reading.positional)? else {
         return Ok(None);
     };
@@ -241,16 +241,7 @@ fn negates(head: &Head) -> bool
     }
     match name {
         TestName::Not => true,
-        TestName::Constant(_)
-        | TestName::AllOf
-        | TestName::AnyOf
-        | TestName::Header
-        | TestName::Exists
-        | TestName::Size
-        | TestName::String
-        | TestName::PartSize
-        | TestName::PartBody
-        | TestName::PartDigest => false,
+        _ => false,
     }
 }
 
@@ -271,15 +262,7 @@ fn combining(head: &Head) -> Option<Junction>
     match name {
         TestName::AllOf => Some(Junction::All),
         TestName::AnyOf => Some(Junction::Any),
-        TestName::Constant(_)
-        | TestName::Not
-        | TestName::Header
-        | TestName::Exists
-        | TestName::Size
-        | TestName::String
-        | TestName::PartSize
-        | TestName::PartBody
-        | TestName::PartDigest => None,
+        _ => None,
     }
 }
 

@@ -6,12 +6,10 @@ ghost use Rattle.octets.specs.Limits.{max_variables};
 use crate::causes::ReasonKind;
 use crate::signature::Lists;
 use arrayvec::ArrayVec;
+use bytecode_format::MAX_VARIABLES;
 use octets::{Octets, equal_ignoring_case};
 use sieve_parser::Argument;
 use sieve_references::{Segment, first_segment};
-
-/// The most variables of a script.
-pub const MAX_VARIABLES: usize = 128;
 
 // Whether the names are of one variable.
 fn is_same(name: &[u8], other: &[u8]) -> bool

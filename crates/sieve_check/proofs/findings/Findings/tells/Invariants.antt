@@ -1,5 +1,5 @@
 use Rattle.std.proofs.Common.{◌≡◌, drop, map}
-use Rattle.sieve_check.specs.Reading.{refused_view}
+use Rattle.sieve_check.specs.ReasonView.{refused_view}
 use Rattle.sieve_check.specs.Refusing.{lack_in}
 use Rattle.sieve_check.proofs.findings.Findings.tells.Given as goal
 

@@ -2,7 +2,8 @@ use Rattle.std.proofs.Common.{◌∙◌, ap, sym, map, length, arith}
 use Rattle.std.proofs.lemmas.List.{length-map}
 use Rattle.std.specs.Prelude.{Some}
 use Rattle.sieve_parser.specs.View.{argument_tree}
-use Rattle.sieve_check.specs.Reading.{cause_view, given_of, left_of}
+use Rattle.sieve_check.specs.Reading.{given_of, left_of}
+use Rattle.sieve_check.specs.ReasonView.{cause_view}
 use Rattle.sieve_check.proofs.Unread.{behind_tag, behind_tags, read_to_end, unread}
 use Rattle.sieve_check.proofs.signature.Signature.read.Goals as goal
 

@@ -1,11 +1,21 @@
-use Rattle.std.proofs.Common.{◌∙◌, ap}
-use Rattle.std.specs.Option.{option_or}
-use Rattle.sieve_check.specs.Reading.{name_in}
+use Rattle.std.proofs.Common.{◌∙◌, map}
+use Rattle.sieve_parser.specs.View.{argument_tree}
 use Rattle.sieve_check.specs.Rules.{string_has}
-use Rattle.sieve_check.proofs.StringSteps.{found_in_lists}
+use Rattle.sieve_check.proofs.StringSteps.{in_first, in_second, in_third}
 use Rattle.sieve_check.proofs.string_faults.StringFault.first_in_lists.Goals as goal
+
+pub returns-in-Some : goal.returns-in-Some
+returns-in-Some c =
+    let l = c.args.lists in
+    in_first (string_has c.args.self) (map argument_tree l.first.now) (map argument_tree l.params.now) (map argument_tree l.others.now) c.in-Some.string.now c.in-Some.ensures
+
+pub returns-in-Some-first_in : goal.returns-in-Some-first_in
+returns-in-Some-first_in c =
+    let l = c.args.lists in
+    in_second (string_has c.args.self) (map argument_tree l.first.now) (map argument_tree l.params.now) (map argument_tree l.others.now) c.in-Some-first_in.string.now c.in_default.ensures c.in-Some-first_in.ensures
 
 pub returns : goal.returns
 returns c =
-    ap name_in (c.or-2.ensures ∙ ap (λ o. option_or o c.first_in-3.result) c.or.ensures)
-    ∙ found_in_lists (string_has c.args.self) c.args.lists c.first_in.result c.first_in-2.result c.first_in-3.result c.first_in.ensures c.first_in-2.ensures c.first_in-3.ensures
+    let l = c.args.lists in
+    c.first_in-3.ensures
+    ∙ in_third (string_has c.args.self) (map argument_tree l.first.now) (map argument_tree l.params.now) (map argument_tree l.others.now) c.in_default.ensures c.in_default-first_in.ensures
