@@ -12,7 +12,8 @@ use Rattle.bytecode_format.specs.Spelling.{spelling}
 use Rattle.bytecode_format.specs.declared.action.Action.{Action}
 use Rattle.mime_decode.specs.Mail.{IsReadable, mail_of}
 use Rattle.sieve_engine.specs.Execution.{IsChecked, IsProgramRefusal, IsUnread}
-use Rattle.sieve_engine.specs.Evaluation.{IsCompiled, IsScriptRefusal}
+use Rattle.refusals.specs.Scripts.{IsScriptRefusal}
+use Rattle.sieve_engine.specs.Evaluation.{IsCompiled}
 use Rattle.part_store.specs.Entries.{AreProgramsOf, Draft, Entries, Listing, UserProgram, entries_of, listing_of, with_entries, with_program}
 use Rattle.part_store.specs.Filing.{Collides, HasRoom}
 use Rattle.part_store.specs.Opening.{IsUnready}

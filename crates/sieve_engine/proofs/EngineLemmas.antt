@@ -15,8 +15,9 @@ use Rattle.sieve_vm.proofs.Bounds.{ends_within, one_end_from}
 use Rattle.bytecode_format.specs.Actions.{final_actions}
 use Rattle.bytecode_verifier.specs.Acceptance.{IsAccepted}
 use Rattle.refusals.specs.Causes.{of_verifier}
+use Rattle.refusals.specs.Scripts.{IsScriptRefusal}
 use Rattle.sieve_engine.specs.Execution.{Spells, IsChecked, IsProgramRefusal, IsRefusal, IsReport, IsUnread}
-use Rattle.sieve_engine.specs.Evaluation.{IsCompiled, IsEvaluation, IsEvaluationRefusal, IsScript, IsScriptRefusal}
+use Rattle.sieve_engine.specs.Evaluation.{IsCompiled, IsEvaluation, IsEvaluationRefusal, IsScript}
 use Rattle.sieve_check.specs.Typed.{CommandForms}
 use Rattle.refusals.specs.declared.refusal.Refusal.{Refusal}
 use Rattle.refusals.specs.declared.refusal.Refusal.TheVariants as engine

@@ -1,16 +1,13 @@
 -- What evaluating octets as a script on octets as a message comes to.
-use Rattle.std.specs.Prelude.{◌≡◌, ℕ, List, Some, None}
+use Rattle.std.specs.Prelude.{◌≡◌, ℕ, List, None}
 use Rattle.bytecode_format.specs.declared.action.Action.{Action}
 use Rattle.bytecode_format.specs.Code.{Code}
 use Rattle.bytecode_verifier.specs.Acceptance.{IsAccepted}
 use Rattle.mime_decode.specs.Mail.{Mail, IsMail, mail_of}
 use Rattle.mime_decode.specs.Refusals.{IsMessageRefusal}
 use Rattle.mime_tree.specs.declared.error.MessageError.TheVariants as mail
-use Rattle.sieve_parser.specs.declared.error.ParseError.TheVariants as parser
-use Rattle.sieve_parser.specs.Scripts.{IsParsed, IsParseRefusal}
+use Rattle.sieve_parser.specs.Scripts.{IsParsed}
 use Rattle.sieve_parser.specs.Tree.{CommandsTree}
-use Rattle.sieve_check.specs.declared.error.CheckError.{CheckError}
-use Rattle.sieve_check.specs.declared.error.CheckError.TheVariants as checker
 use Rattle.sieve_check.specs.FormOf.{IsFormOf}
 use Rattle.sieve_check.specs.Rules.{fault_of}
 use Rattle.sieve_check.specs.Typed.{CommandForms}
@@ -18,7 +15,8 @@ use Rattle.sieve_meaning.specs.Meaning.{meaning}
 use Rattle.sieve_vm.specs.Ending.{IsOutcome}
 use Rattle.sieve_compiler.specs.Coding.{code_of}
 use Rattle.refusals.specs.declared.refusal.Refusal.{Refusal}
-use Rattle.refusals.specs.declared.refusal.Refusal.TheVariants.{Memory, MessageTooLarge, TooManyParts, Lexical, ScriptTooLong, Syntax, TooDeep, UnknownCommand, MissingCapability, UnknownCapability, BadArguments, Limit}
+use Rattle.refusals.specs.declared.refusal.Refusal.TheVariants.{MessageTooLarge, TooManyParts}
+use Rattle.refusals.specs.Scripts.{IsScriptRefusal}
 use Rattle.sieve_engine.specs.Execution.{IsReport}
 
 -- the octets are a script without faults, of this typed form
@@ -27,24 +25,6 @@ pub record IsScript (octets : List ℕ) (form : CommandForms) : Type 0 where
   pub parsed : IsParsed octets tree
   pub faultless : fault_of tree ≡ None
   pub typed : IsFormOf tree form
-
--- the octets are a script with this fault
-abbrev pub IsFaulty : List ℕ → CheckError → Type 0
-IsFaulty octets fault = (tree : CommandsTree) × IsParsed octets tree × (fault_of tree ≡ Some fault)
-
--- the first refusal of octets as a script; Memory has no cause in them
-abbrev pub IsScriptRefusal : List ℕ → Refusal → Type 0
-IsScriptRefusal octets Memory = Unit {0}
-IsScriptRefusal octets (Lexical place) = IsParseRefusal octets (parser.Lexical place)
-IsScriptRefusal octets ScriptTooLong = IsParseRefusal octets parser.ScriptTooLong
-IsScriptRefusal octets (Syntax place) = IsParseRefusal octets (parser.Syntax place)
-IsScriptRefusal octets (TooDeep place) = IsParseRefusal octets (parser.TooDeep place)
-IsScriptRefusal octets (UnknownCommand place) = IsFaulty octets (checker.UnknownCommand place)
-IsScriptRefusal octets (MissingCapability place) = IsFaulty octets (checker.MissingCapability place)
-IsScriptRefusal octets (UnknownCapability place) = IsFaulty octets (checker.UnknownCapability place)
-IsScriptRefusal octets (BadArguments place) = IsFaulty octets (checker.BadArguments place)
-IsScriptRefusal octets (Limit place) = IsFaulty octets (checker.Limit place)
-IsScriptRefusal octets _ = ⊥
 
 -- the first refusal of a script and a message, the script's first
 abbrev pub IsEvaluationRefusal : List ℕ → List ℕ → Refusal → Type 0

@@ -1,4 +1,3 @@
-pub mod HintLemmas
 pub mod TokenLemmas
 pub mod TellingLemmas
 pub mod OneText

@@ -6,14 +6,13 @@ use Rattle.std.specs.Fmt.{decimal}
 use Rattle.octets.specs.Limits.{max_script}
 use Rattle.refusals.specs.declared.refusal.Refusal.{Refusal}
 use Rattle.refusals.specs.declared.refusal.Refusal.TheVariants as refused
-use Rattle.sieve_check.specs.declared.error.Fault.{Fault}
-use Rattle.sieve_check.specs.declared.error.Fault.TheVariants.{UnknownCommand, MissingCapability, UnknownCapability, BadArguments, Limit}
 use Rattle.bytecode_listing.specs.declared.error.FaultKind.{FaultKind}
-use Rattle.sieve_explain.specs.Explaining.{Explains, TellsReason, TellsWhy, fault_blanks, heading, marked_token, opened, reason_told, reasons_in, remark, same_fault, start_of, syntax_told, told, listing_told}
+use Rattle.sieve_explain.specs.Explaining.{Explains, TellsReasons, fault_blanks, heading, is_argument_fault, marked_token, opened, reason_told, remark, start_of, token_told, told, listing_told}
 use Rattle.sieve_explain.specs.Faults.{lexical_blanks, listing_blanks, syntax_blanks, too_deep_blanks, too_long_blanks, unclosed_blanks, unit_blanks}
 use Rattle.sieve_explain.specs.Marks.{has_unit, unclosed}
 use Rattle.sieve_lexer.specs.declared.token.Token.{Token}
-use Rattle.sieve_check.specs.Causes.{Reason, Refused, fault_of_kind}
+use Rattle.sieve_check.specs.Causes.{Refused, fault_of_kind}
+use Rattle.sieve_check.specs.Rules.{max_reasons, reasons_of}
 use Rattle.sieve_explain.specs.Places.{column, line_at, line_number, octets_before}
 use Rattle.sieve_explain.specs.Printable.{are_printable}
 use Rattle.sieve_explain.specs.Reasons.{reason_blanks}
@@ -57,42 +56,39 @@ fine_opened : (name script : List ℕ) (brace : Option Token) → Fine name → 
 fine_opened name script None p = refl
 fine_opened name script (Some brace) p = fine_remark (codes ": note: ") name script brace.start unclosed_blanks refl p (refl, refl)
 
-fine_syntax_told : (name script : List ℕ) (tokens : List Token) (token : Option Token) → Fine name → Fine (syntax_told name script tokens token)
-fine_syntax_told name script tokens None p =
+fine_token_told : (name script : List ℕ) (token : Option Token) (tokens : List Token) → Fine name → Fine (token_told name script token tokens)
+fine_token_told name script None tokens p =
     fine_append (told name script (length script) (syntax_blanks script None)) (opened name script (unclosed tokens))
     (fine_told name script (length script) (syntax_blanks script None) p (fine_syntax script None)) (fine_opened name script (unclosed tokens) p)
-fine_syntax_told name script tokens (Some token) p = fine_told name script token.start (syntax_blanks script (Some token)) p (fine_syntax script (Some token))
+fine_token_told name script (Some token) tokens p = fine_told name script token.start (syntax_blanks script (Some token)) p (fine_syntax script (Some token))
 
-fine_fault : (script : List ℕ) (reason : Reason) (tokens : List Token) (number : ℕ) → FineBlanks (fault_blanks script reason tokens number)
-fine_fault script reason tokens number =
-    blanks_if (same_fault (fault_of_kind reason.kind) BadArguments && has_unit script (drop 1 (drop number tokens))) unit_blanks (reason_blanks reason) (refl, refl) (fine_reason reason)
+fine_fault : (script : List ℕ) (tokens : List Token) (found : Refused) → FineBlanks (fault_blanks script tokens found)
+fine_fault script tokens found =
+    blanks_if (is_argument_fault (fault_of_kind found.reason.kind) && has_unit script (drop 1 (drop found.token tokens))) unit_blanks (reason_blanks found.reason) (refl, refl) (fine_reason found.reason)
 
 fine_reasons : (name script : List ℕ) (tokens : List Token) (reasons : List Refused) → Fine name → Fine (flat_map (reason_told name script tokens) reasons)
 fine_reasons name script tokens [] p = refl
 fine_reasons name script tokens (found ∷ others) p =
     fine_append (reason_told name script tokens found) (flat_map (reason_told name script tokens) others)
-    (fine_told name script (start_of script (marked_token script found.reason tokens found.token)) (fault_blanks script found.reason tokens found.token) p (fine_fault script found.reason tokens found.token))
+    (fine_told name script (start_of script (marked_token script tokens found)) (fault_blanks script tokens found) p (fine_fault script tokens found))
     (fine_reasons name script tokens others p)
 
-fine_why : (name script : List ℕ) (reasons : List Refused) (text : List ℕ) → Fine name → TellsWhy name script reasons text → Fine text
-fine_why name script reasons text p (tokens, (has, e)) = ap are_printable e ∙ fine_reasons name script tokens reasons p
-
-fine_reasoned : (name script : List ℕ) (fault : Fault) (number : ℕ) (text : List ℕ) → Fine name → TellsReason name script fault number text → Fine text
-fine_reasoned name script fault number text p (tree, (grown, tells)) = fine_why name script (reasons_in tree fault number) text p tells
+fine_reasoned : (name script text : List ℕ) → Fine name → TellsReasons name script text → Fine text
+fine_reasoned name script text p (commands, parsed, (tokens, are, e)) = ap are_printable e ∙ fine_reasons name script tokens (take max_reasons (reasons_of commands)) p
 
 pub printable : (name script : List ℕ) (refusal : Refusal) (text : List ℕ) → Fine name → Explains name script refusal text → Fine text
 printable name script (refused.Lexical place) text p e =
     let at = min place (length script) in ap are_printable e ∙ fine_told name script at (lexical_blanks (drop at script)) p (fine_lexical (drop at script))
 printable name script refused.ScriptTooLong text p e = ap are_printable e ∙ fine_told name script (min max_script (length script)) too_long_blanks p (refl, refl)
-printable name script (refused.Syntax number) text p (tokens, (has, e)) = ap are_printable e ∙ fine_syntax_told name script tokens (slice_get tokens number) p
-printable name script (refused.TooDeep number) text p (tokens, (has, e)) =
+printable name script (refused.Syntax number) text p (tokens, are, e) = ap are_printable e ∙ fine_token_told name script (slice_get tokens number) tokens p
+printable name script (refused.TooDeep number) text p (tokens, are, e) =
     ap are_printable e ∙ fine_told name script (start_of script (slice_get tokens number)) too_deep_blanks p (refl, refl)
-printable name script (refused.UnknownCommand number) text p e = fine_reasoned name script UnknownCommand number text p e
-printable name script (refused.MissingCapability number) text p e = fine_reasoned name script MissingCapability number text p e
-printable name script (refused.UnknownCapability number) text p e = fine_reasoned name script UnknownCapability number text p e
-printable name script (refused.BadArguments number) text p e = fine_reasoned name script BadArguments number text p e
-printable name script (refused.Limit number) text p e = fine_reasoned name script Limit number text p e
-printable name script _ text p e = ap are_printable e
+printable name script (refused.UnknownCommand number) text p e = fine_reasoned name script text p e
+printable name script (refused.MissingCapability number) text p e = fine_reasoned name script text p e
+printable name script (refused.UnknownCapability number) text p e = fine_reasoned name script text p e
+printable name script (refused.BadArguments number) text p e = fine_reasoned name script text p e
+printable name script (refused.Limit number) text p e = fine_reasoned name script text p e
+printable name script _ text p e = absurd e
 
 pub listing_printable : (name listing : List ℕ) (place : ℕ) (kind : FaultKind) → Fine name → Fine (listing_told name listing place kind)
 listing_printable name listing place kind p =

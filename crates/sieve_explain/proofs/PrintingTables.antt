@@ -1,21 +1,16 @@
 -- The sentences are printable, whatever is filled in.
-use Rattle.std.proofs.Common.{◌≡◌, ℕ, Bool, true, false, List, [], ◌∷◌, length, take, refl}
+use Rattle.std.proofs.Common.{◌≡◌, ℕ, Bool, true, false, List, [], ◌∷◌, length, take, refl, arith}
 use Rattle.std.specs.List.{list_all, list_any}
 use Rattle.std.specs.Prelude.{◌&&◌, ◌||◌, ◌==◌, if◌then◌else◌, Option, Some, None, is_some, bytes_eq, codes, slice_index}
 use Rattle.std.specs.Char.{is_ascii_digit}
 use Rattle.sieve_lexer.specs.Classes.{begins_identifier}
 use Rattle.sieve_lexer.specs.declared.token.Token.{Token}
 use Rattle.sieve_lexer.specs.declared.token.TokenKind.{TokenKind}
-use Rattle.sieve_lexer.specs.declared.token.TokenKind.TheVariants as kinds
 use Rattle.sieve_check.specs.Names.{command_named, is_word, test_named}
 use Rattle.sieve_check.specs.declared.names.Capability.{Capability}
-use Rattle.sieve_check.specs.declared.names.Capability.TheVariants as capability
 use Rattle.sieve_check.specs.declared.names.Tag.{Tag}
-use Rattle.sieve_check.specs.declared.names.Tag.TheVariants as tag
 use Rattle.sieve_check.specs.declared.signature.Ending.{Ending}
-use Rattle.sieve_check.specs.declared.signature.Ending.TheVariants as ending
 use Rattle.sieve_check.specs.declared.signature.Positional.{Positional}
-use Rattle.sieve_check.specs.declared.signature.Positional.TheVariants as positional
 use Rattle.sieve_check.specs.declared.signature.Tests.{Tests}
 use Rattle.sieve_check.specs.declared.signature.Tests.TheVariants as tests
 use Rattle.sieve_check.specs.Causes.{Reason}
@@ -24,7 +19,7 @@ use Rattle.sieve_check.specs.declared.causes.ReasonKind.TheVariants as reasons
 use Rattle.bytecode_listing.specs.declared.error.FaultKind.{FaultKind}
 use Rattle.bytecode_listing.specs.declared.error.FaultKind.TheVariants.{Misplaced, SecondLabel, NoLabel, Limits}
 use Rattle.sieve_explain.specs.Faults.{Beginning, lexical_blanks, listing_blanks, misplaced_blanks, misplaced_token, mistaken, mistaken_blanks, other_blanks, syntax_blanks, text_at}
-use Rattle.sieve_explain.specs.Hints.{capability_names, command_meant, command_names, command_rows, lacking, lacking_rows, tag_names, test_meant, test_names, test_rows, unknown_capability_text, unknown_capability_words, unknown_command_text, unknown_command_words, unknown_tag_text, unknown_tag_words, unknown_test_text, unknown_test_words}
+use Rattle.sieve_explain.specs.Hints.{Vocabulary, known_capabilities, known_commands, known_tags, known_tests, lacking, lacking_rows, meant, unknown_text, unknown_words}
 use Rattle.sieve_explain.specs.Printable.{are_printable}
 use Rattle.sieve_explain.specs.Reasons.{capability_words, ending_words, no_test_words, place_text, positional_words, reason_blanks, reason_text, reason_words, tag_words, tests_words}
 use Rattle.sieve_explain.specs.Sentences.{Blanks}
@@ -54,55 +49,28 @@ fine_with (c ∷ cs) some none p q = p
 fine_lacking : (name : List ℕ) → Fine (lacking name)
 fine_lacking name = fine_for name lacking_rows refl
 
-fine_command : (name : List ℕ) → Fine (command_meant name)
-fine_command name = fine_with (words_for name command_rows) _ _ (fine_for name command_rows refl) (fine_nearest name command_names refl)
+-- words and sentences that are printable
+abbrev FineVocabulary : Vocabulary → Type 0
+FineVocabulary known = (list_all fine_row known.elsewhere ≡ true) × (list_all are_printable known.names ≡ true)
+    × Fine known.lacks × Fine known.hinting × Fine known.alone
 
-fine_test : (name : List ℕ) → Fine (test_meant name)
-fine_test name = fine_with (words_for name test_rows) _ _ (fine_for name test_rows refl) (fine_nearest name test_names refl)
+fine_meant : (name : List ℕ) (known : Vocabulary) → FineVocabulary known → Fine (meant name known)
+fine_meant name known fine = fine_with (words_for name known.elsewhere) _ _ (fine_for name known.elsewhere fine.0) (fine_nearest name known.names fine.1)
 
-fine_command_text : (name : List ℕ) → Fine (unknown_command_text name)
-fine_command_text name = fine_if (is_some (test_named name)) _ _ refl (fine_with (lacking name) _ _ refl (fine_with (command_meant name) _ _ refl refl))
+fine_unknown_text : (name : List ℕ) (known : Vocabulary) → FineVocabulary known → Fine (unknown_text name known)
+fine_unknown_text name known fine = fine_with (lacking name) _ _ fine.2 (fine_with (meant name known) _ _ fine.3 fine.4)
 
-fine_command_words : (name : List ℕ) → Fine (unknown_command_words name)
-fine_command_words name = fine_with (lacking name) _ _ (fine_lacking name) (fine_command name)
-
-fine_test_text : (name : List ℕ) → Fine (unknown_test_text name)
-fine_test_text name = fine_if (is_some (command_named name)) _ _ refl (fine_with (lacking name) _ _ refl (fine_with (test_meant name) _ _ refl refl))
-
-fine_test_words : (name : List ℕ) → Fine (unknown_test_words name)
-fine_test_words name = fine_with (lacking name) _ _ (fine_lacking name) (fine_test name)
-
-fine_tag_text : (name : List ℕ) → Fine (unknown_tag_text name)
-fine_tag_text name = fine_with (lacking name) _ _ refl (fine_with (nearest name tag_names) _ _ refl refl)
-
-fine_tag_words : (name : List ℕ) → Fine (unknown_tag_words name)
-fine_tag_words name = fine_with (lacking name) _ _ (fine_lacking name) (fine_nearest name tag_names refl)
-
-fine_unknown_text : (name : List ℕ) → Fine (unknown_capability_text name)
-fine_unknown_text name = fine_with (lacking name) _ _ refl (fine_with (nearest name capability_names) _ _ refl refl)
-
-fine_unknown_words : (name : List ℕ) → Fine (unknown_capability_words name)
-fine_unknown_words name = fine_with (lacking name) _ _ (fine_lacking name) (fine_nearest name capability_names refl)
+fine_unknown_words : (name : List ℕ) (known : Vocabulary) → FineVocabulary known → Fine (unknown_words name known)
+fine_unknown_words name known fine = fine_with (lacking name) _ _ (fine_lacking name) (fine_meant name known fine)
 
 fine_place : (name : List ℕ) → Fine (place_text name)
 fine_place name = fine_if (is_word name (codes "require")) _ _ refl (fine_if (is_word name (codes "elsif") || is_word name (codes "else")) _ _ refl refl)
 
 fine_capability : (c : Capability) → Fine (capability_words c)
-fine_capability capability.FileInto = refl
-fine_capability capability.Variables = refl
-fine_capability capability.Mime = refl
-fine_capability capability.ForEveryPart = refl
-fine_capability capability.Depot = refl
-fine_capability capability.OctetComparator = refl
-fine_capability capability.CasemapComparator = refl
+fine_capability c = grind arith
 
 fine_positional : (taken : Positional) → Fine (positional_words taken)
-fine_positional positional.Nothing = refl
-fine_positional positional.Number = refl
-fine_positional positional.Text = refl
-fine_positional positional.TwoTexts = refl
-fine_positional positional.OneList = refl
-fine_positional positional.TwoLists = refl
+fine_positional taken = grind arith
 
 fine_no_tests : (name : List ℕ) → Fine (no_test_words name)
 fine_no_tests name =
@@ -116,28 +84,16 @@ fine_tests tests.One name = refl
 fine_tests tests.Bracketed name = refl
 
 fine_ending : (taken : Ending) → Fine (ending_words taken)
-fine_ending ending.Semicolon = refl
-fine_ending ending.Block = refl
+fine_ending taken = grind arith
 
 fine_tag : (given : Tag) → Fine (tag_words given)
-fine_tag tag.Comparator = refl
-fine_tag (tag.Select piece) = refl
-fine_tag tag.Name = refl
-fine_tag tag.First = refl
-fine_tag (tag.Order order) = refl
-fine_tag (tag.Kind kind) = refl
-fine_tag (tag.Letters case) = refl
-fine_tag (tag.FirstLetter case) = refl
-fine_tag tag.QuoteWildcard = refl
-fine_tag tag.Length = refl
-fine_tag tag.Mime = refl
-fine_tag tag.AnyChild = refl
+fine_tag given = grind arith
 
 fine_words : (kind : ReasonKind) (name subject : List ℕ) → Fine (reason_words kind name subject)
-fine_words reasons.UnknownCommand name subject = fine_command_words name
-fine_words reasons.UnknownTest name subject = fine_test_words name
-fine_words reasons.UnknownCapability name subject = fine_unknown_words subject
-fine_words reasons.UnknownTag name subject = fine_tag_words subject
+fine_words reasons.UnknownCommand name subject = fine_unknown_words name known_commands (refl, refl, refl, refl, refl)
+fine_words reasons.UnknownTest name subject = fine_unknown_words name known_tests (refl, refl, refl, refl, refl)
+fine_words reasons.UnknownCapability name subject = fine_unknown_words subject known_capabilities (refl, refl, refl, refl, refl)
+fine_words reasons.UnknownTag name subject = fine_unknown_words subject known_tags (refl, refl, refl, refl, refl)
 fine_words (reasons.MissingCapability needed) name subject = fine_capability needed
 fine_words (reasons.TagArgument given) name subject = fine_tag given
 fine_words (reasons.MissingArgument taken) name subject = fine_positional taken
@@ -148,10 +104,10 @@ fine_words (reasons.WrongEnding taken) name subject = fine_ending taken
 fine_words _ name subject = refl
 
 fine_text : (kind : ReasonKind) (name subject : List ℕ) → Fine (reason_text kind name subject)
-fine_text reasons.UnknownCommand name subject = fine_command_text name
-fine_text reasons.UnknownTest name subject = fine_test_text name
-fine_text reasons.UnknownCapability name subject = fine_unknown_text subject
-fine_text reasons.UnknownTag name subject = fine_tag_text subject
+fine_text reasons.UnknownCommand name subject = fine_if (is_some (test_named name)) _ _ refl (fine_unknown_text name known_commands (refl, refl, refl, refl, refl))
+fine_text reasons.UnknownTest name subject = fine_if (is_some (command_named name)) _ _ refl (fine_unknown_text name known_tests (refl, refl, refl, refl, refl))
+fine_text reasons.UnknownCapability name subject = fine_unknown_text subject known_capabilities (refl, refl, refl, refl, refl)
+fine_text reasons.UnknownTag name subject = fine_unknown_text subject known_tags (refl, refl, refl, refl, refl)
 fine_text reasons.Misplaced name subject = fine_place name
 fine_text _ name subject = refl
 
@@ -159,19 +115,7 @@ pub fine_reason : (reason : Reason) → FineBlanks (reason_blanks reason)
 fine_reason reason = (fine_text reason.kind reason.name reason.subject, fine_words reason.kind reason.name reason.subject)
 
 fine_token : (kind : TokenKind) → Fine (misplaced_token kind)
-fine_token kinds.Identifier = refl
-fine_token kinds.Tag = refl
-fine_token kinds.Number = refl
-fine_token kinds.QuotedString = refl
-fine_token kinds.MultiLineString = refl
-fine_token kinds.Semicolon = refl
-fine_token kinds.Comma = refl
-fine_token kinds.OpeningBrace = refl
-fine_token kinds.ClosingBrace = refl
-fine_token kinds.OpeningParenthesis = refl
-fine_token kinds.ClosingParenthesis = refl
-fine_token kinds.OpeningBracket = refl
-fine_token kinds.ClosingBracket = refl
+fine_token kind = grind arith
 
 pub fine_syntax : (script : List ℕ) (token : Option Token) → FineBlanks (syntax_blanks script token)
 fine_syntax script None = (refl, refl)

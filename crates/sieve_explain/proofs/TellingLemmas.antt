@@ -1,42 +1,43 @@
--- What is told, from the place and the sentence that were found.
-use Rattle.std.proofs.Common.{◌≡◌, ◌≢◌, ◌∙◌, ℕ, List, ap, subst, sym}
-use Rattle.std.proofs.lemmas.List.{take-map}
-use Rattle.std.specs.Prelude.{Option, None, Some, map, take}
-use Rattle.std.specs.List.{slice_get}
+-- A refusal that is told is the script's explanation.
+use Rattle.std.proofs.Common.{◌≡◌, ◌≢◌, ◌⊎◌, ℕ, ◌≤◌, List, length, subst, sym, inl, inr, arith}
+use Rattle.octets.specs.Limits.{max_script}
+use Rattle.refusals.specs.Causes.{of_checker}
+use Rattle.refusals.specs.Scripts.{IsFaulty, IsScriptRefusal}
+use Rattle.refusals.specs.declared.refusal.Refusal.{Refusal}
+use Rattle.refusals.specs.declared.refusal.Refusal.TheVariants.{Memory}
+use Rattle.sieve_check.specs.Causes.{refusal}
 use Rattle.sieve_check.specs.declared.error.Fault.{Fault}
+use Rattle.sieve_check.specs.declared.error.Fault.TheVariants as fault
+use Rattle.sieve_lexer.specs.Tokens.{AreTokens, IsFault}
 use Rattle.sieve_lexer.specs.declared.token.Token.{Token}
-use Rattle.sieve_parser.specs.Scripts.{IsParsed, IsParseRefusal}
-use Rattle.sieve_parser.specs.Tree.{CommandsTree}
+use Rattle.sieve_parser.specs.Scripts.{IsParseRefusal}
 use Rattle.sieve_parser.specs.declared.error.ParseError.{ParseError}
-use Rattle.sieve_parser.specs.declared.error.ParseError.TheVariants.{Memory}
-use Rattle.sieve_check.specs.Causes.{Refused}
-use Rattle.sieve_check.specs.declared.causes.Refused as code
-use Rattle.sieve_check.specs.Reading.{refused_view}
-use Rattle.sieve_check.specs.Rules.{max_reasons, reasons_of}
-use Rattle.sieve_explain.specs.Explaining.{HasTokens, HasTree, TellsDepth, TellsReason, TellsWhy, reasons_for, reasons_in, start_of, told}
-use Rattle.sieve_explain.specs.Faults.{too_deep_blanks}
-use Rattle.sieve_explain.specs.Sentences.{Blanks}
+use Rattle.sieve_parser.specs.declared.error.ParseError.TheVariants as parser
+use Rattle.sieve_explain.specs.Explaining.{Explains, TellsReasons}
 
-pub tells_depth : (name script : List ℕ) (number place : ℕ) (blanks : Blanks) (text : List ℕ) (tokens : List Token) → HasTokens script tokens
-    → place ≡ start_of script (slice_get tokens number) → blanks ≡ too_deep_blanks → text ≡ told name script place blanks → TellsDepth name script number text
-tells_depth name script number place blanks text tokens has p q e =
-    (tokens, (has, e ∙ ap (λ (b : Blanks). told name script place b) q ∙ ap (λ (n : ℕ). told name script n too_deep_blanks) p))
+-- what `IsExplained` says of a refusal and its text
+abbrev pub IsTold : List ℕ → List ℕ → Refusal → List ℕ → Type 0
+IsTold name script refusal text = (refusal ≢ Memory) × IsScriptRefusal script refusal × Explains name script refusal text
 
-pub tells_reason : (name script : List ℕ) (fault : Fault) (number : ℕ) (tree : Option CommandsTree) (reasons : List Refused) (text : List ℕ)
-    → HasTree script tree → reasons ≡ reasons_in tree fault number → TellsWhy name script reasons text → TellsReason name script fault number text
-tells_reason name script fault number tree reasons text grown is tells = (tree, (grown, subst (λ (l : List Refused). TellsWhy name script l text) is tells))
+-- the law that a script of tokens has no fault
+abbrev pub NoFault : Type 0
+NoFault = (script : List ℕ) (tokens : List Token) (place : ℕ) → AreTokens script tokens → IsFault script place → ⊥
 
--- those that are told are all that the first of them is told for
-pub tells_reasons : (name script : List ℕ) (fault : Fault) (number : ℕ) (commands : CommandsTree) (told : ℕ) (items passed : List code.Refused) (text : List ℕ) → IsParsed script commands
-    → map refused_view items ≡ take max_reasons (reasons_of commands) → take told (map refused_view items) ≡ reasons_for fault number (map refused_view items) → passed ≡ take told items
-    → TellsWhy name script (map refused_view passed) text → TellsReason name script fault number text
-tells_reasons name script fault number commands told items passed text parsed are few is tells =
-    let same : map refused_view passed ≡ reasons_for fault number (take max_reasons (reasons_of commands)) = ap (map refused_view) is ∙ sym (take-map refused_view told items) ∙ few ∙ ap (reasons_for fault number) are in
-    tells_reason name script fault number (Some commands) (map refused_view passed) text parsed same tells
+-- which has no refusal of its tokens
+pub no_lexical : NoFault → (script : List ℕ) (tokens : List Token) → AreTokens script tokens → length script ≤ max_script → (e : ParseError) → IsParseRefusal script e
+    → ((place : ℕ) × (e ≡ parser.Lexical place)) ⊎ (e ≡ parser.ScriptTooLong) → ⊥
+no_lexical law script tokens are short e is (inl found) = let fault = subst (IsParseRefusal script) found.1 is in law script tokens found.0 are fault.1
+no_lexical law script tokens are short e is (inr same) = let long = subst (IsParseRefusal script) same is in absurd (omega (arith, long, short))
 
--- the law that a script that has a tree is refused for want of memory alone
-abbrev pub NoParseFault : Type 0
-NoParseFault = (script : List ℕ) (commands : CommandsTree) (e : ParseError) → IsParsed script commands → IsParseRefusal script e → e ≡ Memory
+checking : (name script : List ℕ) (place : ℕ) (f : Fault) (text : List ℕ) → IsFaulty script (refusal place f) → TellsReasons name script text
+    → IsTold name script (of_checker (refusal place f)) text
+checking name script place fault.UnknownCommand text is told = (λ e. absurd (cc), is, told)
+checking name script place fault.MissingCapability text is told = (λ e. absurd (cc), is, told)
+checking name script place fault.UnknownCapability text is told = (λ e. absurd (cc), is, told)
+checking name script place fault.BadArguments text is told = (λ e. absurd (cc), is, told)
+checking name script place fault.Limit text is told = (λ e. absurd (cc), is, told)
 
-pub no_tree : NoParseFault → (script : List ℕ) (e : ParseError) → IsParseRefusal script e → e ≢ Memory → HasTree script None
-no_tree law script e refused other = λ commands parsed. other (law script commands e parsed refused)
+-- the checker's
+pub told_by_checker : (name script : List ℕ) (place : ℕ) (f : Fault) (r : Refusal) (text : List ℕ) → r ≡ of_checker (refusal place f)
+    → IsFaulty script (refusal place f) → TellsReasons name script text → IsTold name script r text
+told_by_checker name script place f r text same is told = subst (λ (x : Refusal). IsTold name script x text) (sym same) (checking name script place f text is told)

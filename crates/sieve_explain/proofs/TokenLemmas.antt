@@ -1,49 +1,23 @@
 -- The token of a script with a number, or none.
-use Rattle.std.proofs.Common.{◌≡◌, ◌≢◌, ◌∙◌, ℕ, zero, suc, ◌-◌, ◌≤◌, Bool, true, false, List, [], ◌∷◌, length, drop, inl, inr, ap, sym, subst, refl, arith}
+use Rattle.std.proofs.Common.{◌≡◌, ◌∙◌, ℕ, zero, suc, ◌-◌, Bool, true, false, List, [], ◌∷◌, length, drop, ap, sym, subst, refl, arith}
 use Rattle.std.specs.Prelude.{◌&&◌, ◌==◌, if◌then◌else◌, Option, Some, None, IfSome, take_while}
 use Rattle.std.specs.List.{slice_get}
 use Rattle.std.specs.Option.{option_or}
-use Rattle.sieve_lexer.specs.Tokens.{AreTokens, IsFault, IsLexicalRefusal, IsToken}
-use Rattle.sieve_lexer.specs.declared.error.LexicalError.{LexicalError}
-use Rattle.sieve_lexer.specs.declared.error.LexicalError.TheVariants.{Memory, ScriptTooLong, Lexical}
+use Rattle.sieve_lexer.specs.Tokens.{AreTokens, IsToken}
 use Rattle.sieve_lexer.specs.declared.token.Token.{Token}
 use Rattle.sieve_parser.proofs.Here.{token_here}
-use Rattle.sieve_explain.specs.Explaining.{HasTokens}
-use Rattle.sieve_explain.specs.Marks.{has_unit, if_spelled, if_unclosed, is_no_name, is_number_at, is_opening, is_unit_at, passes, spells, string_among, unclosed, unopened}
-
--- the law that a script of tokens has no fault
-abbrev pub NoFault : Type 0
-NoFault = (script : List ℕ) (tokens : List Token) (place : ℕ) → AreTokens script tokens → IsFault script place → ⊥
-
--- a script that is refused by its octets has no tokens, or too many octets
-none_refused : NoFault → (script : List ℕ) (e : LexicalError) → IsLexicalRefusal script e → e ≢ Memory → HasTokens script []
-none_refused law script Memory refused other = absurd (other refl)
-none_refused law script ScriptTooLong refused other = inr (refl, λ within others are. absurd (omega (arith, refused, within)))
-none_refused law script (Lexical place) refused other = inr (refl, λ within others are. law script others place are refused.1)
-
-pub no_tokens : NoFault → (script : List ℕ) (e : LexicalError) → IsLexicalRefusal script e → e ≢ Memory → HasTokens script []
-no_tokens law script e refused other = none_refused law script e refused other
-
--- a token that stands in the script
-abbrev pub Stands : List ℕ → Option Token → Type 0
-Stands script o = IfSome o (λ token. (token.start ≤ token.end) × (token.end ≤ length script))
+use Rattle.sieve_explain.specs.Marks.{Stands, has_unit, if_spelled, if_unclosed, is_no_name, is_number_at, is_opening, is_unit_at, passes, spells, string_among, unclosed, unopened}
 
 -- a token among those of a script stands in it
-stands : (script : List ℕ) (tokens : List Token) → AreTokens script tokens → (number : ℕ) (o : Option Token) → o ≡ slice_get tokens number → Stands script o
-stands script tokens are number None e = tt
-stands script tokens are number (Some token) e = let at : IsToken script token = token_here script tokens are number token (cc) in (omega (arith, at.some), at.within)
-
-pub stands_numbered : (script : List ℕ) (tokens : List Token) → HasTokens script tokens → (number : ℕ) (o : Option Token) → o ≡ slice_get tokens number → Stands script o
-stands_numbered script tokens (inl p) number o e = stands script tokens p.1 number o e
-stands_numbered script tokens (inr p) number None e = tt
-stands_numbered script tokens (inr p) number (Some token) e =
-    let none : Some token ≡ None = e ∙ ap (λ (l : List Token). slice_get l number) p.0 in absurd (cc)
+pub stands_numbered : (script : List ℕ) (tokens : List Token) → AreTokens script tokens → (number : ℕ) (o : Option Token) → o ≡ slice_get tokens number → Stands script o
+stands_numbered script tokens are number None e = tt
+stands_numbered script tokens are number (Some token) e = let at : IsToken script token = token_here script tokens are number token (cc) in (omega (arith, at.some), at.within)
 
 -- the token is one of the tokens
 abbrev IsOne : List Token → Option Token → Type 0
 IsOne tokens o = IfSome o (λ token. (number : ℕ) × (Some token ≡ slice_get tokens number))
 
-stands_one : (script : List ℕ) (tokens : List Token) → HasTokens script tokens → (o : Option Token) → IsOne tokens o → Stands script o
+stands_one : (script : List ℕ) (tokens : List Token) → AreTokens script tokens → (o : Option Token) → IsOne tokens o → Stands script o
 stands_one script tokens has None one = tt
 stands_one script tokens has (Some token) (number, e) = stands_numbered script tokens has number (Some token) e
 
@@ -69,7 +43,7 @@ one_spelled script string tokens None one = tt
 one_spelled script string tokens (Some token) one = one_if tokens (spells script string token) token one
 
 -- a string behind a command
-pub string_stands : (script string : List ℕ) (tokens : List Token) (number : ℕ) → HasTokens script tokens → (o : Option Token) → o ≡ string_among script string (drop number tokens) → Stands script o
+pub string_stands : (script string : List ℕ) (tokens : List Token) (number : ℕ) → AreTokens script tokens → (o : Option Token) → o ≡ string_among script string (drop number tokens) → Stands script o
 string_stands script string tokens number has o e =
     let place = length (take_while (passes script string) (drop number tokens)) in
     stands_one script tokens has o (subst (IsOne tokens) (sym e) (one_spelled script string tokens (slice_get (drop number tokens) place) (one_behind number tokens place)))
@@ -84,7 +58,7 @@ one_unclosed (token ∷ tokens) = one_or token tokens (unclosed tokens) (if_uncl
     (one_if (token ∷ tokens) (is_opening token.kind && unopened tokens == 0) token (0, refl))
 
 -- a brace that is never closed
-pub brace_stands : (script : List ℕ) (tokens : List Token) → HasTokens script tokens → (o : Option Token) → o ≡ unclosed tokens → Stands script o
+pub brace_stands : (script : List ℕ) (tokens : List Token) → AreTokens script tokens → (o : Option Token) → o ≡ unclosed tokens → Stands script o
 brace_stands script tokens has o e = stands_one script tokens has o (subst (IsOne tokens) (sym e) (one_unclosed tokens))
 
 -- the first of two that stand

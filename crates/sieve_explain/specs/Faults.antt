@@ -1,5 +1,6 @@
 -- What is said of a script that isn't parsed.
 use Rattle.std.specs.Prelude.{ℕ, suc, ◌^◌, ◌-◌, ◌==◌, ◌&&◌, nat_lt, if◌then◌else◌, Bool, List, [], ◌∷◌, length, take, take_while, Option, Some, None, slice_index, slice_range, bytes_eq, codes}
+use Rattle.std.specs.Borrow.{Bor}
 use Rattle.std.specs.Char.{is_ascii_digit}
 use Rattle.octets.specs.Limits.{max_nesting, max_script}
 use Rattle.bytecode_listing.specs.declared.error.FaultKind.{FaultKind}
@@ -9,7 +10,6 @@ use Rattle.sieve_lexer.specs.declared.token.Token.{Token}
 use Rattle.sieve_lexer.specs.declared.token.TokenKind.{TokenKind}
 use Rattle.sieve_lexer.specs.declared.token.TokenKind.TheVariants.{Identifier, Tag, Number, QuotedString, MultiLineString, Semicolon, Comma, OpeningBrace, ClosingBrace, OpeningParenthesis, ClosingParenthesis, OpeningBracket, ClosingBracket}
 use Rattle.sieve_explain.specs.Sentences.{Blanks, plain}
-use Rattle.sieve_explain.specs.declared.faults.Mistake.{Mistake}
 
 -- what people write at a place where a script can't have it: the first octets, and what to write instead
 pub record Beginning : Type 0 where
@@ -19,18 +19,21 @@ pub record Beginning : Type 0 where
 abbrev pub beginning : List ℕ → List ℕ → Beginning
 beginning octets text = record { octets = octets; text = text }
 
+-- a row of the code
+abbrev pub beginning_of : (Bor (List ℕ) × Bor (List ℕ)) → Beginning
+beginning_of row = beginning row.0.now row.1.now
+
+abbrev pub typographic : List ℕ
+typographic = codes "a typographic quote stands here: strings stand between straight double quotes, \"like this\""
+
 -- a byte order mark, the four typographic quotes, a single quote, and two slashes
 abbrev pub mistaken : List Beginning
 mistaken =
     beginning (239 ∷ 187 ∷ 191 ∷ []) (codes "a byte order mark stands here: save the script as UTF-8 without one")
-    ∷ beginning (226 ∷ 128 ∷ 152 ∷ [])
-    (codes "a typographic quote stands here: strings stand between straight double quotes, \"like this\"")
-    ∷ beginning (226 ∷ 128 ∷ 153 ∷ [])
-    (codes "a typographic quote stands here: strings stand between straight double quotes, \"like this\"")
-    ∷ beginning (226 ∷ 128 ∷ 156 ∷ [])
-    (codes "a typographic quote stands here: strings stand between straight double quotes, \"like this\"")
-    ∷ beginning (226 ∷ 128 ∷ 157 ∷ [])
-    (codes "a typographic quote stands here: strings stand between straight double quotes, \"like this\"")
+    ∷ beginning (226 ∷ 128 ∷ 152 ∷ []) typographic
+    ∷ beginning (226 ∷ 128 ∷ 153 ∷ []) typographic
+    ∷ beginning (226 ∷ 128 ∷ 156 ∷ []) typographic
+    ∷ beginning (226 ∷ 128 ∷ 157 ∷ []) typographic
     ∷ beginning (codes "'") (codes "a single quote stands here: strings stand between double quotes, \"like this\"")
     ∷ beginning (codes "//") (codes "no comment begins so: one begins with `&`, or stands between `/*` and `*/`")
     ∷ []
@@ -39,11 +42,6 @@ mistaken =
 abbrev pub text_at : List ℕ → List Beginning → List ℕ
 text_at rest [] = []
 text_at rest (row ∷ rows) = if bytes_eq (take (length row.octets) rest) row.octets then row.text else text_at rest rows
-
--- the same of a table of the code
-abbrev pub text_in : List ℕ → List Mistake → List ℕ
-text_in rest [] = []
-text_in rest (row ∷ rows) = if bytes_eq (take (length row.octets.now) rest) row.octets.now then row.text.now else text_in rest rows
 
 -- other octets at which neither a token nor a separator begins
 abbrev pub other_blanks : List ℕ → Blanks

@@ -1,7 +1,8 @@
 -- What is said of a name that isn't known where it stands. ASCII case doesn't count.
-use Rattle.std.specs.Prelude.{ℕ, if◌then◌else◌, List, [], ◌∷◌, is_some, codes}
+use Rattle.std.specs.Prelude.{ℕ, if◌then◌else◌, List, [], ◌∷◌, is_some, codes, map}
 use Rattle.sieve_check.specs.Names.{command_named, test_named}
-use Rattle.sieve_explain.specs.Words.{Hint, hint, nearest, with_words, words_for}
+use Rattle.sieve_explain.specs.Words.{Hint, hint, hint_of, nearest, texts_of, with_words, words_for}
+use Rattle.sieve_explain.specs.declared.hints.Vocabulary as code
 
 -- ---- what depot lacks
 
@@ -39,111 +40,104 @@ lacking_rows =
 abbrev pub lacking : List ℕ → List ℕ
 lacking name = words_for name lacking_rows
 
--- ---- what is meant
+-- ---- what there is
 
--- what stands elsewhere for a command
-abbrev pub command_rows : List Hint
-command_rows =
-    hint (codes "elseif" ∷ codes "elif" ∷ codes "else_if" ∷ []) (codes "elsif")
-    ∷ hint (codes "file" ∷ codes "move" ∷ []) (codes "fileinto")
-    ∷ hint (codes "delete" ∷ codes "drop" ∷ []) (codes "discard")
-    ∷ hint (codes "foreach" ∷ codes "for" ∷ []) (codes "foreverypart")
-    ∷ hint (codes "save" ∷ []) (codes "store")
-    ∷ hint (codes "exit" ∷ codes "return" ∷ []) (codes "stop")
-    ∷ []
+-- the names of one kind, and what stands elsewhere for some of them; then the sentences for a name that is none of them:
+-- for one that depot lacks, for one by which one of them is meant, and for any other
+pub record Vocabulary : Type 0 where
+  pub elsewhere : List Hint
+  pub names : List (List ℕ)
+  pub lacks : List ℕ
+  pub hinting : List ℕ
+  pub alone : List ℕ
 
-abbrev pub command_names : List (List ℕ)
-command_names =
-    codes "require" ∷ codes "if" ∷ codes "elsif" ∷ codes "else" ∷ codes "stop" ∷ codes "keep" ∷ codes "discard" ∷ codes "fileinto"
-    ∷ codes "set" ∷ codes "foreverypart" ∷ codes "break" ∷ codes "store" ∷ codes "take" ∷ []
+abbrev pub vocabulary_of : code.Vocabulary → Vocabulary
+vocabulary_of known = record {
+  elsewhere = map hint_of known.elsewhere.now;
+  names = texts_of known.names.now;
+  lacks = known.lacks.now;
+  hinting = known.hinting.now;
+  alone = known.alone.now;
+}
 
--- what stands elsewhere for a test
-abbrev pub test_rows : List Hint
-test_rows =
-    hint (codes "all" ∷ codes "and" ∷ []) (codes "allof")
-    ∷ hint (codes "any" ∷ codes "or" ∷ []) (codes "anyof")
-    ∷ hint (codes "subject" ∷ codes "from" ∷ codes "to" ∷ codes "is" ∷ codes "contains" ∷ codes "matches" ∷ [])
-    (codes "header")
-    ∷ hint (codes "filesize" ∷ []) (codes "size")
-    ∷ []
+abbrev pub known_commands : Vocabulary
+known_commands = record {
+  elsewhere =
+      hint (codes "elseif" ∷ codes "elif" ∷ codes "else_if" ∷ []) (codes "elsif")
+      ∷ hint (codes "file" ∷ codes "move" ∷ []) (codes "fileinto")
+      ∷ hint (codes "delete" ∷ codes "drop" ∷ []) (codes "discard")
+      ∷ hint (codes "foreach" ∷ codes "for" ∷ []) (codes "foreverypart")
+      ∷ hint (codes "save" ∷ []) (codes "store")
+      ∷ hint (codes "exit" ∷ codes "return" ∷ []) (codes "stop")
+      ∷ [];
+  names =
+      codes "require" ∷ codes "if" ∷ codes "elsif" ∷ codes "else" ∷ codes "stop" ∷ codes "keep" ∷ codes "discard" ∷ codes "fileinto"
+      ∷ codes "set" ∷ codes "foreverypart" ∷ codes "break" ∷ codes "store" ∷ codes "take" ∷ [];
+  lacks = codes "depot has no @: &";
+  hinting = codes "unknown command @, did you mean `&`?";
+  alone = codes "unknown command @";
+}
 
-abbrev pub test_names : List (List ℕ)
-test_names =
-    codes "true" ∷ codes "false" ∷ codes "not" ∷ codes "allof" ∷ codes "anyof" ∷ codes "header" ∷ codes "exists"
-    ∷ codes "size"
-    ∷ codes "string" ∷ codes "partsize" ∷ codes "partbody" ∷ codes "partdigest" ∷ []
+abbrev pub known_tests : Vocabulary
+known_tests = record {
+  elsewhere =
+      hint (codes "all" ∷ codes "and" ∷ []) (codes "allof")
+      ∷ hint (codes "any" ∷ codes "or" ∷ []) (codes "anyof")
+      ∷ hint (codes "subject" ∷ codes "from" ∷ codes "to" ∷ codes "is" ∷ codes "contains" ∷ codes "matches" ∷ [])
+      (codes "header")
+      ∷ hint (codes "filesize" ∷ []) (codes "size")
+      ∷ [];
+  names =
+      codes "true" ∷ codes "false" ∷ codes "not" ∷ codes "allof" ∷ codes "anyof" ∷ codes "header" ∷ codes "exists" ∷ codes "size"
+      ∷ codes "string" ∷ codes "partsize" ∷ codes "partbody" ∷ codes "partdigest" ∷ [];
+  lacks = codes "depot has no @: &";
+  hinting = codes "unknown test @, did you mean `&`?";
+  alone = codes "unknown test @";
+}
 
-abbrev pub tag_names : List (List ℕ)
-tag_names =
-    codes "over" ∷ codes "under" ∷ codes "is" ∷ codes "contains" ∷ codes "matches" ∷ codes "comparator" ∷ codes "lower"
-    ∷ codes "upper"
-    ∷ codes "lowerfirst" ∷ codes "upperfirst" ∷ codes "quotewildcard" ∷ codes "length" ∷ codes "mime" ∷ codes "anychild"
-    ∷ codes "type"
-    ∷ codes "subtype" ∷ codes "contenttype" ∷ codes "param" ∷ codes "name" ∷ codes "first" ∷ []
+abbrev pub known_tags : Vocabulary
+known_tags = record {
+  elsewhere = [];
+  names =
+      codes "over" ∷ codes "under" ∷ codes "is" ∷ codes "contains" ∷ codes "matches" ∷ codes "comparator" ∷ codes "lower"
+      ∷ codes "upper" ∷ codes "lowerfirst" ∷ codes "upperfirst" ∷ codes "quotewildcard" ∷ codes "length" ∷ codes "mime"
+      ∷ codes "anychild" ∷ codes "type" ∷ codes "subtype" ∷ codes "contenttype" ∷ codes "param" ∷ codes "name" ∷ codes "first" ∷ [];
+  lacks = codes "depot has no #: &";
+  hinting = codes "depot knows no tag #, did you mean `:&`?";
+  alone = codes "depot knows no tag #";
+}
 
-abbrev pub capability_names : List (List ℕ)
-capability_names =
-    codes "fileinto" ∷ codes "variables" ∷ codes "mime" ∷ codes "foreverypart" ∷ codes "vnd.depot"
-    ∷ codes "comparator-i;octet"
-    ∷ codes "comparator-i;ascii-casemap" ∷ []
-
--- the command that is meant, or nothing where none comes near
-abbrev pub command_meant : List ℕ → List ℕ
-command_meant name = let elsewhere = words_for name command_rows in with_words elsewhere elsewhere (nearest name command_names)
-
--- the test that is meant
-abbrev pub test_meant : List ℕ → List ℕ
-test_meant name = let elsewhere = words_for name test_rows in with_words elsewhere elsewhere (nearest name test_names)
+-- all of them are listed where none comes near
+abbrev pub known_capabilities : Vocabulary
+known_capabilities = record {
+  elsewhere = [];
+  names =
+      codes "fileinto" ∷ codes "variables" ∷ codes "mime" ∷ codes "foreverypart" ∷ codes "vnd.depot" ∷ codes "comparator-i;octet"
+      ∷ codes "comparator-i;ascii-casemap" ∷ [];
+  lacks = codes "depot has no $: &";
+  hinting = codes "depot knows no capability $, did you mean \"&\"?";
+  alone = codes "depot knows no capability $: there are \"fileinto\", \"variables\", \"mime\", \"foreverypart\", \"vnd.depot\", \"comparator-i;octet\" and \"comparator-i;ascii-casemap\"";
+}
 
 -- ---- sentences
 
--- by why a name is lacking and what is meant by it: the text for the one, for the other, or for neither
-abbrev pub unknown_text : List ℕ → List ℕ → List ℕ → List ℕ → List ℕ → List ℕ
-unknown_text lacking meant lacks hinting alone = with_words lacking lacks (with_words meant hinting alone)
+-- the name that is meant, or nothing where none comes near
+abbrev pub meant : List ℕ → Vocabulary → List ℕ
+meant name known = let elsewhere = words_for name known.elsewhere in with_words elsewhere elsewhere (nearest name known.names)
 
 -- a name that nothing has: with why it is lacking, else with what is meant by it, where there is either
-abbrev pub no_command_text : List ℕ → List ℕ
-no_command_text name =
-    with_words (lacking name) (codes "depot has no @: &")
-    (with_words (command_meant name) (codes "unknown command @, did you mean `&`?") (codes "unknown command @"))
+abbrev pub unknown_text : List ℕ → Vocabulary → List ℕ
+unknown_text name known = with_words (lacking name) known.lacks (with_words (meant name known) known.hinting known.alone)
 
-abbrev pub no_test_text : List ℕ → List ℕ
-no_test_text name =
-    with_words (lacking name) (codes "depot has no @: &")
-    (with_words (test_meant name) (codes "unknown test @, did you mean `&`?") (codes "unknown test @"))
+abbrev pub unknown_words : List ℕ → Vocabulary → List ℕ
+unknown_words name known = with_words (lacking name) (lacking name) (meant name known)
 
 -- a name in a command's place
 abbrev pub unknown_command_text : List ℕ → List ℕ
 unknown_command_text name =
-    if is_some (test_named name) then codes "@ is a test: is an `if` missing before it?" else no_command_text name
-
-abbrev pub unknown_command_words : List ℕ → List ℕ
-unknown_command_words name = with_words (lacking name) (lacking name) (command_meant name)
+    if is_some (test_named name) then codes "@ is a test: is an `if` missing before it?" else unknown_text name known_commands
 
 -- a name in a test's place
 abbrev pub unknown_test_text : List ℕ → List ℕ
 unknown_test_text name =
-    if is_some (command_named name) then codes "@ is a command, and a test is needed here" else no_test_text name
-
-abbrev pub unknown_test_words : List ℕ → List ℕ
-unknown_test_words name = with_words (lacking name) (lacking name) (test_meant name)
-
--- a tag
-abbrev pub unknown_tag_text : List ℕ → List ℕ
-unknown_tag_text name =
-    with_words (lacking name) (codes "depot has no #: &")
-    (with_words (nearest name tag_names) (codes "depot knows no tag #, did you mean `:&`?")
-    (codes "depot knows no tag #"))
-
-abbrev pub unknown_tag_words : List ℕ → List ℕ
-unknown_tag_words name = with_words (lacking name) (lacking name) (nearest name tag_names)
-
--- a string of a `require`; all capabilities are listed where none comes near
-abbrev pub unknown_capability_text : List ℕ → List ℕ
-unknown_capability_text name =
-    unknown_text (lacking name) (nearest name capability_names) (codes "depot has no $: &")
-    (codes "depot knows no capability $, did you mean \"&\"?")
-    (codes "depot knows no capability $: there are \"fileinto\", \"variables\", \"mime\", \"foreverypart\", \"vnd.depot\", \"comparator-i;octet\" and \"comparator-i;ascii-casemap\"")
-
-abbrev pub unknown_capability_words : List ℕ → List ℕ
-unknown_capability_words name = with_words (lacking name) (lacking name) (nearest name capability_names)
+    if is_some (command_named name) then codes "@ is a command, and a test is needed here" else unknown_text name known_tests

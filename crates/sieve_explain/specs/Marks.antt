@@ -1,11 +1,15 @@
 -- What an explanation looks for among the tokens of a script.
-use Rattle.std.specs.Prelude.{ℕ, ◌-◌, ◌+◌, Bool, true, false, not, ◌&&◌, ◌||◌, ◌==◌, if◌then◌else◌, List, [], ◌∷◌, length, take, drop, take_while, Option, Some, None, bytes_eq, codes, slice_range}
+use Rattle.std.specs.Prelude.{ℕ, ◌-◌, ◌+◌, ◌≤◌, Bool, true, false, not, ◌&&◌, ◌||◌, ◌==◌, if◌then◌else◌, List, [], ◌∷◌, length, take, drop, take_while, Option, Some, None, IfSome, bytes_eq, codes, slice_range}
 use Rattle.std.specs.List.{list_any, slice_get}
 use Rattle.std.specs.Option.{option_or}
 use Rattle.sieve_check.specs.Names.{is_word}
 use Rattle.sieve_lexer.specs.declared.token.Token.{Token}
 use Rattle.sieve_lexer.specs.declared.token.TokenKind.{TokenKind}
 use Rattle.sieve_lexer.specs.declared.token.TokenKind.TheVariants.{Identifier, Number, QuotedString, Semicolon, OpeningBrace, ClosingBrace}
+
+-- the token, where there is one, stands in the script
+abbrev pub Stands : List ℕ → Option Token → Type 0
+Stands script token = IfSome token (λ t. (t.start ≤ t.end) × (t.end ≤ length script))
 
 abbrev pub text_of : List ℕ → Token → List ℕ
 text_of script token = slice_range script token.start token.end

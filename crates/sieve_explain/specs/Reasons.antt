@@ -15,7 +15,7 @@ use Rattle.sieve_check.specs.declared.signature.Tests.TheVariants as tests
 use Rattle.sieve_check.specs.Causes.{Reason}
 use Rattle.sieve_check.specs.declared.causes.ReasonKind.{ReasonKind}
 use Rattle.sieve_check.specs.declared.causes.ReasonKind.TheVariants.{UnknownCommand, UnknownTest, MissingCapability, UnknownCapability, UnknownTag, ForeignTag, RepeatedTag, TwoModifiers, TagArgument, MissingOrder, MissingMime, LateTag, MissingArgument, ExtraArgument, WrongArgument, WrongTests, WrongEnding, Namespace, CaptureIndex, VariableName, NoSuchLoop, Misplaced, LongString, ManyStrings, ManySegments, LongName, ManyLoops, ManyVariables}
-use Rattle.sieve_explain.specs.Hints.{unknown_capability_text, unknown_capability_words, unknown_command_text, unknown_command_words, unknown_tag_text, unknown_tag_words, unknown_test_text, unknown_test_words}
+use Rattle.sieve_explain.specs.Hints.{known_capabilities, known_commands, known_tags, known_tests, unknown_command_text, unknown_test_text, unknown_text, unknown_words}
 use Rattle.sieve_explain.specs.Sentences.{Blanks}
 
 -- a capability, as a `require` names it
@@ -73,10 +73,10 @@ tag_words tag.AnyChild = codes "its argument"
 
 -- the words of a sentence, by its reason, the name of the command or test, and what in it is at fault
 abbrev pub reason_words : ReasonKind → List ℕ → List ℕ → List ℕ
-reason_words UnknownCommand name subject = unknown_command_words name
-reason_words UnknownTest name subject = unknown_test_words name
-reason_words UnknownCapability name subject = unknown_capability_words subject
-reason_words UnknownTag name subject = unknown_tag_words subject
+reason_words UnknownCommand name subject = unknown_words name known_commands
+reason_words UnknownTest name subject = unknown_words name known_tests
+reason_words UnknownCapability name subject = unknown_words subject known_capabilities
+reason_words UnknownTag name subject = unknown_words subject known_tags
 reason_words (MissingCapability needed) name subject = capability_words needed
 reason_words (TagArgument given) name subject = tag_words given
 reason_words (MissingArgument taken) name subject = positional_words taken
@@ -108,8 +108,8 @@ abbrev pub reason_text : ReasonKind → List ℕ → List ℕ → List ℕ
 reason_text UnknownCommand name subject = unknown_command_text name
 reason_text UnknownTest name subject = unknown_test_text name
 reason_text (MissingCapability needed) name subject = codes "@ needs `require \"&\"` before it"
-reason_text UnknownCapability name subject = unknown_capability_text subject
-reason_text UnknownTag name subject = unknown_tag_text subject
+reason_text UnknownCapability name subject = unknown_text subject known_capabilities
+reason_text UnknownTag name subject = unknown_text subject known_tags
 reason_text ForeignTag name subject = codes "@ takes no tag #"
 reason_text RepeatedTag name subject = codes "# is repeated, or stands beside another of its kind"
 reason_text TwoModifiers name subject = codes "# can't stand beside another modifier of its precedence"

@@ -1,8 +1,8 @@
 -- Tables of words, and words that are one letter off.
-use Rattle.std.specs.Prelude.{ℕ, zero, suc, ◌+◌, Bool, false, ◌&&◌, ◌||◌, if◌then◌else◌, List, [], ◌∷◌, length, take, drop}
+use Rattle.std.specs.Prelude.{ℕ, zero, suc, ◌+◌, Bool, false, ◌&&◌, ◌||◌, if◌then◌else◌, List, [], ◌∷◌, length, map, take, drop}
+use Rattle.std.specs.Borrow.{Bor}
 use Rattle.std.specs.List.{list_any}
 use Rattle.sieve_check.specs.Names.{is_word}
-use Rattle.sieve_explain.specs.declared.words.Row.{Row}
 
 -- ---- tables
 
@@ -14,15 +14,17 @@ pub record Hint : Type 0 where
 abbrev pub hint : List (List ℕ) → List ℕ → Hint
 hint names words = record { names = names; words = words }
 
+-- texts of the code, and a row of a table
+abbrev pub texts_of : List (Bor (List ℕ)) → List (List ℕ)
+texts_of texts = map (λ (text : Bor (List ℕ)). text.now) texts
+
+abbrev pub hint_of : (Bor (List (Bor (List ℕ))) × Bor (List ℕ)) → Hint
+hint_of row = hint (texts_of row.0.now) row.1.now
+
 -- the words of the first row that has the name, or none
 abbrev pub words_for : List ℕ → List Hint → List ℕ
 words_for name [] = []
 words_for name (row ∷ rows) = if list_any (is_word name) row.names then row.words else words_for name rows
-
--- the same of a table of the code
-abbrev pub words_in : List ℕ → List Row → List ℕ
-words_in name [] = []
-words_in name (row ∷ rows) = if list_any (λ w. is_word name w.now) row.names.now then row.words.now else words_in name rows
 
 -- one text where there are words, and another where there are none
 abbrev pub with_words : List ℕ → List ℕ → List ℕ → List ℕ

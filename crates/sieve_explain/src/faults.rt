@@ -1,6 +1,7 @@
 // What is said of a script that isn't parsed.
-ghost use Rattle.std.specs.Prelude.{◌≡◌, ◌≤◌, IfSome, bytes_eq, length, take, take_while};
-ghost use Rattle.sieve_explain.specs.Faults.{dark_at, is_dark, lexical_blanks, listing_blanks, misplaced_blanks, misplaced_token, mistaken, mistaken_blanks, other_blanks, syntax_blanks, text_at, text_in, too_deep_blanks, too_long_blanks, unclosed_blanks, unit_blanks};
+ghost use Rattle.std.specs.Prelude.{◌≡◌, ◌≤◌, bytes_eq, length, map, take, take_while};
+ghost use Rattle.sieve_explain.specs.Faults.{beginning_of, dark_at, is_dark, lexical_blanks, listing_blanks, misplaced_blanks, misplaced_token, mistaken, mistaken_blanks, other_blanks, syntax_blanks, text_at, too_deep_blanks, too_long_blanks, unclosed_blanks, unit_blanks};
+ghost use Rattle.sieve_explain.specs.Marks.{Stands};
 ghost use Rattle.sieve_explain.specs.Sentences.{blanks_of};
 
 use crate::places::around;
@@ -9,12 +10,31 @@ use bytecode_listing::FaultKind;
 use sieve_lexer::{MAX_SCRIPT, Token, TokenKind};
 use sieve_parser::MAX_NESTING;
 
-/// What people write at a place where a script can't have it: the first octets, and what to write instead.
-#[derive(Clone, Copy)]
-pub struct Mistake {
-    pub octets: &'static [u8],
-    pub text: &'static str,
-}
+// What people write at a place where a script can't have it: the first octets, and what to write instead.
+type Mistake = (&'static [u8], &'static str);
+
+const TYPOGRAPHIC: &str =
+    "a typographic quote stands here: strings stand between straight double quotes, \"like this\"";
+
+// A byte order mark, the four typographic quotes, a single quote, and two slashes.
+const MISTAKES: &[Mistake] = &[
+    (
+        &[0xef, 0xbb, 0xbf],
+        "a byte order mark stands here: save the script as UTF-8 without one",
+    ),
+    (&[0xe2, 0x80, 0x98], TYPOGRAPHIC),
+    (&[0xe2, 0x80, 0x99], TYPOGRAPHIC),
+    (&[0xe2, 0x80, 0x9c], TYPOGRAPHIC),
+    (&[0xe2, 0x80, 0x9d], TYPOGRAPHIC),
+    (
+        b"'",
+        "a single quote stands here: strings stand between double quotes, \"like this\"",
+    ),
+    (
+        b"//",
+        "no comment begins so: one begins with `&`, or stands between `/*` and `*/`",
+    ),
+];
 
 // Whether the text begins with the octets.
 fn begins_with(text: &[u8], octets: &[u8]) -> bool
@@ -25,12 +45,12 @@ fn begins_with(text: &[u8], octets: &[u8]) -> bool
 }
 
 // The text for the first of the rows with which the octets begin, or nothing.
-fn text_in(rest: &[u8], rows: &[Mistake]) -> &'static str
-    ensures { result.now ≡ text_in rest.now rows.now }
+fn text_at(rest: &[u8], rows: &[Mistake]) -> &'static str
+    ensures { result.now ≡ text_at rest.now (map beginning_of rows.now) }
 {
-    for row in rows {
-        if begins_with(rest, row.octets) {
-            return row.text;
+    for (octets, text) in rows {
+        if begins_with(rest, octets) {
+            return text;
         }
     }
     ""
@@ -40,39 +60,7 @@ fn text_in(rest: &[u8], rows: &[Mistake]) -> &'static str
 fn mistaken_text(rest: &[u8]) -> &'static str
     ensures { result.now ≡ text_at rest.now mistaken }
 {
-    text_in(
-        rest,
-        &[
-            Mistake {
-                octets: &[0xef, 0xbb, 0xbf],
-                text: "a byte order mark stands here: save the script as UTF-8 without one",
-            },
-            Mistake {
-                octets: &[0xe2, 0x80, 0x98],
-                text: "a typographic quote stands here: strings stand between straight double quotes, \"like this\"",
-            },
-            Mistake {
-                octets: &[0xe2, 0x80, 0x99],
-                text: "a typographic quote stands here: strings stand between straight double quotes, \"like this\"",
-            },
-            Mistake {
-                octets: &[0xe2, 0x80, 0x9c],
-                text: "a typographic quote stands here: strings stand between straight double quotes, \"like this\"",
-            },
-            Mistake {
-                octets: &[0xe2, 0x80, 0x9d],
-                text: "a typographic quote stands here: strings stand between straight double quotes, \"like this\"",
-            },
-            Mistake {
-                octets: b"'",
-                text: "a single quote stands here: strings stand between double quotes, \"like this\"",
-            },
-            Mistake {
-                octets: b"//",
-                text: "no comment begins so: one begins with `&`, or stands between `/*` and `*/`",
-            },
-        ],
-    )
+    text_at(rest, MISTAKES)
 }
 
 // The sentence for octets at which neither a token nor a separator begins.
@@ -227,7 +215,7 @@ fn misplaced_token(kind: TokenKind) -> &'static str
 
 // The sentence for a token that can't stand where it does, or for a script that ends too early.
 pub fn syntax_sentence<'a>(script: &'a [u8], token: Option<Token>) -> Sentence<'a>
-    requires { IfSome token (λ t. (t.start ≤ t.end) × (t.end ≤ length script.now)) }
+    requires { Stands script.now token }
     ensures { blanks_of result ≡ syntax_blanks script.now token }
 {
     match token {

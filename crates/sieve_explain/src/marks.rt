@@ -1,7 +1,9 @@
 // What an explanation looks for among the tokens of a script.
 ghost use Rattle.std.specs.Prelude.{◌≡◌, ◌<◌, ◌≤◌, ◌+◌, ◌-◌, ◌^◌, drop, length, take_while};
 ghost use Rattle.std.specs.List.{slice_get};
-ghost use Rattle.sieve_explain.specs.Marks.{has_unit, if_spelled, if_unclosed, inner, is_no_name, is_number_at, is_unit, is_unit_at, passes, spells, string_among, text_of, unclosed, unopened, unopened_over};
+ghost use Rattle.sieve_lexer.specs.Tokens.{AreTokens};
+ghost use Rattle.sieve_explain.specs.Explaining.{start_of};
+ghost use Rattle.sieve_explain.specs.Marks.{Stands, has_unit, if_spelled, if_unclosed, inner, is_no_name, is_number_at, is_unit, is_unit_at, passes, spells, string_among, text_of, unclosed, unopened, unopened_over};
 
 use crate::places::around;
 use crate::words::is_any;
@@ -17,10 +19,31 @@ pub fn tokens_from(tokens: &[Token], number: usize) -> &[Token]
 }
 
 // The token with that number, if there is one.
-pub fn token_at(tokens: &[Token], number: usize) -> Option<Token>
+fn token_at(tokens: &[Token], number: usize) -> Option<Token>
     ensures { result ≡ slice_get tokens.now number }
 {
     tokens.get(number).copied()
+}
+
+// The token of the script with that number, if there is one.
+pub fn token_numbered(script: &[u8], tokens: &[Token], number: usize) -> Option<Token>
+    requires { AreTokens script.now tokens.now }
+    ensures token { result ≡ slice_get tokens.now number }
+    ensures within { Stands script.now result }
+{
+    token_at(tokens, number)
+}
+
+// Where the token begins; behind the last one the script's end.
+pub fn start_of(script: &[u8], token: Option<Token>) -> usize
+    requires { Stands script.now token }
+    ensures start { result ≡ start_of script.now token }
+    ensures within { result ≤ length script.now }
+{
+    match token {
+        Some(token) => token.start,
+        None => script.len(),
+    }
 }
 
 // The token's octets.
@@ -55,11 +78,7 @@ fn spells(script: &[u8], string: &[u8], token: &Token) -> bool
 fn passes(script: &[u8], string: &[u8], token: &Token) -> bool
     ensures { result ≡ passes script.now string.now token.now }
 {
-    let ends = match token.kind {
-        TokenKind::Semicolon => true,
-        _ => false,
-    };
-    !(spells(script, string, token) || ends)
+    !(spells(script, string, token) || matches!(token.kind, TokenKind::Semicolon))
 }
 
 // The token, where it spells the string.
@@ -67,14 +86,8 @@ fn if_spelled(script: &[u8], string: &[u8], token: Option<Token>) -> Option<Toke
     ensures { result ≡ if_spelled script.now string.now token }
 {
     match token {
-        Some(token) => {
-            if spells(script, string, &token) {
-                Some(token)
-            } else {
-                None
-            }
-        }
-        None => None,
+        Some(token) if spells(script, string, &token) => Some(token),
+        _ => None,
     }
 }
 
@@ -88,12 +101,15 @@ fn passed(script: &[u8], string: &[u8], tokens: &[Token]) -> usize
         .count()
 }
 
-// The first token up to the end of the command that spells the string, if there is one.
-pub fn string_among(script: &[u8], string: &[u8], tokens: &[Token]) -> Option<Token>
-    ensures { result ≡ string_among script.now string.now tokens.now }
+// The first token up to the end of the command with that number that spells the string, if there is one.
+pub fn string_behind(script: &[u8], tokens: &[Token], number: usize, string: &[u8]) -> Option<Token>
+    requires { AreTokens script.now tokens.now }
+    ensures token { result ≡ string_among script.now string.now (drop number tokens.now) }
+    ensures within { Stands script.now result }
 {
-    let place = passed(script, string, tokens);
-    if_spelled(script, string, token_at(tokens, place))
+    let rest = tokens_from(tokens, number);
+    let place = passed(script, string, rest);
+    if_spelled(script, string, token_at(rest, place))
 }
 
 // Whether a number stands there.
@@ -101,10 +117,7 @@ fn is_number_at(token: Option<Token>) -> bool
     ensures { result ≡ is_number_at token }
 {
     match token {
-        Some(token) => match token.kind {
-            TokenKind::Number => true,
-            _ => false,
-        },
+        Some(token) => matches!(token.kind, TokenKind::Number),
         None => false,
     }
 }
@@ -136,10 +149,7 @@ fn is_unit_at(script: &[u8], token: Option<Token>) -> bool
 fn is_no_name(token: &Token) -> bool
     ensures { result ≡ is_no_name token.now }
 {
-    match token.kind {
-        TokenKind::Identifier => false,
-        _ => true,
-    }
+    !matches!(token.kind, TokenKind::Identifier)
 }
 
 // How many tokens stand before the first identifier.
@@ -189,14 +199,16 @@ fn if_unclosed(token: Token, waiting: usize) -> Option<Token>
     ensures { result ≡ if_unclosed token waiting }
 {
     match token.kind {
-        TokenKind::OpeningBrace => { if waiting == 0 { Some(token) } else { None } }
+        TokenKind::OpeningBrace if waiting == 0 => Some(token),
         _ => None,
     }
 }
 
 // The last opening brace that has no partner, if there is one.
-pub fn unclosed(tokens: &[Token]) -> Option<Token>
-    ensures { result ≡ unclosed tokens.now }
+pub fn unclosed(script: &[u8], tokens: &[Token]) -> Option<Token>
+    requires { AreTokens script.now tokens.now }
+    ensures token { result ≡ unclosed tokens.now }
+    ensures within { Stands script.now result }
 {
     let mut waiting = 0;
     let mut found = None;

@@ -1,20 +1,24 @@
 // What is said of a command or test that isn't accepted.
 ghost use Rattle.std.specs.Prelude.{◌≡◌};
-ghost use Rattle.sieve_check.specs.Reading.{reason_view};
+ghost use Rattle.sieve_check.specs.ReasonView.{reason_view, refused_view};
+ghost use Rattle.sieve_explain.specs.Explaining.{fault_blanks, is_argument_fault};
 ghost use Rattle.sieve_explain.specs.Reasons.{capability_words, ending_words, no_test_words, place_text, positional_words, reason_blanks, reason_limit, reason_text, reason_words, tag_words, tests_words};
 ghost use Rattle.sieve_explain.specs.Sentences.{blanks_of};
 
+use crate::faults::unit_sentence;
 use crate::hints::{
-    unknown_capability_text, unknown_capability_words, unknown_command_text, unknown_command_words,
-    unknown_tag_text, unknown_tag_words, unknown_test_text, unknown_test_words,
+    CAPABILITIES, COMMANDS, TAGS, TESTS, unknown_command_text, unknown_test_text, unknown_text,
+    unknown_words,
 };
+use crate::marks::{has_unit, tokens_from};
 use crate::sentence::Sentence;
 use crate::words::is_word;
 use octets::MAX_STRING;
 use sieve_check::{
-    Capability, Ending, MAX_LOOPS, MAX_NAME, MAX_SEGMENTS, MAX_TEST_STRINGS, MAX_VARIABLES,
-    Positional, Reason, ReasonKind, Tag, Tests, command_named,
+    Capability, Ending, Fault, MAX_LOOPS, MAX_NAME, MAX_SEGMENTS, MAX_TEST_STRINGS, MAX_VARIABLES,
+    Positional, Reason, ReasonKind, Refused, Tag, Tests, command_named,
 };
+use sieve_lexer::Token;
 
 // A capability, as a `require` names it.
 fn capability_words(capability: Capability) -> &'static str
@@ -106,10 +110,10 @@ fn reason_words(kind: ReasonKind, name: &[u8], subject: &[u8]) -> &'static str
     ensures { result.now ≡ reason_words kind name.now subject.now }
 {
     match kind {
-        ReasonKind::UnknownCommand => unknown_command_words(name),
-        ReasonKind::UnknownTest => unknown_test_words(name),
-        ReasonKind::UnknownCapability => unknown_capability_words(subject),
-        ReasonKind::UnknownTag => unknown_tag_words(subject),
+        ReasonKind::UnknownCommand => unknown_words(name, COMMANDS),
+        ReasonKind::UnknownTest => unknown_words(name, TESTS),
+        ReasonKind::UnknownCapability => unknown_words(subject, CAPABILITIES),
+        ReasonKind::UnknownTag => unknown_words(subject, TAGS),
         ReasonKind::MissingCapability(capability) => capability_words(capability),
         ReasonKind::TagArgument(tag) => tag_words(tag),
         ReasonKind::MissingArgument(taken)
@@ -157,8 +161,8 @@ fn reason_text(kind: ReasonKind, name: &[u8], subject: &[u8]) -> &'static str
         ReasonKind::UnknownCommand => unknown_command_text(name),
         ReasonKind::UnknownTest => unknown_test_text(name),
         ReasonKind::MissingCapability(_) => "@ needs `require \"&\"` before it",
-        ReasonKind::UnknownCapability => unknown_capability_text(subject),
-        ReasonKind::UnknownTag => unknown_tag_text(subject),
+        ReasonKind::UnknownCapability => unknown_text(subject, CAPABILITIES),
+        ReasonKind::UnknownTag => unknown_text(subject, TAGS),
         ReasonKind::ForeignTag => "@ takes no tag #",
         ReasonKind::RepeatedTag => "# is repeated, or stands beside another of its kind",
         ReasonKind::TwoModifiers => "# can't stand beside another modifier of its precedence",
@@ -188,7 +192,7 @@ fn reason_text(kind: ReasonKind, name: &[u8], subject: &[u8]) -> &'static str
 }
 
 // The sentence for a reason.
-pub fn reason_sentence(reason: Reason<'_>) -> Sentence<'_>
+fn reason_sentence(reason: Reason<'_>) -> Sentence<'_>
     ensures { blanks_of result ≡ reason_blanks (reason_view reason.entry) }
 {
     Sentence {
@@ -198,4 +202,23 @@ pub fn reason_sentence(reason: Reason<'_>) -> Sentence<'_>
         words: reason_words(reason.kind, reason.name, reason.subject),
         number: reason_limit(reason.kind),
     }
+}
+
+// The sentence for arguments with a wrong unit, or for another reason.
+pub fn fault_sentence<'a>(script: &[u8], tokens: &[Token], found: Refused<'a>) -> Sentence<'a>
+    ensures { blanks_of result ≡ fault_blanks script.now tokens.now (refused_view found.entry) }
+{
+    let arguments = tokens_from(tokens_from(tokens, found.token), 1);
+    if is_argument_fault(found.reason.kind.fault()) && has_unit(script, arguments) {
+        unit_sentence()
+    } else {
+        reason_sentence(found.reason)
+    }
+}
+
+// Whether something is wrong with arguments.
+fn is_argument_fault(fault: Fault) -> bool
+    ensures { result ≡ is_argument_fault fault }
+{
+    matches!(fault, Fault::BadArguments)
 }

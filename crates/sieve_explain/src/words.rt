@@ -2,17 +2,13 @@
 ghost use Rattle.std.specs.Prelude.{◌≡◌, map};
 ghost use Rattle.std.specs.List.{list_any};
 ghost use Rattle.sieve_check.specs.Names.{is_word};
-ghost use Rattle.sieve_explain.specs.Words.{begin_off, begin_swapped, differ_at, is_near, nearest, with_words, words_in};
+ghost use Rattle.sieve_explain.specs.Words.{begin_off, begin_swapped, differ_at, hint_of, is_near, nearest, texts_of, with_words, words_for};
 
 use crate::places::around;
 use octets::equal_ignoring_case;
 
 /// A row of a table: names, and the words for each of them.
-#[derive(Clone, Copy)]
-pub struct Row {
-    pub names: &'static [&'static str],
-    pub words: &'static str,
-}
+pub type Row = (&'static [&'static str], &'static str);
 
 // Whether the texts are the same but for the case of ASCII letters.
 fn is_same(a: &[u8], b: &[u8]) -> bool
@@ -30,18 +26,23 @@ pub fn is_word(name: &[u8], word: &str) -> bool
 
 // Whether the name is one of the words but for the case of ASCII letters.
 pub fn is_any(name: &[u8], words: &[&str]) -> bool
-    ensures { result ≡ list_any (λ w. is_word name.now w.now) words.now }
+    ensures { result ≡ list_any (is_word name.now) (texts_of words.now) }
 {
-    words.iter().any(|word| is_word(name, word))
+    for word in words {
+        if is_word(name, word) {
+            return true;
+        }
+    }
+    false
 }
 
 // The words of the first row that has the name, or none.
 pub fn words_for(name: &[u8], rows: &[Row]) -> &'static str
-    ensures { result.now ≡ words_in name.now rows.now }
+    ensures { result.now ≡ words_for name.now (map hint_of rows.now) }
 {
-    for row in rows {
-        if is_any(name, row.names) {
-            return row.words;
+    for (names, words) in rows {
+        if is_any(name, names) {
+            return words;
         }
     }
     ""
@@ -101,7 +102,7 @@ fn is_near(name: &[u8], word: &[u8]) -> bool
 
 // The first of the words that is near, or nothing.
 pub fn nearest(name: &[u8], words: &[&'static str]) -> &'static str
-    ensures { result.now ≡ nearest name.now (map (λ w. w.now) words.now) }
+    ensures { result.now ≡ nearest name.now (texts_of words.now) }
 {
     for word in words {
         if is_near(name, word.as_bytes()) {

@@ -1,6 +1,6 @@
-use Rattle.std.proofs.Common.{◌≡◌, drop}
-use Rattle.sieve_explain.specs.Words.{words_in}
+use Rattle.std.proofs.Common.{◌≡◌, drop, map}
+use Rattle.sieve_explain.specs.Words.{hint_of, words_for}
 use Rattle.sieve_explain.proofs.words.words_for.Given as goal
 
-abbrev pub invariant-loop-row : goal.invariant-loop-row
-invariant-loop-row l = words_in l.name (drop l.row-index l.rows) ≡ words_in l.name l.rows
+abbrev pub invariant-loop-names : goal.invariant-loop-names
+invariant-loop-names l = words_for l.name (map hint_of (drop l.names-index l.rows)) ≡ words_for l.name (map hint_of l.rows)

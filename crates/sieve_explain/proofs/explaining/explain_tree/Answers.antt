@@ -1,0 +1,26 @@
+use Rattle.std.proofs.Common.{◌∙◌, List, ap, sym}
+use Rattle.std.specs.Prelude.{flat_map, map, option_copied, slice_get}
+use Rattle.sieve_parser.specs.View.{commands_tree}
+use Rattle.sieve_check.specs.Causes as causes
+use Rattle.sieve_check.specs.Causes.{fault_of_kind}
+use Rattle.sieve_check.specs.ReasonView.{refused_view}
+use Rattle.sieve_check.specs.declared.causes.Refused.{Refused}
+use Rattle.sieve_check.proofs.Faultless.{first_told}
+use Rattle.sieve_explain.specs.Explaining.{reason_told}
+use Rattle.sieve_explain.proofs.TellingLemmas.{told_by_checker}
+use Rattle.sieve_explain.proofs.explaining.explain_tree.Goals as goal
+
+pub returns : goal.returns
+returns c =
+    let name = c.args.source.now.name.now in
+    let script = c.args.source.now.octets.now in
+    let tokens = c.args.tokens.now in
+    let tree = commands_tree c.args.tree.now in
+    let first = c.in-Some.first.now in
+    let refused = first_told tree c.reasons_of-reasons.result.items first c.reasons_of-reasons.ensures
+    (ap (λ (l : List Refused). slice_get l 0) (sym c.deref.ensures.0) ∙ sym c.first.ensures.value ∙ ap option_copied c.in-Some.is) in
+    let text = c.in_ok-text.ensures
+    ∙ ap (λ (l : List Refused). flat_map (reason_told name script tokens) (map refused_view l)) c.deref-2.ensures.0
+    ∙ ap (λ (l : List causes.Refused). flat_map (reason_told name script tokens) l) c.reasons_of-reasons.ensures in
+    told_by_checker name script first.token (fault_of_kind first.reason.kind) c.refusal_for-refusal.result c.in_ok-text.text.items
+    c.refusal_for-refusal.ensures (tree, c.requires.parsed, refused) (tree, c.requires.parsed, (tokens, c.requires.tokens, text))

@@ -1,7 +1,0 @@
-use Rattle.sieve_explain.specs.Hints.{lacking, tag_names}
-use Rattle.sieve_explain.specs.Words.{nearest}
-use Rattle.sieve_explain.proofs.HintLemmas.{same_words}
-use Rattle.sieve_explain.proofs.hints.unknown_tag_words.Goals as goal
-
-pub returns : goal.returns
-returns c = same_words c.lacking-lacking.result.now (lacking c.args.name.now) c.near_tag.result.now (nearest c.args.name.now tag_names) c.with_words.result.now c.lacking-lacking.ensures c.near_tag.ensures c.with_words.ensures

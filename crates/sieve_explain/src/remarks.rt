@@ -1,0 +1,73 @@
+// Remarks about a place of a script.
+ghost use Rattle.std.specs.Prelude.{◌≡◌, ◌≤◌, ◌++◌, IfOk, OnOk, length};
+ghost use Rattle.sieve_explain.specs.Explaining.{heading, remark, told};
+ghost use Rattle.sieve_explain.specs.Sentences.{blanks_of, filled};
+
+use crate::excerpt::push_excerpt;
+use crate::places::{line_number, octets_before};
+use crate::sentence::{Sentence, push_sentence};
+use itoa::Buffer;
+use std::alloc::{AllocError, Global};
+
+/// A script, or a listing, and the name that it is told by; and where memory for the text comes from.
+#[derive(Clone, Copy)]
+pub struct Source<'a> {
+    pub alloc: Global,
+    pub name: &'a str,
+    pub octets: &'a [u8],
+}
+
+// Appends the script's name, the line and the column of the place, what kind of remark it is, and the sentence.
+fn push_heading(
+    out: &mut Vec<u8>,
+    kind: &str,
+    source: &Source<'_>,
+    place: usize,
+    sentence: &Sentence<'_>,
+) -> Result<(), AllocError>
+    requires { place ≤ length source.now.octets.now }
+    ensures { OnOk result (out.new.items ≡ out.old.items
+        ++ heading kind.now source.now.name.now source.now.octets.now place
+        (filled (blanks_of sentence.now))) }
+{
+    out.extend_from_slice(source.name.as_bytes())?;
+    out.extend_from_slice(b":")?;
+    let line = line_number(source.octets, place);
+    out.extend_from_slice(Buffer::new().format(line).as_bytes())?;
+    out.extend_from_slice(b":")?;
+    let column = octets_before(source.octets, place) as u128 + 1;
+    out.extend_from_slice(Buffer::new().format(column).as_bytes())?;
+    out.extend_from_slice(kind.as_bytes())?;
+    push_sentence(out, sentence)
+}
+
+// A remark about a place of the script, with the line of the place and a mark under it.
+pub fn remark(
+    kind: &str,
+    source: &Source<'_>,
+    place: usize,
+    sentence: &Sentence<'_>,
+) -> Result<Vec<u8>, AllocError>
+    requires { place ≤ length source.now.octets.now }
+    ensures { IfOk result (λ text. text.items
+        ≡ remark kind.now source.now.name.now source.now.octets.now place (blanks_of sentence.now)) }
+{
+    let mut text = Vec::new(source.alloc);
+    push_heading(&mut text, kind, source, place, sentence)?;
+    text.push(b'\n')?;
+    push_excerpt(&mut text, source.octets, place)?;
+    Ok(text)
+}
+
+// What is wrong at a place of the script.
+pub fn told(
+    source: &Source<'_>,
+    place: usize,
+    sentence: &Sentence<'_>,
+) -> Result<Vec<u8>, AllocError>
+    requires { place ≤ length source.now.octets.now }
+    ensures { IfOk result (λ text. text.items
+        ≡ told source.now.name.now source.now.octets.now place (blanks_of sentence.now)) }
+{
+    remark(": error: ", source, place, sentence)
+}
