@@ -103,6 +103,21 @@ commands_on mail part cs i c flow m f lt is h on =
     let step : followed_by (command_does mail part (command_form c) f) (λ e. commands_do mail part rest e) ≡ commands_do mail part rest next.0 = ap (λ x. followed_by x (λ e. commands_do mail part rest e)) next.2 in
     (next.0, next.1, sym (ap (λ x. commands_do mail part x f) (first_command cs i c lt is) ∙ step))
 
+-- after a command that doesn't
+stays : (x : Ending) (flow : Flow) (m : Evaluator) (next : Effects → Ending) → (flow ≡ GoesOn → ⊥) → StandsAt x flow m → StandsAt (followed_by x next) flow m
+stays (normal f) GoesOn m next off h = absurd (off refl)
+stays (normal f) Stopped m next off h = absurd h
+stays (normal f) (Leaves n) m next off h = absurd h
+stays (stopped f) flow m next off h = h
+stays (broken k f) flow m next off h = h
+
+pub commands_end : (mail : Mail) (part : Option ℕ) (cs : List Command) (i : ℕ) (c : Command) (flow : Flow) (m : Evaluator) (f : Effects) → i < length cs → c ≡ get_or cs i c → StandsAt (command_does mail part (command_form c) f) flow m → (flow ≡ GoesOn → ⊥)
+    → StandsAt (commands_do mail part (commands_form (drop i cs)) f) flow m
+commands_end mail part cs i c flow m f lt is h off =
+    let rest = commands_form (drop (i + 1) cs) in
+    subst (λ (x : Ending). StandsAt x flow m) (sym (ap (λ x. commands_do mail part x f) (first_command cs i c lt is)))
+    (stays (command_does mail part (command_form c) f) flow m (λ e. commands_do mail part rest e) off h)
+
 -- a branch is within the limits
 pub branch_bounded : (bs : List Branch) (i : ℕ) (b : Branch) (last : BranchForms) → i < length bs → b ≡ get_or bs i b → AreBoundedBranches (branch_forms (drop i bs) last) → IsBoundedTest (test_form b.test)
 branch_bounded bs i b last lt is h = (subst AreBoundedBranches (first_branch bs i b last lt is) h).0

@@ -7,7 +7,7 @@ use Rattle.sieve_meaning.specs.Meaning.{Ending, normal, command_does, choice_doe
 use Rattle.sieve_meaning.specs.declared.evaluator.Flow.TheVariants.{GoesOn, Stopped}
 use Rattle.sieve_meaning.specs.Evaluation.{StandsAt}
 use Rattle.sieve_meaning.proofs.Shapes.{form_file_into, form_set, form_store, form_take}
-use Rattle.sieve_meaning.proofs.MeaningLemmas.{branch_bounded, branches_bounded, commands_bounded, commands_on, does_if, does_loop, none_left, passed, taken, turn_is, turn_left, turn_of, turn_on, turn_stopped}
+use Rattle.sieve_meaning.proofs.MeaningLemmas.{branch_bounded, branches_bounded, commands_bounded, commands_end, commands_on, does_if, does_loop, none_left, passed, taken, turn_is, turn_left, turn_of, turn_on, turn_stopped}
 use Rattle.sieve_meaning.proofs.evaluator.Evaluator.+commands.Goals as goal
 
 pub command-branches-preserved : goal.command-branches-preserved
@@ -56,6 +56,12 @@ commands-commands-preserved t c = (
       let after = commands_on c.args.subject.message.now c.args.subject.part c.args.commands.now c.commands.command-index c.command-item.result c.in_ok-flow.flow c.command.new.self before.0 c.commands-test.true c.command-item.is (c.in_ok-flow.ensures before.0 before.1) c.in-GoesOn.is in
       (after.0, after.1, after.2 ∙ before.2),
 )
+
+pub commands-returns-in_default : goal.commands-returns-in_default
+commands-returns-in_default t c = λ e stands.
+    let before = c.commands.invariant.1 e stands in
+    subst (λ (x : Ending). StandsAt x c.in_ok-flow.flow c.command.new.self) before.2
+    (commands_end c.args.subject.message.now c.args.subject.part c.args.commands.now c.commands.command-index c.command-item.result c.in_ok-flow.flow c.command.new.self before.0 c.commands-test.true c.command-item.is (c.in_ok-flow.ensures before.0 before.1) c.in_default.not-GoesOn)
 
 pub command-returns-in_ok-list-in-FileInto : goal.command-returns-in_ok-list-in-FileInto
 command-returns-in_ok-list-in-FileInto t c = λ e stands.
