@@ -1,5 +1,5 @@
 -- Tables as they grow.
-use Rattle.std.specs.Prelude.{ℕ, nat_eq, List, [], ◌++◌, flat_map, Option}
+use Rattle.std.specs.Prelude.{ℕ, nat_eq, bytes_eq, List, [], ◌++◌, flat_map, Option}
 use Rattle.octets.specs.Once as once
 use Rattle.sieve_check.specs.declared.typed.Segment.{Segment}
 use Rattle.sieve_check.specs.Variables.{segment_variables, string_variables, strings_variables, test_variables, tests_variables, command_variables, commands_variables, branches_variables}
