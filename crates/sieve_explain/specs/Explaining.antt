@@ -104,7 +104,8 @@ TellsReasons name script text =
 
 -- what is told of a refused script: the refusal's place, a sentence and the line; a script gets no other refusal
 abbrev pub Explains : List ℕ → List ℕ → Refusal → List ℕ → Type 0
-Explains name script (refused.Lexical place) text = let at = min place (length script) in text ≡ told name script at (lexical_blanks (drop at script))
+Explains name script (refused.Lexical place) text =
+    let at = min place (length script) in text ≡ told name script at (lexical_blanks (drop at script))
 Explains name script refused.ScriptTooLong text = text
     ≡ told name script (min max_script (length script)) too_long_blanks
 Explains name script (refused.Syntax number) text = Tells script (syntax_told name script number) text

@@ -27,9 +27,9 @@ use sieve_lexer::{LexicalError, MAX_SCRIPT, Token, tokens};
 use sieve_parser::{ParseError, Script, parse_tokens};
 use std::alloc::{AllocError, Global};
 
-/// Why the script is refused, for whoever wrote it: where, a sentence, the line and a mark under the place. Where the checker refuses it,
-/// so is each further command and test that is refused told, in order, up to [`MAX_REASONS`](sieve_check::MAX_REASONS) in all.
-/// Nothing where nothing is wrong with it.
+/// Why the script is refused, and a text for whoever wrote it: where, a sentence, the line and a mark under the place. Where the checker
+/// refuses it, so is each further command and test that is refused told, in order, up to [`MAX_REASONS`](sieve_check::MAX_REASONS) in
+/// all. `None` where nothing is wrong with the script.
 ///
 /// # Errors
 ///
@@ -50,31 +50,6 @@ pub fn explain(alloc: Global, name: &str, script: &[u8]) -> Result<Option<Explan
             Ok(Some(Explanation { refusal, text }))
         }
     }
-}
-
-/// Why a listing of a program is refused, for whoever wrote it: where, a sentence for a fault of that kind, the line and a mark under
-/// the place. The place counts octets of the listing; one beyond its end is told of the end.
-///
-/// # Errors
-///
-/// An allocation was refused.
-pub fn listing_explanation(
-    alloc: Global,
-    name: &str,
-    listing: &[u8],
-    place: usize,
-    kind: FaultKind,
-) -> Result<Vec<u8>, AllocError>
-    ensures { IfOk result (λ text. text.items ≡ listing_told name.now listing.now place kind) }
-{
-    let source = Source {
-        alloc,
-        name,
-        octets: listing,
-    };
-    let place = place.min(listing.len());
-    let (_, rest) = listing.split_at(place);
-    told(&source, place, &listing_sentence(kind, rest))
 }
 
 // The same of a script with these tokens.
@@ -255,4 +230,29 @@ fn marked_token(script: &[u8], tokens: &[Token], found: Refused<'_>) -> Option<T
         }
         _ => command,
     }
+}
+
+/// Why a listing of a program is refused, for whoever wrote it: where, a sentence for a fault of that kind, the line and a mark under
+/// the place. The place counts octets of the listing; one beyond its end is told of the end.
+///
+/// # Errors
+///
+/// An allocation was refused.
+pub fn listing_explanation(
+    alloc: Global,
+    name: &str,
+    listing: &[u8],
+    place: usize,
+    kind: FaultKind,
+) -> Result<Vec<u8>, AllocError>
+    ensures { IfOk result (λ text. text.items ≡ listing_told name.now listing.now place kind) }
+{
+    let source = Source {
+        alloc,
+        name,
+        octets: listing,
+    };
+    let place = place.min(listing.len());
+    let (_, rest) = listing.split_at(place);
+    told(&source, place, &listing_sentence(kind, rest))
 }

@@ -50,7 +50,8 @@ pub fn remark(
 ) -> Result<Vec<u8>, AllocError>
     requires { place ≤ length source.now.octets.now }
     ensures { IfOk result (λ text. text.items
-        ≡ remark kind.now source.now.name.now source.now.octets.now place (blanks_of sentence.now)) }
+        ≡ remark kind.now source.now.name.now source.now.octets.now place
+        (blanks_of sentence.now)) }
 {
     let mut text = Vec::new(source.alloc);
     push_heading(&mut text, kind, source, place, sentence)?;
