@@ -7,12 +7,14 @@ use Rattle.sqlite.specs.State.{HasCleanDisk, State, Survives}
 use Rattle.depot_actions.specs.DepotState.{Export as Exports, Text as Written}
 use Rattle.depot_actions.specs.History.{Answers, AreAnswered as HaveReplied, Call}
 use Rattle.depot_cli.specs.Host.{HostState}
+use Rattle.depot_cli.specs.Requests.{request_command}
+use Rattle.depot_cli.specs.declared.request.Request.{Request}
 use Rattle.refusals.specs.declared.refusal.Refusal.{Refusal}
-use Rattle.depot_batch.specs.Batch.{AreAnswered, HasCome, HasNotReplied, HasReplied, IsDone, IsMadeAtOne, IsRefused, Office, command_of}
+use Rattle.depot_batch.specs.Batch.{AreAnswered, HasCome, HasNotReplied, HasReplied, IsDone, IsMadeAtOne, IsRefused, Office}
+use Rattle.depot_batch.specs.declared.asked.Asked.{Asked}
+use Rattle.depot_batch.specs.declared.asked.Asked.TheVariants.{Reply, Export as IntoFile}
 use Rattle.depot_batch.specs.declared.outcome.Outcome.{Outcome}
 use Rattle.depot_batch.specs.declared.outcome.Outcome.TheVariants.{Done, Refused, Wrong}
-use Rattle.depot_batch.specs.declared.request.Request.{Request}
-use Rattle.depot_batch.specs.declared.request.Request.TheVariants as requests
 
 -- a disk that is clean was clean before
 clean_before : {P : Trees → Type 0} (old new : State) → Survives old new P → HasCleanDisk new → HasCleanDisk old
@@ -26,34 +28,24 @@ module _ {S : Type 0} (g : Ghosts S) where
   replied : (request : Request) (text : List ℕ) (old new : Held S) (host host2 : HostState) → HasCleanDisk (state g new) → HasReplied g request text old new host host2 → IsCall old new
   replied request text old new host host2 clean done =
       let answered = done.2 in
-      inr (record { command = command_of request done.0; reply = Some answered.0 }, answered.1 clean)
+      inr (record { command = request_command request done.0; reply = Some answered.0 }, answered.1 clean)
 
   unreplied : (request : Request) (refusal : Refusal) (old new : Held S) (host host2 : HostState) → HasCleanDisk (state g new) → HasNotReplied g request refusal old new host host2 → IsCall old new
   unreplied request refusal old new host host2 clean refused = elim refused [
     | inl unread ↦ inl unread.1
-    | inr asked ↦ inr (record { command = command_of request asked.0; reply = None }, (asked.2 clean).1)
+    | inr asked ↦ inr (record { command = request_command request asked.0; reply = None }, (asked.2 clean).1)
   ]
 
-  done_call : (name : List ℕ) (request : Request) (text : List ℕ) (old new : Held S) (host host2 : HostState) → HasCleanDisk (state g new) → IsDone g name request text old new host host2 → IsCall old new
-  done_call name (requests.Script user script) text old new host host2 clean done = replied (requests.Script user script) text old new host host2 clean done
-  done_call name (requests.Code user program) text old new host host2 clean done = replied (requests.Code user program) text old new host host2 clean done
-  done_call name (requests.Deliver user message) text old new host host2 clean done = replied (requests.Deliver user message) text old new host host2 clean done
-  done_call name (requests.List user) text old new host host2 clean done = replied (requests.List user) text old new host host2 clean done
-  done_call name (requests.Export export) text old new host host2 clean done =
+  done_call : (name : List ℕ) (asked : Asked) (text : List ℕ) (old new : Held S) (host host2 : HostState) → HasCleanDisk (state g new) → IsDone g name asked text old new host host2 → IsCall old new
+  done_call name (Reply request) text old new host host2 clean done = replied request text old new host host2 clean done
+  done_call name (IntoFile export) text old new host host2 clean done =
       let made = done.1 in
       inr (record { command = Exports export.user.now export.number export.encoding; reply = Some (Written made.0) }, made.2 clean)
-  done_call name (requests.Remove user number) text old new host host2 clean done = replied (requests.Remove user number) text old new host host2 clean done
-  done_call name requests.Migrate text old new host host2 clean done = replied requests.Migrate text old new host host2 clean done
 
-  refused_call : (name : List ℕ) (request : Request) (refusal : Refusal) (old new : Held S) (host host2 : HostState) → HasCleanDisk (state g new) → IsRefused g name request refusal old new host host2 → IsCall old new
-  refused_call name (requests.Script user script) refusal old new host host2 clean done = unreplied (requests.Script user script) refusal old new host host2 clean done
-  refused_call name (requests.Code user program) refusal old new host host2 clean done = unreplied (requests.Code user program) refusal old new host host2 clean done
-  refused_call name (requests.Deliver user message) refusal old new host host2 clean done = unreplied (requests.Deliver user message) refusal old new host host2 clean done
-  refused_call name (requests.List user) refusal old new host host2 clean done = unreplied (requests.List user) refusal old new host host2 clean done
-  refused_call name (requests.Export export) refusal old new host host2 clean done =
-      inr (record { command = Exports export.user.now export.number export.encoding; reply = None }, done.1 clean)
-  refused_call name (requests.Remove user number) refusal old new host host2 clean done = unreplied (requests.Remove user number) refusal old new host host2 clean done
-  refused_call name requests.Migrate refusal old new host host2 clean done = unreplied requests.Migrate refusal old new host host2 clean done
+  refused_call : (name : List ℕ) (asked : Asked) (refusal : Refusal) (old new : Held S) (host host2 : HostState) → HasCleanDisk (state g new) → IsRefused g name asked refusal old new host host2 → IsCall old new
+  refused_call name (Reply request) refusal old new host host2 clean refused = unreplied request refusal old new host host2 clean refused
+  refused_call name (IntoFile export) refusal old new host host2 clean refused =
+      inr (record { command = Exports export.user.now export.number export.encoding; reply = None }, refused.1 clean)
 
   come_call : (name octets : List ℕ) (outcome : Outcome) (text : List ℕ) (old new : Office S) → HasCleanDisk (state g new.depot) → HasCome g name octets outcome text old new → IsCall old.depot new.depot
   come_call name octets Done text old new clean come = done_call name come.0 text old.depot new.depot old.host new.host clean come.2
@@ -94,10 +86,9 @@ module _ {S : Type 0} (g : Ghosts S) where
             are = refl;
             mid = old;
             answered = refl;
-            request = made.0;
-            asked = made.1;
-            file = made.2;
-            made = made.3;
+            asked = made.0;
+            is_asked = made.1;
+            made = made.2;
           })
         ]
         | inr one ↦ inr (record {
@@ -107,9 +98,8 @@ module _ {S : Type 0} (g : Ghosts S) where
           are = ap (λ others. octets ∷ others) one.are;
           mid = one.mid;
           answered = (are.0, are.1, mid, are.3, are.4, one.answered);
-          request = one.request;
           asked = one.asked;
-          file = one.file;
+          is_asked = one.is_asked;
           made = one.made;
         })
       ]

@@ -2,5 +2,4 @@ mod WordLemmas
 mod Spoken
 mod Folding
 mod Writing
-mod Requesting
 mod LineLemmas

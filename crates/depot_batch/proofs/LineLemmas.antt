@@ -1,4 +1,4 @@
--- What comes of a line, from what came of its words and of its request.
+-- What comes of a line, from what came of its words and of what they ask for.
 use Rattle.std.proofs.Common.{◌≡◌, ◌⊎◌, ◌+◌, ◌-◌, ◌^◌, ◌++◌, ◌∙◌, append-nil, length-append, ap, inl, inr, refl, subst, sym, arith, ℕ, List, [], ◌∷◌, Option, Result, Ok, Err, IfOk, OnErr, length}
 use Rattle.std.specs.List.{concat}
 use Rattle.std.specs.Io.{StopsAt}
@@ -10,21 +10,19 @@ use Rattle.sqlite_trees.specs.Tree.{Trees}
 use Rattle.sqlite.specs.Held.{state}
 use Rattle.sqlite.specs.State.{State, Survives}
 use Rattle.encodings.specs.Device.{HasBroken, HasTaken, Output}
-use Rattle.depot_cli.specs.Tasks.{MayAdd}
 use Rattle.refusals.specs.declared.refusal.Refusal.{Refusal}
 use Rattle.refusals.specs.declared.refusal.Refusal.TheVariants.{Database, Memory, Read, Write}
 use Rattle.depot_cli.specs.Jobs.{HasTold}
-use Rattle.depot_batch.proofs.Requesting.{answered_more}
 use Rattle.depot_batch.specs.Answers.{AreNoTexts, HasComeOf, IsUnasked, IsUnaskedText}
-use Rattle.depot_batch.specs.Batch.{AreAnswered, HasCome, HasServed, HasWords, IsAnswered, IsAsked, IsBrokenOff, IsWrong, Office, Outlasts, closing, command_of}
-use Rattle.depot_batch.specs.Requests.{AskNothing}
+use Rattle.depot_batch.specs.Asked.{AskNothing}
+use Rattle.depot_batch.specs.Batch.{AreAnswered, HasCome, HasServed, HasWords, IsAnswered, IsAsked, IsBrokenOff, IsWrong, MayMake, Office, Outlasts, closing}
+use Rattle.depot_batch.specs.declared.asked.Asked.{Asked}
 use Rattle.depot_batch.specs.declared.fault.LineFault.{LineFault}
 use Rattle.depot_batch.specs.declared.fault.LineFault.TheVariants as faults
 use Rattle.depot_batch.specs.declared.line.Unasked.{Unasked}
 use Rattle.depot_batch.specs.declared.line.Unasked.TheVariants as unasked
 use Rattle.depot_batch.specs.declared.outcome.Outcome.{Outcome}
 use Rattle.depot_batch.specs.declared.outcome.Outcome.TheVariants.{Done, Refused, Wrong}
-use Rattle.depot_batch.specs.declared.request.Request.{Request}
 
 -- what nothing happened to survives
 still : {P : Trees → Type 0} (s : State) → Survives s s P
@@ -63,15 +61,15 @@ pub no_texts : (octets : List ℕ) (words : List (List ℕ)) (why : Unasked) →
 no_texts octets words (unasked.Wrong fault) has are = subst (λ f. IsWrong octets f) (sym are.0) (words, has, are.1)
 no_texts octets words unasked.NoMemory has are = tt
 
-pub no_request : (octets : List ℕ) (words : List (List ℕ)) (fault : LineFault) → HasWords octets words → AskNothing words fault → IsUnasked octets (unasked.Wrong fault)
-no_request octets words fault has nothing = wrong_words octets words fault has nothing
+pub nothing_asked : (octets : List ℕ) (words : List (List ℕ)) (fault : LineFault) → HasWords octets words → AskNothing words fault → IsUnasked octets (unasked.Wrong fault)
+nothing_asked octets words fault has nothing = wrong_words octets words fault has nothing
 
 module _ {S : Type 0} (g : Ghosts S) where
-  come_of : (name octets : List ℕ) (request : Request) (outcome : Outcome) (text : List ℕ) (old new : Office S) → IsAsked octets request
-      → HasComeOf g name request outcome text old.depot new.depot old.host new.host → HasCome g name octets outcome text old new
-  come_of name octets request Done text old new asked come = (request, asked, come)
-  come_of name octets request (Refused refusal) text old new asked come = (come.0, inr (request, asked, come.1))
-  come_of name octets request Wrong text old new asked come = absurd come
+  come_of : (name octets : List ℕ) (asked : Asked) (outcome : Outcome) (text : List ℕ) (old new : Office S) → IsAsked octets asked
+      → HasComeOf g name asked outcome text old.depot new.depot old.host new.host → HasCome g name octets outcome text old new
+  come_of name octets asked Done text old new is come = (asked, is, come)
+  come_of name octets asked (Refused refusal) text old new is come = (come.0, inr (asked, is, come.1))
+  come_of name octets asked Wrong text old new is come = absurd come
 
   unasked_come : (name octets : List ℕ) (why : Unasked) (outcome : Outcome) (text : List ℕ) (old new : Office S) → IsUnasked octets why → IsUnaskedText why outcome text
       → new.depot ≡ old.depot → new.host ≡ old.host → HasCome g name octets outcome text old new
@@ -80,38 +78,38 @@ module _ {S : Type 0} (g : Ghosts S) where
   unasked_come name octets unasked.NoMemory outcome text old new wrong is depot host =
       subst (λ o. HasCome g name octets o text old new) (sym is.0) (is.1, inl (refl, (depot, host)))
 
-  outlasts_request : (octets : List ℕ) (request : Request) (old new : Office S) → IsAsked octets request
-      → Survives (state g old.depot) (state g new.depot) (λ trees. (file : List ℕ) × MayAdd (command_of request file) (state g old.depot) trees) → Outlasts g octets old new
-  outlasts_request octets request old new asked survives = more_left (state g old.depot) (state g new.depot) (λ db made. (request, asked, made.0, made.1)) survives
+  outlasts_asked : (octets : List ℕ) (asked : Asked) (old new : Office S) → IsAsked octets asked
+      → Survives (state g old.depot) (state g new.depot) (MayMake asked (state g old.depot)) → Outlasts g octets old new
+  outlasts_asked octets asked old new is survives = more_left (state g old.depot) (state g new.depot) (λ db made. (asked, is, made)) survives
 
   outlasts_idle : (octets : List ℕ) (old new : Office S) → new.depot ≡ old.depot → Outlasts g octets old new
   outlasts_idle octets old new same =
-      subst (λ d. Survives (state g old.depot) (state g d) (λ trees. (request : Request) × IsAsked octets request × (file : List ℕ) × MayAdd (command_of request file) (state g old.depot) trees)) (sym same) (still (state g old.depot))
+      subst (λ d. Survives (state g old.depot) (state g d) (λ trees. (asked : Asked) × IsAsked octets asked × MayMake asked (state g old.depot) trees)) (sym same) (still (state g old.depot))
 
-  -- a request was answered
-  pub request_answered : {E : Type 0} (r : Result Outcome E) (name octets : List ℕ) (request : Request) (old new : Office S) → IsAsked octets request
-      → Survives (state g old.depot) (state g new.depot) (λ trees. (file : List ℕ) × MayAdd (command_of request file) (state g old.depot) trees)
-      → IfOk r (λ outcome. (text : List ℕ) × HasComeOf g name request outcome text old.depot new.depot old.host new.host × HasTaken (text ++ closing outcome) old.out new.out)
+  -- what is asked was answered
+  pub asked_answered : {E : Type 0} (r : Result Outcome E) (name octets : List ℕ) (asked : Asked) (old new : Office S) → IsAsked octets asked
+      → Survives (state g old.depot) (state g new.depot) (MayMake asked (state g old.depot))
+      → IfOk r (λ outcome. (text : List ℕ) × HasComeOf g name asked outcome text old.depot new.depot old.host new.host × HasTaken (text ++ closing outcome) old.out new.out)
       → IfOk r (λ outcome. IsAnswered g name octets outcome old new)
-  request_answered (Ok outcome) name octets request old new asked survives answered = record {
+  asked_answered (Ok outcome) name octets asked old new is survives answered = record {
     text = answered.0;
-    come = come_of name octets request outcome answered.0 old new asked answered.1;
+    come = come_of name octets asked outcome answered.0 old new is answered.1;
     written = answered.2;
-    outlasts = outlasts_request octets request old new asked survives;
+    outlasts = outlasts_asked octets asked old new is survives;
   }
-  request_answered (Err e) name octets request old new asked survives answered = tt
+  asked_answered (Err e) name octets asked old new is survives answered = tt
 
-  pub request_broken : {E : Type 0} (r : Result Outcome E) (name octets : List ℕ) (request : Request) (old new : Office S) → IsAsked octets request
-      → Survives (state g old.depot) (state g new.depot) (λ trees. (file : List ℕ) × MayAdd (command_of request file) (state g old.depot) trees)
-      → OnErr r ((outcome : Outcome) × (text : List ℕ) × HasComeOf g name request outcome text old.depot new.depot old.host new.host × HasBroken (text ++ closing outcome) old.out new.out)
+  pub asked_broken : {E : Type 0} (r : Result Outcome E) (name octets : List ℕ) (asked : Asked) (old new : Office S) → IsAsked octets asked
+      → Survives (state g old.depot) (state g new.depot) (MayMake asked (state g old.depot))
+      → OnErr r ((outcome : Outcome) × (text : List ℕ) × HasComeOf g name asked outcome text old.depot new.depot old.host new.host × HasBroken (text ++ closing outcome) old.out new.out)
       → OnErr r (IsBrokenOff g name octets old new)
-  request_broken (Ok outcome) name octets request old new asked survives broken = tt
-  request_broken (Err e) name octets request old new asked survives broken = record {
+  asked_broken (Ok outcome) name octets asked old new is survives broken = tt
+  asked_broken (Err e) name octets asked old new is survives broken = record {
     outcome = broken.0;
     text = broken.1;
-    come = come_of name octets request broken.0 broken.1 old new asked broken.2;
+    come = come_of name octets asked broken.0 broken.1 old new is broken.2;
     broken = broken.3;
-    outlasts = outlasts_request octets request old new asked survives;
+    outlasts = outlasts_asked octets asked old new is survives;
   }
 
   -- a line that wasn't asked for anything was answered
@@ -139,6 +137,13 @@ module _ {S : Type 0} (g : Ghosts S) where
     broken = broken.3;
     outlasts = outlasts_idle octets old new depot;
   }
+
+  -- one line more was answered
+  answered_more : (name : List ℕ) (lines : List (List ℕ)) (octets : List ℕ) (outcome : Outcome) (old mid new : Office S) → AreAnswered g name lines old mid
+      → StopsAt octets 10 → IsAnswered g name octets outcome mid new → (outcome ≡ Refused Database → ⊥) → AreAnswered g name (lines ++ octets ∷ []) old new
+  answered_more name [] octets outcome old mid new before stops answered on = (stops, outcome, new, subst (λ (o : Office S). IsAnswered g name octets outcome o new) before answered, on, refl)
+  answered_more name (first ∷ lines) octets outcome old mid new before stops answered on =
+      (before.0, before.1, before.2, before.3, before.4, answered_more name lines octets outcome before.2 mid new before.5 stops answered on)
 
 -- octets were read, and then those of one line more
 pub read_more : (s0 s1 s2 : Option (List ℕ)) (lines : List (List ℕ)) (octets : List ℕ) → Consumes s0 s1 (concat lines) → Consumes s1 s2 octets → Consumes s0 s2 (concat (lines ++ octets ∷ []))

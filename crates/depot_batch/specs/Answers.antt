@@ -1,5 +1,5 @@
--- How the code answers a request; nothing public rests on this.
-use Rattle.std.specs.Prelude.{◌≡◌, ℕ, Bool, true, false, List, [], ◌∷◌, ◌++◌, Some}
+-- How the code answers a line; nothing public rests on this.
+use Rattle.std.specs.Prelude.{◌≡◌, ℕ, List, [], ◌∷◌, ◌++◌, Some}
 use Rattle.std.specs.List.{All}
 use Rattle.std.specs.Str.{IsUtf8}
 use Rattle.sqlite_trees.specs.declared.store.Store.{Ghosts}
@@ -14,18 +14,12 @@ use Rattle.depot_batch.specs.Sentences.{wrong_line}
 use Rattle.depot_batch.specs.Words.{words_of}
 use Rattle.depot_batch.specs.declared.answering.Answer.{Answer}
 use Rattle.depot_batch.specs.declared.answering.Answer.TheVariants.{Replied, Exported}
+use Rattle.depot_batch.specs.declared.asked.Asked.{Asked}
 use Rattle.depot_batch.specs.declared.fault.LineFault.TheVariants.{NotText}
 use Rattle.depot_batch.specs.declared.line.Unasked.{Unasked}
 use Rattle.depot_batch.specs.declared.line.Unasked.TheVariants.{Wrong, NoMemory}
 use Rattle.depot_batch.specs.declared.outcome.Outcome.{Outcome}
 use Rattle.depot_batch.specs.declared.outcome.Outcome.TheVariants as outcomes
-use Rattle.depot_batch.specs.declared.request.Request.{Request}
-use Rattle.depot_batch.specs.declared.request.Request.TheVariants as requests
-
--- a request is an export
-abbrev pub is_export : Request → Bool
-is_export (requests.Export export) = true
-is_export _ = false
 
 -- what is printed of an answer
 abbrev pub text_in : Answer → List ℕ
@@ -54,12 +48,12 @@ IsUnaskedText (Wrong fault) outcome text = (outcome ≡ outcomes.Wrong) × (text
 IsUnaskedText NoMemory outcome text = (outcome ≡ outcomes.Refused Memory) × (text ≡ refusal_line Memory)
 
 module _ {S : Type 0} (g : Ghosts S) where
-  -- what came of a request, and the text of its answer
-  abbrev pub HasComeOf : List ℕ → Request → Outcome → List ℕ → Held S → Held S → HostState → HostState → Type 0
-  HasComeOf name request outcomes.Done text old new host host2 = IsDone g name request text old new host host2
-  HasComeOf name request (outcomes.Refused refusal) text old new host host2 = (text ≡ refusal_line refusal)
-      × IsRefused g name request refusal old new host host2
-  HasComeOf name request outcomes.Wrong text old new host host2 = ⊥
+  -- what came of what is asked, and the text of the answer
+  abbrev pub HasComeOf : List ℕ → Asked → Outcome → List ℕ → Held S → Held S → HostState → HostState → Type 0
+  HasComeOf name asked outcomes.Done text old new host host2 = IsDone g name asked text old new host host2
+  HasComeOf name asked (outcomes.Refused refusal) text old new host host2 = (text ≡ refusal_line refusal)
+      × IsRefused g name asked refusal old new host host2
+  HasComeOf name asked outcomes.Wrong text old new host host2 = ⊥
 
 -- a text and the line that ends it were written, or the sink broke while they were
 abbrev pub HasWritten : Outcome → List ℕ → Output → Output → Type 0

@@ -8,28 +8,30 @@ use Rattle.std.specs.Str.{IsUtf8}
 use Rattle.sqlite_trees.specs.declared.store.Store.{Ghosts}
 use Rattle.sqlite_trees.specs.Tree.{Trees}
 use Rattle.sqlite.specs.Held.{Held, state}
-use Rattle.sqlite.specs.State.{HasCleanDisk, Survives}
+use Rattle.sqlite.specs.State.{HasCleanDisk, State, Survives}
 use Rattle.part_store.specs.Standing.{Spares}
 use Rattle.depot_actions.specs.Causes.{HasCause}
-use Rattle.depot_actions.specs.DepotState.{Command, SetScript, SetCode, Deliver, ListAll, Export as Exports, Remove, Migrate, Text as Written}
+use Rattle.depot_actions.specs.DepotState.{Export as Exports, Text as Written}
 use Rattle.encodings.specs.Device.{HasBroken, HasTaken, Output}
-use Rattle.depot_cli.specs.Host.{HasMade, HasNotMade, HostState, file, makes, with_call}
+use Rattle.depot_cli.specs.Host.{HasMade, HasNotMade, HostState, makes, with_call}
 use Rattle.depot_cli.specs.Jobs.{HasTold}
 use Rattle.depot_cli.specs.Printed.{line, refusal_line}
-use Rattle.depot_cli.specs.Running.{HasNotRead, HasRead}
+use Rattle.depot_cli.specs.Requests.{file_of, request_command}
+use Rattle.depot_cli.specs.Running.{HasNotReadFile, HasReadFile}
 use Rattle.depot_cli.specs.Tasks.{HasAnswered, HasDone, HasRefused, MayAdd}
+use Rattle.depot_cli.specs.declared.request.Request.{Request}
 use Rattle.refusals.specs.declared.refusal.Refusal.{Refusal}
 use Rattle.refusals.specs.declared.refusal.Refusal.TheVariants.{Database, Memory, Read, Write}
-use Rattle.depot_batch.specs.Requests.{AskNothing, Asks, Text}
+use Rattle.depot_batch.specs.Asked.{AskNothing, Asks, Text}
 use Rattle.depot_batch.specs.Sentences.{wrong_line}
 use Rattle.depot_batch.specs.Words.{words_of}
+use Rattle.depot_batch.specs.declared.asked.Asked.{Asked}
+use Rattle.depot_batch.specs.declared.asked.Asked.TheVariants.{Reply, Export as IntoFile}
+use Rattle.depot_batch.specs.declared.asked.Export.{Export}
 use Rattle.depot_batch.specs.declared.fault.LineFault.{LineFault}
 use Rattle.depot_batch.specs.declared.fault.LineFault.TheVariants as faults
 use Rattle.depot_batch.specs.declared.outcome.Outcome.{Outcome}
 use Rattle.depot_batch.specs.declared.outcome.Outcome.TheVariants.{Done, Refused, Wrong}
-use Rattle.depot_batch.specs.declared.request.Export.{Export}
-use Rattle.depot_batch.specs.declared.request.Request.{Request}
-use Rattle.depot_batch.specs.declared.request.Request.TheVariants as requests
 
 -- ---- what a line asks for
 
@@ -38,8 +40,8 @@ abbrev pub HasWords : List ℕ → List (List ℕ) → Type 0
 HasWords octets words = (text : List ℕ) × (octets ≡ text ++ 10 ∷ []) × (words_of text ≡ Some words)
 
 -- what a line asks for
-abbrev pub IsAsked : List ℕ → Request → Type 0
-IsAsked octets request = (words : List Text) × HasWords octets words × Asks words request
+abbrev pub IsAsked : List ℕ → Asked → Type 0
+IsAsked octets asked = (words : List Text) × HasWords octets words × Asks words asked
 
 -- why it asks for nothing
 abbrev pub IsWrong : List ℕ → LineFault → Type 0
@@ -60,49 +62,25 @@ closing Wrong = line (codes "= 2")
 abbrev pub exported_text : ℕ → List ℕ
 exported_text number = line (codes "exported " ++ decimal number)
 
--- the file that a request reads
-abbrev pub file_of : Request → Option Text
-file_of (requests.Script user script) = Some script.now
-file_of (requests.Code user program) = Some program.now
-file_of (requests.Deliver user message) = Some message.now
-file_of (requests.List user) = None
-file_of (requests.Export export) = None
-file_of (requests.Remove user number) = None
-file_of requests.Migrate = None
-
--- what it asks of the depot, with the octets of that file
-abbrev pub command_of : Request → List ℕ → Command
-command_of (requests.Script user script) octets = SetScript user.now octets
-command_of (requests.Code user program) octets = SetCode user.now octets
-command_of (requests.Deliver user message) octets = Deliver user.now octets
-command_of (requests.List user) octets = ListAll user.now
-command_of (requests.Export export) octets = Exports export.user.now export.number export.encoding
-command_of (requests.Remove user number) octets = Remove user.now number
-command_of requests.Migrate octets = Migrate
-
--- the file was read, if there is one
-abbrev pub HasReadFile : Option Text → List ℕ → HostState → HostState → Type 0
-HasReadFile None octets old new = (octets ≡ []) × (new ≡ old)
-HasReadFile (Some name) octets old new = HasRead (file name) octets old new
-
--- it was not read
-abbrev pub HasNotReadFile : Refusal → Option Text → HostState → HostState → Type 0
-HasNotReadFile refusal None old new = ⊥
-HasNotReadFile refusal (Some name) old new = HasNotRead refusal (file name) old new
+-- What a crash may leave of what is asked that it couldn't leave before: what a request's command
+-- makes, with some octets. An export only looks.
+abbrev pub MayMake : Asked → State → Trees → Type 0
+MayMake (Reply request) old trees = (octets : List ℕ) × MayAdd (request_command request octets) old trees
+MayMake (IntoFile export) old trees = ⊥
 
 module _ {S : Type 0} (g : Ghosts S) where
-  -- what a request reads was read, and the depot did what is asked, with this text as the answer
+  -- the file of a request was read, and the depot did what is asked, with this text as the answer
   abbrev pub HasReplied : Request → List ℕ → Held S → Held S → HostState → HostState → Type 0
   HasReplied request text old new host host2 =
       (octets : List ℕ) × HasReadFile (file_of request) octets host host2
-      × HasAnswered (command_of request octets) text (state g old) (state g new)
+      × HasAnswered (request_command request octets) text (state g old) (state g new)
 
   -- It was not read, and nothing was asked of the depot; or the depot refused what was asked, and is as it was.
   abbrev pub HasNotReplied : Request → Refusal → Held S → Held S → HostState → HostState → Type 0
   HasNotReplied request refusal old new host host2 =
       (HasNotReadFile refusal (file_of request) host host2 × (new ≡ old))
       ⊎ ((octets : List ℕ) × HasReadFile (file_of request) octets host host2
-      × HasRefused (command_of request octets) refusal (state g old) (state g new))
+      × HasRefused (request_command request octets) refusal (state g old) (state g new))
 
   -- the text of an entry was made a file, which isn't the depot's own
   abbrev pub HasExported : Text → Export → Held S → Held S → HostState → HostState → Type 0
@@ -119,16 +97,16 @@ module _ {S : Type 0} (g : Ghosts S) where
       (state g old))))
       × (HasCleanDisk (state g new) → Spares (state g old) (state g new))
 
-  -- a request was done, with this text as the answer
-  abbrev pub IsDone : Text → Request → List ℕ → Held S → Held S → HostState → HostState → Type 0
-  IsDone name (requests.Export export) text old new host host2 = (text ≡ exported_text export.number)
+  -- what is asked was done, with this text as the answer
+  abbrev pub IsDone : Text → Asked → List ℕ → Held S → Held S → HostState → HostState → Type 0
+  IsDone name (Reply request) text old new host host2 = HasReplied request text old new host host2
+  IsDone name (IntoFile export) text old new host host2 = (text ≡ exported_text export.number)
       × HasExported name export old new host host2
-  IsDone name request text old new host host2 = HasReplied request text old new host host2
 
-  -- a request was refused
-  abbrev pub IsRefused : Text → Request → Refusal → Held S → Held S → HostState → HostState → Type 0
-  IsRefused name (requests.Export export) refusal old new host host2 = HasNotExported name export refusal old new host host2
-  IsRefused name request refusal old new host host2 = HasNotReplied request refusal old new host host2
+  -- it was refused
+  abbrev pub IsRefused : Text → Asked → Refusal → Held S → Held S → HostState → HostState → Type 0
+  IsRefused name (Reply request) refusal old new host host2 = HasNotReplied request refusal old new host host2
+  IsRefused name (IntoFile export) refusal old new host host2 = HasNotExported name export refusal old new host host2
 
 -- what lines are answered with: the depot, the host and standard output
 pub record Office (S : Type 0) : Type 0 where
@@ -146,13 +124,13 @@ module _ {S : Type 0} (g : Ghosts S) where
 
   -- what came of a line, and the text of its answer
   abbrev pub HasCome : Text → List ℕ → Outcome → List ℕ → Office S → Office S → Type 0
-  HasCome name octets Done text old new = (request : Request) × IsAsked octets request
-      × IsDone g name request text old.depot new.depot old.host new.host
+  HasCome name octets Done text old new = (asked : Asked) × IsAsked octets asked
+      × IsDone g name asked text old.depot new.depot old.host new.host
   HasCome name octets (Refused refusal) text old new =
       (text ≡ refusal_line refusal)
       × (((refusal ≡ Memory) × IsIdle old new)
-      ⊎ ((request : Request) × IsAsked octets request
-      × IsRefused g name request refusal old.depot new.depot old.host new.host))
+      ⊎ ((asked : Asked) × IsAsked octets asked
+      × IsRefused g name asked refusal old.depot new.depot old.host new.host))
   HasCome name octets Wrong text old new = (fault : LineFault) × IsWrong octets fault × (text ≡ wrong_line fault)
       × IsIdle old new
 
@@ -161,8 +139,7 @@ module _ {S : Type 0} (g : Ghosts S) where
   abbrev pub Outlasts : List ℕ → Office S → Office S → Type 0
   Outlasts octets old new =
       Survives (state g old.depot) (state g new.depot)
-      (λ trees. (request : Request) × IsAsked octets request × (file : List ℕ)
-      × MayAdd (command_of request file) (state g old.depot) trees)
+      (λ trees. (asked : Asked) × IsAsked octets asked × MayMake asked (state g old.depot) trees)
 
   -- a line was answered: its text and what ends that were written
   pub record IsAnswered (name octets : List ℕ) (outcome : Outcome) (old new : Office S) : Type 0 where
@@ -195,10 +172,9 @@ module _ {S : Type 0} (g : Ghosts S) where
     pub are : lines ≡ before ++ octets ∷ later
     pub mid : Office S
     pub answered : AreAnswered name before old mid
-    pub request : Request
-    pub asked : IsAsked octets request
-    pub file : List ℕ
-    pub made : MayAdd (command_of request file) (state g mid.depot) trees
+    pub asked : Asked
+    pub is_asked : IsAsked octets asked
+    pub made : MayMake asked (state g mid.depot) trees
 
   -- Why a batch ends, with this status, after these octets: none, at the end of the input; a line
   -- that is refused `Database`; one whose answer broke off, which is told on standard error; or

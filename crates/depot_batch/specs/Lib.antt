@@ -1,5 +1,5 @@
 pub mod Words
-pub mod Requests
+pub mod Asked
 pub mod Sentences
 pub mod Batch
 -- how a line's answer is put together; nothing public rests on this

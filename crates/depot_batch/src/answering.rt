@@ -1,23 +1,23 @@
-// What a request comes to.
-ghost use Rattle.std.specs.Prelude.{◌≡◌, ℕ, List, IfErr, IfOk, OnErr, OnOk, false, option_map};
+// What comes of what a line asks for.
+ghost use Rattle.std.specs.Prelude.{List, IfErr, IfOk, OnErr, OnOk};
 ghost use Rattle.sqlite.specs.Held.{state};
 ghost use Rattle.sqlite.specs.State.{Survives};
 ghost use Rattle.encodings.specs.Device.{HasBroken, HasTaken};
-ghost use Rattle.depot_actions.specs.Causes.{IsExport};
-ghost use Rattle.depot_cli.specs.Tasks.{MayAdd, command_of as tasks_command, text_in as reply_text};
-ghost use Rattle.depot_batch.specs.Answers.{is_export, text_in};
-ghost use Rattle.depot_batch.specs.Batch.{HasExported, HasNotExported, HasNotReadFile, HasNotReplied, HasReadFile, HasReplied, IsDone, IsRefused, command_of, exported_text, file_of};
+ghost use Rattle.depot_cli.specs.Tasks.{text_in as reply_text};
+ghost use Rattle.depot_batch.specs.Answers.{text_in};
+ghost use Rattle.depot_batch.specs.Asked.{Asks, Text};
+ghost use Rattle.depot_batch.specs.Batch.{HasExported, HasNotExported, HasNotReplied, HasReplied, IsDone, IsRefused, MayMake, exported_text};
 
-use crate::request::{Export, Request};
+use crate::asked::{Asked, Export};
 use depot_actions::Depot;
 use depot_cli::{
-    Host, Input, Piece, Refusal, Reply, Task, put_pieces, put_reply, read_input, reply_to,
+    Host, Piece, Refusal, Reply, Request, put_pieces, put_reply, read_file_of, reply_to,
 };
 use encodings::{DeviceFailed, Sink};
 use sqlite::Alter;
 use std::alloc::Global;
 
-/// What a request was answered with.
+/// What a line was answered with.
 #[derive(Drop)]
 pub enum Answer {
     /// The reply of the depot.
@@ -35,30 +35,30 @@ pub enum Answer {
 pub fn answer_to<S: Alter, H: Host>(
     alloc: Global,
     name: &str,
-    request: Request<'_>,
+    asked: Asked<'_>,
     depot: &mut Depot<S>,
     host: &mut H,
 ) -> Result<Answer, Refusal>
-    ensures done { IfOk result (λ answer. IsDone S.Store name.now request.entry (text_in answer)
+    requires { (words : List Text) × Asks words asked }
+    ensures done { IfOk result (λ answer. IsDone S.Store name.now asked.entry (text_in answer)
         depot.old depot.new (H.state host.old) (H.state host.new)) }
-    ensures refused { IfErr result (λ e. IsRefused S.Store name.now request.entry e
+    ensures refused { IfErr result (λ e. IsRefused S.Store name.now asked.entry e
         depot.old depot.new (H.state host.old) (H.state host.new)) }
     ensures survives { Survives (state S.Store depot.old) (state S.Store depot.new)
-        (λ trees. (octets : List ℕ)
-        × MayAdd (command_of request.entry octets) (state S.Store depot.old) trees) }
+        (MayMake asked.entry (state S.Store depot.old)) }
 {
-    match request {
-        Request::Export(wanted) => {
+    match asked {
+        Asked::Reply(request) => match reply(alloc, request, depot, host) {
+            Ok(reply) => Ok(Answer::Replied(reply)),
+            Err(refusal) => Err(refusal),
+        },
+        Asked::Export(wanted) => {
             let number = wanted.number;
             match export(alloc, name, wanted, depot, host) {
                 Ok(()) => Ok(Answer::Exported(number)),
                 Err(refusal) => Err(refusal),
             }
         }
-        _ => match reply(alloc, request, depot, host) {
-            Ok(reply) => Ok(Answer::Replied(reply)),
-            Err(refusal) => Err(refusal),
-        },
     }
 }
 
@@ -69,74 +69,20 @@ fn reply<S: Alter, H: Host>(
     depot: &mut Depot<S>,
     host: &mut H,
 ) -> Result<Reply, Refusal>
-    requires { is_export request ≡ false }
+    requires { (words : List Text) × Asks words (Asked.Reply request) }
     ensures done { IfOk result (λ reply. HasReplied S.Store request.entry (reply_text reply)
         depot.old depot.new (H.state host.old) (H.state host.new)) }
     ensures refused { IfErr result (λ e. HasNotReplied S.Store request.entry e
         depot.old depot.new (H.state host.old) (H.state host.new)) }
     ensures survives { Survives (state S.Store depot.old) (state S.Store depot.new)
-        (λ trees. (octets : List ℕ)
-        × MayAdd (command_of request.entry octets) (state S.Store depot.old) trees) }
+        (MayMake (Asked.Reply request.entry) (state S.Store depot.old)) }
 {
-    match read_file(alloc, request, host) {
+    match read_file_of(alloc, request, host) {
         Ok(octets) => {
-            let task = task_of(request, octets);
+            let task = request.with_octets(octets);
             reply_to(alloc, &task, depot)
         }
         Err(refusal) => Err(refusal),
-    }
-}
-
-// The octets of the file of a request, none where it has none.
-fn read_file<H: Host>(alloc: Global, request: Request<'_>, host: &mut H) -> Result<Vec<u8>, Refusal>
-    ensures read { IfOk result (λ octets. HasReadFile (file_of request.entry) octets.items
-        (H.state host.old) (H.state host.new)) }
-    ensures unread { IfErr result (λ e. HasNotReadFile e (file_of request.entry)
-        (H.state host.old) (H.state host.new)) }
-{
-    match file_of(request) {
-        Some(file) => read_input(alloc, Input::File(file), host),
-        None => Ok(Vec::new(alloc)),
-    }
-}
-
-// The name of the file that a request reads.
-fn file_of<'a>(request: Request<'a>) -> Option<&'a str>
-    ensures { option_map (λ file. file.now) result ≡ file_of request.entry }
-{
-    match request {
-        Request::Script { script, .. } => Some(script),
-        Request::Code { program, .. } => Some(program),
-        Request::Deliver { message, .. } => Some(message),
-        Request::List { .. } | Request::Export(_) | Request::Remove { .. } | Request::Migrate => {
-            None
-        }
-    }
-}
-
-// The task of a request that is no export, with the octets of its file.
-fn task_of<'a>(request: Request<'a>, octets: Vec<u8>) -> Task<'a>
-    requires { is_export request ≡ false }
-    ensures command { tasks_command result ≡ command_of request.entry octets.items }
-    ensures replies { IsExport (command_of request.entry octets.items) → ⊥ }
-{
-    match request {
-        Request::Script { user, .. } => Task::Script {
-            user,
-            script: octets,
-        },
-        Request::Code { user, .. } => Task::Code {
-            user,
-            program: octets,
-        },
-        Request::Deliver { user, .. } => Task::Deliver {
-            user,
-            message: octets,
-        },
-        Request::List { user } => Task::List { user },
-        Request::Remove { user, number } => Task::Remove { user, number },
-        Request::Migrate => Task::Migrate,
-        Request::Export(_) => unreachable!(),
     }
 }
 

@@ -1,6 +1,6 @@
 // Why a line is no command.
 ghost use Rattle.std.specs.Prelude.{◌≡◌};
-ghost use Rattle.depot_batch.specs.Requests.{words_after};
+ghost use Rattle.depot_batch.specs.Asked.{words_after};
 ghost use Rattle.depot_batch.specs.Sentences.{sentence_of};
 ghost use Rattle.depot_batch.specs.declared.fault.LineFault.TheVariants as faults;
 

@@ -1,21 +1,21 @@
 //! Many commands over one open depot: `depot batch DB`.
 //!
 //! [`batch`] reads lines, each of which is a command on the depot in words ([`words_of`],
-//! `specs/Words`; [`request_of`], `specs/Requests`), does it, and writes the answer, which a line with
-//! its status ends (`specs/Batch`). So whoever is at the other end of a pipe sees what came of a
-//! command when it has happened.
+//! `specs/Words`; [`asked_by`], `specs/Asked`), does it, and writes the answer, which a line with its
+//! status ends (`specs/Batch`). So whoever is at the other end of a pipe sees what came of a command
+//! when it has happened.
 #![tactic(auto)]
 
 mod answering;
+mod asked;
 mod fault;
 pub mod laws;
 mod line;
 mod outcome;
-mod request;
 mod serving;
 mod words;
 
+pub use asked::{Asked, Export, asked_by};
 pub use fault::{Form, LineFault};
-pub use request::{Export, Request, request_of};
 pub use serving::batch;
 pub use words::words_of;

@@ -5,17 +5,17 @@ ghost use Rattle.sqlite.specs.Held.{state};
 ghost use Rattle.sqlite.specs.State.{Survives};
 ghost use Rattle.encodings.specs.Device.{HasBroken, HasFailed, HasTaken};
 ghost use Rattle.depot_cli.specs.Printed.{line as line_of, refusal_line};
-ghost use Rattle.depot_cli.specs.Tasks.{MayAdd};
 ghost use Rattle.depot_batch.specs.Answers.{AreNoTexts, HasComeOf, HasLineWords, HasNotWritten, HasWritten, IsUnasked, IsUnaskedText};
+ghost use Rattle.depot_batch.specs.Asked.{Asks, Text};
 ghost use Rattle.depot_batch.specs.Sentences.{wrong_line};
-ghost use Rattle.depot_batch.specs.Batch.{IsAnswered, IsBrokenOff, closing, command_of, office};
+ghost use Rattle.depot_batch.specs.Batch.{IsAnswered, IsBrokenOff, MayMake, closing, office};
 ghost use Rattle.depot_batch.specs.declared.outcome.Outcome.{Outcome};
 ghost use Rattle.depot_batch.specs.declared.outcome.Outcome.TheVariants.{Refused};
 
 use crate::answering::{answer_to, put_answer};
+use crate::asked::{Asked, asked_by};
 use crate::fault::LineFault;
 use crate::outcome::Outcome;
-use crate::request::{Request, request_of};
 use crate::words::words_of;
 use depot_actions::Depot;
 use depot_cli::{Host, Piece, Refusal, put_line, put_pieces, put_refusal};
@@ -56,8 +56,8 @@ pub fn serve<S: Alter, H: Host, W: Write + Drop>(
 {
     match line_words(alloc, line) {
         Ok(words) => match texts(alloc, &words) {
-            Ok(texts) => match request_of(&texts) {
-                Ok(request) => answer(alloc, name, request, depot, host, out),
+            Ok(texts) => match asked_by(&texts) {
+                Ok(asked) => answer(alloc, name, asked, depot, host, out),
                 Err(fault) => put_unasked(out, Unasked::Wrong(fault)),
             },
             Err(unasked) => put_unasked(out, unasked),
@@ -104,26 +104,26 @@ fn texts<'a>(alloc: Global, words: &'a [Vec<u8>]) -> Result<Vec<&'a str>, Unaske
 fn answer<S: Alter, H: Host, W: Write + Drop>(
     alloc: Global,
     name: &str,
-    request: Request<'_>,
+    asked: Asked<'_>,
     depot: &mut Depot<S>,
     host: &mut H,
     out: &mut OfWrite<W>,
 ) -> Result<Outcome, DeviceFailed>
+    requires { (words : List Text) × Asks words asked }
     ensures answered { IfOk result (λ outcome. (text : List ℕ)
-        × HasComeOf S.Store name.now request.entry outcome text depot.old depot.new
+        × HasComeOf S.Store name.now asked.entry outcome text depot.old depot.new
         (H.state host.old) (H.state host.new)
         × HasWritten outcome text (⟦<OfWrite<W> as Sink>⟧.output out.old)
         (⟦<OfWrite<W> as Sink>⟧.output out.new)) }
     ensures broken { OnErr result ((outcome : Outcome) × (text : List ℕ)
-        × HasComeOf S.Store name.now request.entry outcome text depot.old depot.new
+        × HasComeOf S.Store name.now asked.entry outcome text depot.old depot.new
         (H.state host.old) (H.state host.new)
         × HasNotWritten outcome text (⟦<OfWrite<W> as Sink>⟧.output out.old)
         (⟦<OfWrite<W> as Sink>⟧.output out.new)) }
     ensures survives { Survives (state S.Store depot.old) (state S.Store depot.new)
-        (λ trees. (octets : List ℕ)
-        × MayAdd (command_of request.entry octets) (state S.Store depot.old) trees) }
+        (MayMake asked.entry (state S.Store depot.old)) }
 {
-    match answer_to(alloc, name, request, depot, host) {
+    match answer_to(alloc, name, asked, depot, host) {
         Ok(answer) => {
             put_answer(out, &answer)?;
             close(out, Outcome::Done)

@@ -14,7 +14,7 @@ use Rattle.bytecode_verifier.specs.Acceptance.{refusal_of}
 use Rattle.bytecode_verifier.specs.Budget.{budget_of}
 use Rattle.bytecode_verifier.specs.declared.error.Refusal.{Refusal as BrokenRule}
 use Rattle.sieve_check.specs.Typed.{CommandForms}
-use Rattle.sieve_engine.specs.Evaluation.{IsCompiled, IsEvaluation, IsEvaluationRefusal, IsScript, IsScriptRefusal}
+use Rattle.sieve_engine.specs.Evaluation.{IsCompiled, IsEvaluation, IsEvaluationRefusal, IsScript}
 use Rattle.sieve_engine.specs.Execution as engine
 use Rattle.sieve_engine.specs.Execution.{IsChecked, IsExecution, IsProgramRefusal, IsRefusal, Spells}
 use Rattle.sieve_explain.specs.Explaining.{Explains, listing_told}
@@ -22,6 +22,7 @@ use Rattle.mime_decode.specs.Mail.{IsReadable, mail_of}
 use Rattle.depot_cli.specs.Host.{HasMade, HasNotMade, HostState}
 use Rattle.depot_cli.specs.Printed.{line, ok_text, parts_text, refusal_line, report_text, wrote_text}
 use Rattle.refusals.specs.Causes.{of_verifier}
+use Rattle.refusals.specs.Scripts.{IsScriptRefusal}
 use Rattle.refusals.specs.declared.refusal.Refusal.{Refusal}
 use Rattle.refusals.specs.declared.refusal.Refusal.TheVariants as refusals
 use Rattle.depot_cli.specs.declared.job.Job.{Job}

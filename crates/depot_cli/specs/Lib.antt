@@ -4,6 +4,7 @@ pub mod Host
 pub mod Printed
 pub mod Jobs
 pub mod Tasks
+pub mod Requests
 pub mod Words
 pub mod Running
 pub mod Inspecting

@@ -1,18 +1,17 @@
 -- What comes of the words of a command line.
-use Rattle.std.specs.Prelude.{◌≡◌, ◌⊎◌, ℕ, ◌+◌, ◌<◌, ◌≤◌, Bool, true, false, List, [], ◌∷◌, length, IfSome, slice_index_or}
+use Rattle.std.specs.Prelude.{◌≡◌, ◌⊎◌, ℕ, ◌+◌, ◌<◌, ◌≤◌, false, List, [], ◌∷◌, Option, None, Some, length, IfSome, slice_index_or}
 use Rattle.std.specs.Borrow.{Bor}
 use Rattle.clap.specs.Words.{App, Text, subcommand_of, takes}
 use Rattle.bytecode_format.specs.Code.{Code}
 use Rattle.bytecode_format.specs.Operations.{octet_of}
 use Rattle.bytecode_format.specs.Spelling.{spelling}
 use Rattle.bytecode_format.specs.declared.operation.Operation.TheVariants.{Keep, Halt}
-use Rattle.depot_actions.specs.DepotState.{Command}
-use Rattle.depot_actions.specs.DepotState as commands
 use Rattle.encodings.specs.Device.{HasBroken, HasTaken, Output, counted}
 use Rattle.depot_cli.specs.Host.{HostState, Origin, file, opens, origin_of, standard, with_call, with_faults}
 use Rattle.depot_cli.specs.Jobs.{HasAnswered, HasFound, HasRefused, HasStopped, HasTold, World, world}
 use Rattle.depot_cli.specs.Limits.{max_input}
 use Rattle.depot_cli.specs.Printed.{shown}
+use Rattle.depot_cli.specs.Requests.{file_of, request_command}
 use Rattle.depot_cli.specs.Tasks.{command_of}
 use Rattle.depot_cli.specs.Words.{IsDepot, Says}
 use Rattle.refusals.specs.declared.refusal.Refusal.{Refusal}
@@ -20,18 +19,20 @@ use Rattle.refusals.specs.declared.refusal.Refusal.TheVariants.{Memory, MessageT
 use Rattle.depot_cli.specs.declared.job.Job.{Job}
 use Rattle.depot_cli.specs.declared.job.Job.TheVariants as jobs
 use Rattle.depot_cli.specs.declared.line.CommandLine.{CommandLine}
-use Rattle.depot_cli.specs.declared.line.CommandLine.TheVariants.{NoWords, Check, Explain, Compile, Verify, Run, Disassemble, Assemble, Eval, Parts, Encode, Decode, Script, Code as CodeOf, Program, Deliver, List as ListAll, Export, Remove, Migrate, Inspect, Batch}
+use Rattle.depot_cli.specs.declared.line.CommandLine.TheVariants.{Alone, OnDepot, Program, Inspect, Batch}
 use Rattle.depot_cli.specs.declared.errand.Errand.{Errand}
-use Rattle.depot_cli.specs.declared.saving.Saving.{Saving}
+use Rattle.depot_cli.specs.declared.request.Request.{Request}
 use Rattle.depot_cli.specs.declared.running.Next.{Next}
 use Rattle.depot_cli.specs.declared.running.Next.TheVariants as next
 use Rattle.depot_cli.specs.declared.running.Inputs.{Inputs}
-use Rattle.depot_cli.specs.declared.running.Inputs.TheVariants.{None, One, Two}
+use Rattle.depot_cli.specs.declared.running.Inputs.TheVariants.{One, Two}
+use Rattle.depot_cli.specs.declared.work.Work.{Work}
+use Rattle.depot_cli.specs.declared.work.Work.TheVariants.{NoWords, Check, Explain, Compile, Verify, Run, Disassemble, Assemble, Eval, Parts, Encode, Decode}
 
 -- ---- what is read
 
--- what a command reads, in the order of its words
-abbrev pub origins_of : CommandLine → List Origin
+-- what work reads, in the order of its words
+abbrev pub origins_of : Work → List Origin
 origins_of NoWords = standard ∷ []
 origins_of (Check script) = file script.now ∷ []
 origins_of (Explain script) = file script.now ∷ []
@@ -44,20 +45,9 @@ origins_of (Eval script message) = file script.now ∷ file message.now ∷ []
 origins_of (Parts message) = file message.now ∷ []
 origins_of (Encode encoding) = standard ∷ []
 origins_of (Decode encoding) = standard ∷ []
-origins_of (Script depot user script) = file script.now ∷ []
-origins_of (CodeOf depot user program) = file program.now ∷ []
-origins_of (Program depot user out) = []
-origins_of (Deliver depot user message) = file message.now ∷ []
-origins_of (ListAll depot user) = []
-origins_of (Export depot user number encoding) = []
-origins_of (Remove depot user number) = []
-origins_of (Migrate depot) = []
-origins_of (Inspect depot) = []
-origins_of (Batch depot) = []
 
 -- the same of what the code says that it reads; nothing public rests on this
 abbrev pub origins_in : Inputs → List Origin
-origins_in None = []
 origins_in (One first) = origin_of first ∷ []
 origins_in (Two first second) = origin_of first ∷ origin_of second ∷ []
 
@@ -96,6 +86,16 @@ HaveNotRead refusal (origin ∷ origins) old new =
     HasNotRead refusal origin old new
     ⊎ ((octets : List ℕ) × (mid : HostState) × HasRead origin octets old mid × HaveNotRead refusal origins mid new)
 
+-- the file was read, if there is one
+abbrev pub HasReadFile : Option Text → List ℕ → HostState → HostState → Type 0
+HasReadFile None octets old new = (octets ≡ []) × (new ≡ old)
+HasReadFile (Some name) octets old new = HasRead (file name) octets old new
+
+-- it was not read
+abbrev pub HasNotReadFile : Refusal → Option Text → HostState → HostState → Type 0
+HasNotReadFile refusal None old new = ⊥
+HasNotReadFile refusal (Some name) old new = HasNotRead refusal (file name) old new
+
 -- ---- what is done
 
 -- the program that keeps every message
@@ -113,43 +113,8 @@ keeping_code =
 abbrev pub input : List (List ℕ) → ℕ → List ℕ
 input inputs place = slice_index_or inputs place []
 
--- the command is on a depot
-abbrev pub is_on_depot : CommandLine → Bool
-is_on_depot (Script depot user script) = true
-is_on_depot (CodeOf depot user program) = true
-is_on_depot (Deliver depot user message) = true
-is_on_depot (ListAll depot user) = true
-is_on_depot (Export depot user number encoding) = true
-is_on_depot (Remove depot user number) = true
-is_on_depot (Migrate depot) = true
-is_on_depot _ = false
-
--- the command is handed on as it is, with nothing read: it looks at what may be a depot, saves a
--- user's program as a file, or takes other commands
-abbrev pub is_handed_on : CommandLine → Bool
-is_handed_on (Inspect depot) = true
-is_handed_on (Program depot user out) = true
-is_handed_on (Batch depot) = true
-is_handed_on _ = false
-
--- the file that is inspected
-abbrev pub IsInspected : CommandLine → Text → Type 0
-IsInspected (Inspect depot) name = name ≡ depot.now
-IsInspected _ name = ⊥
-
--- the file of the depot that those are on
-abbrev pub IsBatchOn : CommandLine → Text → Type 0
-IsBatchOn (Batch depot) name = name ≡ depot.now
-IsBatchOn _ name = ⊥
-
--- whose program is saved, from which depot's file, and as which file
-abbrev pub IsSavingOf : CommandLine → Saving → Type 0
-IsSavingOf (Program depot user out) saving =
-    (saving.name.now ≡ depot.now) × (saving.user.now ≡ user.now) × (saving.out.now ≡ out.now)
-IsSavingOf _ saving = ⊥
-
--- the job of a command, with the octets that were read; a command on a depot has none
-abbrev pub IsJobOf : CommandLine → List (List ℕ) → Job → Type 0
+-- the job that work is, with the octets that were read
+abbrev pub IsJobOf : Work → List (List ℕ) → Job → Type 0
 IsJobOf NoWords inputs job = (program message : Bor (List ℕ)) × (job ≡ jobs.Run program message)
     × (program.now ≡ spelling keeping_code) × (message.now ≡ input inputs 0)
 IsJobOf (Check name) inputs job = (script : Bor (List ℕ)) × (job ≡ jobs.Check script) × (script.now ≡ input inputs 0)
@@ -174,29 +139,6 @@ IsJobOf (Encode encoding) inputs job = (octets : Bor (List ℕ)) × (job ≡ job
     × (octets.now ≡ input inputs 0)
 IsJobOf (Decode encoding) inputs job = (text : Bor (List ℕ)) × (job ≡ jobs.Decode encoding text)
     × (text.now ≡ input inputs 0)
-IsJobOf _ inputs job = ⊥
-
--- the file of the depot that a command is on
-abbrev pub IsDepotOf : CommandLine → Text → Type 0
-IsDepotOf (Script depot user script) name = name ≡ depot.now
-IsDepotOf (CodeOf depot user program) name = name ≡ depot.now
-IsDepotOf (Deliver depot user message) name = name ≡ depot.now
-IsDepotOf (ListAll depot user) name = name ≡ depot.now
-IsDepotOf (Export depot user number encoding) name = name ≡ depot.now
-IsDepotOf (Remove depot user number) name = name ≡ depot.now
-IsDepotOf (Migrate depot) name = name ≡ depot.now
-IsDepotOf _ name = ⊥
-
--- what a command asks of it, with the octets that were read
-abbrev pub IsCommandOf : CommandLine → List (List ℕ) → Command → Type 0
-IsCommandOf (Script depot user script) inputs command = command ≡ commands.SetScript user.now (input inputs 0)
-IsCommandOf (CodeOf depot user program) inputs command = command ≡ commands.SetCode user.now (input inputs 0)
-IsCommandOf (Deliver depot user message) inputs command = command ≡ commands.Deliver user.now (input inputs 0)
-IsCommandOf (ListAll depot user) inputs command = command ≡ commands.ListAll user.now
-IsCommandOf (Export depot user number encoding) inputs command = command ≡ commands.Export user.now number encoding
-IsCommandOf (Remove depot user number) inputs command = command ≡ commands.Remove user.now number
-IsCommandOf (Migrate depot) inputs command = command ≡ commands.Migrate
-IsCommandOf _ inputs command = ⊥
 
 -- ---- what comes of it
 
@@ -215,42 +157,52 @@ abbrev pub HasOutcome : Job → ℕ → World → World → Type 0
 HasOutcome job status old new = ((status ≡ success) × HasAnswered job old new)
     ⊎ ((status ≡ refused) × (HasFound job old new ⊎ (HasStopped job old new ⊎ HasRefused job old new)))
 
--- what a command reads was read, and its job was answered with this status
-pub record HasWorked (line : CommandLine) (status : ℕ) (old new : World) : Type 0 where
+-- what work reads was read, and its job was answered with this status
+pub record HasWorked (work : Work) (status : ℕ) (old new : World) : Type 0 where
   pub inputs : List (List ℕ)
   pub mid : HostState
-  pub read : HaveRead (origins_of line) inputs old.host mid
+  pub read : HaveRead (origins_of work) inputs old.host mid
   pub job : Job
-  pub is_job : IsJobOf line inputs job
+  pub is_job : IsJobOf work inputs job
   pub outcome : HasOutcome job status (world mid old.out old.err) new
 
--- what a command on a depot reads was read, and nothing else was done: the errand is the depot's
--- name, and what is asked of it with these octets
-pub record HasPrepared (line : CommandLine) (errand : Errand) (old new : World) : Type 0 where
-  pub inputs : List (List ℕ)
-  pub read : HaveRead (origins_of line) inputs old.host new.host
-  pub name : IsDepotOf line errand.name.now
-  pub command : IsCommandOf line inputs (command_of errand.task)
-  pub out : new.out ≡ old.out
-  pub err : new.err ≡ old.err
-
--- what a command reads was not read, and the refusal was told
-pub record HasNotWorked (line : CommandLine) (status : ℕ) (old new : World) : Type 0 where
+-- what it reads was not read, and the refusal was told
+pub record HasNotWorked (work : Work) (status : ℕ) (old new : World) : Type 0 where
   pub refusal : Refusal
-  pub unread : HaveNotRead refusal (origins_of line) old.host new.host
+  pub unread : HaveNotRead refusal (origins_of work) old.host new.host
   pub told : HasTold refusal old.err new.err
   pub out : new.out ≡ old.out
   pub is_refused : status ≡ refused
 
--- what comes of a command: it was carried out with a status, or its refusal was told; or it is an
--- errand to a depot; or a file is to be inspected, a program to be saved, or a batch to be taken,
--- and nothing was done
+-- the file of a request was read, if it has one: the errand is the depot's name, and what the request
+-- asks of it with these octets
+pub record HasPrepared (depot : Text) (request : Request) (errand : Errand) (old new : HostState) : Type 0 where
+  pub octets : List ℕ
+  pub read : HasReadFile (file_of request) octets old new
+  pub name : errand.name.now ≡ depot
+  pub command : command_of errand.task ≡ request_command request octets
+
+-- it was not read, and the refusal was told
+pub record HasNotPrepared (request : Request) (status : ℕ) (old new : World) : Type 0 where
+  pub refusal : Refusal
+  pub unread : HasNotReadFile refusal (file_of request) old.host new.host
+  pub told : HasTold refusal old.err new.err
+  pub out : new.out ≡ old.out
+  pub is_refused : status ≡ refused
+
+-- What comes of a command. Work was done, with a status, and a request became an errand; or what they
+-- read was not read. Of all others nothing was done: they are handed on as whose program is saved,
+-- from which depot and as which file, as the file that is inspected, and as the depot of a batch.
 abbrev pub LeadsTo : CommandLine → Next → World → World → Type 0
-LeadsTo line (next.Exit status) old new = HasWorked line status old new ⊎ HasNotWorked line status old new
-LeadsTo line (next.Perform errand) old new = HasPrepared line errand old new
-LeadsTo line (next.Inspect name) old new = IsInspected line name.now × (new ≡ old)
-LeadsTo line (next.Save saving) old new = IsSavingOf line saving × (new ≡ old)
-LeadsTo line (next.Batch name) old new = IsBatchOn line name.now × (new ≡ old)
+LeadsTo (Alone work) (next.Exit status) old new = HasWorked work status old new ⊎ HasNotWorked work status old new
+LeadsTo (OnDepot depot request) (next.Perform errand) old new =
+    HasPrepared depot.now request errand old.host new.host × (new.out ≡ old.out) × (new.err ≡ old.err)
+LeadsTo (OnDepot depot request) (next.Exit status) old new = HasNotPrepared request status old new
+LeadsTo (Program depot user out) (next.Save saving) old new =
+    (saving.name.now ≡ depot.now) × (saving.user.now ≡ user.now) × (saving.out.now ≡ out.now) × (new ≡ old)
+LeadsTo (Inspect depot) (next.Inspect name) old new = (name.now ≡ depot.now) × (new ≡ old)
+LeadsTo (Batch depot) (next.Batch name) old new = (name.now ≡ depot.now) × (new ≡ old)
+LeadsTo _ _ old new = ⊥
 
 -- the words say this command
 abbrev pub IsLine : List Text → CommandLine → Type 0

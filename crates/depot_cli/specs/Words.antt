@@ -8,7 +8,11 @@ use Rattle.clap.specs.declared.builder.value_parser.ValueParser.TheVariants as p
 use Rattle.encodings.specs.declared.encoding.Encoding.{Encoding}
 use Rattle.encodings.specs.declared.encoding.Encoding.TheVariants.{Raw, Base64, Base64Mime, Base32, Base32Hex, Base16, Qp}
 use Rattle.depot_cli.specs.declared.line.CommandLine.{CommandLine}
-use Rattle.depot_cli.specs.declared.line.CommandLine.TheVariants.{NoWords, Check, Explain, Compile, Verify, Run, Disassemble, Assemble, Eval, Parts, Encode, Decode, Script, Code, Program, Deliver, List as ListAll, Export, Remove, Migrate, Inspect, Batch}
+use Rattle.depot_cli.specs.declared.line.CommandLine.TheVariants.{Alone, OnDepot, Program, Inspect, Batch}
+use Rattle.depot_cli.specs.declared.request.Request.{Request}
+use Rattle.depot_cli.specs.declared.request.Request.TheVariants.{Script, Code, Deliver, List as ListAll, Export, Remove, Migrate}
+use Rattle.depot_cli.specs.declared.work.Work.{Work}
+use Rattle.depot_cli.specs.declared.work.Work.TheVariants.{NoWords, Check, Explain, Compile, Verify, Run, Disassemble, Assemble, Eval, Parts, Encode, Decode}
 use Rattle.octets.specs.Limits.{max_entry_number}
 
 -- an argument that has to be there
@@ -216,72 +220,79 @@ IsNoMailCommand name =
     × (name ≢ codes "disassemble") × (name ≢ codes "assemble") × (name ≢ codes "eval") × (name ≢ codes "parts")
     × (name ≢ codes "encode") × (name ≢ codes "decode")
 
--- nor of a command on a depot
+-- the name isn't that of a command which makes a request of a depot
+abbrev pub IsNoRequest : Text → Type 0
+IsNoRequest name =
+    (name ≢ codes "script") × (name ≢ codes "code") × (name ≢ codes "deliver") × (name ≢ codes "list")
+    × (name ≢ codes "export") × (name ≢ codes "remove") × (name ≢ codes "migrate")
+
+-- nor of any other command on a depot
 abbrev pub IsNoDepotCommand : Text → Type 0
 IsNoDepotCommand name =
-    (name ≢ codes "script") × (name ≢ codes "code") × (name ≢ codes "program") × (name ≢ codes "deliver")
-    × (name ≢ codes "list") × (name ≢ codes "export") × (name ≢ codes "remove") × (name ≢ codes "migrate")
-    × (name ≢ codes "inspect") × (name ≢ codes "batch")
+    IsNoRequest name × (name ≢ codes "program") × (name ≢ codes "inspect") × (name ≢ codes "batch")
 
--- the depot and the user of a command
-pub record IsOf (rows : List Row) (depot user : Text) : Type 0 where
-  pub is_depot : depot ≡ argument (codes "DB") rows
-  pub is_user : user ≡ argument (codes "USER") rows
-
--- the command line says what the matches say: which command there is, and its arguments
-abbrev pub Says : CommandLine → Option (Text × List Row) → Type 0
-Says NoWords matches = IfSome matches (λ m. IsNoMailCommand m.0 × IsNoDepotCommand m.0)
-Says (Check script) matches = (rows : List Row) × IsCommand (codes "check") matches rows
+-- the work is what the matches say: which command there is, and its arguments
+abbrev pub SaysWork : Work → Option (Text × List Row) → Type 0
+SaysWork NoWords matches = IfSome matches (λ m. IsNoMailCommand m.0 × IsNoDepotCommand m.0)
+SaysWork (Check script) matches = (rows : List Row) × IsCommand (codes "check") matches rows
     × (script.now ≡ argument (codes "SCRIPT") rows)
-Says (Explain script) matches = (rows : List Row) × IsCommand (codes "explain") matches rows
+SaysWork (Explain script) matches = (rows : List Row) × IsCommand (codes "explain") matches rows
     × (script.now ≡ argument (codes "SCRIPT") rows)
-Says (Compile script out) matches =
+SaysWork (Compile script out) matches =
     (rows : List Row) × IsCommand (codes "compile") matches rows × (script.now ≡ argument (codes "SCRIPT") rows)
     × (out.now ≡ argument (codes "OUT") rows)
-Says (Eval script message) matches =
+SaysWork (Eval script message) matches =
     (rows : List Row) × IsCommand (codes "eval") matches rows × (script.now ≡ argument (codes "SCRIPT") rows)
     × (message.now ≡ argument (codes "MESSAGE") rows)
-Says (Verify program) matches = (rows : List Row) × IsCommand (codes "verify") matches rows
+SaysWork (Verify program) matches = (rows : List Row) × IsCommand (codes "verify") matches rows
     × (program.now ≡ argument (codes "PROGRAM") rows)
-Says (Run program message) matches =
+SaysWork (Run program message) matches =
     (rows : List Row) × IsCommand (codes "run") matches rows × (program.now ≡ argument (codes "PROGRAM") rows)
     × (message.now ≡ argument (codes "MESSAGE") rows)
-Says (Disassemble program) matches =
+SaysWork (Disassemble program) matches =
     (rows : List Row) × IsCommand (codes "disassemble") matches rows × (program.now ≡ argument (codes "PROGRAM") rows)
-Says (Assemble listing out) matches =
+SaysWork (Assemble listing out) matches =
     (rows : List Row) × IsCommand (codes "assemble") matches rows × (listing.now ≡ argument (codes "LISTING") rows)
     × (out.now ≡ argument (codes "OUT") rows)
-Says (Parts message) matches = (rows : List Row) × IsCommand (codes "parts") matches rows
+SaysWork (Parts message) matches = (rows : List Row) × IsCommand (codes "parts") matches rows
     × (message.now ≡ argument (codes "MESSAGE") rows)
-Says (Encode encoding) matches =
+SaysWork (Encode encoding) matches =
     (rows : List Row) × IsCommand (codes "encode") matches rows
     × (encoding ≡ encoding_named (argument (codes "ENCODING") rows))
-Says (Decode encoding) matches =
+SaysWork (Decode encoding) matches =
     (rows : List Row) × IsCommand (codes "decode") matches rows
     × (encoding ≡ encoding_named (argument (codes "ENCODING") rows))
-Says (Script depot user script) matches =
-    (rows : List Row) × IsCommand (codes "script") matches rows × IsOf rows depot.now user.now
+
+-- the request is what the matches say: which command there is, and these arguments of it, but for the depot
+abbrev pub SaysRequest : Request → Option (Text × List Row) → List Row → Type 0
+SaysRequest (Script user script) matches rows =
+    IsCommand (codes "script") matches rows × (user.now ≡ argument (codes "USER") rows)
     × (script.now ≡ argument (codes "SCRIPT") rows)
-Says (Code depot user program) matches =
-    (rows : List Row) × IsCommand (codes "code") matches rows × IsOf rows depot.now user.now
+SaysRequest (Code user program) matches rows =
+    IsCommand (codes "code") matches rows × (user.now ≡ argument (codes "USER") rows)
     × (program.now ≡ argument (codes "PROGRAM") rows)
-Says (Program depot user out) matches =
-    (rows : List Row) × IsCommand (codes "program") matches rows × IsOf rows depot.now user.now
-    × (out.now ≡ argument (codes "OUT") rows)
-Says (Deliver depot user message) matches =
-    (rows : List Row) × IsCommand (codes "deliver") matches rows × IsOf rows depot.now user.now
+SaysRequest (Deliver user message) matches rows =
+    IsCommand (codes "deliver") matches rows × (user.now ≡ argument (codes "USER") rows)
     × (message.now ≡ argument (codes "MESSAGE") rows)
-Says (ListAll depot user) matches = (rows : List Row) × IsCommand (codes "list") matches rows
-    × IsOf rows depot.now user.now
-Says (Export depot user number encoding) matches =
-    (rows : List Row) × IsCommand (codes "export") matches rows × IsOf rows depot.now user.now
+SaysRequest (ListAll user) matches rows = IsCommand (codes "list") matches rows
+    × (user.now ≡ argument (codes "USER") rows)
+SaysRequest (Export user number encoding) matches rows =
+    IsCommand (codes "export") matches rows × (user.now ≡ argument (codes "USER") rows)
     × IsNumber (argument (codes "NUMBER") rows) number
     × (encoding ≡ encoding_named (argument (codes "ENCODING") rows))
-Says (Remove depot user number) matches =
-    (rows : List Row) × IsCommand (codes "remove") matches rows × IsOf rows depot.now user.now
+SaysRequest (Remove user number) matches rows =
+    IsCommand (codes "remove") matches rows × (user.now ≡ argument (codes "USER") rows)
     × IsNumber (argument (codes "NUMBER") rows) number
-Says (Migrate depot) matches = (rows : List Row) × IsCommand (codes "migrate") matches rows
+SaysRequest Migrate matches rows = IsCommand (codes "migrate") matches rows
+
+-- the command line says what the matches say
+abbrev pub Says : CommandLine → Option (Text × List Row) → Type 0
+Says (Alone work) matches = SaysWork work matches
+Says (OnDepot depot request) matches = (rows : List Row) × SaysRequest request matches rows
     × (depot.now ≡ argument (codes "DB") rows)
+Says (Program depot user out) matches =
+    (rows : List Row) × IsCommand (codes "program") matches rows × (depot.now ≡ argument (codes "DB") rows)
+    × (user.now ≡ argument (codes "USER") rows) × (out.now ≡ argument (codes "OUT") rows)
 Says (Inspect depot) matches = (rows : List Row) × IsCommand (codes "inspect") matches rows
     × (depot.now ≡ argument (codes "DB") rows)
 Says (Batch depot) matches = (rows : List Row) × IsCommand (codes "batch") matches rows

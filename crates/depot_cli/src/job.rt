@@ -9,9 +9,10 @@ ghost use Rattle.bytecode_listing.specs.Listing.{accepted_listing, refused_listi
 ghost use Rattle.bytecode_verifier.specs.Budget.{budget_of};
 ghost use Rattle.bytecode_verifier.specs.declared.error.Refusal.TheVariants as verifier;
 ghost use Rattle.sieve_check.specs.Typed.{CommandForms};
-ghost use Rattle.sieve_engine.specs.Evaluation.{IsCompiled, IsScript, IsScriptRefusal};
+ghost use Rattle.sieve_engine.specs.Evaluation.{IsCompiled, IsScript};
 ghost use Rattle.sieve_explain.specs.Explaining.{Explains, listing_told};
 ghost use Rattle.refusals.specs.Causes.{of_verifier};
+ghost use Rattle.refusals.specs.Scripts.{IsScriptRefusal};
 ghost use Rattle.refusals.specs.declared.refusal.Refusal.TheVariants.{Listing, Memory, ScriptTooLong, Spelling};
 ghost use Rattle.sieve_engine.specs.Execution.{IsChecked, IsProgramRefusal};
 ghost use Rattle.depot_cli.specs.Host.{HasMade, HasNotMade};
@@ -29,8 +30,9 @@ use bytecode_listing::{ListingError, assemble, disassemble_accepted, disassemble
 use bytecode_verifier::{Refusal as BrokenRule, Verified, verify};
 use encodings::{DeviceFailed, Encoding, Sink, decode, encode, put};
 use refusals::Refusal;
+use sieve_check::laws::faultless_scripts_have_a_form;
 use sieve_engine::{Report, check_program, check_script, code_octets, evaluate, execute};
-use sieve_explain::{explanation, listing_explanation};
+use sieve_explain::{explain, listing_explanation};
 use std::alloc::Global;
 
 /// The status of a command that was done and whose answer was written whole.
@@ -247,12 +249,11 @@ fn explain_script(alloc: Global, script: &[u8], name: &str) -> Result<Lines, Ref
         × Explains name.now script.now refusal (lines_text lines))) }
     ensures refused { IfErr result (λ e. e ≡ Memory) }
 {
-    match check_script(alloc, script) {
-        Ok(_checked) => Ok(Lines::NoFault),
-        Err(Refusal::Memory) => Err(Refusal::Memory),
-        Err(refusal) => {
-            let text = explanation(alloc, name, script, &refusal)?;
-            Ok(Lines::Fault(text, refusal))
+    match explain(alloc, name, script)? {
+        Some(found) => Ok(Lines::Fault(found.text, found.refusal)),
+        None => {
+            faultless_scripts_have_a_form();
+            Ok(Lines::NoFault)
         }
     }
 }

@@ -1,112 +1,31 @@
 // What the words of the command line say.
-ghost use Rattle.std.specs.Prelude.{◌≡◌, IfOk, IfErr, Some, map, true};
+ghost use Rattle.std.specs.Prelude.{◌≡◌, IfOk, IfErr, MatchOption, Some, map, true};
 ghost use Rattle.clap.specs.Words.{App, FailsBy, fault_of, found_of, kind_of, rows_of, subcommand_of, subcommand_rows_of, takes};
 ghost use Rattle.clap.specs.declared.error.kind.ErrorKind.TheVariants.{OutOfMemory};
-ghost use Rattle.depot_cli.specs.Words.{AreEncodings, IsDepot, IsNoMailCommand, IsNumber, Says, argument as text_of, encoding_named};
+ghost use Rattle.depot_cli.specs.Words.{AreEncodings, IsDepot, IsNoMailCommand, IsNoRequest, IsNumber, Says, SaysRequest, SaysWork, argument as text_of, encoding_named};
 
 use crate::commands::depot_command;
+use crate::request::Request;
+use crate::work::Work;
 use clap::{ArgMatches, Error};
 use encodings::Encoding;
 use std::alloc::Global;
 
-/// A command with the names of its files, or with its encoding.
+/// What a command line says.
 #[derive(Clone, Copy)]
 pub enum CommandLine<'a> {
-    /// No words: the program that keeps every message, on standard input.
-    NoWords,
-    /// Whether a script has a fault.
-    Check {
-        script: &'a str,
-    },
-    /// The same, and the fault in words.
-    Explain {
-        script: &'a str,
-    },
-    /// A script as a program, into a file.
-    Compile {
-        script: &'a str,
-        out: &'a str,
-    },
-    /// Whether a program is accepted, and what it may charge.
-    Verify {
-        program: &'a str,
-    },
-    /// What a program does with a message.
-    Run {
-        program: &'a str,
-        message: &'a str,
-    },
-    /// The listing of a program.
-    Disassemble {
-        program: &'a str,
-    },
-    /// A listing as a program, into a file.
-    Assemble {
-        listing: &'a str,
-        out: &'a str,
-    },
-    /// What a script does with a message.
-    Eval {
-        script: &'a str,
-        message: &'a str,
-    },
-    /// The parts of a message.
-    Parts {
-        message: &'a str,
-    },
-    /// The text of standard input's octets in an encoding.
-    Encode {
-        encoding: Encoding,
-    },
-    /// The octets that standard input reads as in an encoding.
-    Decode {
-        encoding: Encoding,
-    },
-    /// A script's code as a user's filter, in the depot of a file.
-    Script {
+    /// A command that needs no depot.
+    Alone(Work<'a>),
+    /// A command on the depot of a file.
+    OnDepot {
         depot: &'a str,
-        user: &'a str,
-        script: &'a str,
-    },
-    /// A program as a user's filter.
-    Code {
-        depot: &'a str,
-        user: &'a str,
-        program: &'a str,
+        request: Request<'a>,
     },
     /// A user's filter program, into a file.
     Program {
         depot: &'a str,
         user: &'a str,
         out: &'a str,
-    },
-    /// A message for a user, filed as his filter says.
-    Deliver {
-        depot: &'a str,
-        user: &'a str,
-        message: &'a str,
-    },
-    /// A user's entries.
-    List {
-        depot: &'a str,
-        user: &'a str,
-    },
-    /// The octets of a user's entry in an encoding.
-    Export {
-        depot: &'a str,
-        user: &'a str,
-        number: u32,
-        encoding: Encoding,
-    },
-    /// A user's entry, taken away.
-    Remove {
-        depot: &'a str,
-        user: &'a str,
-        number: u32,
-    },
-    /// All users' filters, given the latest version.
-    Migrate {
-        depot: &'a str,
     },
     /// What a file is, and what the depot in it holds.
     Inspect {
@@ -150,14 +69,25 @@ fn line_in<'a>(matches: &ArgMatches<'a>) -> CommandLine<'a>
     ensures { Says result (subcommand_rows_of matches.now) }
 {
     match matches.subcommand() {
-        Some((name, found)) => mail_line_in(name, found),
-        None => CommandLine::NoWords,
+        Some((name, found)) => command_in(name, found),
+        None => CommandLine::Alone(Work::NoWords),
     }
 }
 
 // What the matches of a command say. An argument that the command hasn't is empty.
-fn mail_line_in<'a>(name: &str, found: &ArgMatches<'a>) -> CommandLine<'a>
+fn command_in<'a>(name: &str, found: &ArgMatches<'a>) -> CommandLine<'a>
     ensures { Says result (Some (name.now, rows_of (found_of found.now))) }
+{
+    match work_in(name, found) {
+        Some(work) => CommandLine::Alone(work),
+        None => depot_line_in(name, found),
+    }
+}
+
+// The work that the matches of a command say, if it needs no depot.
+fn work_in<'a>(name: &str, found: &ArgMatches<'a>) -> Option<Work<'a>>
+    ensures { MatchOption result (IsNoMailCommand name.now)
+        (λ work. SaysWork work (Some (name.now, rows_of (found_of found.now)))) }
 {
     let script = argument(found, "SCRIPT");
     let program = argument(found, "PROGRAM");
@@ -165,21 +95,21 @@ fn mail_line_in<'a>(name: &str, found: &ArgMatches<'a>) -> CommandLine<'a>
     let out = argument(found, "OUT");
     let encoding = encoding_named(argument(found, "ENCODING"));
     match name {
-        "check" => CommandLine::Check { script },
-        "explain" => CommandLine::Explain { script },
-        "compile" => CommandLine::Compile { script, out },
-        "verify" => CommandLine::Verify { program },
-        "run" => CommandLine::Run { program, message },
-        "disassemble" => CommandLine::Disassemble { program },
-        "assemble" => CommandLine::Assemble {
+        "check" => Some(Work::Check { script }),
+        "explain" => Some(Work::Explain { script }),
+        "compile" => Some(Work::Compile { script, out }),
+        "verify" => Some(Work::Verify { program }),
+        "run" => Some(Work::Run { program, message }),
+        "disassemble" => Some(Work::Disassemble { program }),
+        "assemble" => Some(Work::Assemble {
             listing: argument(found, "LISTING"),
             out,
-        },
-        "eval" => CommandLine::Eval { script, message },
-        "parts" => CommandLine::Parts { message },
-        "encode" => CommandLine::Encode { encoding },
-        "decode" => CommandLine::Decode { encoding },
-        _ => depot_line_in(name, found),
+        }),
+        "eval" => Some(Work::Eval { script, message }),
+        "parts" => Some(Work::Parts { message }),
+        "encode" => Some(Work::Encode { encoding }),
+        "decode" => Some(Work::Decode { encoding }),
+        _ => None,
     }
 }
 
@@ -189,44 +119,53 @@ fn depot_line_in<'a>(name: &str, found: &ArgMatches<'a>) -> CommandLine<'a>
         → Says result (Some (name.now, rows_of (found_of found.now))) }
 {
     let depot = argument(found, "DB");
-    let user = argument(found, "USER");
     match name {
-        "script" => CommandLine::Script {
-            depot,
-            user,
-            script: argument(found, "SCRIPT"),
-        },
-        "code" => CommandLine::Code {
-            depot,
-            user,
-            program: argument(found, "PROGRAM"),
-        },
         "program" => CommandLine::Program {
             depot,
-            user,
+            user: argument(found, "USER"),
             out: argument(found, "OUT"),
         },
-        "deliver" => CommandLine::Deliver {
-            depot,
+        "inspect" => CommandLine::Inspect { depot },
+        "batch" => CommandLine::Batch { depot },
+        _ => match request_in(name, found) {
+            Some(request) => CommandLine::OnDepot { depot, request },
+            None => CommandLine::Alone(Work::NoWords),
+        },
+    }
+}
+
+// The request that the matches of a command say, if it makes one of its depot.
+fn request_in<'a>(name: &str, found: &ArgMatches<'a>) -> Option<Request<'a>>
+    ensures { MatchOption result (IsNoRequest name.now)
+        (λ request. SaysRequest request (Some (name.now, rows_of (found_of found.now)))
+        (rows_of (found_of found.now))) }
+{
+    let user = argument(found, "USER");
+    match name {
+        "script" => Some(Request::Script {
+            user,
+            script: argument(found, "SCRIPT"),
+        }),
+        "code" => Some(Request::Code {
+            user,
+            program: argument(found, "PROGRAM"),
+        }),
+        "deliver" => Some(Request::Deliver {
             user,
             message: argument(found, "MESSAGE"),
-        },
-        "list" => CommandLine::List { depot, user },
-        "export" => CommandLine::Export {
-            depot,
+        }),
+        "list" => Some(Request::List { user }),
+        "export" => Some(Request::Export {
             user,
             number: number(argument(found, "NUMBER")),
             encoding: encoding_named(argument(found, "ENCODING")),
-        },
-        "remove" => CommandLine::Remove {
-            depot,
+        }),
+        "remove" => Some(Request::Remove {
             user,
             number: number(argument(found, "NUMBER")),
-        },
-        "migrate" => CommandLine::Migrate { depot },
-        "inspect" => CommandLine::Inspect { depot },
-        "batch" => CommandLine::Batch { depot },
-        _ => CommandLine::NoWords,
+        }),
+        "migrate" => Some(Request::Migrate),
+        _ => None,
     }
 }
 

@@ -1,13 +1,13 @@
 // From the words of a command line to its status.
-ghost use Rattle.std.specs.Prelude.{◌≡◌, ◌≢◌, ◌≤◌, ◌⊎◌, List, ℕ, [], ◌∷◌, false, true, IfErr, IfOk, MatchOption, map};
+ghost use Rattle.std.specs.Prelude.{◌≡◌, ◌≢◌, ◌⊎◌, List, ℕ, IfErr, IfOk, map};
 ghost use Rattle.clap.specs.Words.{kind_of};
 ghost use Rattle.clap.specs.declared.error.kind.ErrorKind.TheVariants.{OutOfMemory};
 ghost use Rattle.bytecode_format.specs.Spelling.{spelling};
-ghost use Rattle.depot_cli.specs.Host.{HostState, origin_of};
+ghost use Rattle.depot_cli.specs.Host.{origin_of};
 ghost use Rattle.depot_cli.specs.Jobs.{HasTold, world};
 ghost use Rattle.refusals.specs.declared.refusal.Refusal.TheVariants.{Memory};
-ghost use Rattle.depot_cli.specs.Running.{LeadsTo, HasNotRead, HasRead, HasRun, HasShown, HasToldUsage, HaveNotRead, HaveRead, IsCommandOf, IsDepotOf, IsJobOf, input, is_handed_on, is_on_depot, keeping_code, origins_in, origins_of, refused, usage};
-ghost use Rattle.depot_cli.specs.Tasks.{command_of};
+ghost use Rattle.depot_cli.specs.Requests.{file_of};
+ghost use Rattle.depot_cli.specs.Running.{LeadsTo, HasNotRead, HasNotReadFile, HasNotWorked, HasPrepared, HasRead, HasReadFile, HasRun, HasShown, HasToldUsage, HasWorked, HaveNotRead, HaveRead, IsJobOf, input, keeping_code, origins_in, origins_of, refused, usage};
 
 use crate::errand::Errand;
 use crate::host::{Host, Input};
@@ -15,8 +15,9 @@ use crate::job::{Job, answer, tell};
 use crate::line::{CommandLine, line_of};
 use crate::printing::put_text;
 use crate::reading::read_limited;
+use crate::request::Request;
 use crate::saving::Saving;
-use crate::task::Task;
+use crate::work::Work;
 use clap::Error;
 use clap::error::ErrorKind;
 use encodings::Sink;
@@ -36,11 +37,9 @@ const KEEPS_ALL: &[u8] = &[
     0x01, 0, 0, 0, 0, 0, 0, 0, // halt
 ];
 
-/// What a command reads, in the order of its words.
+/// What work reads, in the order of its words.
 #[derive(Clone, Copy)]
 pub enum Inputs<'a> {
-    /// Nothing.
-    None,
     /// The octets of one file, or of standard input.
     One(Input<'a>),
     /// Those of two.
@@ -125,176 +124,124 @@ fn lead<'a, H: Host, O: Sink, E: Sink>(
         (world (H.state host.new) (O.output out.new) (E.output err.new)) }
 {
     match line {
-        CommandLine::Inspect { depot } => Next::Inspect(depot),
+        CommandLine::Alone(work) => Next::Exit(carry_out(alloc, work, host, out, err)),
+        CommandLine::OnDepot { depot, request } => match prepare(alloc, depot, request, host) {
+            Ok(errand) => Next::Perform(errand),
+            Err(refusal) => Next::Exit(tell(err, &refusal)),
+        },
         CommandLine::Program { depot, user, out } => Next::Save(Saving {
             name: depot,
             user,
             out,
         }),
+        CommandLine::Inspect { depot } => Next::Inspect(depot),
         CommandLine::Batch { depot } => Next::Batch(depot),
-        _ => carry_out(alloc, line, host, out, err),
     }
 }
 
-// Reads what a command reads, and answers its job, or hands its errand back.
-fn carry_out<'a, H: Host, O: Sink, E: Sink>(
+// Reads what work reads, answers its job, and gives the status.
+fn carry_out<H: Host, O: Sink, E: Sink>(
     alloc: Global,
-    line: CommandLine<'a>,
+    work: Work<'_>,
     host: &mut H,
     out: &mut O,
     err: &mut E,
-) -> Next<'a>
-    requires stays { is_handed_on line ≡ false }
-    ensures { LeadsTo line.entry result
+) -> u8
+    ensures { HasWorked work.entry result
+        (world (H.state host.old) (O.output out.old) (E.output err.old))
+        (world (H.state host.new) (O.output out.new) (E.output err.new))
+        ⊎ HasNotWorked work.entry result
         (world (H.state host.old) (O.output out.old) (E.output err.old))
         (world (H.state host.new) (O.output out.new) (E.output err.new)) }
 {
-    match read_inputs(alloc, inputs_of(line), host) {
-        Ok((first, second)) => match depot_of(line) {
-            Some(name) => Next::Perform(Errand {
-                name,
-                task: task_of(line, first),
-            }),
-            None => {
-                let job = job_of(line, &first, &second);
-                Next::Exit(answer(alloc, job, host, out, err))
-            }
-        },
-        Err(refusal) => Next::Exit(tell(err, &refusal)),
+    match read_inputs(alloc, inputs_of(work), host) {
+        Ok((first, second)) => {
+            let job = job_of(work, &first, &second);
+            answer(alloc, job, host, out, err)
+        }
+        Err(refusal) => tell(err, &refusal),
     }
 }
 
-// The file of the depot that a command is on.
-fn depot_of<'a>(line: CommandLine<'a>) -> Option<&'a str>
-    ensures { MatchOption result (is_on_depot line.entry ≡ false)
-        (λ name. (is_on_depot line.entry ≡ true) × IsDepotOf line.entry name.now) }
+// Reads the file of a request, and gives the errand to the depot of this name.
+fn prepare<'a, H: Host>(
+    alloc: Global,
+    name: &'a str,
+    request: Request<'a>,
+    host: &mut H,
+) -> Result<Errand<'a>, Refusal>
+    ensures prepared { IfOk result (λ errand. HasPrepared name.entry.now request.entry errand
+        (H.state host.old) (H.state host.new)) }
+    ensures unread { IfErr result (λ e. HasNotReadFile e (file_of request.entry)
+        (H.state host.old) (H.state host.new)) }
 {
-    match line {
-        CommandLine::Script { depot, .. }
-        | CommandLine::Code { depot, .. }
-        | CommandLine::Deliver { depot, .. }
-        | CommandLine::List { depot, .. }
-        | CommandLine::Export { depot, .. }
-        | CommandLine::Remove { depot, .. }
-        | CommandLine::Migrate { depot } => Some(depot),
-        _ => None,
+    match read_file_of(alloc, request, host) {
+        Ok(octets) => Ok(Errand {
+            name,
+            task: request.with_octets(octets),
+        }),
+        Err(refusal) => Err(refusal),
     }
 }
 
-// What a command on a depot asks of it, with the octets that it reads.
-fn task_of<'a>(line: CommandLine<'a>, octets: Vec<u8>) -> Task<'a>
-    requires { is_on_depot line ≡ true }
-    ensures { (inputs : List (List ℕ)) → octets.items ≡ input inputs 0
-        → IsCommandOf line.entry inputs (command_of result) }
+// What work reads, in the order of its words.
+fn inputs_of<'a>(work: Work<'a>) -> Inputs<'a>
+    ensures { origins_in result ≡ origins_of work.entry }
 {
-    match line {
-        CommandLine::Script { user, .. } => Task::Script {
-            user,
-            script: octets,
-        },
-        CommandLine::Code { user, .. } => Task::Code {
-            user,
-            program: octets,
-        },
-        CommandLine::Deliver { user, .. } => Task::Deliver {
-            user,
-            message: octets,
-        },
-        CommandLine::List { user, .. } => Task::List { user },
-        CommandLine::Export {
-            user,
-            number,
-            encoding,
-            ..
-        } => Task::Export {
-            user,
-            number,
-            encoding,
-        },
-        CommandLine::Remove { user, number, .. } => Task::Remove { user, number },
-        CommandLine::Migrate { .. } => Task::Migrate,
-        _ => unreachable!(),
+    match work {
+        Work::NoWords | Work::Encode { .. } | Work::Decode { .. } => Inputs::One(Input::Standard),
+        Work::Check { script } | Work::Explain { script } | Work::Compile { script, .. } => {
+            Inputs::One(Input::File(script))
+        }
+        Work::Verify { program } | Work::Disassemble { program } => {
+            Inputs::One(Input::File(program))
+        }
+        Work::Assemble { listing, .. } => Inputs::One(Input::File(listing)),
+        Work::Parts { message } => Inputs::One(Input::File(message)),
+        Work::Run { program, message } => Inputs::Two(Input::File(program), Input::File(message)),
+        Work::Eval { script, message } => Inputs::Two(Input::File(script), Input::File(message)),
     }
 }
 
-// What a command reads, in the order of its words.
-fn inputs_of<'a>(line: CommandLine<'a>) -> Inputs<'a>
-    ensures { origins_in result ≡ origins_of line.entry }
-{
-    match line {
-        CommandLine::NoWords | CommandLine::Encode { .. } | CommandLine::Decode { .. } => {
-            Inputs::One(Input::Standard)
-        }
-        CommandLine::Check { script }
-        | CommandLine::Explain { script }
-        | CommandLine::Compile { script, .. }
-        | CommandLine::Script { script, .. } => Inputs::One(Input::File(script)),
-        CommandLine::Verify { program }
-        | CommandLine::Disassemble { program }
-        | CommandLine::Code { program, .. } => Inputs::One(Input::File(program)),
-        CommandLine::Assemble { listing, .. } => Inputs::One(Input::File(listing)),
-        CommandLine::Parts { message } | CommandLine::Deliver { message, .. } => {
-            Inputs::One(Input::File(message))
-        }
-        CommandLine::Run { program, message } => {
-            Inputs::Two(Input::File(program), Input::File(message))
-        }
-        CommandLine::Eval { script, message } => {
-            Inputs::Two(Input::File(script), Input::File(message))
-        }
-        CommandLine::Program { .. }
-        | CommandLine::List { .. }
-        | CommandLine::Export { .. }
-        | CommandLine::Remove { .. }
-        | CommandLine::Migrate { .. }
-        | CommandLine::Inspect { .. }
-        | CommandLine::Batch { .. } => Inputs::None,
-    }
-}
-
-// The job of a command that isn't on a depot, with the octets that it reads, the second ones empty
-// where it reads once.
-fn job_of<'a>(line: CommandLine<'a>, first: &'a [u8], second: &'a [u8]) -> Job<'a>
-    requires elsewhere { is_on_depot line ≡ false }
-    requires stays { is_handed_on line ≡ false }
+// The job that work is, with the octets that it reads, the second ones empty where it reads once.
+fn job_of<'a>(work: Work<'a>, first: &'a [u8], second: &'a [u8]) -> Job<'a>
     ensures { (inputs : List (List ℕ)) → first.entry.now ≡ input inputs 0
-        → second.entry.now ≡ input inputs 1 → IsJobOf line.entry inputs result }
+        → second.entry.now ≡ input inputs 1 → IsJobOf work.entry inputs result }
 {
     let (octets, text) = (first, first);
-    match line {
-        CommandLine::NoWords => Job::Run {
+    match work {
+        Work::NoWords => Job::Run {
             program: keeping_program(),
             message: first,
         },
-        CommandLine::Check { .. } => Job::Check { script: first },
-        CommandLine::Explain { script } => Job::Explain {
+        Work::Check { .. } => Job::Check { script: first },
+        Work::Explain { script } => Job::Explain {
             script: first,
             name: script,
         },
-        CommandLine::Compile { script, out } => Job::Compile {
+        Work::Compile { script, out } => Job::Compile {
             script: first,
             name: script,
             out,
         },
-        CommandLine::Verify { .. } => Job::Verify { program: first },
-        CommandLine::Run { .. } => Job::Run {
+        Work::Verify { .. } => Job::Verify { program: first },
+        Work::Run { .. } => Job::Run {
             program: first,
             message: second,
         },
-        CommandLine::Disassemble { .. } => Job::Disassemble { program: first },
-        CommandLine::Assemble { listing, out } => Job::Assemble {
+        Work::Disassemble { .. } => Job::Disassemble { program: first },
+        Work::Assemble { listing, out } => Job::Assemble {
             listing: first,
             name: listing,
             out,
         },
-        CommandLine::Eval { .. } => Job::Eval {
+        Work::Eval { .. } => Job::Eval {
             script: first,
             message: second,
         },
-        CommandLine::Parts { .. } => Job::Parts { message: first },
-        CommandLine::Encode { encoding } => Job::Encode { encoding, octets },
-        CommandLine::Decode { encoding } => Job::Decode { encoding, text },
-        _ => unreachable!(),
+        Work::Parts { .. } => Job::Parts { message: first },
+        Work::Encode { encoding } => Job::Encode { encoding, octets },
+        Work::Decode { encoding } => Job::Decode { encoding, text },
     }
 }
 
@@ -305,8 +252,7 @@ fn keeping_program() -> &'static [u8]
     KEEPS_ALL
 }
 
-// The octets of what a command reads, the second ones empty where it reads once, and both where it
-// reads nothing.
+// The octets of what work reads, the second ones empty where it reads once.
 fn read_inputs<H: Host>(
     alloc: Global,
     inputs: Inputs<'_>,
@@ -319,7 +265,6 @@ fn read_inputs<H: Host>(
         (H.state host.new)) }
 {
     match inputs {
-        Inputs::None => Ok((Vec::new(alloc), Vec::new(alloc))),
         Inputs::One(first) => Ok((read_input(alloc, first, host)?, Vec::new(alloc))),
         Inputs::Two(first, second) => {
             let first = read_input(alloc, first, host)?;
@@ -349,4 +294,25 @@ pub fn read_input<H: Host>(
     let octets = read_limited(alloc, &mut reader, MAX_MESSAGE);
     host.close(reader);
     octets
+}
+
+/// The octets of the file of a request, none where it has none.
+///
+/// # Errors
+///
+/// The file can't be read, as [`read_input`] says.
+pub fn read_file_of<H: Host>(
+    alloc: Global,
+    request: Request<'_>,
+    host: &mut H,
+) -> Result<Vec<u8>, Refusal>
+    ensures read { IfOk result (λ octets. HasReadFile (file_of request.entry) octets.items
+        (H.state host.old) (H.state host.new)) }
+    ensures unread { IfErr result (λ e. HasNotReadFile e (file_of request.entry)
+        (H.state host.old) (H.state host.new)) }
+{
+    match request.file() {
+        Some(file) => read_input(alloc, Input::File(file), host),
+        None => Ok(Vec::new(alloc)),
+    }
 }

@@ -5,12 +5,13 @@ use Rattle.std.specs.Str.Parse.{digits_value, without_leading_plus}
 use Rattle.encodings.specs.declared.encoding.Encoding.{Encoding}
 use Rattle.encodings.specs.declared.encoding.Encoding.TheVariants.{Raw, Base64, Base64Mime, Base32, Base32Hex, Base16, Qp}
 use Rattle.depot_cli.specs.Words.{IsNumberText}
+use Rattle.depot_cli.specs.declared.request.Request.TheVariants as requests
+use Rattle.depot_batch.specs.declared.asked.Asked.{Asked}
+use Rattle.depot_batch.specs.declared.asked.Asked.TheVariants.{Reply, Export as IntoFile}
 use Rattle.depot_batch.specs.declared.fault.LineFault.{LineFault}
 use Rattle.depot_batch.specs.declared.fault.LineFault.TheVariants as faults
 use Rattle.depot_batch.specs.declared.fault.Form.{Form}
 use Rattle.depot_batch.specs.declared.fault.Form.TheVariants as forms
-use Rattle.depot_batch.specs.declared.request.Request.{Request}
-use Rattle.depot_batch.specs.declared.request.Request.TheVariants as requests
 
 abbrev pub Text : Type 0
 Text = List ℕ
@@ -33,19 +34,20 @@ encoding_of name =
     else if bytes_eq name (codes "qp") then Some Qp
     else None
 
--- words ask for this
-abbrev pub Asks : List Text → Request → Type 0
-Asks words (requests.Script user script) = words ≡ codes "script" ∷ user.now ∷ script.now ∷ []
-Asks words (requests.Code user program) = words ≡ codes "code" ∷ user.now ∷ program.now ∷ []
-Asks words (requests.Deliver user message) = words ≡ codes "deliver" ∷ user.now ∷ message.now ∷ []
-Asks words (requests.List user) = words ≡ codes "list" ∷ user.now ∷ []
-Asks words (requests.Export export) =
+-- words ask for this; for an export always with its file, so for none that a depot replies to
+abbrev pub Asks : List Text → Asked → Type 0
+Asks words (Reply (requests.Script user script)) = words ≡ codes "script" ∷ user.now ∷ script.now ∷ []
+Asks words (Reply (requests.Code user program)) = words ≡ codes "code" ∷ user.now ∷ program.now ∷ []
+Asks words (Reply (requests.Deliver user message)) = words ≡ codes "deliver" ∷ user.now ∷ message.now ∷ []
+Asks words (Reply (requests.List user)) = words ≡ codes "list" ∷ user.now ∷ []
+Asks words (Reply (requests.Export user number encoding)) = ⊥
+Asks words (Reply (requests.Remove user number)) =
+    (digits : Text) × (words ≡ codes "remove" ∷ user.now ∷ digits ∷ []) × IsEntryNumber digits number
+Asks words (Reply requests.Migrate) = words ≡ codes "migrate" ∷ []
+Asks words (IntoFile export) =
     (digits name : Text) × (words ≡ codes "export" ∷ export.user.now ∷ digits ∷ name ∷ export.file.now ∷ [])
     × IsEntryNumber digits export.number
     × (encoding_of name ≡ Some export.encoding)
-Asks words (requests.Remove user number) =
-    (digits : Text) × (words ≡ codes "remove" ∷ user.now ∷ digits ∷ []) × IsEntryNumber digits number
-Asks words requests.Migrate = words ≡ codes "migrate" ∷ []
 
 -- the form of a command: its name, and how many words come after that
 abbrev pub name_of : Form → Text

@@ -1,45 +1,19 @@
 // What a line asks for.
 ghost use Rattle.std.specs.Prelude.{◌≡◌, ◌∷◌, [], ℕ, MatchOption, IfErr, IfOk, codes, length, map};
-ghost use Rattle.depot_batch.specs.Requests.{Asks, AskNothing, IsEntryNumber, encoding_of, name_of, words_after};
+ghost use Rattle.depot_batch.specs.Asked.{Asks, AskNothing, IsEntryNumber, encoding_of, name_of, words_after};
 ghost use Rattle.depot_batch.specs.declared.fault.Form.{Form};
 
 use crate::fault::{Form, LineFault};
+use depot_cli::Request;
 use encodings::Encoding;
 
-/// A command on a depot, as a line of a batch says it.
+/// What a line asks for.
 #[derive(Clone, Copy)]
-pub enum Request<'a> {
-    /// A script's code as the user's filter.
-    Script {
-        user: &'a str,
-        /// The name of the script's file.
-        script: &'a str,
-    },
-    /// A program as the user's filter.
-    Code {
-        user: &'a str,
-        /// The name of the program's file.
-        program: &'a str,
-    },
-    /// A message, filed as the user's filter says.
-    Deliver {
-        user: &'a str,
-        /// The name of the message's file.
-        message: &'a str,
-    },
-    /// The user's entries.
-    List {
-        user: &'a str,
-    },
-    /// The octets of the user's entry in an encoding, as a file.
+pub enum Asked<'a> {
+    /// What a depot replies to, which is no export.
+    Reply(Request<'a>),
+    /// An entry's octets in an encoding, as a file.
     Export(Export<'a>),
-    /// The user's entry, taken away.
-    Remove {
-        user: &'a str,
-        number: u32,
-    },
-    /// All users' filters, given the latest version.
-    Migrate,
 }
 
 /// Which entry is written to which file.
@@ -61,14 +35,14 @@ pub struct Export<'a> {
 ///
 /// `NoCommand` where the first is no command's name, `Form` where others come after it than its
 /// command takes, `Number` and `Encoding` where one should be such and is none.
-pub fn request_of<'a>(words: &[&'a str]) -> Result<Request<'a>, LineFault>
+pub fn asked_by<'a>(words: &[&'a str]) -> Result<Asked<'a>, LineFault>
     ensures asks { IfOk result (Asks (map (λ w. w.now) words.now)) }
     ensures nothing { IfErr result (AskNothing (map (λ w. w.now) words.now)) }
 {
     match split(words) {
         Some((name, rest)) => match form_of(name) {
             Some(form) if rest.len() != form.words_after() => Err(LineFault::Form(form)),
-            Some(form) => request_in(form, rest),
+            Some(form) => asked_in(form, rest),
             None => Err(LineFault::NoCommand),
         },
         None => Err(LineFault::NoCommand),
@@ -104,7 +78,7 @@ fn form_of(name: &str) -> Option<Form>
 }
 
 // What a command asks for, with as many words after its name as it takes.
-fn request_in<'a>(form: Form, rest: &[&'a str]) -> Result<Request<'a>, LineFault>
+fn asked_in<'a>(form: Form, rest: &[&'a str]) -> Result<Asked<'a>, LineFault>
     requires { length rest.now ≡ words_after form }
     ensures asks { IfOk result (Asks (name_of form ∷ map (λ w. w.now) rest.now)) }
     ensures nothing { IfErr result (AskNothing (name_of form ∷ map (λ w. w.now) rest.now)) }
@@ -112,32 +86,32 @@ fn request_in<'a>(form: Form, rest: &[&'a str]) -> Result<Request<'a>, LineFault
     match form {
         Form::Script => {
             let (user, script) = two(rest);
-            Ok(Request::Script { user, script })
+            Ok(Asked::Reply(Request::Script { user, script }))
         }
         Form::Code => {
             let (user, program) = two(rest);
-            Ok(Request::Code { user, program })
+            Ok(Asked::Reply(Request::Code { user, program }))
         }
         Form::Deliver => {
             let (user, message) = two(rest);
-            Ok(Request::Deliver { user, message })
+            Ok(Asked::Reply(Request::Deliver { user, message }))
         }
-        Form::List => Ok(Request::List { user: one(rest) }),
+        Form::List => Ok(Asked::Reply(Request::List { user: one(rest) })),
         Form::Export => export_in(rest),
         Form::Remove => remove_in(rest),
-        Form::Migrate => Ok(Request::Migrate),
+        Form::Migrate => Ok(Asked::Reply(Request::Migrate)),
     }
 }
 
 // What the words after `export` ask for.
-fn export_in<'a>(rest: &[&'a str]) -> Result<Request<'a>, LineFault>
+fn export_in<'a>(rest: &[&'a str]) -> Result<Asked<'a>, LineFault>
     requires { length rest.now ≡ 4 }
     ensures asks { IfOk result (Asks (codes "export" ∷ map (λ w. w.now) rest.now)) }
     ensures nothing { IfErr result (AskNothing (codes "export" ∷ map (λ w. w.now) rest.now)) }
 {
     let (user, digits, name, file) = four(rest);
     match (number_of(digits), encoding_of(name)) {
-        (Some(number), Some(encoding)) => Ok(Request::Export(Export {
+        (Some(number), Some(encoding)) => Ok(Asked::Export(Export {
             user,
             number,
             encoding,
@@ -149,14 +123,14 @@ fn export_in<'a>(rest: &[&'a str]) -> Result<Request<'a>, LineFault>
 }
 
 // What the words after `remove` ask for.
-fn remove_in<'a>(rest: &[&'a str]) -> Result<Request<'a>, LineFault>
+fn remove_in<'a>(rest: &[&'a str]) -> Result<Asked<'a>, LineFault>
     requires { length rest.now ≡ 2 }
     ensures asks { IfOk result (Asks (codes "remove" ∷ map (λ w. w.now) rest.now)) }
     ensures nothing { IfErr result (AskNothing (codes "remove" ∷ map (λ w. w.now) rest.now)) }
 {
     let (user, digits) = two(rest);
     match number_of(digits) {
-        Some(number) => Ok(Request::Remove { user, number }),
+        Some(number) => Ok(Asked::Reply(Request::Remove { user, number })),
         None => Err(LineFault::Number),
     }
 }

@@ -1,0 +1,26 @@
+-- What requests read, and what they ask of a depot.
+use Rattle.std.specs.Prelude.{ℕ, List, Option, None, Some}
+use Rattle.depot_actions.specs.DepotState.{Command}
+use Rattle.depot_actions.specs.DepotState as depot
+use Rattle.depot_cli.specs.declared.request.Request.{Request}
+use Rattle.depot_cli.specs.declared.request.Request.TheVariants.{Script, Code, Deliver, List as ListEntries, Export, Remove, Migrate}
+
+-- the file that a request reads
+abbrev pub file_of : Request → Option (List ℕ)
+file_of (Script user script) = Some script.now
+file_of (Code user program) = Some program.now
+file_of (Deliver user message) = Some message.now
+file_of (ListEntries user) = None
+file_of (Export user number encoding) = None
+file_of (Remove user number) = None
+file_of Migrate = None
+
+-- what it asks of the depot, with the octets of that file
+abbrev pub request_command : Request → List ℕ → Command
+request_command (Script user script) octets = depot.SetScript user.now octets
+request_command (Code user program) octets = depot.SetCode user.now octets
+request_command (Deliver user message) octets = depot.Deliver user.now octets
+request_command (ListEntries user) octets = depot.ListAll user.now
+request_command (Export user number encoding) octets = depot.Export user.now number encoding
+request_command (Remove user number) octets = depot.Remove user.now number
+request_command Migrate octets = depot.Migrate
