@@ -8,7 +8,7 @@ use Rattle.std.proofs.lemmas.Bool.Decides.{nat_tests}
 use Rattle.bytecode_listing.specs.Tokens.{Token, Word, Text, Wrong, Placed, Stand, Between, Comment, InWord, InText, Escape, Digit, Stopped, is_white, is_word_octet, begun, after, ended, tokens_from, tokens_of}
 use Rattle.bytecode_listing.specs.Items.{Tokens, word_in, word_at, text_in, text_at, left_at, is_left}
 use Rattle.bytecode_listing.specs.Readers.{IsStart, led}
-use Rattle.octets.specs.Escapes.{is_hex, escape_at, said_at, octet_of_digits}
+use Rattle.octets.specs.Escapes.{is_hex, escape_at, said_at}
 use Rattle.std.specs.Option.{option_map}
 
 -- ---- blanks and comments

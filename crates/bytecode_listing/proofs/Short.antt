@@ -190,6 +190,17 @@ share_length code place program =
       scaled_length share.loops share.cap.scaled few (omega (arith, fits.1)),
     )
 
+kind_brief : (number : ℕ) (name : List ℕ) → number < 10 ^ 2 → length name ≤ 10 → length (codes "refused " ++ decimal number ++ codes " " ++ name) ≤ 61
+kind_brief number name few short =
+    omega (
+      arith,
+      short,
+      length-decimal-le 2 number (omega arith) few (omega (arith, few)),
+      length-append (codes "refused ") (decimal number),
+      length-append (codes "refused " ++ decimal number) (codes " "),
+      length-append (codes "refused " ++ decimal number ++ codes " ") name,
+    )
+
 pub refusal_length : (refusal : Refusal) (place : ℕ) → length (comment (refusal_notes refusal place)) ≤ 64
 refusal_length refusal place = by_place (refused_at refusal) (words_brief refusal)
   where
@@ -199,13 +210,13 @@ refusal_length refusal place = by_place (refused_at refusal) (words_brief refusa
 
     words_brief : (refusal : Refusal) → AreBrief (refused_at refusal)
     words_brief Memory = tt
-    words_brief (Index at) = omega arith
-    words_brief (Form at) = omega arith
-    words_brief (End at) = omega arith
-    words_brief (Loop at) = omega arith
-    words_brief (Jump at) = omega arith
-    words_brief (NoPart at) = omega arith
-    words_brief (Stack at) = omega arith
+    words_brief (Index at) = kind_brief 21 (codes "Index") (omega arith) (omega arith)
+    words_brief (Form at) = kind_brief 22 (codes "Form") (omega arith) (omega arith)
+    words_brief (End at) = kind_brief 23 (codes "End") (omega arith) (omega arith)
+    words_brief (Loop at) = kind_brief 24 (codes "Loop") (omega arith) (omega arith)
+    words_brief (Jump at) = kind_brief 25 (codes "Jump") (omega arith) (omega arith)
+    words_brief (NoPart at) = kind_brief 26 (codes "NoPart") (omega arith) (omega arith)
+    words_brief (Stack at) = kind_brief 27 (codes "Stack") (omega arith) (omega arith)
 
     by_place : (o : Option (ℕ × List ℕ)) → AreBrief o → length (comment (option_and_then (λ at. if at.0 == place then Some at.1 else None) o)) ≤ 64
     by_place None h = omega arith

@@ -217,6 +217,12 @@ share_text_line share =
 pub share_line : (code : Code) (place : ℕ) → AreLines (share_notes code place)
 share_line code place = share_text_line (share_at code place)
 
+kind_line : (number : ℕ) (name : List ℕ) → IsLine name → IsLine (codes "refused " ++ decimal number ++ codes " " ++ name)
+kind_line number name h =
+    appended (codes "refused " ++ decimal number ++ codes " ") name
+    (appended (codes "refused " ++ decimal number) (codes " ") (appended (codes "refused ") (decimal number) refl (decimal_line number)) refl)
+    h
+
 pub refusal_line : (refusal : Refusal) (place : ℕ) → AreLines (refusal_notes refusal place)
 refusal_line refusal place = by_place (refused_at refusal) (words_line_of refusal)
   where
@@ -226,13 +232,13 @@ refusal_line refusal place = by_place (refused_at refusal) (words_line_of refusa
 
     words_line_of : (refusal : Refusal) → AreWords (refused_at refusal)
     words_line_of Memory = tt
-    words_line_of (Index at) = refl
-    words_line_of (Form at) = refl
-    words_line_of (End at) = refl
-    words_line_of (Loop at) = refl
-    words_line_of (Jump at) = refl
-    words_line_of (NoPart at) = refl
-    words_line_of (Stack at) = refl
+    words_line_of (Index at) = kind_line _ (codes "Index") refl
+    words_line_of (Form at) = kind_line _ (codes "Form") refl
+    words_line_of (End at) = kind_line _ (codes "End") refl
+    words_line_of (Loop at) = kind_line _ (codes "Loop") refl
+    words_line_of (Jump at) = kind_line _ (codes "Jump") refl
+    words_line_of (NoPart at) = kind_line _ (codes "NoPart") refl
+    words_line_of (Stack at) = kind_line _ (codes "Stack") refl
 
     by_place : (o : Option (ℕ × List ℕ)) → AreWords o → AreLines (option_and_then (λ at. if at.0 == place then Some at.1 else None) o)
     by_place None h = tt
