@@ -2,7 +2,6 @@
 use Rattle.std.proofs.Common.{◌≡◌, ℕ, ◌≤◌, true, false, List, [], ◌++◌, length, bytes_eq, Option, Some, None, refl, sym, ap, subst, ◌∙◌, if◌then◌else◌}
 use Rattle.std.specs.List.{list_any}
 use Rattle.std.specs.Option.{option_and_then}
-use Rattle.std.proofs.lemmas.Grind.{flat_map-append}
 use Rattle.std.proofs.lemmas.Option.{same_Some}
 use Rattle.octets.specs.Limits.{max_variables}
 use Rattle.octets.specs.Once.{each_once}
@@ -19,7 +18,7 @@ use Rattle.sieve_check.specs.FormOf.{inner_forms_of, simple_of, block_of, simple
 use Rattle.sieve_check.specs.Names.{command_named}
 use Rattle.sieve_check.specs.Arguments.{arguments_cause}
 use Rattle.sieve_check.specs.Causes.{plain}
-use Rattle.sieve_check.specs.Rules.{Visit, fault_of, known_command_cause, read_command_cause, ill_formed_command, tests_cause, ending_cause, mention_cause, misplaced, place_cause, long_string_cause, large_mention_cause, many_loops_cause, lacking, lacking_cause, unknown_cause, command_needs, may_stand, opened_by, loops_by, mentions_of, strings_read, lists_read, where_required, command_mentions, names_by, names_mentioned, same_tests, same_ending, kind_of, strings_of, tests_visits, head_visits, command_visits, commands_visits, after_invocation, invocation_of, loops_opened, looks_inside}
+use Rattle.sieve_check.specs.Rules.{fault_of, known_command_cause, read_command_cause, ill_formed_command, tests_cause, ending_cause, mention_cause, misplaced, place_cause, long_string_cause, large_mention_cause, many_loops_cause, lacking, lacking_cause, unknown_cause, command_needs, may_stand, opened_by, loops_by, mentions_of, strings_read, lists_read, where_required, command_mentions, names_by, names_mentioned, same_tests, same_ending, kind_of, strings_of, tests_visits, head_visits, command_visits, commands_visits, after_invocation, invocation_of, loops_opened, looks_inside}
 use Rattle.sieve_check.specs.Signatures.{◌>>=◌, is_positional, reading, command_signature, ending_of}
 use Rattle.sieve_check.specs.Surroundings.{Context, first_lacking, at_start, in_block, inside, opens_many, following}
 use Rattle.sieve_check.specs.Typed.{CommandForms, no_command, no_branch}
@@ -31,7 +30,7 @@ use Rattle.sieve_check.proofs.OpenLoops.{room_inside}
 use Rattle.sieve_check.proofs.Options.{all_taken, both_none, map_none, if_none, unless_none}
 use Rattle.sieve_check.proofs.Templates.{mentioned_at}
 use Rattle.sieve_check.proofs.Unread.{right_behind}
-use Rattle.sieve_check.proofs.TestExistence.{known, WellFormed, well_formed, none_large, none_long, inner_variables, Inner, inner_exists, all_looked_at}
+use Rattle.sieve_check.proofs.TestExistence.{both_names, known, names_found, WellFormed, well_formed, none_large, none_long, inner_variables, Inner, inner_exists, all_looked_at}
 use Rattle.sieve_check.proofs.CommandExistence.{AreWithin, forms_variables, Goes, along, shut, own_names, simple_goes, block_goes}
 
 -- ---- what follows from there being no fault
@@ -105,10 +104,9 @@ known_command s token word args tests ending h =
       is_name = name.1;
       form = form;
       inner = inner;
-      names = ap (λ xs. mentioned_at (expands s) (mentions_of name.0 (strings_of xs)) ++ inner_variables inner.inner) (sym form.alone)
-          ∙ ap (λ o. names_mentioned (where_required s (mentions_of name.0 (strings_read o))) ++ inner_variables inner.inner) (sym form.form.is)
-          ∙ ap (λ o. names_by (λ known. command_mentions s known args) o ++ inner_variables inner.inner) (sym name.1)
-          ∙ ap (λ names. names_by (λ known. command_mentions s known args) (command_named word) ++ names) (inner.variables ∙ ap names_brought (sym looked));
+      names = names_found (λ known. command_mentions s known args) (command_named word) name.0 (own_names s name.0 form.form.read) (inner_variables inner.inner) _ name.1
+          (ap (λ xs. mentioned_at (expands s) (mentions_of name.0 (strings_of xs))) (sym form.alone) ∙ ap (λ o. names_mentioned (where_required s (mentions_of name.0 (strings_read o)))) (sym form.form.is))
+          (inner.variables ∙ ap names_brought (sym looked));
     }
 
 -- what follows by the name follows by the word
@@ -153,9 +151,6 @@ block_exists s (invocation token word args tests) body rest h begins within with
     (block_goes s k.name args read k.inner.inner body rest k.form.positional k.form.stands k.form.room k.form.ends same (λ h. begins (following_word s word k.name (strings_of args) k.is_name h)) k.inner.bounded k.inner.around within
     (subst (λ (o : Option CommandName). AreCommandsIn (length (loops_by o args ++ s.loops)) body) k.is_name within_in) bounded)
 
-both_names : (vs ws : List Visit) → names_brought (vs ++ ws) ≡ names_brought vs ++ names_brought ws
-both_names vs ws = flat_map-append (λ (v : Visit). v.names) vs ws
-
 mutual
   command_exists : (s : Context) (c : CommandTree) (rest : Forms) → AreFaultless (command_visits s c) → ((after_invocation s (invocation_of c)).after_if ≡ false → rest.branches ≡ no_branch) → AreWithin (length s.loops) rest
       → Goes s (names_brought (command_visits s c) ++ forms_variables rest) (part_of s c >>= λ part. put part rest)
@@ -173,7 +168,7 @@ mutual
       (ap (λ o. (o >>= λ around. forms_of around cs >>= λ forms. closed forms >>= λ body. block_part s i body) >>= λ part. put part rest) room
       ∙ ap (λ o. (o >>= λ forms. closed forms >>= λ body. block_part s i body) >>= λ part. put part rest) body.is
       ∙ ap (λ o. (o >>= λ body. block_part s i body) >>= λ part. put part rest) (shut body.forms alone))
-      (ap (λ names. (names_brought (head_visits s i Block) ++ names) ++ forms_variables rest) same ∙ ap (λ names. names ++ forms_variables rest) (sym (ap (λ vs. names_brought (head_visits s i Block ++ vs)) entered ∙ both_names (head_visits s i Block) (commands_visits around cs))))
+      (ap (λ names. (names_brought (head_visits s i Block) ++ names) ++ forms_variables rest) same ∙ ap (λ names. names ++ forms_variables rest) (sym (ap (λ vs. names_brought (head_visits s i Block ++ vs)) entered ∙ sym (both_names (head_visits s i Block) (commands_visits around cs)))))
       (block_exists s i body.forms.commands rest parts.0 begins body.bounded.commands body.bounded.commands_in bounded)
 
   forms_exist : (s : Context) (cs : CommandsTree) → AreFaultless (commands_visits s cs) → Goes s (names_brought (commands_visits s cs)) (forms_of s cs)
@@ -183,7 +178,7 @@ mutual
       let parts = faultless_both (command_visits s c) (commands_visits after cs) h in
       let rest = forms_exist after cs parts.1 in
       along s _ _ _ (part_of s c >>= λ part. put part rest.forms) (ap (λ o. o >>= λ rest. part_of s c >>= λ part. put part rest) rest.is)
-      (ap (λ names. names_brought (command_visits s c) ++ names) rest.variables ∙ sym (both_names (command_visits s c) (commands_visits after cs)))
+      (ap (λ names. names_brought (command_visits s c) ++ names) rest.variables ∙ both_names (command_visits s c) (commands_visits after cs))
       (command_exists s c rest.forms parts.0 rest.begins (subst (λ (loops : List (Option (List ℕ))). AreWithin (length loops) rest.forms) (same_loops s (invocation_of c)) rest.bounded))
 
 -- a script's form, with the variables that its visits bring

@@ -43,6 +43,12 @@ pub known : {Name : Type 0} (unknown : ReasonKind) (cause : Name → Option Caus
 known unknown cause None h = absurd (cc)
 known unknown cause (Some name) h = (name, refl, h)
 
+-- what it brings by itself and by what is inside
+pub names_found : {Name : Type 0} (mentions : Name → Mentions) (o : Option Name) (name : Name) (own inner brought : List (List ℕ)) → o ≡ Some name → own ≡ names_mentioned (mentions name) → inner ≡ brought
+    → own ++ inner ≡ names_by mentions o ++ brought
+names_found mentions o name own inner brought is same inside =
+    ap (λ names. names ++ inner) (same ∙ ap (names_by mentions) (sym is)) ∙ ap (λ names. names_by mentions o ++ names) inside
+
 -- arguments that were read
 pub record WellFormed (signature : Signature) (args : List ArgumentTree) : Type 0 where
   pub read : Read
@@ -242,7 +248,7 @@ record Others (s : Context) (ts : MoreTests) : Type 0 where
   around : AreTestsIn (length s.loops) forms
   variables : tests_variables forms ≡ names_brought (more_visits s ts)
 
-both_names : (vs ws : List Visit) → names_brought vs ++ names_brought ws ≡ names_brought (vs ++ ws)
+pub both_names : (vs ws : List Visit) → names_brought vs ++ names_brought ws ≡ names_brought (vs ++ ws)
 both_names vs ws = sym (flat_map-append (λ (v : Visit). v.names) vs ws)
 
 -- where the tests are those that are taken, all are looked at
@@ -274,9 +280,8 @@ mutual
         bounded = f.bounded;
         around = f.around;
         variables = f.variables
-            ∙ ap (λ o. names_mentioned (where_required s (expanding (strings_read o))) ++ inner_variables inner.inner) (sym well.form.is)
-            ∙ ap (λ o. names_by (λ known. test_mentions s known args) o ++ inner_variables inner.inner) (sym name.1)
-            ∙ ap (λ names. names_by (λ known. test_mentions s known args) (test_named word) ++ names) (inner.variables ∙ ap names_brought (sym looked));
+            ∙ names_found (λ known. test_mentions s known args) (test_named word) name.0 (own_names s read) (inner_variables inner.inner) _ name.1
+            (ap (λ o. names_mentioned (where_required s (expanding (strings_read o)))) (sym well.form.is)) (inner.variables ∙ ap names_brought (sym looked));
       }
 
   pub inner_exists : (s : Context) (tests : TestsTree) → AreFaultless (tests_visits s tests) → Inner s tests
