@@ -5,7 +5,7 @@ use Rattle.octets.specs.Once.{each_once}
 use Rattle.sieve_references.specs.References.{last_capture}
 use Rattle.sieve_check.specs.declared.typed.Segment.{Segment}
 use Rattle.sieve_check.specs.declared.typed.Segment.TheVariants.{Text, Variable, Capture}
-use Rattle.sieve_check.specs.Typed.{Template, Selected, params, params_of, TestForm, negation, all_of, any_of, header, exists, string, part_size, part_body, part_digest, TestForms, no_test, test, CommandForm, file_into, set, take_first, store, for_every_part, leave, choice, CommandForms, no_command, command, BranchForms, no_branch, otherwise, branch}
+use Rattle.sieve_check.specs.Typed.{Template, Selected, params, params_of, TestForm, constant, negation, all_of, any_of, header, exists, size, string, part_size, part_body, part_digest, TestForms, no_test, test, CommandForm, keep, discard, file_into, set, take_first, store, for_every_part, leave, stop, choice, CommandForms, no_command, command, BranchForms, no_branch, otherwise, branch}
 use Rattle.sieve_check.specs.Extent.{commands_extent, string_extent}
 use Rattle.sieve_check.specs.Variables.{commands_variables}
 
@@ -49,15 +49,17 @@ pub record IsBoundedHeader (selected : Selected) (names keys : List Template) : 
 
 abbrev mutual
   pub IsBoundedTest : TestForm → Type 0
+  IsBoundedTest (constant b) = Unit {0}
   IsBoundedTest (negation t) = IsBoundedTest t
   IsBoundedTest (all_of t ts) = IsBoundedTest t × AreBoundedTests ts
   IsBoundedTest (any_of t ts) = IsBoundedTest t × AreBoundedTests ts
   IsBoundedTest (header matching scope selected names keys) = IsBoundedHeader selected names keys
   IsBoundedTest (exists scope names) = IsBoundedList names
+  IsBoundedTest (size order number) = Unit {0}
   IsBoundedTest (string matching sources keys) = AreBoundedLists sources keys
+  IsBoundedTest (part_size order number) = Unit {0}
   IsBoundedTest (part_body matching keys) = IsBoundedList keys
   IsBoundedTest (part_digest keys) = IsBoundedList keys
-  IsBoundedTest _ = Unit {0}
 
   pub AreBoundedTests : TestForms → Type 0
   AreBoundedTests no_test = Unit {0}
@@ -65,13 +67,16 @@ abbrev mutual
 
 abbrev mutual
   pub IsBoundedCommand : CommandForm → Type 0
+  IsBoundedCommand keep = Unit {0}
+  IsBoundedCommand discard = Unit {0}
   IsBoundedCommand (file_into folder) = IsBoundedString folder
   IsBoundedCommand (set modifiers name value) = IsBoundedString value
   IsBoundedCommand (take_first most name) = (0 < most) × (most ≤ max_value)
   IsBoundedCommand (store folder) = IsBoundedString folder
   IsBoundedCommand (for_every_part cs) = AreBoundedCommands cs
+  IsBoundedCommand (leave loops) = Unit {0}
+  IsBoundedCommand stop = Unit {0}
   IsBoundedCommand (choice branches) = AreBoundedBranches branches
-  IsBoundedCommand _ = Unit {0}
 
   pub AreBoundedCommands : CommandForms → Type 0
   AreBoundedCommands no_command = Unit {0}
@@ -87,13 +92,17 @@ abbrev mutual
 abbrev mutual
   -- a test of the current part stands in a loop
   pub IsTestIn : ℕ → TestForm → Type 0
+  IsTestIn loops (constant b) = Unit {0}
   IsTestIn loops (negation t) = IsTestIn loops t
   IsTestIn loops (all_of t ts) = IsTestIn loops t × AreTestsIn loops ts
   IsTestIn loops (any_of t ts) = IsTestIn loops t × AreTestsIn loops ts
+  IsTestIn loops (header matching scope selected names keys) = Unit {0}
+  IsTestIn loops (exists scope names) = Unit {0}
+  IsTestIn loops (size order number) = Unit {0}
+  IsTestIn loops (string matching sources keys) = Unit {0}
   IsTestIn loops (part_size order number) = 0 < loops
   IsTestIn loops (part_body matching keys) = 0 < loops
   IsTestIn loops (part_digest keys) = 0 < loops
-  IsTestIn loops _ = Unit {0}
 
   pub AreTestsIn : ℕ → TestForms → Type 0
   AreTestsIn loops no_test = Unit {0}
@@ -103,12 +112,16 @@ abbrev mutual
   -- of a part is taken and a part is stored in a loop, no more loops are left than there are, and
   -- no more are open than may be
   pub IsCommandIn : ℕ → CommandForm → Type 0
+  IsCommandIn loops keep = Unit {0}
+  IsCommandIn loops discard = Unit {0}
+  IsCommandIn loops (file_into folder) = Unit {0}
+  IsCommandIn loops (set modifiers name value) = Unit {0}
   IsCommandIn loops (take_first most name) = 0 < loops
   IsCommandIn loops (store folder) = 0 < loops
   IsCommandIn loops (for_every_part cs) = (loops < max_loops) × AreCommandsIn (suc loops) cs
   IsCommandIn loops (leave left) = (0 < left) × (left ≤ loops)
+  IsCommandIn loops stop = Unit {0}
   IsCommandIn loops (choice branches) = AreBranchesIn loops branches
-  IsCommandIn loops _ = Unit {0}
 
   pub AreCommandsIn : ℕ → CommandForms → Type 0
   AreCommandsIn loops no_command = Unit {0}

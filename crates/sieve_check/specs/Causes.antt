@@ -1,7 +1,7 @@
 -- What is wrong with a command or test, what in it is at fault, and which fault that is.
 use Rattle.std.specs.Prelude.{ℕ, List, [], Option, Some, None}
 use Rattle.sieve_check.specs.declared.causes.ReasonKind.{ReasonKind}
-use Rattle.sieve_check.specs.declared.causes.ReasonKind.TheVariants.{UnknownCommand, UnknownTest, MissingCapability, UnknownCapability, LongString, ManyStrings, ManySegments, LongName, ManyLoops, ManyVariables}
+use Rattle.sieve_check.specs.declared.causes.ReasonKind.TheVariants.{UnknownCommand, UnknownTest, MissingCapability, UnknownCapability, UnknownTag, ForeignTag, RepeatedTag, TwoModifiers, TagArgument, MissingOrder, MissingMime, LateTag, MissingArgument, ExtraArgument, WrongArgument, WrongTests, WrongEnding, Namespace, CaptureIndex, VariableName, NoSuchLoop, Misplaced, LongString, ManyStrings, ManySegments, LongName, ManyLoops, ManyVariables}
 use Rattle.sieve_check.specs.declared.error.CheckError.{CheckError}
 use Rattle.sieve_check.specs.declared.error.CheckError.TheVariants as refused
 use Rattle.sieve_check.specs.declared.error.Fault.{Fault}
@@ -43,13 +43,30 @@ fault_of_kind UnknownCommand = fault.UnknownCommand
 fault_of_kind UnknownTest = fault.UnknownCommand
 fault_of_kind (MissingCapability capability) = fault.MissingCapability
 fault_of_kind UnknownCapability = fault.UnknownCapability
+fault_of_kind UnknownTag = fault.BadArguments
+fault_of_kind ForeignTag = fault.BadArguments
+fault_of_kind RepeatedTag = fault.BadArguments
+fault_of_kind TwoModifiers = fault.BadArguments
+fault_of_kind (TagArgument tag) = fault.BadArguments
+fault_of_kind MissingOrder = fault.BadArguments
+fault_of_kind MissingMime = fault.BadArguments
+fault_of_kind LateTag = fault.BadArguments
+fault_of_kind (MissingArgument positional) = fault.BadArguments
+fault_of_kind (ExtraArgument positional) = fault.BadArguments
+fault_of_kind (WrongArgument positional) = fault.BadArguments
+fault_of_kind (WrongTests tests) = fault.BadArguments
+fault_of_kind (WrongEnding ending) = fault.BadArguments
+fault_of_kind Namespace = fault.BadArguments
+fault_of_kind CaptureIndex = fault.BadArguments
+fault_of_kind VariableName = fault.BadArguments
+fault_of_kind NoSuchLoop = fault.BadArguments
+fault_of_kind Misplaced = fault.BadArguments
 fault_of_kind LongString = fault.Limit
 fault_of_kind ManyStrings = fault.Limit
 fault_of_kind ManySegments = fault.Limit
 fault_of_kind LongName = fault.Limit
 fault_of_kind ManyLoops = fault.Limit
 fault_of_kind ManyVariables = fault.Limit
-fault_of_kind _ = fault.BadArguments
 
 -- a fault as the refusal that names it, with the place of the command or test
 abbrev pub refusal : ℕ → Fault → CheckError

@@ -3,7 +3,7 @@
 use Rattle.std.specs.Prelude.{ℕ, ◌+◌, List, length, sum_by}
 use Rattle.sieve_check.specs.declared.typed.Segment.{Segment}
 use Rattle.sieve_check.specs.declared.typed.Segment.TheVariants.{Text, Variable, Capture}
-use Rattle.sieve_check.specs.Typed.{Template, params_of, TestForm, constant, negation, all_of, any_of, header, exists, size, string, part_size, part_body, part_digest, TestForms, no_test, test, CommandForm, file_into, set, take_first, store, for_every_part, choice, CommandForms, no_command, command, BranchForms, no_branch, otherwise, branch}
+use Rattle.sieve_check.specs.Typed.{Template, params_of, TestForm, constant, negation, all_of, any_of, header, exists, size, string, part_size, part_body, part_digest, TestForms, no_test, test, CommandForm, keep, discard, file_into, set, take_first, store, for_every_part, leave, stop, choice, CommandForms, no_command, command, BranchForms, no_branch, otherwise, branch}
 
 -- a stretch of text, or a reference with its braces
 abbrev pub segment_extent : Segment → ℕ
@@ -43,13 +43,16 @@ abbrev mutual
 abbrev mutual
   -- a name, its strings, if it has any, and a semicolon, or a block in braces; or branches
   pub command_extent : CommandForm → ℕ
+  command_extent keep = 2
+  command_extent discard = 2
   command_extent (file_into folder) = 2 + string_extent folder
   command_extent (set modifiers name value) = 4 + length name + string_extent value
   command_extent (take_first most name) = 4 + length name
   command_extent (store folder) = 2 + string_extent folder
   command_extent (for_every_part cs) = 3 + commands_extent cs
+  command_extent (leave loops) = 2
+  command_extent stop = 2
   command_extent (choice branches) = branches_extent branches
-  command_extent _ = 2
 
   pub commands_extent : CommandForms → ℕ
   commands_extent no_command = 0

@@ -15,9 +15,9 @@ use Rattle.sieve_check.specs.declared.error.CheckError.{CheckError}
 use Rattle.sieve_check.specs.declared.names.Capability.{Capability}
 use Rattle.sieve_check.specs.declared.names.Capability.TheVariants as capability
 use Rattle.sieve_check.specs.declared.names.CommandName.{CommandName}
-use Rattle.sieve_check.specs.declared.names.CommandName.TheVariants.{Require, Elsif, Else, FileInto, Set, ForEveryPart, Break, Store, Take}
+use Rattle.sieve_check.specs.declared.names.CommandName.TheVariants.{Require, If, Elsif, Else, Stop, Keep, Discard, FileInto, Set, ForEveryPart, Break, Store, Take}
 use Rattle.sieve_check.specs.declared.names.TestName.{TestName}
-use Rattle.sieve_check.specs.declared.names.TestName.TheVariants.{Header, Exists, String, PartSize, PartBody, PartDigest}
+use Rattle.sieve_check.specs.declared.names.TestName.TheVariants.{Constant, Not, AllOf, AnyOf, Header, Exists, Size, String, PartSize, PartBody, PartDigest}
 use Rattle.sieve_check.specs.declared.string_faults.StringFault.{StringFault}
 use Rattle.sieve_check.specs.declared.string_faults.StringFault.TheVariants.{Unknown, Long, Wrong, Large}
 use Rattle.sieve_check.specs.declared.signature.Tests.{Tests}
@@ -47,13 +47,19 @@ arguments_of head = map argument_tree head.arguments.items
 
 -- the capabilities that a command or test needs
 abbrev pub command_needs : CommandName → List Capability
+command_needs Require = []
+command_needs If = []
+command_needs Elsif = []
+command_needs Else = []
+command_needs Stop = []
+command_needs Keep = []
+command_needs Discard = []
 command_needs FileInto = capability.FileInto ∷ []
 command_needs Set = capability.Variables ∷ []
 command_needs ForEveryPart = capability.ForEveryPart ∷ []
 command_needs Break = capability.ForEveryPart ∷ []
 command_needs Store = capability.Depot ∷ []
 command_needs Take = capability.Variables ∷ capability.Depot ∷ []
-command_needs _ = []
 
 abbrev pub is_mime : Option Tag → Bool
 is_mime (Some Mime) = true
@@ -69,31 +75,48 @@ abbrev pub mime_where_given : List ArgumentTree → List Capability
 mime_where_given args = if list_any is_mime_tag args then capability.Mime ∷ [] else []
 
 abbrev pub test_needs : TestName → List ArgumentTree → List Capability
+test_needs (Constant b) args = []
+test_needs Not args = []
+test_needs AllOf args = []
+test_needs AnyOf args = []
 test_needs Header args = mime_where_given args
 test_needs Exists args = mime_where_given args
+test_needs Size args = []
 test_needs String args = capability.Variables ∷ []
 test_needs PartSize args = capability.Depot ∷ []
 test_needs PartBody args = capability.Depot ∷ []
 test_needs PartDigest args = capability.Depot ∷ []
-test_needs _ args = []
 
 -- where each command may stand: a require at the top level after nothing else, an elsif and an else directly after an if or elsif, a
 -- break where it has a loop to leave, a store and a take in a loop, and each other anywhere
 abbrev pub may_stand : Context → CommandName → Read → Bool
 may_stand s Require read = s.takes_require
+may_stand s If read = true
 may_stand s Elsif read = s.after_if
 may_stand s Else read = s.after_if
+may_stand s Stop read = true
+may_stand s Keep read = true
+may_stand s Discard read = true
+may_stand s FileInto read = true
+may_stand s Set read = true
+may_stand s ForEveryPart read = true
 may_stand s Break read = is_some (loops_left read.name s.loops)
 may_stand s Store read = in_loop s
 may_stand s Take read = in_loop s
-may_stand s _ read = true
 
 -- where each test may stand: those of the current part in a loop, and each other anywhere
 abbrev pub test_may_stand : Context → TestName → Bool
+test_may_stand s (Constant b) = true
+test_may_stand s Not = true
+test_may_stand s AllOf = true
+test_may_stand s AnyOf = true
+test_may_stand s Header = true
+test_may_stand s Exists = true
+test_may_stand s Size = true
+test_may_stand s String = true
 test_may_stand s PartSize = in_loop s
 test_may_stand s PartBody = in_loop s
 test_may_stand s PartDigest = in_loop s
-test_may_stand s _ = true
 
 -- the argument of `:name`, if it could be read
 abbrev pub name_read : Option Read → Option (List ℕ)
@@ -103,7 +126,18 @@ name_read (Some read) = read.name
 -- the loop that a command opens around its block, with its name, if it has one
 abbrev pub opened_by : CommandName → List ArgumentTree → List (Option (List ℕ))
 opened_by ForEveryPart args = name_read (reading (command_signature ForEveryPart) args) ∷ []
-opened_by _ args = []
+opened_by Require args = []
+opened_by If args = []
+opened_by Elsif args = []
+opened_by Else args = []
+opened_by Stop args = []
+opened_by Keep args = []
+opened_by Discard args = []
+opened_by FileInto args = []
+opened_by Set args = []
+opened_by Break args = []
+opened_by Store args = []
+opened_by Take args = []
 
 -- a reference into a namespace, or to a capture that there can't be
 abbrev pub is_wrong : Segment → Bool
@@ -169,7 +203,16 @@ abbrev pub mentions_of : CommandName → List (List ℕ) → Mentions
 mentions_of Require strings = no_mention
 mentions_of Set strings = record { expanded = drop 1 strings; set = take 1 strings }
 mentions_of Take strings = record { expanded = []; set = take 1 strings }
-mentions_of _ strings = expanding strings
+mentions_of If strings = expanding strings
+mentions_of Elsif strings = expanding strings
+mentions_of Else strings = expanding strings
+mentions_of Stop strings = expanding strings
+mentions_of Keep strings = expanding strings
+mentions_of Discard strings = expanding strings
+mentions_of FileInto strings = expanding strings
+mentions_of ForEveryPart strings = expanding strings
+mentions_of Break strings = expanding strings
+mentions_of Store strings = expanding strings
 
 -- variables are there only where they were required
 abbrev pub where_required : Context → Mentions → Mentions
@@ -198,7 +241,18 @@ lacking_cause s needed = option_map lacking (first_lacking needed s.required)
 -- the first string of a require that is no capability, wherever it stands and however it is written
 abbrev pub unknown_cause : CommandName → List ArgumentTree → Option Cause
 unknown_cause Require args = option_map (about UnknownCapability) (find (string_has Unknown) (strings_of args))
-unknown_cause _ args = None
+unknown_cause If args = None
+unknown_cause Elsif args = None
+unknown_cause Else args = None
+unknown_cause Stop args = None
+unknown_cause Keep args = None
+unknown_cause Discard args = None
+unknown_cause FileInto args = None
+unknown_cause Set args = None
+unknown_cause ForEveryPart args = None
+unknown_cause Break args = None
+unknown_cause Store args = None
+unknown_cause Take args = None
 
 -- ---- what is wrong behind the arguments, with references and names, and with the place
 
@@ -227,7 +281,18 @@ mention_cause mentions =
 -- a wrong place: of a break with a name, that no loop around it has that name
 abbrev pub misplaced : CommandName → Read → Cause
 misplaced Break read = option_map_or (about NoSuchLoop) read.name (plain Misplaced)
-misplaced _ read = plain Misplaced
+misplaced Require read = plain Misplaced
+misplaced If read = plain Misplaced
+misplaced Elsif read = plain Misplaced
+misplaced Else read = plain Misplaced
+misplaced Stop read = plain Misplaced
+misplaced Keep read = plain Misplaced
+misplaced Discard read = plain Misplaced
+misplaced FileInto read = plain Misplaced
+misplaced Set read = plain Misplaced
+misplaced ForEveryPart read = plain Misplaced
+misplaced Store read = plain Misplaced
+misplaced Take read = plain Misplaced
 
 abbrev pub place_cause : Context → CommandName → Read → Option Cause
 place_cause s name read = if may_stand s name read then None else Some (misplaced name read)

@@ -4,7 +4,7 @@ use Rattle.std.specs.Prelude.{ℕ, Bool, true, false, not, ◌&&◌, ◌||◌, �
 use Rattle.sieve_parser.specs.Tree.{ArgumentTree, text, text_list, amount, label}
 use Rattle.bytecode_format.specs.Modifiers.{no_modifiers}
 use Rattle.sieve_check.specs.declared.names.CommandName.{CommandName}
-use Rattle.sieve_check.specs.declared.names.CommandName.TheVariants.{Require, If, Elsif, Else, FileInto, Set, ForEveryPart, Break, Store, Take}
+use Rattle.sieve_check.specs.declared.names.CommandName.TheVariants.{Require, If, Elsif, Else, Stop, Keep, Discard, FileInto, Set, ForEveryPart, Break, Store, Take}
 use Rattle.sieve_check.specs.declared.names.TestName.{TestName}
 use Rattle.sieve_check.specs.declared.names.TestName.TheVariants.{Constant, Not, AllOf, AnyOf, Header, Exists, Size, String, PartSize, PartBody, PartDigest}
 use Rattle.sieve_check.specs.declared.names.Tag.{Tag}
@@ -35,20 +35,31 @@ abbrev pub command_signature : CommandName → Signature
 command_signature Require = record (bare tests.Nothing) { positional = positional.OneList }
 command_signature If = bare tests.One
 command_signature Elsif = bare tests.One
+command_signature Else = bare tests.Nothing
+command_signature Stop = bare tests.Nothing
+command_signature Keep = bare tests.Nothing
+command_signature Discard = bare tests.Nothing
 command_signature FileInto = record (bare tests.Nothing) { positional = positional.Text }
 command_signature Set = record (bare tests.Nothing) { modifying = true; positional = positional.TwoTexts }
 command_signature ForEveryPart = record (bare tests.Nothing) { naming = true }
 command_signature Break = record (bare tests.Nothing) { naming = true }
 command_signature Store = record (bare tests.Nothing) { positional = positional.Text }
 command_signature Take = record (bare tests.Nothing) { limiting = true; positional = positional.Text }
-command_signature _ = bare tests.Nothing
 
 abbrev pub ending_of : CommandName → Ending
+ending_of Require = Semicolon
 ending_of If = Block
 ending_of Elsif = Block
 ending_of Else = Block
+ending_of Stop = Semicolon
+ending_of Keep = Semicolon
+ending_of Discard = Semicolon
+ending_of FileInto = Semicolon
+ending_of Set = Semicolon
 ending_of ForEveryPart = Block
-ending_of _ = Semicolon
+ending_of Break = Semicolon
+ending_of Store = Semicolon
+ending_of Take = Semicolon
 
 -- what each test takes
 abbrev pub test_signature : TestName → Signature

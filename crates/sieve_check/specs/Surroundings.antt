@@ -4,7 +4,7 @@ use Rattle.octets.specs.Limits.{max_loops}
 use Rattle.sieve_check.specs.declared.names.Capability.{Capability}
 use Rattle.sieve_check.specs.declared.names.Capability.TheVariants.{FileInto, Variables, Mime, ForEveryPart, Depot, OctetComparator, CasemapComparator}
 use Rattle.sieve_check.specs.declared.names.CommandName.{CommandName}
-use Rattle.sieve_check.specs.declared.names.CommandName.TheVariants.{Require, If, Elsif}
+use Rattle.sieve_check.specs.declared.names.CommandName.TheVariants.{Require, If, Elsif, Else, Stop, Keep, Discard, FileInto as FileIntoCommand, Set, ForEveryPart as ForEveryPartCommand, Break, Store, Take}
 use Rattle.sieve_check.specs.declared.surroundings.Capabilities.{Capabilities}
 use Rattle.sieve_check.specs.Names.{capability_named}
 
@@ -26,7 +26,8 @@ has_capability Variables all = all.variables
 has_capability Mime all = all.mime
 has_capability ForEveryPart all = all.for_every_part
 has_capability Depot all = all.depot
-has_capability _ all = true
+has_capability OctetComparator all = true
+has_capability CasemapComparator all = true
 
 abbrev pub same_capability : Capability → Capability → Bool
 same_capability FileInto FileInto = true
@@ -50,7 +51,8 @@ with_capability Variables all = record all { variables = true }
 with_capability Mime all = record all { mime = true }
 with_capability ForEveryPart all = record all { for_every_part = true }
 with_capability Depot all = record all { depot = true }
-with_capability _ all = all
+with_capability OctetComparator all = all
+with_capability CasemapComparator all = all
 
 abbrev pub with_known : Option Capability → Capabilities → Capabilities
 with_known None all = all
@@ -111,5 +113,14 @@ abbrev pub following : Context → Option CommandName → List (List ℕ) → Co
 following s (Some Require) strings = record s { required = requiring strings s.required; after_if = false }
 following s (Some If) strings = record s { takes_require = false; after_if = true }
 following s (Some Elsif) strings = record s { takes_require = false; after_if = true }
+following s (Some Else) strings = elsewhere s
+following s (Some Stop) strings = elsewhere s
+following s (Some Keep) strings = elsewhere s
+following s (Some Discard) strings = elsewhere s
+following s (Some FileIntoCommand) strings = elsewhere s
+following s (Some Set) strings = elsewhere s
+following s (Some ForEveryPartCommand) strings = elsewhere s
+following s (Some Break) strings = elsewhere s
+following s (Some Store) strings = elsewhere s
+following s (Some Take) strings = elsewhere s
 following s None strings = s
-following s _ strings = elsewhere s

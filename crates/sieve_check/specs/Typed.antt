@@ -30,8 +30,11 @@ selector_of (params names) = Param
 
 -- the names of the parameters
 abbrev pub params_of : Selected → List Template
+params_of whole = []
+params_of main = []
+params_of sub = []
+params_of content_type = []
 params_of (params names) = names
-params_of _ = []
 
 -- a test: the lists of tests by their first and the others, a header's names and then its keys; tests in order
 mutual

@@ -153,8 +153,8 @@ impl<'t> Refused<'t> {
         }
     }
 
-    // The refusal for it.
-    pub(crate) fn refusal(self) -> CheckError
+    /// The refusal of a script of which that is refused first.
+    pub fn refusal(self) -> CheckError
         ensures { result ≡ refusal_for (refused_view self.entry) }
     {
         CheckError::of(self.reason.kind.fault(), self.token)

@@ -19,16 +19,6 @@ use Rattle.sieve_explain.specs.Explaining.{Explains, TellsReasons}
 abbrev pub IsTold : List ℕ → List ℕ → Refusal → List ℕ → Type 0
 IsTold name script refusal text = (refusal ≢ Memory) × IsScriptRefusal script refusal × Explains name script refusal text
 
--- the law that a script of tokens has no fault
-abbrev pub NoFault : Type 0
-NoFault = (script : List ℕ) (tokens : List Token) (place : ℕ) → AreTokens script tokens → IsFault script place → ⊥
-
--- which has no refusal of its tokens
-pub no_lexical : NoFault → (script : List ℕ) (tokens : List Token) → AreTokens script tokens → length script ≤ max_script → (e : ParseError) → IsParseRefusal script e
-    → ((place : ℕ) × (e ≡ parser.Lexical place)) ⊎ (e ≡ parser.ScriptTooLong) → ⊥
-no_lexical law script tokens are short e is (inl found) = let fault = subst (IsParseRefusal script) found.1 is in law script tokens found.0 are fault.1
-no_lexical law script tokens are short e is (inr same) = let long = subst (IsParseRefusal script) same is in absurd (omega (arith, long, short))
-
 checking : (name script : List ℕ) (place : ℕ) (f : Fault) (text : List ℕ) → IsFaulty script (refusal place f) → TellsReasons name script text
     → IsTold name script (of_checker (refusal place f)) text
 checking name script place fault.UnknownCommand text is told = (λ e. absurd (cc), is, told)

@@ -1,12 +1,11 @@
 // Why a script is refused, and what is told of it.
 ghost use Rattle.std.specs.Prelude.{◌≡◌, ◌≤◌, IfOk, None, flat_map, length, map};
 ghost use Rattle.octets.specs.Limits.{max_script};
-ghost use Rattle.refusals.specs.Causes.{of_checker, of_parser};
-ghost use Rattle.sieve_check.specs.Causes.{refusal_for};
+ghost use Rattle.refusals.specs.Causes.{of_parser};
 ghost use Rattle.sieve_check.specs.ReasonView.{refused_view};
 ghost use Rattle.sieve_lexer.specs.Tokens.{AreTokens};
 ghost use Rattle.sieve_parser.specs.Refusals.{parse_error};
-ghost use Rattle.sieve_parser.specs.Scripts.{IsParsed, IsParseRefusal};
+ghost use Rattle.sieve_parser.specs.Scripts.{IsGrammarRefusal, IsParsed};
 ghost use Rattle.sieve_parser.specs.View.{commands_tree};
 ghost use Rattle.sieve_explain.specs.Explaining.{Explains, IsExplained, depth_told, listing_told, marked_token, opened, reason_told, syntax_told, token_told};
 ghost use Rattle.sieve_explain.specs.Marks.{Stands};
@@ -21,8 +20,7 @@ use crate::reasons::fault_sentence;
 use crate::remarks::{Source, remark, told};
 use bytecode_listing::FaultKind;
 use refusals::Refusal;
-use sieve_check::{Fault, ReasonKind, Refused, reasons_of};
-use sieve_lexer::laws::tokens_have_no_fault;
+use sieve_check::{ReasonKind, Refused, reasons_of};
 use sieve_lexer::{LexicalError, MAX_SCRIPT, Token, tokens};
 use sieve_parser::{ParseError, Script, parse_tokens};
 use std::alloc::{AllocError, Global};
@@ -83,22 +81,8 @@ fn explain_tree(
         return Ok(None);
     };
     let text = reasons_told(source, tokens, &reasons)?;
-    let refusal = refusal_for(*first);
+    let refusal = Refusal::from(first.refusal());
     Ok(Some(Explanation { refusal, text }))
-}
-
-// The refusal of a script of which that is refused first.
-fn refusal_for(first: Refused<'_>) -> Refusal
-    ensures { result ≡ of_checker (refusal_for (refused_view first.entry)) }
-{
-    let place = first.token;
-    match first.reason.kind.fault() {
-        Fault::UnknownCommand => Refusal::UnknownCommand { place },
-        Fault::MissingCapability => Refusal::MissingCapability { place },
-        Fault::UnknownCapability => Refusal::UnknownCapability { place },
-        Fault::BadArguments => Refusal::BadArguments { place },
-        Fault::Limit => Refusal::Limit { place },
-    }
 }
 
 // What is told of a script that has no tokens.
@@ -127,8 +111,7 @@ fn grammar_told(
     error: &ParseError,
 ) -> Result<Vec<u8>, AllocError>
     requires tokens { AreTokens source.now.octets.now tokens.now }
-    requires short { length source.now.octets.now ≤ max_script }
-    requires refused { IsParseRefusal source.now.octets.now error.now }
+    requires grammar { IsGrammarRefusal source.now.octets.now tokens.now error.now }
     ensures { IfOk result (λ text. Explains source.now.name.now source.now.octets.now
         (of_parser error.now) text.items) }
 {
@@ -136,10 +119,7 @@ fn grammar_told(
         ParseError::Memory => Err(AllocError),
         ParseError::Syntax { place } => syntax_told(source, tokens, *place),
         ParseError::TooDeep { place } => depth_told(source, tokens, *place),
-        ParseError::Lexical { .. } | ParseError::ScriptTooLong => {
-            tokens_have_no_fault();
-            unreachable!()
-        }
+        ParseError::Lexical { .. } | ParseError::ScriptTooLong => unreachable!(),
     }
 }
 

@@ -16,7 +16,7 @@ use Rattle.sieve_parser.specs.TokenMachine.{body, reading}
 use Rattle.sieve_parser.specs.Faults.{AreWithinDepth, IsSyntaxFault, IsTooDeep}
 use Rattle.sieve_parser.specs.Parsing.{Beginning, IsAt, IsFaultOf, IsSyntaxFaultIn, IsTooDeepIn, IsIdentifierAt, Stands, lexeme_at, lexemes}
 use Rattle.sieve_parser.specs.Refusals.{parse_error}
-use Rattle.sieve_parser.specs.Scripts.{IsParsed, IsParseRefusal}
+use Rattle.sieve_parser.specs.Scripts.{IsParsed, IsGrammarRefusal, IsParseRefusal}
 use Rattle.sieve_parser.proofs.Faulted.{root, root_grounded, script_of_word, word_of_script, read_script_within}
 use Rattle.sieve_parser.proofs.Walk.{stuck}
 use Rattle.sieve_parser.proofs.Wrong.{no_command_first}
@@ -74,9 +74,17 @@ whole_parsed s ts p cs short are stands at past =
     let script : IsScript (lexemes s ts) cs = whole_script (lexemes s ts) p cs stands past in
     (short, (ts, (are, script, whole_within (lexemes s ts) p cs at past script)))
 
-pub fault_refused : (script : List ℕ) (tokens : List Token) (e : ParseError) → length script ≤ max_script → lexer.AreTokens script tokens → IsFaultOf whole (lexemes script tokens) e → IsParseRefusal script e
-fault_refused script tokens parser.Memory short are h = tt
-fault_refused script tokens parser.ScriptTooLong short are h = absurd h
-fault_refused script tokens (parser.Lexical place) short are h = absurd h
-fault_refused script tokens (parser.Syntax place) short are h = (short, (tokens, (are, syntax_fault (lexemes script tokens) place h)))
-fault_refused script tokens (parser.TooDeep place) short are h = (short, (tokens, (are, too_deep (lexemes script tokens) place h)))
+pub fault_refused : (script : List ℕ) (tokens : List Token) (e : ParseError) → IsFaultOf whole (lexemes script tokens) e → IsGrammarRefusal script tokens e
+fault_refused script tokens parser.Memory h = tt
+fault_refused script tokens parser.ScriptTooLong h = absurd h
+fault_refused script tokens (parser.Lexical place) h = absurd h
+fault_refused script tokens (parser.Syntax place) h = syntax_fault (lexemes script tokens) place h
+fault_refused script tokens (parser.TooDeep place) h = too_deep (lexemes script tokens) place h
+
+-- a refusal of the tokens is one of the script
+pub refused_by_grammar : (script : List ℕ) (tokens : List Token) (e : ParseError) → length script ≤ max_script → lexer.AreTokens script tokens → IsGrammarRefusal script tokens e → IsParseRefusal script e
+refused_by_grammar script tokens parser.Memory short are h = tt
+refused_by_grammar script tokens parser.ScriptTooLong short are h = absurd h
+refused_by_grammar script tokens (parser.Lexical place) short are h = absurd h
+refused_by_grammar script tokens (parser.Syntax place) short are h = (short, (tokens, (are, h)))
+refused_by_grammar script tokens (parser.TooDeep place) short are h = (short, (tokens, (are, h)))

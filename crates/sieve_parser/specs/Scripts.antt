@@ -19,6 +19,13 @@ IsParsed script cs = (length script ≤ max_script) × ((tokens : List Token)
 abbrev pub IsTree : CommandsTree → Type 0
 IsTree cs = (script : List ℕ) × IsParsed script cs
 
+-- what a refusal says of the tokens of a script; those of the lexer say nothing of tokens
+abbrev pub IsGrammarRefusal : List ℕ → List Token → ParseError → Type 0
+IsGrammarRefusal script tokens Memory = Unit {0}
+IsGrammarRefusal script tokens (Syntax place) = IsSyntaxFault (lexemes script tokens) place
+IsGrammarRefusal script tokens (TooDeep place) = IsTooDeep (lexemes script tokens) place
+IsGrammarRefusal script tokens _ = ⊥
+
 -- what each refusal says of the script
 abbrev pub IsParseRefusal : List ℕ → ParseError → Type 0
 IsParseRefusal script Memory = Unit {0}

@@ -2,7 +2,7 @@
 ghost use Rattle.std.specs.Prelude.{◌≡◌, ◌<◌, ◌≤◌, length, IfErr, IfOk, IsErrAnd};
 ghost use Rattle.octets.specs.Limits.{max_script};
 ghost use Rattle.sieve_lexer.specs.Tokens.{AreTokens};
-ghost use Rattle.sieve_parser.specs.Scripts.{IsParsed, IsParseRefusal};
+ghost use Rattle.sieve_parser.specs.Scripts.{IsGrammarRefusal, IsParsed, IsParseRefusal};
 ghost use Rattle.sieve_parser.specs.View.{commands_tree};
 
 use crate::command::commands;
@@ -29,12 +29,13 @@ pub fn parse(alloc: Global, script: &[u8]) -> Result<Script, ParseError>
 
 /// The same of a script whose tokens were read.
 ///
-/// [`ParseError::Syntax`], [`ParseError::TooDeep`] and [`ParseError::Memory`] come as from [`parse`].
+/// [`ParseError::Syntax`], [`ParseError::TooDeep`] and [`ParseError::Memory`] come as from [`parse`], and no other does.
 pub fn parse_tokens(alloc: Global, script: &[u8], tokens: &[Token]) -> Result<Script, ParseError>
     requires tokens { AreTokens script.now tokens.now }
     requires short { length script.now ≤ max_script }
     ensures parsed { IfOk result (λ parsed. IsParsed script.now (commands_tree parsed)) }
     ensures refused { IfErr result (λ e. IsParseRefusal script.now e) }
+    ensures grammar { IfErr result (λ e. IsGrammarRefusal script.now tokens.now e) }
 {
     let (commands, next) = commands(alloc, script, tokens, 0, 0)?;
     if next < tokens.len() {

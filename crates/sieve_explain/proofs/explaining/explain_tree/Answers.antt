@@ -1,5 +1,6 @@
 use Rattle.std.proofs.Common.{◌∙◌, List, ap, sym}
 use Rattle.std.specs.Prelude.{flat_map, map, option_copied, slice_get}
+use Rattle.refusals.specs.Causes.{of_checker}
 use Rattle.sieve_parser.specs.View.{commands_tree}
 use Rattle.sieve_check.specs.Causes as causes
 use Rattle.sieve_check.specs.Causes.{fault_of_kind}
@@ -22,5 +23,5 @@ returns c =
     let text = c.in_ok-text.ensures
     ∙ ap (λ (l : List Refused). flat_map (reason_told name script tokens) (map refused_view l)) c.deref-2.ensures.0
     ∙ ap (λ (l : List causes.Refused). flat_map (reason_told name script tokens) l) c.reasons_of-reasons.ensures in
-    told_by_checker name script first.token (fault_of_kind first.reason.kind) c.refusal_for-refusal.result c.in_ok-text.text.items
-    c.refusal_for-refusal.ensures (tree, c.requires.parsed, refused) (tree, c.requires.parsed, (tokens, c.requires.tokens, text))
+    told_by_checker name script first.token (fault_of_kind first.reason.kind) c.from-refusal.result c.in_ok-text.text.items
+    (c.from-refusal.ensures ∙ ap of_checker c.refusal.ensures) (tree, c.requires.parsed, refused) (tree, c.requires.parsed, (tokens, c.requires.tokens, text))
