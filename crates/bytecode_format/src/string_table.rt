@@ -69,9 +69,10 @@ impl<'a> StringTable<'a> {
     ///
     /// # Errors
     ///
-    /// An allocation was refused.
+    /// An allocation was refused; the table is then as it was.
     pub fn push(&mut self, text: &'a [u8]) -> Result<(), AllocError>
-        ensures { OnOk result (self.new ≡ self.old ++ text.now ∷ []) }
+        ensures ok { OnOk result (self.new ≡ self.old ++ text.now ∷ []) }
+        ensures err { OnErr result (self.new ≡ self.old) }
     {
         if self.places.contains_key(text) {
             return Ok(self.listed.push(text)?);
@@ -80,7 +81,7 @@ impl<'a> StringTable<'a> {
     }
 
     /// How many strings are listed.
-    pub fn len(&self) -> usize
+    pub fn count(&self) -> usize
         ensures { result ≡ length self.now }
     {
         self.listed.len()

@@ -41,19 +41,11 @@ double_after before (Label name left ∷ lines) =
     else double_after (before ++ Label name left ∷ []) lines
 double_after before (Step draft ∷ lines) = double_after (before ++ Step draft ∷ []) lines
 
--- where the string stands in the table first, if it does
-abbrev pub string_in : List (List ℕ) → List ℕ → Option ℕ
-string_in table text = found_in bytes_eq table text
-
--- the table with one more string, which is left out where the table has it
-abbrev pub with_string : List (List ℕ) → List ℕ → List (List ℕ)
-with_string table text = with_one bytes_eq table text
-
--- with the string that stands for the number of c, if one does
+-- the table with the string that stands for the number of c, if one does, unless the table has it
 abbrev pub with_target : List (List ℕ) → Target → List (List ℕ)
 with_target table (Number n) = table
 with_target table (Name name left) = table
-with_target table (Quoted text left) = with_string table text
+with_target table (Quoted text left) = with_one bytes_eq table text
 
 -- with the string that stands in a line
 abbrev pub with_line : List (List ℕ) → Line → List (List ℕ)
@@ -74,7 +66,7 @@ looked_up (Some place) left = if nat_lt place (2 ^ 32) then Ok place else Err le
 abbrev pub c_of : List (List ℕ) → List Line → Target → Result ℕ ℕ
 c_of strings lines (Number n) = Ok n
 c_of strings lines (Name name left) = looked_up (place_of lines name) left
-c_of strings lines (Quoted text left) = looked_up (string_in strings text) left
+c_of strings lines (Quoted text left) = looked_up (found_in bytes_eq strings text) left
 
 -- a draft with this c
 abbrev pub with_c : Draft → ℕ → Instruction

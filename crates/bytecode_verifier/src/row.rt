@@ -3,7 +3,8 @@ ghost use Rattle.std.specs.Prelude.{◌≡◌, ◌&&◌};
 ghost use Rattle.bytecode_verifier.specs.Rows;
 
 use bytecode_format::{
-    FieldTest, Instruction, Modifiers, Operation, Scope, Selector, TestCounts, match_of,
+    FieldTest, Instruction, Modifiers, Operation, Scope, Selector, TestCounts, VERSION_TWO,
+    match_of,
 };
 use octets::MAX_VALUE;
 
@@ -15,9 +16,6 @@ const MAX_SEGMENTS: u32 = bytecode_format::MAX_SEGMENTS as u32;
 
 /// How many captures there are.
 const CAPTURES: u32 = glob_match::MAX_CAPTURES as u32;
-
-/// The version that has all operations.
-const VERSION_TWO: u8 = bytecode_format::VERSION_TWO;
 
 /// The most loops that are open at a place.
 pub const MAX_LOOPS: u32 = bytecode_format::MAX_LOOPS as u32;

@@ -212,9 +212,9 @@ pub record IsNumber (text : Text) (number : ℕ) : Type 0 where
   pub value : IsNumberText text → number ≡ digits_value 10 (without_leading_plus text)
   pub none : (IsNumberText text → ⊥) → number ≡ 0
 
--- the name isn't that of a command on a message, a script, a program or a listing, nor of one that encodes or decodes
-abbrev pub IsNoMailCommand : Text → Type 0
-IsNoMailCommand name =
+-- the name isn't that of a command that needs no depot
+abbrev pub IsNoWork : Text → Type 0
+IsNoWork name =
     (name ≢ codes "check") × (name ≢ codes "explain") × (name ≢ codes "compile") × (name ≢ codes "verify")
     × (name ≢ codes "run")
     × (name ≢ codes "disassemble") × (name ≢ codes "assemble") × (name ≢ codes "eval") × (name ≢ codes "parts")
@@ -233,7 +233,7 @@ IsNoDepotCommand name =
 
 -- the work is what the matches say: which command there is, and its arguments
 abbrev pub SaysWork : Work → Option (Text × List Row) → Type 0
-SaysWork NoWords matches = IfSome matches (λ m. IsNoMailCommand m.0 × IsNoDepotCommand m.0)
+SaysWork NoWords matches = IfSome matches (λ m. IsNoWork m.0 × IsNoDepotCommand m.0)
 SaysWork (Check script) matches = (rows : List Row) × IsCommand (codes "check") matches rows
     × (script.now ≡ argument (codes "SCRIPT") rows)
 SaysWork (Explain script) matches = (rows : List Row) × IsCommand (codes "explain") matches rows

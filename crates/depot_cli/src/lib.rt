@@ -4,7 +4,7 @@
 //! is a [`Host`], which opens and makes files: a contract sees what it was asked for, and what it
 //! gave. [`System`] is the host of a real system. [`line_of`] says what the words say
 //! (`specs/Words`): [`Work`] that needs no depot, or a [`Request`] to one (`specs/Requests`), each
-//! with the names of its files. [`read_limited`] reads a [`Source`] up to a limit
+//! with the names of its files. [`read_limited`] reads a [`Source`](encodings::Source) up to a limit
 //! (`specs/LimitedReading`). With the octets of its files work is a [`Job`], which [`answer`]
 //! carries out, and a request is a [`Task`], which [`perform`] has the depot do: each writes exactly
 //! the answer, or the line of the refusal (`specs/Jobs`, `specs/Tasks`, `specs/Printed`). Writing

@@ -2,7 +2,7 @@
 ghost use Rattle.std.specs.Prelude.{◌≡◌, IfOk, IfErr, MatchOption, Some, map, true};
 ghost use Rattle.clap.specs.Words.{App, FailsBy, fault_of, found_of, kind_of, rows_of, subcommand_of, subcommand_rows_of, takes};
 ghost use Rattle.clap.specs.declared.error.kind.ErrorKind.TheVariants.{OutOfMemory};
-ghost use Rattle.depot_cli.specs.Words.{AreEncodings, IsDepot, IsNoMailCommand, IsNoRequest, IsNumber, Says, SaysRequest, SaysWork, argument as text_of, encoding_named};
+ghost use Rattle.depot_cli.specs.Words.{AreEncodings, IsDepot, IsNoWork, IsNoRequest, IsNumber, Says, SaysRequest, SaysWork, argument as text_of, encoding_named};
 
 use crate::commands::depot_command;
 use crate::request::Request;
@@ -86,7 +86,7 @@ fn command_in<'a>(name: &str, found: &ArgMatches<'a>) -> CommandLine<'a>
 
 // The work that the matches of a command say, if it needs no depot.
 fn work_in<'a>(name: &str, found: &ArgMatches<'a>) -> Option<Work<'a>>
-    ensures { MatchOption result (IsNoMailCommand name.now)
+    ensures { MatchOption result (IsNoWork name.now)
         (λ work. SaysWork work (Some (name.now, rows_of (found_of found.now)))) }
 {
     let script = argument(found, "SCRIPT");
@@ -115,7 +115,7 @@ fn work_in<'a>(name: &str, found: &ArgMatches<'a>) -> Option<Work<'a>>
 
 // What the matches of a command on a depot say.
 fn depot_line_in<'a>(name: &str, found: &ArgMatches<'a>) -> CommandLine<'a>
-    ensures { IsNoMailCommand name.now
+    ensures { IsNoWork name.now
         → Says result (Some (name.now, rows_of (found_of found.now))) }
 {
     let depot = argument(found, "DB");

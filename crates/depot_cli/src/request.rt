@@ -62,7 +62,7 @@ impl<'a> Request<'a> {
         }
     }
 
-    /// The task, with the octets of its file.
+    /// The task, with the octets of its file; a request that reads none doesn't look at them.
     pub fn with_octets(self, octets: Vec<u8>) -> Task<'a>
         ensures { command_of result ≡ request_command self.entry octets.items }
     {

@@ -300,7 +300,8 @@ pub fn read_input<H: Host>(
 ///
 /// # Errors
 ///
-/// The file can't be read, as [`read_input`] says.
+/// `MessageTooLarge` where the file has more than 64 MiB, of which one octet more was read; `Read`
+/// where it can't be opened or read; `Memory` where an allocation was refused.
 pub fn read_file_of<H: Host>(
     alloc: Global,
     request: Request<'_>,

@@ -5,7 +5,9 @@
 //!
 //! A [`Sink`] takes octets. A contract sees the octets that it took, where they are told, and how many of its calls
 //! have failed (`specs/Device`); [`OfWrite`] makes a sink of a writer, and [`put`] writes all of some octets to one.
-//! A [`Source`] gives octets, and a contract sees of it what it sees of a sink (`specs/Supply`); [`OfRead`] makes one of a reader.
+//! A [`Source`] gives octets. A contract sees those that are left, where they are told, how many it
+//! gave, whether the last read met the end, and how many reads have failed (`specs/Supply`);
+//! [`OfRead`] makes one of a reader.
 #![tactic(auto)]
 
 mod encoding;

@@ -112,7 +112,7 @@ first_reasons : Gives reason_of (
     (testing (followed "allof" "true"), because (WrongTests tests.Bracketed) "allof" "") ∷  -- unbracketed
     -- else;
     (plainly "else" [], because (WrongEnding Block) "else" "") ∷
-    -- require "variables"; set "a" "${b.c}"; set "a" "${1}${10}${b.c}"; set "1a" "x"; and without variables
+    -- require "variables"; set "a" "${b.c}"; set "a" "${1}${10}${b.c}"; set "1a" "x";
     (setting (str "a" ∷ str "${b.c}" ∷ []), because Namespace "set" "${b.c}") ∷
     (setting (str "a" ∷ str "${1}${10}${b.c}" ∷ []), because CaptureIndex "set" "${1}${10}${b.c}") ∷
     (setting (str "1a" ∷ str "x" ∷ []), because VariableName "set" "1a") ∷  -- misnamed

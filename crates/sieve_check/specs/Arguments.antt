@@ -7,7 +7,7 @@ use Rattle.bytecode_format.specs.declared.modifiers.Case.TheVariants.{Lower, Upp
 use Rattle.sieve_check.specs.declared.names.Tag.{Tag}
 use Rattle.sieve_check.specs.declared.names.Tag.TheVariants.{Letters, FirstLetter, AnyChild, Select}
 use Rattle.sieve_check.specs.declared.signature.Positional.{Positional}
-use Rattle.sieve_check.specs.declared.signature.Positional.TheVariants.{Nothing, TwoTexts, TwoLists}
+use Rattle.sieve_check.specs.declared.signature.Positional.TheVariants.{Nothing, Number, Text, TwoTexts, OneList, TwoLists}
 use Rattle.sieve_check.specs.declared.signature.Signature.{Signature}
 use Rattle.sieve_check.specs.declared.signature.Tags.{Tags}
 use Rattle.sieve_check.specs.Names.{tag_named}
@@ -58,9 +58,11 @@ label_needing_mime (_ ∷ args) = label_needing_mime args
 -- how many arguments stand behind the tags
 abbrev pub number_of : Positional → ℕ
 number_of Nothing = 0
+number_of Number = 1
+number_of Text = 1
 number_of TwoTexts = 2
+number_of OneList = 1
 number_of TwoLists = 2
-number_of _ = 1
 
 -- what is wrong with the arguments behind the tags: a tag is among them, they are too few, too many, or others
 abbrev pub positional_cause : Positional → List ArgumentTree → Option Cause

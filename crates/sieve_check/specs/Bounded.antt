@@ -38,7 +38,10 @@ pub record AreBoundedLists (first second : List Template) : Type 0 where
 -- where a test takes parameters, there are names of some
 abbrev pub HasParams : Selected → Type 0
 HasParams (params names) = 0 < length names
-HasParams _ = Unit {0}
+HasParams whole = Unit {0}
+HasParams main = Unit {0}
+HasParams sub = Unit {0}
+HasParams content_type = Unit {0}
 
 -- the names, parameters and keys of a test together
 pub record IsBoundedHeader (selected : Selected) (names keys : List Template) : Type 0 where

@@ -10,7 +10,7 @@ use Rattle.sieve_check.specs.declared.names.TestName.TheVariants.{Constant, Not,
 use Rattle.sieve_check.specs.declared.names.Tag.{Tag}
 use Rattle.sieve_check.specs.declared.names.Tag.TheVariants.{Order, Kind, Comparator, Letters, FirstLetter, QuoteWildcard, Length, Mime, AnyChild, Select, Name, First}
 use Rattle.bytecode_format.specs.declared.selection.Selector.{Selector}
-use Rattle.bytecode_format.specs.declared.selection.Selector.TheVariants.{Value, Param}
+use Rattle.bytecode_format.specs.declared.selection.Selector.TheVariants.{Value, Main, Sub, ContentType, Param}
 use Rattle.sieve_check.specs.declared.signature.Positional.{Positional}
 use Rattle.sieve_check.specs.declared.signature.Positional.TheVariants as positional
 use Rattle.sieve_check.specs.declared.signature.Tests.{Tests}
@@ -138,11 +138,22 @@ add_tag signature tag given = option_map (λ tags. record given { tags = tags })
 
 -- the tag, if it takes an argument
 abbrev pub awaited : Tag → Option Tag
+awaited (Order order) = None
+awaited (Kind kind) = None
 awaited Comparator = Some Comparator
+awaited (Letters case) = None
+awaited (FirstLetter case) = None
+awaited QuoteWildcard = None
+awaited Length = None
+awaited Mime = None
+awaited AnyChild = None
+awaited (Select Value) = None
+awaited (Select Main) = None
+awaited (Select Sub) = None
+awaited (Select ContentType) = None
 awaited (Select Param) = Some (Select Param)
 awaited Name = Some Name
 awaited First = Some First
-awaited _ = None
 
 -- one string, or one list of strings in square brackets
 abbrev pub is_list : ArgumentTree → Bool

@@ -86,8 +86,8 @@ pub enum Tag {
     Mime,
     /// `:anychild` (RFC 5703, section 4.1).
     AnyChild,
-    /// `:type`, `:subtype`, `:contenttype`, and `:param`, which takes the parameters' names (RFC 5703, section 4.1). None selects
-    /// the value.
+    /// `:type`, `:subtype`, `:contenttype`, and `:param`, which takes the parameters' names
+    /// (RFC 5703, section 4.1). Without any of them the value is taken ([`Selector::Value`]).
     Select(Selector),
     /// `:name`, which takes the name of a loop (RFC 5703, section 3).
     Name,

@@ -230,6 +230,16 @@ fn oversized_command<'t>(
     many_loops_cause(surroundings, name, head)
 }
 
+// Whether a command or test takes tests.
+fn takes_tests(signature: Signature) -> bool
+    ensures { result ≡ takes_tests signature.tests }
+{
+    match signature.tests {
+        Tests::Nothing => false,
+        Tests::One | Tests::Bracketed => true,
+    }
+}
+
 // What a command whose arguments were read has to do with variables, where nothing is wrong with it.
 fn read_command<'t>(
     surroundings: Surroundings<'_>,
@@ -280,16 +290,6 @@ fn known_command<'t>(
     match command_signature(name).read(&head.arguments) {
         Ok(reading) => read_command(surroundings, name, head, tests, ending, reading),
         Err(cause) => Err(cause),
-    }
-}
-
-// Whether a command or test takes tests.
-fn takes_tests(signature: Signature) -> bool
-    ensures { result ≡ takes_tests signature.tests }
-{
-    match signature.tests {
-        Tests::Nothing => false,
-        Tests::One | Tests::Bracketed => true,
     }
 }
 
@@ -434,7 +434,7 @@ fn found<'t>(
 
 // Looks at a command or test, apart from its tests and its block. Says whether its tests are looked at: of one that takes none, what
 // stands there may be meant as something else.
-fn alone<'t>(
+fn visit<'t>(
     findings: &mut Findings<'t>,
     surroundings: Surroundings<'_>,
     head: &'t Head,
@@ -472,15 +472,15 @@ fn invocation<'t>(
 {
     match tree {
         Invocation::Plain(head) => {
-            alone(findings, surroundings, head, Tests::Nothing, ending);
+            visit(findings, surroundings, head, Tests::Nothing, ending);
         }
         Invocation::WithTest(head, inner) => {
-            if alone(findings, surroundings, head, Tests::One, ending) {
+            if visit(findings, surroundings, head, Tests::One, ending) {
                 invocation(findings, surroundings, inner, None);
             }
         }
         Invocation::WithTests(head, first, others) => {
-            if alone(findings, surroundings, head, Tests::Bracketed, ending) {
+            if visit(findings, surroundings, head, Tests::Bracketed, ending) {
                 invocation(findings, surroundings, first, None);
                 tests(findings, surroundings, others);
             }

@@ -68,7 +68,7 @@ impl<'a> Tables<'a> {
     pub fn variable_count(&self) -> usize
         ensures { result ≡ length self.now.variables }
     {
-        self.variables.len()
+        self.variables.count()
     }
 
     /// The texts in order, as copies.

@@ -25,9 +25,10 @@ use sieve_lexer::{LexicalError, MAX_SCRIPT, Token, tokens};
 use sieve_parser::{ParseError, Script, parse_tokens};
 use std::alloc::{AllocError, Global};
 
-/// Why the script is refused, and a text for whoever wrote it: where, a sentence, the line and a mark under the place. Where the checker
-/// refuses it, so is each further command and test that is refused told, in order, up to [`MAX_REASONS`](sieve_check::MAX_REASONS) in
-/// all. `None` where nothing is wrong with the script.
+/// Why the script is refused, and a text for whoever wrote it: where, a sentence, the line and a
+/// mark under the place. Where the checker refuses it, each further command and test that is
+/// refused is told too, in order, up to [`MAX_REASONS`](sieve_check::MAX_REASONS) in all. `None`
+/// where nothing is wrong with it.
 ///
 /// # Errors
 ///
@@ -212,8 +213,9 @@ fn marked_token(script: &[u8], tokens: &[Token], found: Refused<'_>) -> Option<T
     }
 }
 
-/// Why a listing of a program is refused, for whoever wrote it: where, a sentence for a fault of that kind, the line and a mark under
-/// the place. The place counts octets of the listing; one beyond its end is told of the end.
+/// Why a listing of a program is refused, for whoever wrote it: where, a sentence for a fault of
+/// that kind, the line and a mark under the place. The place counts octets of the listing; one
+/// beyond its end is told of the end.
 ///
 /// # Errors
 ///

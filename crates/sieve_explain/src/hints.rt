@@ -19,6 +19,7 @@ pub struct Vocabulary {
     pub alone: &'static str,
 }
 
+// The commands.
 pub const COMMANDS: &Vocabulary = &Vocabulary {
     elsewhere: &[
         (&["elseif", "elif", "else_if"], "elsif"),
@@ -48,6 +49,7 @@ pub const COMMANDS: &Vocabulary = &Vocabulary {
     alone: "unknown command @",
 };
 
+// The tests.
 pub const TESTS: &Vocabulary = &Vocabulary {
     elsewhere: &[
         (&["all", "and"], "allof"),
@@ -77,6 +79,7 @@ pub const TESTS: &Vocabulary = &Vocabulary {
     alone: "unknown test @",
 };
 
+// The tags.
 pub const TAGS: &Vocabulary = &Vocabulary {
     elsewhere: &[],
     names: &[
@@ -106,6 +109,7 @@ pub const TAGS: &Vocabulary = &Vocabulary {
     alone: "depot knows no tag #",
 };
 
+// The capabilities, all of which are listed where none comes near.
 pub const CAPABILITIES: &Vocabulary = &Vocabulary {
     elsewhere: &[],
     names: &[
@@ -215,7 +219,7 @@ pub fn unknown_text(name: &[u8], known: &Vocabulary) -> &'static str
     with_words(lacking(name), known.lacks, unlisted)
 }
 
-// Its words.
+// The words of that sentence: why it is lacking, else what is meant by it.
 pub fn unknown_words(name: &[u8], known: &Vocabulary) -> &'static str
     ensures { result.now ≡ unknown_words name.now (vocabulary_of known.now) }
 {

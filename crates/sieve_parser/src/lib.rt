@@ -1,8 +1,9 @@
 //! The syntax tree of a Sieve script (RFC 5228, section 8.2).
 //!
-//! [`parse`], or [`parse_tokens`] of tokens that were read, gives the tree whose spelling, by `specs/Grammar`, is the script's tokens, or names the token at
-//! fault as `specs/Faults` says it. The proofs stand on a reading machine, `specs/TokenMachine`: `laws` says that
-//! what it reads can be completed to a script, that where it stops nothing can, and that a script has one tree at most.
+//! [`parse`], or [`parse_tokens`] of tokens that were read, gives the tree whose spelling, by
+//! `specs/Grammar`, is the script's tokens, or names the token at fault as `specs/Faults` says it. The
+//! proofs stand on a reading machine, `specs/TokenMachine`: `laws` says that what it reads can be
+//! completed to a script, that where it stops nothing can, and that a script has one tree at most.
 #![tactic(auto)]
 
 mod arguments;

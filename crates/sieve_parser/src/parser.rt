@@ -29,7 +29,10 @@ pub fn parse(alloc: Global, script: &[u8]) -> Result<Script, ParseError>
 
 /// The same of a script whose tokens were read.
 ///
-/// [`ParseError::Syntax`], [`ParseError::TooDeep`] and [`ParseError::Memory`] come as from [`parse`], and no other does.
+/// # Errors
+///
+/// [`ParseError::Syntax`] and [`ParseError::TooDeep`] as from [`parse`]; [`ParseError::Memory`] where
+/// an allocation was refused. No other comes.
 pub fn parse_tokens(alloc: Global, script: &[u8], tokens: &[Token]) -> Result<Script, ParseError>
     requires tokens { AreTokens script.now tokens.now }
     requires short { length script.now ≤ max_script }

@@ -18,8 +18,8 @@ invariant_of-self-then-contains_key c = λ q.
     ∙ sym (found_again all c.args.text.now q (sym found ∙ c.if-contains_key.true))
     ∙ ap (λ l. found_in bytes_eq l q) (sym (ap texts c.in_ok-push.ensures.items ∙ map-append (λ (text : Bor (List ℕ)). text.now) c.self.inside.listed.items (c.args.text ∷ [])))
 
-pub returns : goal.returns
-returns c =
+pub returns-clause-ok : goal.returns-clause-ok
+returns-clause-ok c =
     let all = texts c.self.inside.listed.items in
     let found : c.contains_key.result ≡ is_listed bytes_eq c.args.text.now all =
     c.contains_key.ensures ∙ ap is_some (c.self.invariant c.args.text.now) ∙ found_listed bytes_eq all c.args.text.now in

@@ -3,7 +3,7 @@ use Rattle.octets.specs.Once.{with_more}
 use Rattle.sieve_check.specs.Refusing.{Finds, context_of, listed, visit_as}
 use Rattle.sieve_check.specs.Rules.{arguments_of}
 use Rattle.sieve_check.proofs.Visits.{one_passed}
-use Rattle.sieve_check.proofs.rules.alone.Goals as goal
+use Rattle.sieve_check.proofs.rules.visit.Goals as goal
 
 pub returns-in_default-clause-visited : goal.returns-in_default-clause-visited
 returns-in_default-clause-visited c =
