@@ -12,55 +12,55 @@ use Rattle.sieve_check.proofs.rules.+tests.Goals as goal
 
 pub invocation-returns-in-Plain : goal.invocation-returns-in-Plain
 invocation-returns-in-Plain t c =
-    subst (λ (visits : List Visit). AreVisited c.args.findings.now visits c.alone.new.findings)
-    (sym (nothing_inside c.args.ending (context_of c.args.surroundings) c.args.tree.now c.in-Plain.head c.in-Plain.is)) c.alone.ensures.visited
+    subst (λ (visits : List Visit). AreVisited c.args.findings.now visits c.visit.new.findings)
+    (sym (nothing_inside c.args.ending (context_of c.args.surroundings) c.args.tree.now c.in-Plain.head c.in-Plain.is)) c.visit.ensures.visited
 
-pub invocation-returns-then-alone : goal.invocation-returns-then-alone
-invocation-returns-then-alone t c =
+pub invocation-returns-then-visit : goal.invocation-returns-then-visit
+invocation-returns-then-visit t c =
     let w = c.in-WithTest in
     let s = context_of c.args.surroundings in
     let all = visits_as c.args.ending s (invocation_tree c.args.tree.now) in
     let own = visit_as c.args.ending s w.head.token w.head.name (arguments_of w.head) One in
     let inner = test_visits s (invocation_tree w.inner.value) in
-    both_visited c.args.findings.now c.alone-in-WithTest.new.findings c.invocation.new.findings all (own ∷ []) inner
-    (where_made all own inner (looks_inside_as c.args.ending w.head.name) (sym c.alone-in-WithTest.ensures.inside ∙ c.if-alone.true) (test_inside c.args.ending s c.args.tree.now w.head w.inner w.is)) c.alone-in-WithTest.ensures.visited
-    (subst (λ (x : Invocation). AreVisited c.alone-in-WithTest.new.findings (test_visits s (invocation_tree x)) c.invocation.new.findings) c.deref.ensures c.invocation.ensures)
+    both_visited c.args.findings.now c.visit-in-WithTest.new.findings c.invocation.new.findings all (own ∷ []) inner
+    (where_made all own inner (looks_inside_as c.args.ending w.head.name) (sym c.visit-in-WithTest.ensures.inside ∙ c.if-visit.true) (test_inside c.args.ending s c.args.tree.now w.head w.inner w.is)) c.visit-in-WithTest.ensures.visited
+    (subst (λ (x : Invocation). AreVisited c.visit-in-WithTest.new.findings (test_visits s (invocation_tree x)) c.invocation.new.findings) c.deref.ensures c.invocation.ensures)
 
-pub invocation-returns-else-alone : goal.invocation-returns-else-alone
-invocation-returns-else-alone t c =
+pub invocation-returns-else-visit : goal.invocation-returns-else-visit
+invocation-returns-else-visit t c =
     let w = c.in-WithTest in
     let s = context_of c.args.surroundings in
     let all = visits_as c.args.ending s (invocation_tree c.args.tree.now) in
     let own = visit_as c.args.ending s w.head.token w.head.name (arguments_of w.head) One in
     let inner = test_visits s (invocation_tree w.inner.value) in
-    subst (λ (visits : List Visit). AreVisited c.args.findings.now visits c.alone-in-WithTest.new.findings)
-    (sym (where_left all own inner (looks_inside_as c.args.ending w.head.name) (sym c.alone-in-WithTest.ensures.inside ∙ c.if-alone.false) (test_inside c.args.ending s c.args.tree.now w.head w.inner w.is))) c.alone-in-WithTest.ensures.visited
+    subst (λ (visits : List Visit). AreVisited c.args.findings.now visits c.visit-in-WithTest.new.findings)
+    (sym (where_left all own inner (looks_inside_as c.args.ending w.head.name) (sym c.visit-in-WithTest.ensures.inside ∙ c.if-visit.false) (test_inside c.args.ending s c.args.tree.now w.head w.inner w.is))) c.visit-in-WithTest.ensures.visited
 
-pub invocation-returns-then-alone-2 : goal.invocation-returns-then-alone-2
-invocation-returns-then-alone-2 t c =
+pub invocation-returns-then-visit-2 : goal.invocation-returns-then-visit-2
+invocation-returns-then-visit-2 t c =
     let w = c.in-WithTests in
     let s = context_of c.args.surroundings in
-    let after = c.alone-in-WithTests.new.findings in
-    let between = c.invocation-then-alone-2.new.findings in
+    let after = c.visit-in-WithTests.new.findings in
+    let between = c.invocation-then-visit-2.new.findings in
     let all = visits_as c.args.ending s (invocation_tree c.args.tree.now) in
     let own = visit_as c.args.ending s w.head.token w.head.name (arguments_of w.head) Bracketed in
     let first = test_visits s (invocation_tree w.first.value) in
     let others = more_visits s (others_of w.others.items) in
     both_visited c.args.findings.now after c.tests.new.findings all (own ∷ []) (first ++ others)
-    (where_made all own (first ++ others) (looks_inside_as c.args.ending w.head.name) (sym c.alone-in-WithTests.ensures.inside ∙ c.if-alone-2.true) (tests_inside c.args.ending s c.args.tree.now w.head w.first w.others w.is)) c.alone-in-WithTests.ensures.visited
+    (where_made all own (first ++ others) (looks_inside_as c.args.ending w.head.name) (sym c.visit-in-WithTests.ensures.inside ∙ c.if-visit-2.true) (tests_inside c.args.ending s c.args.tree.now w.head w.first w.others w.is)) c.visit-in-WithTests.ensures.visited
     (both_visited after between c.tests.new.findings (first ++ others) first others refl
-    (subst (λ (x : Invocation). AreVisited after (test_visits s (invocation_tree x)) between) c.deref-then-alone-2.ensures c.invocation-then-alone-2.ensures)
-    (subst (λ (xs : List Invocation). AreVisited between (more_visits s (others_of xs)) c.tests.new.findings) c.deref-then-alone-2-2.ensures.value c.tests.ensures))
+    (subst (λ (x : Invocation). AreVisited after (test_visits s (invocation_tree x)) between) c.deref-then-visit-2.ensures c.invocation-then-visit-2.ensures)
+    (subst (λ (xs : List Invocation). AreVisited between (more_visits s (others_of xs)) c.tests.new.findings) c.deref-then-visit-2-2.ensures.value c.tests.ensures))
 
-pub invocation-returns-else-alone-2 : goal.invocation-returns-else-alone-2
-invocation-returns-else-alone-2 t c =
+pub invocation-returns-else-visit-2 : goal.invocation-returns-else-visit-2
+invocation-returns-else-visit-2 t c =
     let w = c.in-WithTests in
     let s = context_of c.args.surroundings in
     let all = visits_as c.args.ending s (invocation_tree c.args.tree.now) in
     let own = visit_as c.args.ending s w.head.token w.head.name (arguments_of w.head) Bracketed in
     let inner = test_visits s (invocation_tree w.first.value) ++ more_visits s (others_of w.others.items) in
-    subst (λ (visits : List Visit). AreVisited c.args.findings.now visits c.alone-in-WithTests.new.findings)
-    (sym (where_left all own inner (looks_inside_as c.args.ending w.head.name) (sym c.alone-in-WithTests.ensures.inside ∙ c.if-alone-2.false) (tests_inside c.args.ending s c.args.tree.now w.head w.first w.others w.is))) c.alone-in-WithTests.ensures.visited
+    subst (λ (visits : List Visit). AreVisited c.args.findings.now visits c.visit-in-WithTests.new.findings)
+    (sym (where_left all own inner (looks_inside_as c.args.ending w.head.name) (sym c.visit-in-WithTests.ensures.inside ∙ c.if-visit-2.false) (tests_inside c.args.ending s c.args.tree.now w.head w.first w.others w.is))) c.visit-in-WithTests.ensures.visited
 
 pub tests-list-preserved : goal.tests-list-preserved
 tests-list-preserved t c =
