@@ -18,6 +18,40 @@ Scripts.
     2> refused 2 MessageTooLarge
     [1]
 
+## explain of the longest script
+
+10,922 lines of six octets, and four more.
+
+    $ { yes 'keep;' | head -n 10922; printf '    '; } > script
+    $ depot explain script
+    ok
+
+## explain of a fault at the end of the longest script
+
+Each line has two tokens.
+
+    $ { yes 'keep;' | head -n 10922; printf 'kep;'; } > script
+    $ depot explain script
+    script:10923:1: error: unknown command `kep`, did you mean `keep`?
+    kep;
+    ^
+    2> refused 15 UnknownCommand at 21844
+    [1]
+
+## a program of many strings, compiled and assembled
+
+3,001 strings of four octets with two for their length, 6,003 instructions of eight, and 15 octets before them.
+
+    $ { echo 'require "fileinto";'; seq 1000 4000 | sed 's/.*/fileinto "&";/'; } > script
+    $ depot compile script out
+    wrote 66045 octets
+    $ depot disassemble out > listing
+    $ grep -c '^string' listing
+    3001
+    $ depot assemble listing again
+    wrote 66045 octets
+    $ cmp out again
+
 ## explain of a script that is too long
     $ printf '%65537s' '' > spaces
     $ depot explain spaces > /dev/null
