@@ -3,8 +3,9 @@
 //! A [`Program`] is read from octets exactly where they are the spelling of a program
 //! (`specs/Spelling`), and written as that spelling; octets spell at most one program.
 //! [`ActionList`] keeps the actions of a run, and makes them final (`specs/Actions`). [`Modifiers`] are
-//! what is done to a text before it becomes a variable's value (`specs/Modifiers`). [`FieldTest`] and [`TestCounts`] are what an
-//! instruction says of a test, each under its number (`specs/Selection`). A [`StringTable`] gathers the strings of a program.
+//! what is done to a text before it becomes a variable's value (`specs/Modifiers`). [`FieldTest`] and
+//! [`TestCounts`] are what an instruction says of a test, each under its number (`specs/Selection`). A
+//! [`StringTable`] gathers the strings of a program.
 #![tactic(auto)]
 
 mod action;
