@@ -138,6 +138,27 @@ What a reader of mail did stays, and a second run adds what is new.
     [1]
     $ rm -r archive
 
+## file_all of docs/OPERATING.md, whatever the files are called
+Only if: command -v flock # there is no flock
+    $ sed -n '/# files the mails of a folder in a depot, by one process/,/^    exit /s/^    //p' "$TOP/docs/OPERATING.md" > file_all
+    $ printf 'Subject: a\n\nb\n' > mail
+    $ depot deliver mail.depot ann mail
+    1 message "INBOX"
+    $ mkdir in && for name in 'a b' '"c"' 'd\e' -f "$(printf '1"\nremove ann 1\n"')"; do cp mail "in/$name.eml"; done
+    $ sh file_all mail.depot ann in
+    $ ls in/filed/*.eml | wc -l
+    7
+    $ ls in
+    filed
+    $ depot list mail.depot ann
+    1 message "INBOX" "" message/rfc822 14
+    2 message "INBOX" "" message/rfc822 14
+    3 message "INBOX" "" message/rfc822 14
+    4 message "INBOX" "" message/rfc822 14
+    5 message "INBOX" "" message/rfc822 14
+    6 message "INBOX" "" message/rfc822 14
+    $ rm -r in mail.depot.lock
+
 ## the tools without words say how they are called
     $ for tool in deliver hold test_deliver to_maildir refilter refile; do "$TOP/contrib/$tool" > /dev/null 2> said; echo "$tool $?"; grep -c . said > lines; [ -s lines ] || echo silent; done
     deliver 64
