@@ -161,6 +161,35 @@ Loops over the parts. The messages are four messages inside of one another, or h
     $ depot verify out
     A0=2 B0=0 A1=2 B1=0 A2=2 B2=0 A3=0 B3=0
 
+## a break in a loop, as version 1
+    $ printf 'require ["foreverypart", "vnd.depot"]; foreverypart :name "o" { foreverypart { break; } store "s"; }' > script
+    $ printf 'Content-Type: message/rfc822\n\n%.0s' 1 2 3 4 > message
+    $ depot compile script out
+    wrote 82 octets
+    $ printf '\1' | dd of=out bs=1 seek=4 conv=notrunc 2> /dev/null
+    $ depot run out message
+    store "s" 0
+    store "s" 1
+    store "s" 2
+    store "s" 3
+    store "s" 4
+    keep
+    charged 31 of 77
+    $ depot verify out
+    A0=2 B0=0 A1=5 B1=0 A2=2 B2=0 A3=0 B3=0
+
+## a break of a name, as version 1
+    $ printf 'require ["foreverypart", "vnd.depot"]; foreverypart :name "o" { foreverypart { break :name "o"; } store "s"; }' > script
+    $ printf 'Content-Type: message/rfc822\n\n%.0s' 1 2 3 4 > message
+    $ depot compile script out
+    wrote 82 octets
+    $ printf '\1' | dd of=out bs=1 seek=4 conv=notrunc 2> /dev/null
+    $ depot run out message
+    keep
+    charged 4 of 77
+    $ depot verify out
+    A0=2 B0=0 A1=5 B1=0 A2=2 B2=0 A3=0 B3=0
+
 ## text taken from a part
     $ printf 'require ["variables", "fileinto", "foreverypart", "vnd.depot"]; foreverypart { take :first 3 "v"; } fileinto "${v}";' > script
     $ printf '\nabcdef' > message

@@ -82,6 +82,105 @@ Words that are wrong.
     2> For more information, try '--help'.
     [2]
 
+Numbers of entries, which go from 1 to 4,294,967,295. The depot isn't opened, so no file is made.
+
+## number 0
+    $ depot export mail.depot ann 0 raw
+    2> error: invalid value '0' for '<NUMBER>': 0 is not in 1..=4294967295
+    2>
+    2> For more information, try '--help'.
+    [2]
+    $ depot remove mail.depot ann 0
+    2> error: invalid value '0' for '<NUMBER>': 0 is not in 1..=4294967295
+    2>
+    2> For more information, try '--help'.
+    [2]
+    $ test ! -e mail.depot
+
+## number too large
+    $ depot export mail.depot ann 4294967296 raw
+    2> error: invalid value '4294967296' for '<NUMBER>': 4294967296 is not in 1..=4294967295
+    2>
+    2> For more information, try '--help'.
+    [2]
+    $ depot remove mail.depot ann 4294967296
+    2> error: invalid value '4294967296' for '<NUMBER>': 4294967296 is not in 1..=4294967295
+    2>
+    2> For more information, try '--help'.
+    [2]
+
+## number below 0
+    $ depot export mail.depot ann -1 raw
+    2> error: unexpected argument '-1' found
+    2>
+    2>   tip: to pass '-1' as a value, use '-- -1'
+    2>
+    2> Usage: depot export <DB> <USER> <NUMBER> <ENCODING>
+    2>
+    2> For more information, try '--help'.
+    [2]
+    $ depot remove mail.depot ann -1
+    2> error: unexpected argument '-1' found
+    2>
+    2>   tip: to pass '-1' as a value, use '-- -1'
+    2>
+    2> Usage: depot remove <DB> <USER> <NUMBER>
+    2>
+    2> For more information, try '--help'.
+    [2]
+    $ depot remove -- mail.depot ann -1
+    2> error: invalid value '-1' for '<NUMBER>': -1 is not in 1..=4294967295
+    2>
+    2> For more information, try '--help'.
+    [2]
+
+## number in words
+    $ depot export mail.depot ann one raw
+    2> error: invalid value 'one' for '<NUMBER>': invalid digit found in string
+    2>
+    2> For more information, try '--help'.
+    [2]
+    $ depot remove mail.depot ann one
+    2> error: invalid value 'one' for '<NUMBER>': invalid digit found in string
+    2>
+    2> For more information, try '--help'.
+    [2]
+
+## number that is empty
+    $ depot remove mail.depot ann ''
+    2> error: invalid value '' for '<NUMBER>': cannot parse integer from empty string
+    2>
+    2> For more information, try '--help'.
+    [2]
+
+## the largest number, and one with a plus sign and zeros, are numbers
+    $ depot deliver mail.depot ann examples/forwarded.eml
+    1 message "INBOX"
+    $ depot remove mail.depot ann 4294967295
+    2> refused 40 NoSuchEntry
+    [1]
+    $ depot remove mail.depot ann +001
+    removed 1
+
+Other words that are no command.
+
+## a word that isn't UTF-8
+    $ depot "$(printf 'caf\351')"
+    2> error: a word isn't UTF-8
+    [2]
+    $ depot list mail.depot "$(printf 'caf\351')"
+    2> error: a word isn't UTF-8
+    [2]
+
+## version
+    $ depot --version
+    2> error: unexpected argument '--version' found
+    2>
+    2> Usage: depot [COMMAND]
+    2>
+    2> For more information, try '--help'.
+    [2]
+
 Help.
 
 ## help
