@@ -1,6 +1,6 @@
 -- What commands, tests, tags, capabilities and comparators are called.
 use Rattle.std.specs.Prelude.{ℕ, Bool, true, false, if◌then◌else◌, List, Option, Some, None, bytes_eq, codes}
-use Rattle.octets.specs.Ascii.{lowercase_of}
+use Rattle.octets.specs.Ascii.{is_word}
 use Rattle.glob_match.specs.declared.comparator.Comparator.{Comparator as ComparatorName}
 use Rattle.glob_match.specs.declared.comparator.Comparator.TheVariants.{Octet, Casemap}
 use Rattle.glob_match.specs.declared.match_type.MatchType.TheVariants.{Is, Contains, Matches}
@@ -15,10 +15,6 @@ use Rattle.sieve_check.specs.declared.names.Tag.TheVariants.{Order, Kind, Compar
 use Rattle.bytecode_format.specs.declared.selection.Selector.TheVariants.{Main, Sub, ContentType, Param}
 use Rattle.sieve_check.specs.declared.names.Capability.{Capability}
 use Rattle.sieve_check.specs.declared.names.Capability.TheVariants.{FileInto as FileIntoCapability, Variables, Mime, ForEveryPart as ForEveryPartCapability, Depot, OctetComparator, CasemapComparator}
-
--- the texts are equal but for the case of ASCII letters
-abbrev pub is_word : List ℕ → List ℕ → Bool
-is_word name word = bytes_eq (lowercase_of name) (lowercase_of word)
 
 -- the command of that name, if it is known
 abbrev pub command_named : List ℕ → Option CommandName

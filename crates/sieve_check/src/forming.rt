@@ -2,17 +2,17 @@
 ghost use Rattle.std.specs.Prelude.{◌≡◌, IfOk, map, option_map, Some, None};
 ghost use Rattle.sieve_parser.specs.View.{argument_tree, command_tree, commands_tree, invocation_tree};
 ghost use Rattle.sieve_check.specs.FormOf.{none, one, action, block_part, filing_in, form_of, most_of, part_of, setting_in, simple_part, taking_in};
-ghost use Rattle.sieve_check.specs.Forming.{commands_formed, head_block, head_simple, opened_by};
+ghost use Rattle.sieve_check.specs.Forming.{IsBlockRead, IsSimpleRead, commands_formed, head_block, head_simple};
 ghost use Rattle.sieve_check.specs.Reading.{name_in};
 ghost use Rattle.sieve_check.specs.Refusing.{context_of};
 ghost use Rattle.sieve_check.specs.Sequences.{part_form};
 ghost use Rattle.sieve_check.specs.Surroundings.{loops_left};
-ghost use Rattle.sieve_check.specs.Typed.{CommandForms, TestForm, file_into, leave, store};
+ghost use Rattle.sieve_check.specs.Typed.{file_into, leave, store};
 ghost use Rattle.sieve_check.specs.TypedView.{commands_form, test_form};
 
 use crate::names::{CommandName, command_named};
 use crate::sequence::{Part, Sequence};
-use crate::signature::{Tags, command_signature};
+use crate::signature::{Reading, Tags, command_signature};
 use crate::strings::template;
 use crate::surroundings::Surroundings;
 use crate::test_forms::test;
@@ -118,6 +118,16 @@ fn taking(alloc: Global, tags: Tags, arguments: &[Argument]) -> Result<Option<Pa
     }
 }
 
+// The command that this names, with its arguments as they were read.
+fn command_read(head: &Head) -> Option<(CommandName, Reading<'_>)>
+    ensures simple { IsSimpleRead head.now result }
+    ensures block { IsBlockRead head.now result }
+{
+    let name = command_named(head.name.as_slice())?;
+    let reading = command_signature(name).read(&head.arguments).ok()?;
+    Some((name, reading))
+}
+
 // A command that ends in a semicolon, and after whose arguments no test stands.
 fn plain_part(
     alloc: Global,
@@ -127,10 +137,7 @@ fn plain_part(
     ensures { IfOk result (λ part. option_map part_form part
         ≡ head_simple (context_of surroundings.entry) head.now none) }
 {
-    let Some(name) = command_named(head.name.as_slice()) else {
-        return Ok(None);
-    };
-    let Ok(reading) = command_signature(name).read(&head.arguments) else {
+    let Some((name, reading)) = command_read(head) else {
         return Ok(None);
     };
     match name {
@@ -154,38 +161,17 @@ fn plain_part(
     }
 }
 
-/// Which branch of a choice a command opens.
-#[derive(Clone, Copy)]
-pub enum Opening {
-    /// That of an `if`.
-    First,
-    /// That of an `elsif`.
-    Next,
-}
-
-// Which branch this opens, with one test and a block behind it.
-fn opened(head: &Head) -> Option<Opening>
-    ensures { (f : TestForm) (body : CommandForms)
-        → head_block head.now (one f) body ≡ option_map (λ o. opened_by o f body) result }
-{
-    let name = command_named(head.name.as_slice())?;
-    command_signature(name).read(&head.arguments).ok()?;
-    match name {
-        CommandName::If => Some(Opening::First),
-        CommandName::Elsif => Some(Opening::Next),
-        _ => None,
-    }
-}
-
 // What this adds, with a test and a block of these commands behind it.
 fn branch_part(head: &Head, test: Test, block: Vec<Command>) -> Option<Part>
     ensures { option_map part_form result
         ≡ head_block head.now (one (test_form test)) (commands_form block.items) }
 {
     let branch = Branch { test, block };
-    match opened(head)? {
-        Opening::First => Some(Part::First(branch)),
-        Opening::Next => Some(Part::Next(branch)),
+    let (name, _) = command_read(head)?;
+    match name {
+        CommandName::If => Some(Part::First(branch)),
+        CommandName::Elsif => Some(Part::Next(branch)),
+        _ => None,
     }
 }
 
@@ -193,8 +179,7 @@ fn branch_part(head: &Head, test: Test, block: Vec<Command>) -> Option<Part>
 fn untested_part(head: &Head, block: Vec<Command>) -> Option<Part>
     ensures { option_map part_form result ≡ head_block head.now none (commands_form block.items) }
 {
-    let name = command_named(head.name.as_slice())?;
-    command_signature(name).read(&head.arguments).ok()?;
+    let (name, _) = command_read(head)?;
     match name {
         CommandName::Else => Some(Part::Last(block)),
         CommandName::ForEveryPart => Some(Part::Action(Command::ForEveryPart(block))),

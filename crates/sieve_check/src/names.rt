@@ -1,11 +1,11 @@
 // What commands, tests, tags, capabilities and comparators are called. ASCII case is ignored but in the last two.
 ghost use Rattle.std.specs.Prelude.{◌≡◌};
-ghost use Rattle.sieve_check.specs.Names.{capability_named, command_named, comparator_named, is_word, tag_named, test_named};
+ghost use Rattle.sieve_check.specs.Names.{capability_named, command_named, comparator_named, tag_named, test_named};
 
 use crate::typed::Order;
 use bytecode_format::{Case, Selector};
 use glob_match::{Comparator, MatchType};
-use octets::equal_ignoring_case;
+use octets::is_word;
 
 /// The commands that are known.
 #[derive(Clone, Copy, PartialEq, Eq)]
@@ -112,13 +112,6 @@ pub enum Capability {
     OctetComparator,
     /// `comparator-i;ascii-casemap` (RFC 5228, section 2.7.3), which is always there.
     CasemapComparator,
-}
-
-// Whether the name is the word but for the case of ASCII letters.
-fn is_word(name: &[u8], word: &[u8]) -> bool
-    ensures { result ≡ is_word name.now word.now }
-{
-    equal_ignoring_case(name, word)
 }
 
 /// The command of that name, if it is known.

@@ -2,7 +2,7 @@
 ghost use Rattle.std.specs.Prelude.{◌≡◌, IfOk, map, option_map, Some, None, if◌then◌else◌};
 ghost use Rattle.sieve_parser.specs.View.{argument_tree, invocation_tree, more_tests_of};
 ghost use Rattle.sieve_check.specs.FormOf.{none, one, bracketed, header_of, match_of, more_forms_of, number_in, of_list, of_lists, params_in, scope_of, selected_by, size_of, test_form_of};
-ghost use Rattle.sieve_check.specs.Forming.{head_test, joined_by, test_with_list, test_with_one};
+ghost use Rattle.sieve_check.specs.Forming.{IsTestRead, head_test, test_with_list, test_with_one};
 ghost use Rattle.sieve_check.specs.Reading.{read_of};
 ghost use Rattle.sieve_check.specs.Refusing.{context_of};
 ghost use Rattle.sieve_check.specs.Surroundings.{Context};
@@ -197,6 +197,15 @@ fn part_size(tags: Tags, arguments: &[Argument]) -> Option<Test>
     Some(Test::PartSize(order, number_in(arguments)?))
 }
 
+// The test that this names, with its arguments as they were read.
+fn test_read(head: &Head) -> Option<(TestName, Reading<'_>)>
+    ensures { IsTestRead head.now result }
+{
+    let name = test_named(head.name.as_slice())?;
+    let reading = test_signature(name).read(&head.arguments).ok()?;
+    Some((name, reading))
+}
+
 // A test after whose arguments no test stands.
 fn plain_test(
     alloc: Global,
@@ -206,10 +215,7 @@ fn plain_test(
     ensures { IfOk result (λ t. option_map test_form t
         ≡ head_test (context_of surroundings.entry) head.now none) }
 {
-    let Some(name) = test_named(head.name.as_slice()) else {
-        return Ok(None);
-    };
-    let Ok(reading) = test_signature(name).read(&head.arguments) else {
+    let Some((name, reading)) = test_read(head) else {
         return Ok(None);
     };
     match name {
@@ -228,44 +234,6 @@ fn plain_test(
     }
 }
 
-// Whether this is a test that turns the one behind it around.
-fn negates(head: &Head) -> bool
-    ensures { (s : Context) (f : TestForm)
-        → head_test s head.now (one f) ≡ (if result then Some (negation f) else None) }
-{
-    let Some(name) = test_named(head.name.as_slice()) else {
-        return false;
-    };
-    if test_signature(name).read(&head.arguments).is_err() {
-        return false;
-    }
-    match name {
-        TestName::Not => true,
-        _ => false,
-    }
-}
-
-/// How a test of tests in round brackets combines them.
-#[derive(Clone, Copy)]
-pub enum Junction {
-    All,
-    Any,
-}
-
-// How the tests in round brackets behind this are combined.
-fn combining(head: &Head) -> Option<Junction>
-    ensures { (s : Context) (f : TestForm) (fs : TestForms)
-        → head_test s head.now (bracketed f fs) ≡ option_map (λ j. joined_by j f fs) result }
-{
-    let name = test_named(head.name.as_slice())?;
-    test_signature(name).read(&head.arguments).ok()?;
-    match name {
-        TestName::AllOf => Some(Junction::All),
-        TestName::AnyOf => Some(Junction::Any),
-        _ => None,
-    }
-}
-
 // The test that turns around the one behind it, if that has a form.
 fn negated(alloc: Global, head: &Head, inner: Option<Test>) -> Result<Option<Test>, AllocError>
     ensures { IfOk result (λ t. (s : Context)
@@ -274,10 +242,9 @@ fn negated(alloc: Global, head: &Head, inner: Option<Test>) -> Result<Option<Tes
     let Some(inner) = inner else {
         return Ok(None);
     };
-    if negates(head) {
-        Ok(Some(Test::Not(Box::new(alloc, inner)?)))
-    } else {
-        Ok(None)
+    match test_read(head) {
+        Some((TestName::Not, _)) => Ok(Some(Test::Not(Box::new(alloc, inner)?))),
+        _ => Ok(None),
     }
 }
 
@@ -299,10 +266,10 @@ fn combined(
         return Ok(None);
     };
     let first = Box::new(alloc, first)?;
-    match combining(head) {
-        Some(Junction::All) => Ok(Some(Test::AllOf(first, others))),
-        Some(Junction::Any) => Ok(Some(Test::AnyOf(first, others))),
-        None => Ok(None),
+    match test_read(head) {
+        Some((TestName::AllOf, _)) => Ok(Some(Test::AllOf(first, others))),
+        Some((TestName::AnyOf, _)) => Ok(Some(Test::AnyOf(first, others))),
+        _ => Ok(None),
     }
 }
 
