@@ -1,5 +1,5 @@
 -- What commands, tests, tags, capabilities and comparators are called.
-use Rattle.std.specs.Prelude.{ℕ, Bool, true, false, if◌then◌else◌, List, Option, Some, None, bytes_eq, codes}
+use Rattle.std.specs.Prelude.{ℕ, true, false, if◌then◌else◌, List, Option, Some, None, bytes_eq, codes}
 use Rattle.octets.specs.Ascii.{is_word}
 use Rattle.glob_match.specs.declared.comparator.Comparator.{Comparator as ComparatorName}
 use Rattle.glob_match.specs.declared.comparator.Comparator.TheVariants.{Octet, Casemap}

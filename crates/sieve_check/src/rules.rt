@@ -3,7 +3,7 @@ ghost use Rattle.std.specs.Prelude.{◌≡◌, [], ◌∷◌, map, option_map, t
 ghost use Rattle.sieve_parser.specs.View.{argument_tree, command_tree, commands_tree, invocation_tree, more_tests_of};
 ghost use Rattle.sieve_check.specs.Reading.{left_of, read_of};
 ghost use Rattle.sieve_check.specs.ReasonView.{cause_view};
-ghost use Rattle.sieve_check.specs.Rules.{arguments_of, command_mentions, command_needs, command_visit, command_visits, commands_visits, ending_cause, expanding, head_visits, ill_formed_command, ill_formed_test, is_mime_tag, known_command_cause, known_test_cause, lacking_cause, lists_read, long_string_cause, looks_inside, many_loops_cause, many_strings_cause, max_reasons, may_stand, mentions_of, mime_where_given, misplaced, more_visits, names_mentioned, oversized_command, oversized_test, place_cause, read_command_cause, read_test_cause, reasons_of, strings_of, takes_tests, test_may_stand, test_mentions, test_needs, test_place_cause, test_visit, test_visits, tests_cause, unknown_cause, where_required};
+ghost use Rattle.sieve_check.specs.Rules.{arguments_of, command_mentions, command_needs, command_visit, command_visits, commands_visits, expanding, head_visits, ill_formed_command, ill_formed_test, is_mime_tag, known_command_cause, known_test_cause, lacking_cause, lists_read, long_string_cause, looks_inside, max_reasons, mentions_of, mime_where_given, misplaced, more_visits, names_mentioned, oversized_command, oversized_test, place_cause, read_command_cause, read_test_cause, reasons_of, strings_of, takes_tests, test_mentions, test_needs, test_place_cause, test_visit, test_visits, tests_cause, unknown_cause, where_required};
 ghost use Rattle.sieve_check.specs.Signatures.{command_signature, is_positional, test_signature};
 ghost use Rattle.sieve_check.specs.Names.{command_named, test_named};
 ghost use Rattle.sieve_check.specs.Refusing.{AreVisited, Finds, context_of, looks_inside_as, mentions_in, refused_in, visit_as, visits_as};
@@ -67,31 +67,6 @@ fn test_needs(name: TestName, head: &Head) -> &'static [Capability]
     }
 }
 
-// Whether the command may stand there, with these arguments.
-fn may_stand(surroundings: Surroundings<'_>, name: CommandName, reading: Reading<'_>) -> bool
-    ensures { result ≡ may_stand (context_of surroundings.entry) name (read_of reading.entry) }
-{
-    match name {
-        CommandName::Require => surroundings.takes_require,
-        CommandName::Elsif | CommandName::Else => surroundings.after_if,
-        CommandName::Break => surroundings.loops.left_by(reading.name).is_some(),
-        CommandName::Store | CommandName::Take => surroundings.loops.are_some(),
-        _ => true,
-    }
-}
-
-// Whether the test may stand there.
-fn test_may_stand(surroundings: Surroundings<'_>, name: TestName) -> bool
-    ensures { result ≡ test_may_stand (context_of surroundings.entry) name }
-{
-    match name {
-        TestName::PartSize | TestName::PartBody | TestName::PartDigest => {
-            surroundings.loops.are_some()
-        }
-        _ => true,
-    }
-}
-
 // What is wrong with a command at a wrong place.
 fn misplaced<'t>(name: CommandName, reading: Reading<'t>) -> Cause<'t>
     ensures { cause_view result ≡ misplaced name (read_of reading.entry) }
@@ -114,7 +89,14 @@ fn place_cause<'t>(
     ensures { option_map cause_view result
         ≡ place_cause (context_of surroundings.entry) name (read_of reading.entry) }
 {
-    (!may_stand(surroundings, name, reading)).then_some(misplaced(name, reading))
+    let may_stand = match name {
+        CommandName::Require => surroundings.takes_require,
+        CommandName::Elsif | CommandName::Else => surroundings.after_if,
+        CommandName::Break => surroundings.loops.left_by(reading.name).is_some(),
+        CommandName::Store | CommandName::Take => surroundings.loops.are_some(),
+        _ => true,
+    };
+    (!may_stand).then_some(misplaced(name, reading))
 }
 
 // What is wrong with the place of a test, where it may not stand there.
@@ -122,7 +104,13 @@ fn test_place_cause<'t>(surroundings: Surroundings<'_>, name: TestName) -> Optio
     ensures { option_map cause_view result
         ≡ test_place_cause (context_of surroundings.entry) name }
 {
-    (!test_may_stand(surroundings, name)).then_some(Cause::plain(ReasonKind::Misplaced))
+    let may_stand = match name {
+        TestName::PartSize | TestName::PartBody | TestName::PartDigest => {
+            surroundings.loops.are_some()
+        }
+        _ => true,
+    };
+    (!may_stand).then_some(Cause::plain(ReasonKind::Misplaced))
 }
 
 // The first capability that is needed and wasn't required.
@@ -154,41 +142,12 @@ fn tests_cause<'t>(signature: Signature, tests: Tests) -> Option<Cause<'t>>
     (signature.tests != tests).then_some(Cause::plain(ReasonKind::WrongTests(signature.tests)))
 }
 
-// What is wrong with how a command ends.
-fn ending_cause<'t>(name: CommandName, ending: Ending) -> Option<Cause<'t>>
-    ensures { option_map cause_view result ≡ ending_cause name ending }
-{
-    let wanted = ending_of(name);
-    (wanted != ending).then_some(Cause::plain(ReasonKind::WrongEnding(wanted)))
-}
-
 // The string that is longer than the limit, if one is.
 fn long_string_cause(head: &Head) -> Option<Cause<'_>>
     ensures { option_map cause_view result ≡ long_string_cause (arguments_of head.now) }
 {
     let string = StringFault::Long.first_in(&head.arguments)?;
     Some(Cause::about(ReasonKind::LongString, string))
-}
-
-// That the lists of a test have more strings than the limit, if they have.
-fn many_strings_cause<'t>(reading: Reading<'_>) -> Option<Cause<'t>>
-    ensures { option_map cause_view result ≡ many_strings_cause (read_of reading.entry) }
-{
-    has_many_strings(reading).then_some(Cause::plain(ReasonKind::ManyStrings))
-}
-
-// That a command opens a loop within as many others as may be open, if it does.
-fn many_loops_cause<'t>(
-    surroundings: Surroundings<'_>,
-    name: CommandName,
-    head: &Head,
-) -> Option<Cause<'t>>
-    ensures { option_map cause_view result
-        ≡ many_loops_cause (context_of surroundings.entry) name (arguments_of head.now) }
-{
-    surroundings
-        .opens_many(name)
-        .then_some(Cause::plain(ReasonKind::ManyLoops))
 }
 
 // What is wrong behind the arguments of a command, or with references and names among them.
@@ -204,8 +163,9 @@ fn ill_formed_command<'t>(
     if let Some(cause) = tests_cause(command_signature(name), tests) {
         return Some(cause);
     }
-    if let Some(cause) = ending_cause(name, ending) {
-        return Some(cause);
+    let wanted = ending_of(name);
+    if wanted != ending {
+        return Some(Cause::plain(ReasonKind::WrongEnding(wanted)));
     }
     mentions.wrong_cause()
 }
@@ -227,7 +187,9 @@ fn oversized_command<'t>(
     if let Some(cause) = mentions.large_cause() {
         return Some(cause);
     }
-    many_loops_cause(surroundings, name, head)
+    surroundings
+        .opens_many(name)
+        .then_some(Cause::plain(ReasonKind::ManyLoops))
 }
 
 // Whether a command or test takes tests.
@@ -339,8 +301,8 @@ fn oversized_test<'t>(
     if let Some(cause) = long_string_cause(head) {
         return Some(cause);
     }
-    if let Some(cause) = many_strings_cause(reading) {
-        return Some(cause);
+    if has_many_strings(reading) {
+        return Some(Cause::plain(ReasonKind::ManyStrings));
     }
     mentions.large_cause()
 }
