@@ -1,11 +1,7 @@
-use Rattle.std.proofs.Common.{◌≡◌, ◌∙◌, Bool, false, true, None, sym, ap, subst, drop}
+use Rattle.std.proofs.Common.{◌∙◌, false, true, sym, ap, subst}
 use Rattle.std.specs.Prelude.{option_map}
-use Rattle.std.proofs.lemmas.List.{drop_all}
-use Rattle.sieve_parser.specs.View.{commands_tree}
-use Rattle.sieve_check.specs.FormOf.{forms_of}
 use Rattle.sieve_check.specs.Refusing.{context_of}
-use Rattle.sieve_check.specs.Sequences.{Pushed, finished_by, part_form}
-use Rattle.sieve_check.specs.Signatures.{◌>>=◌}
+use Rattle.sieve_check.specs.Sequences.{Pushed, part_form}
 use Rattle.sieve_check.proofs.FormSteps.{part_added, part_missing, part_refused}
 use Rattle.sieve_check.proofs.forming.+commands.Goals as goal
 

@@ -1,7 +1,5 @@
-use Rattle.std.proofs.Common.{◌≡◌, ◌∙◌, ap, Option}
-use Rattle.sieve_check.specs.declared.names.CommandName.{CommandName}
-use Rattle.sieve_check.specs.FormOf.{PartForm, none, simple_of}
-use Rattle.sieve_check.specs.Forming.{head_simple}
+use Rattle.std.proofs.Common.{◌∙◌, ap}
+use Rattle.sieve_check.specs.FormOf.{none, simple_of}
 use Rattle.sieve_check.specs.Reading.{read_of}
 use Rattle.sieve_check.specs.Refusing.{context_of}
 use Rattle.sieve_check.proofs.forming.plain_part.Goals as goal
