@@ -25,11 +25,11 @@ use std::alloc::{AllocError, Global};
 // The command that files the message into the folder which the arguments are.
 fn file_into(
     alloc: Global,
-    surroundings: Surroundings<'_>,
+    surroundings: &Surroundings<'_>,
     arguments: &[Argument],
 ) -> Result<Option<Part>, AllocError>
     ensures { IfOk result (λ part. option_map part_form part
-        ≡ filing_in (context_of surroundings.entry) file_into
+        ≡ filing_in (context_of surroundings.now) file_into
         (map argument_tree arguments.now)) }
 {
     match arguments {
@@ -44,11 +44,11 @@ fn file_into(
 // The command that files the current part into the folder which the arguments are.
 fn store(
     alloc: Global,
-    surroundings: Surroundings<'_>,
+    surroundings: &Surroundings<'_>,
     arguments: &[Argument],
 ) -> Result<Option<Part>, AllocError>
     ensures { IfOk result (λ part. option_map part_form part
-        ≡ filing_in (context_of surroundings.entry) store (map argument_tree arguments.now)) }
+        ≡ filing_in (context_of surroundings.now) store (map argument_tree arguments.now)) }
 {
     match arguments {
         [Argument::Text(folder)] => {
@@ -60,10 +60,10 @@ fn store(
 }
 
 // The command that leaves the loop of the name, or the innermost one, with those within it.
-fn leaving(surroundings: Surroundings<'_>, name: Option<&[u8]>) -> Option<Part>
+fn leaving(surroundings: &Surroundings<'_>, name: Option<&[u8]>) -> Option<Part>
     ensures { option_map part_form result
         ≡ option_map (λ loops. action (leave loops))
-        (loops_left (name_in name.entry) (context_of surroundings.entry).loops) }
+        (loops_left (name_in name.entry) (context_of surroundings.now).loops) }
 {
     let loops = surroundings.loops.left_by(name)?;
     Some(Part::Action(Command::Break(loops)))
@@ -72,12 +72,12 @@ fn leaving(surroundings: Surroundings<'_>, name: Option<&[u8]>) -> Option<Part>
 // The command that sets the variable of the name to the value, which the arguments are. The name isn't expanded.
 fn setting(
     alloc: Global,
-    surroundings: Surroundings<'_>,
+    surroundings: &Surroundings<'_>,
     modifiers: Modifiers,
     arguments: &[Argument],
 ) -> Result<Option<Part>, AllocError>
     ensures { IfOk result (λ part. option_map part_form part
-        ≡ option_map action (setting_in (context_of surroundings.entry) modifiers
+        ≡ option_map action (setting_in (context_of surroundings.now) modifiers
         (map argument_tree arguments.now))) }
 {
     match arguments {
@@ -131,11 +131,11 @@ fn command_read(head: &Head) -> Option<(CommandName, Reading<'_>)>
 // A command that ends in a semicolon, and after whose arguments no test stands.
 fn plain_part(
     alloc: Global,
-    surroundings: Surroundings<'_>,
+    surroundings: &Surroundings<'_>,
     head: &Head,
 ) -> Result<Option<Part>, AllocError>
     ensures { IfOk result (λ part. option_map part_form part
-        ≡ head_simple (context_of surroundings.entry) head.now none) }
+        ≡ head_simple (context_of surroundings.now) head.now none) }
 {
     let Some((name, reading)) = command_read(head) else {
         return Ok(None);
@@ -190,12 +190,12 @@ fn untested_part(head: &Head, block: Vec<Command>) -> Option<Part>
 // A command with a block of these commands, as a part of the commands around it.
 fn block_part(
     alloc: Global,
-    surroundings: Surroundings<'_>,
+    surroundings: &Surroundings<'_>,
     invocation: &Invocation,
     body: Vec<Command>,
 ) -> Result<Option<Part>, AllocError>
     ensures { IfOk result (λ part. option_map part_form part
-        ≡ block_part (context_of surroundings.entry) (invocation_tree invocation.now)
+        ≡ block_part (context_of surroundings.now) (invocation_tree invocation.now)
         (commands_form body.items)) }
 {
     match invocation {
@@ -211,11 +211,11 @@ fn block_part(
 // A command without a block, as a part of the commands around it.
 fn simple_part(
     alloc: Global,
-    surroundings: Surroundings<'_>,
+    surroundings: &Surroundings<'_>,
     invocation: &Invocation,
 ) -> Result<Option<Part>, AllocError>
     ensures { IfOk result (λ part. option_map part_form part
-        ≡ simple_part (context_of surroundings.entry) (invocation_tree invocation.now)) }
+        ≡ simple_part (context_of surroundings.now) (invocation_tree invocation.now)) }
 {
     match invocation {
         Invocation::Plain(head) => plain_part(alloc, surroundings, head),
@@ -227,11 +227,11 @@ fn simple_part(
 #[cycle(commands)]
 fn part<'t>(
     alloc: Global,
-    surroundings: Surroundings<'t>,
+    surroundings: &Surroundings<'t>,
     tree: &'t Tree,
 ) -> Result<Option<Part>, AllocError>
     ensures { IfOk result (λ part. option_map part_form part
-        ≡ part_of (context_of surroundings.entry) (command_tree tree.now)) }
+        ≡ part_of (context_of surroundings.now) (command_tree tree.now)) }
 {
     match tree {
         Tree::Simple(invocation) => simple_part(alloc, surroundings, invocation),
@@ -239,7 +239,7 @@ fn part<'t>(
             let Some(inside) = surroundings.in_block(invocation) else {
                 return Ok(None);
             };
-            match commands(alloc, inside, block)? {
+            match commands(alloc, &inside, block)? {
                 Some(body) => block_part(alloc, surroundings, invocation, body),
                 None => Ok(None),
             }
@@ -251,16 +251,16 @@ fn part<'t>(
 #[cycle(commands)]
 fn commands<'t>(
     alloc: Global,
-    surroundings: Surroundings<'t>,
+    surroundings: &Surroundings<'t>,
     trees: &'t [Tree],
 ) -> Result<Option<Vec<Command>>, AllocError>
     ensures { IfOk result (λ cs. option_map (λ cs. commands_form cs.items) cs
-        ≡ commands_formed (context_of surroundings.entry) (commands_tree trees.now)) }
+        ≡ commands_formed (context_of surroundings.now) (commands_tree trees.now)) }
 {
-    let mut around = surroundings;
+    let mut around = *surroundings;
     let mut sequence = Sequence::new(alloc, trees.len())?;
     'trees: for tree in trees {
-        let Some(part) = part(alloc, around, tree)? else {
+        let Some(part) = part(alloc, &around, tree)? else {
             return Ok(None);
         };
         if !sequence.push(alloc, part)? {
@@ -276,5 +276,5 @@ pub fn form_of(alloc: Global, trees: &[Tree]) -> Result<Option<Vec<Command>>, Al
     ensures { IfOk result (λ cs. option_map (λ cs. commands_form cs.items) cs
         ≡ form_of (commands_tree trees.now)) }
 {
-    commands(alloc, Surroundings::at_start(), trees)
+    commands(alloc, &Surroundings::at_start(), trees)
 }

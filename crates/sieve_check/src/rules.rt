@@ -82,12 +82,12 @@ fn misplaced<'t>(name: CommandName, reading: Reading<'t>) -> Cause<'t>
 
 // What is wrong with the place of a command, where it may not stand there.
 fn place_cause<'t>(
-    surroundings: Surroundings<'_>,
+    surroundings: &Surroundings<'_>,
     name: CommandName,
     reading: Reading<'t>,
 ) -> Option<Cause<'t>>
     ensures { option_map cause_view result
-        ≡ place_cause (context_of surroundings.entry) name (read_of reading.entry) }
+        ≡ place_cause (context_of surroundings.now) name (read_of reading.entry) }
 {
     let may_stand = match name {
         CommandName::Require => surroundings.takes_require,
@@ -100,9 +100,9 @@ fn place_cause<'t>(
 }
 
 // What is wrong with the place of a test, where it may not stand there.
-fn test_place_cause<'t>(surroundings: Surroundings<'_>, name: TestName) -> Option<Cause<'t>>
+fn test_place_cause<'t>(surroundings: &Surroundings<'_>, name: TestName) -> Option<Cause<'t>>
     ensures { option_map cause_view result
-        ≡ test_place_cause (context_of surroundings.entry) name }
+        ≡ test_place_cause (context_of surroundings.now) name }
 {
     let may_stand = match name {
         TestName::PartSize | TestName::PartBody | TestName::PartDigest => {
@@ -114,9 +114,9 @@ fn test_place_cause<'t>(surroundings: Surroundings<'_>, name: TestName) -> Optio
 }
 
 // The first capability that is needed and wasn't required.
-fn lacking_cause<'t>(surroundings: Surroundings<'_>, needed: &[Capability]) -> Option<Cause<'t>>
+fn lacking_cause<'t>(surroundings: &Surroundings<'_>, needed: &[Capability]) -> Option<Cause<'t>>
     ensures { option_map cause_view result
-        ≡ lacking_cause (context_of surroundings.entry) needed.now }
+        ≡ lacking_cause (context_of surroundings.now) needed.now }
 {
     let capability = surroundings.required.first_lacking(needed)?;
     Some(Cause::plain(ReasonKind::MissingCapability(capability)))
@@ -172,13 +172,13 @@ fn ill_formed_command<'t>(
 
 // What of a command is beyond a limit.
 fn oversized_command<'t>(
-    surroundings: Surroundings<'_>,
+    surroundings: &Surroundings<'_>,
     name: CommandName,
     head: &'t Head,
     mentions: Mentions<'t>,
 ) -> Option<Cause<'t>>
     ensures { option_map cause_view result
-        ≡ oversized_command (context_of surroundings.entry) name (arguments_of head.now)
+        ≡ oversized_command (context_of surroundings.now) name (arguments_of head.now)
         (mentions_in mentions.entry) }
 {
     if let Some(cause) = long_string_cause(head) {
@@ -204,7 +204,7 @@ fn takes_tests(signature: Signature) -> bool
 
 // What a command whose arguments were read has to do with variables, where nothing is wrong with it.
 fn read_command<'t>(
-    surroundings: Surroundings<'_>,
+    surroundings: &Surroundings<'_>,
     name: CommandName,
     head: &'t Head,
     tests: Tests,
@@ -212,9 +212,9 @@ fn read_command<'t>(
     reading: Reading<'t>,
 ) -> Result<Mentions<'t>, Cause<'t>>
     requires { is_positional (command_signature name).positional (left_of reading) ≡ true }
-    ensures { Finds (names_mentioned (where_required (context_of surroundings.entry)
+    ensures { Finds (names_mentioned (where_required (context_of surroundings.now)
         (mentions_of name (strings_of (lists_read (read_of reading.entry))))))
-        (read_command_cause (context_of surroundings.entry) name (arguments_of head.now) tests
+        (read_command_cause (context_of surroundings.now) name (arguments_of head.now) tests
         ending (read_of reading.entry)) result }
 {
     let mentions = Mentions::of_command(surroundings, name, reading);
@@ -232,15 +232,15 @@ fn read_command<'t>(
 
 // The same of a command that is known by that name.
 fn known_command<'t>(
-    surroundings: Surroundings<'_>,
+    surroundings: &Surroundings<'_>,
     name: CommandName,
     head: &'t Head,
     tests: Tests,
     ending: Ending,
 ) -> Result<Mentions<'t>, Cause<'t>>
     ensures { Finds (names_mentioned
-        (command_mentions (context_of surroundings.entry) name (arguments_of head.now)))
-        (known_command_cause (context_of surroundings.entry) name (arguments_of head.now) tests
+        (command_mentions (context_of surroundings.now) name (arguments_of head.now)))
+        (known_command_cause (context_of surroundings.now) name (arguments_of head.now) tests
         ending) result }
 {
     if let Some(cause) = lacking_cause(surroundings, command_needs(name)) {
@@ -257,14 +257,14 @@ fn known_command<'t>(
 
 // The same of any command; and whether its tests are looked at.
 fn found_command<'t>(
-    surroundings: Surroundings<'_>,
+    surroundings: &Surroundings<'_>,
     head: &'t Head,
     tests: Tests,
     ending: Ending,
 ) -> (Result<Mentions<'t>, Cause<'t>>, bool)
-    ensures found { Finds (command_visit (context_of surroundings.entry) head.now.token
+    ensures found { Finds (command_visit (context_of surroundings.now) head.now.token
         head.now.name (arguments_of head.now) tests ending).names
-        (command_visit (context_of surroundings.entry) head.now.token head.now.name
+        (command_visit (context_of surroundings.now) head.now.token head.now.name
         (arguments_of head.now) tests ending).cause result.0 }
     ensures inside { result.1 ≡ looks_inside command_signature (command_named head.now.name) }
 {
@@ -309,15 +309,15 @@ fn oversized_test<'t>(
 
 // What a test whose arguments were read has to do with variables, where nothing is wrong with it.
 fn read_test<'t>(
-    surroundings: Surroundings<'_>,
+    surroundings: &Surroundings<'_>,
     name: TestName,
     head: &'t Head,
     tests: Tests,
     reading: Reading<'t>,
 ) -> Result<Mentions<'t>, Cause<'t>>
-    ensures { Finds (names_mentioned (where_required (context_of surroundings.entry)
+    ensures { Finds (names_mentioned (where_required (context_of surroundings.now)
         (expanding (strings_of (lists_read (read_of reading.entry))))))
-        (read_test_cause (context_of surroundings.entry) name (arguments_of head.now) tests
+        (read_test_cause (context_of surroundings.now) name (arguments_of head.now) tests
         (read_of reading.entry)) result }
 {
     let mentions = Mentions::of_test(surroundings, reading);
@@ -335,14 +335,14 @@ fn read_test<'t>(
 
 // The same of a test that is known by that name.
 fn known_test<'t>(
-    surroundings: Surroundings<'_>,
+    surroundings: &Surroundings<'_>,
     name: TestName,
     head: &'t Head,
     tests: Tests,
 ) -> Result<Mentions<'t>, Cause<'t>>
     ensures { Finds (names_mentioned
-        (test_mentions (context_of surroundings.entry) name (arguments_of head.now)))
-        (known_test_cause (context_of surroundings.entry) name (arguments_of head.now) tests)
+        (test_mentions (context_of surroundings.now) name (arguments_of head.now)))
+        (known_test_cause (context_of surroundings.now) name (arguments_of head.now) tests)
         result }
 {
     if let Some(cause) = lacking_cause(surroundings, test_needs(name, head)) {
@@ -356,13 +356,13 @@ fn known_test<'t>(
 
 // The same of any test; and whether its tests are looked at.
 fn found_test<'t>(
-    surroundings: Surroundings<'_>,
+    surroundings: &Surroundings<'_>,
     head: &'t Head,
     tests: Tests,
 ) -> (Result<Mentions<'t>, Cause<'t>>, bool)
-    ensures found { Finds (test_visit (context_of surroundings.entry) head.now.token
+    ensures found { Finds (test_visit (context_of surroundings.now) head.now.token
         head.now.name (arguments_of head.now) tests).names
-        (test_visit (context_of surroundings.entry) head.now.token head.now.name
+        (test_visit (context_of surroundings.now) head.now.token head.now.name
         (arguments_of head.now) tests).cause result.0 }
     ensures inside { result.1 ≡ looks_inside test_signature (test_named head.now.name) }
 {
@@ -377,14 +377,14 @@ fn found_test<'t>(
 
 // The same of a command, which ends so, or of a test.
 fn found<'t>(
-    surroundings: Surroundings<'_>,
+    surroundings: &Surroundings<'_>,
     head: &'t Head,
     tests: Tests,
     ending: Option<Ending>,
 ) -> (Result<Mentions<'t>, Cause<'t>>, bool)
-    ensures found { Finds (visit_as ending (context_of surroundings.entry) head.now.token
+    ensures found { Finds (visit_as ending (context_of surroundings.now) head.now.token
         head.now.name (arguments_of head.now) tests).names
-        (visit_as ending (context_of surroundings.entry) head.now.token head.now.name
+        (visit_as ending (context_of surroundings.now) head.now.token head.now.name
         (arguments_of head.now) tests).cause result.0 }
     ensures inside { result.1 ≡ looks_inside_as ending head.now.name }
 {
@@ -398,13 +398,13 @@ fn found<'t>(
 // stands there may be meant as something else.
 fn visit<'t>(
     findings: &mut Findings<'t>,
-    surroundings: Surroundings<'_>,
+    surroundings: &Surroundings<'_>,
     head: &'t Head,
     tests: Tests,
     ending: Option<Ending>,
 ) -> bool
     ensures visited { AreVisited findings.old
-        (visit_as ending (context_of surroundings.entry) head.now.token head.now.name
+        (visit_as ending (context_of surroundings.now) head.now.token head.now.name
         (arguments_of head.now) tests ∷ []) findings.new }
     ensures inside { result ≡ looks_inside_as ending head.now.name }
 {
@@ -424,12 +424,12 @@ fn visit<'t>(
 #[cycle(tests)]
 fn invocation<'t>(
     findings: &mut Findings<'t>,
-    surroundings: Surroundings<'_>,
+    surroundings: &Surroundings<'_>,
     tree: &'t Invocation,
     ending: Option<Ending>,
 )
     ensures { AreVisited findings.old
-        (visits_as ending (context_of surroundings.entry) (invocation_tree tree.now))
+        (visits_as ending (context_of surroundings.now) (invocation_tree tree.now))
         findings.new }
 {
     match tree {
@@ -452,9 +452,9 @@ fn invocation<'t>(
 
 // Looks at the tests of a list after its first.
 #[cycle(tests)]
-fn tests<'t>(findings: &mut Findings<'t>, surroundings: Surroundings<'_>, list: &'t [Invocation])
+fn tests<'t>(findings: &mut Findings<'t>, surroundings: &Surroundings<'_>, list: &'t [Invocation])
     ensures { AreVisited findings.old
-        (more_visits (context_of surroundings.entry) (more_tests_of (map invocation_tree list.now)))
+        (more_visits (context_of surroundings.now) (more_tests_of (map invocation_tree list.now)))
         findings.new }
 {
     'list: for tree in list {
@@ -464,9 +464,9 @@ fn tests<'t>(findings: &mut Findings<'t>, surroundings: Surroundings<'_>, list: 
 
 // Looks at a command and what stands below it. The block of a loop too many isn't looked at.
 #[cycle(commands)]
-fn command<'t>(findings: &mut Findings<'t>, surroundings: Surroundings<'t>, tree: &'t Command)
+fn command<'t>(findings: &mut Findings<'t>, surroundings: &Surroundings<'t>, tree: &'t Command)
     ensures { AreVisited findings.old
-        (command_visits (context_of surroundings.entry) (command_tree tree.now)) findings.new }
+        (command_visits (context_of surroundings.now) (command_tree tree.now)) findings.new }
 {
     match tree {
         Command::Simple(first) => {
@@ -475,7 +475,7 @@ fn command<'t>(findings: &mut Findings<'t>, surroundings: Surroundings<'t>, tree
         Command::Block(first, block) => {
             invocation(findings, surroundings, first, Some(Ending::Block));
             if let Some(inside) = surroundings.in_block(first) {
-                commands(findings, inside, block);
+                commands(findings, &inside, block);
             }
         }
     }
@@ -483,13 +483,13 @@ fn command<'t>(findings: &mut Findings<'t>, surroundings: Surroundings<'t>, tree
 
 // Looks at the commands of a script or block.
 #[cycle(commands)]
-fn commands<'t>(findings: &mut Findings<'t>, surroundings: Surroundings<'t>, trees: &'t [Command])
+fn commands<'t>(findings: &mut Findings<'t>, surroundings: &Surroundings<'t>, trees: &'t [Command])
     ensures { AreVisited findings.old
-        (commands_visits (context_of surroundings.entry) (commands_tree trees.now)) findings.new }
+        (commands_visits (context_of surroundings.now) (commands_tree trees.now)) findings.new }
 {
-    let mut around = surroundings;
+    let mut around = *surroundings;
     'trees: for tree in trees {
-        command(findings, around, tree);
+        command(findings, &around, tree);
         around = around.after(tree);
     }
 }
@@ -499,6 +499,6 @@ pub fn script(trees: &[Command]) -> Findings<'_>
     ensures { refused_in result ≡ take max_reasons (reasons_of (commands_tree trees.now)) }
 {
     let mut findings = Findings::new();
-    commands(&mut findings, Surroundings::at_start(), trees);
+    commands(&mut findings, &Surroundings::at_start(), trees);
     findings
 }

@@ -68,11 +68,11 @@ fn selected_by(selector: Selector, names: Vec<Vec<Segment>>) -> Selection
 // The names of the parameters, which the argument is, if there is one.
 fn params_in(
     alloc: Global,
-    surroundings: Surroundings<'_>,
+    surroundings: &Surroundings<'_>,
     arguments: &[Argument],
 ) -> Result<Option<Vec<Vec<Segment>>>, AllocError>
     ensures { IfOk result (λ names. option_map (λ all. templates_of all.items) names
-        ≡ params_in (context_of surroundings.entry) (map argument_tree arguments.now)) }
+        ≡ params_in (context_of surroundings.now) (map argument_tree arguments.now)) }
 {
     match arguments {
         [] => Ok(Some(Vec::new(alloc))),
@@ -83,11 +83,11 @@ fn params_in(
 // The test of a header's names and keys.
 fn header(
     alloc: Global,
-    surroundings: Surroundings<'_>,
+    surroundings: &Surroundings<'_>,
     reading: Reading<'_>,
 ) -> Result<Option<Test>, AllocError>
     ensures { IfOk result (λ t. option_map test_form t
-        ≡ header_of (context_of surroundings.entry) (read_of reading.entry)) }
+        ≡ header_of (context_of surroundings.now) (read_of reading.entry)) }
 {
     let Some(params) = params_in(alloc, surroundings, reading.params)? else {
         return Ok(None);
@@ -110,12 +110,12 @@ fn header(
 // The test of sources and keys, which the arguments are.
 fn string(
     alloc: Global,
-    surroundings: Surroundings<'_>,
+    surroundings: &Surroundings<'_>,
     tags: Tags,
     arguments: &[Argument],
 ) -> Result<Option<Test>, AllocError>
     ensures { IfOk result (λ t. option_map test_form t
-        ≡ of_lists (context_of surroundings.entry) (string (match_of tags))
+        ≡ of_lists (context_of surroundings.now) (string (match_of tags))
         (map argument_tree arguments.now)) }
 {
     let Some((sources, keys)) = lists_in(alloc, surroundings, arguments)? else {
@@ -132,12 +132,12 @@ fn string(
 // The test that there are fields of the names, which the arguments are.
 fn exists(
     alloc: Global,
-    surroundings: Surroundings<'_>,
+    surroundings: &Surroundings<'_>,
     scope: Scope,
     arguments: &[Argument],
 ) -> Result<Option<Test>, AllocError>
     ensures { IfOk result (λ t. option_map test_form t
-        ≡ of_list (context_of surroundings.entry) (exists scope)
+        ≡ of_list (context_of surroundings.now) (exists scope)
         (map argument_tree arguments.now)) }
 {
     match only_list_in(alloc, surroundings, arguments)? {
@@ -149,12 +149,12 @@ fn exists(
 // The test of the current part's content against the keys, which the arguments are.
 fn part_body(
     alloc: Global,
-    surroundings: Surroundings<'_>,
+    surroundings: &Surroundings<'_>,
     tags: Tags,
     arguments: &[Argument],
 ) -> Result<Option<Test>, AllocError>
     ensures { IfOk result (λ t. option_map test_form t
-        ≡ of_list (context_of surroundings.entry) (part_body (match_of tags))
+        ≡ of_list (context_of surroundings.now) (part_body (match_of tags))
         (map argument_tree arguments.now)) }
 {
     let Some(keys) = only_list_in(alloc, surroundings, arguments)? else {
@@ -167,11 +167,11 @@ fn part_body(
 // The test of the digest of the current part's content against the keys, which the arguments are.
 fn part_digest(
     alloc: Global,
-    surroundings: Surroundings<'_>,
+    surroundings: &Surroundings<'_>,
     arguments: &[Argument],
 ) -> Result<Option<Test>, AllocError>
     ensures { IfOk result (λ t. option_map test_form t
-        ≡ of_list (context_of surroundings.entry) part_digest
+        ≡ of_list (context_of surroundings.now) part_digest
         (map argument_tree arguments.now)) }
 {
     match only_list_in(alloc, surroundings, arguments)? {
@@ -209,11 +209,11 @@ fn test_read(head: &Head) -> Option<(TestName, Reading<'_>)>
 // A test after whose arguments no test stands.
 fn plain_test(
     alloc: Global,
-    surroundings: Surroundings<'_>,
+    surroundings: &Surroundings<'_>,
     head: &Head,
 ) -> Result<Option<Test>, AllocError>
     ensures { IfOk result (λ t. option_map test_form t
-        ≡ head_test (context_of surroundings.entry) head.now none) }
+        ≡ head_test (context_of surroundings.now) head.now none) }
 {
     let Some((name, reading)) = test_read(head) else {
         return Ok(None);
@@ -277,11 +277,11 @@ fn combined(
 #[cycle(tests)]
 pub fn test(
     alloc: Global,
-    surroundings: Surroundings<'_>,
+    surroundings: &Surroundings<'_>,
     invocation: &Invocation,
 ) -> Result<Option<Test>, AllocError>
     ensures { IfOk result (λ t. option_map test_form t
-        ≡ test_form_of (context_of surroundings.entry) (invocation_tree invocation.now)) }
+        ≡ test_form_of (context_of surroundings.now) (invocation_tree invocation.now)) }
 {
     match invocation {
         Invocation::Plain(head) => plain_test(alloc, surroundings, head),
@@ -301,11 +301,11 @@ pub fn test(
 #[cycle(tests)]
 fn tests(
     alloc: Global,
-    surroundings: Surroundings<'_>,
+    surroundings: &Surroundings<'_>,
     list: &[Invocation],
 ) -> Result<Option<Vec<Test>>, AllocError>
     ensures { IfOk result (λ ts. option_map (λ ts. tests_of (map test_form ts.items)) ts
-        ≡ more_forms_of (context_of surroundings.entry)
+        ≡ more_forms_of (context_of surroundings.now)
         (more_tests_of (map invocation_tree list.now))) }
 {
     let mut tests = Vec::with_capacity(alloc, list.len())?;
