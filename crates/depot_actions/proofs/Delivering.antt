@@ -155,11 +155,13 @@ module _ (old mid new : State) (user message : List ℕ) (program : Option (List
   unfiled_cause refusal.NumberFull h = (
     named,
     readable,
+    spares.shut h.0,
     λ before stands. (actions, actions_are before stands, λ room. h.1 before (stands_still old mid before spares stands h.0) (subst (λ n. HasRoom before user n) (sym number) room)),
   )
   unfiled_cause refusal.Collision h = (
     named,
     readable,
+    spares.shut h.0,
     λ before stands.
         let same = spares.same stands.schema h.0 in
         let other = h.1 before (stands_still old mid before spares stands h.0) in

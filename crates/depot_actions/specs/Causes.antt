@@ -1,5 +1,5 @@
 -- Why a depot refuses a command. The user's name comes first, then the script, program or message, then the store.
-use Rattle.std.specs.Prelude.{◌≡◌, ◌≢◌, ◌⊎◌, ℕ, ◌^◌, ◌≤◌, Err, List, map, None, Ok, Option, Result, Some, length, ⊤}
+use Rattle.std.specs.Prelude.{◌≡◌, ◌≢◌, ◌⊎◌, ℕ, ◌^◌, ◌≤◌, Err, IsTrue, List, map, None, Ok, Option, Result, Some, length, ⊤}
 use Rattle.std.specs.List.{sum_by}
 use Rattle.sqlite_disk.specs.declared.Disk.{Ghosts}
 use Rattle.sqlite.specs.declared.FileStore.{FileStore}
@@ -99,16 +99,17 @@ IsExport (Export user number encoding) = Unit {0}
 IsExport (Remove user number) = ⊥
 IsExport Migrate = ⊥
 
--- Why a store that is in this state refuses a command. Memory has no cause here; that of Database is IsFault, below.
+-- Why a store that is in this state refuses a command. NoSuchEntry, NumberFull and Collision are told
+-- only by a store that is open. Memory has no cause here; that of Database is IsFault, below.
 abbrev pub HasCause : Refusal → Command → State → Type 0
 HasCause Memory command state = Unit {0}
 HasCause UserName command state = IsNamed command → ⊥
-HasCause NoSuchEntry command state = IsNamed command
+HasCause NoSuchEntry command state = IsNamed command × IsTrue state.is_open
     × ((before : Entries) → Stands state.now before → NamesNone before command)
-HasCause NumberFull command state = IsNamed command × IsSound command
+HasCause NumberFull command state = IsNamed command × IsSound command × IsTrue state.is_open
     × ((before : Entries) → Stands state.now before → IsFull before command)
 HasCause Collision command state =
-    IsNamed command × IsSound command
+    IsNamed command × IsSound command × IsTrue state.is_open
     × ((before : Entries) → Stands state.now before → IsColliding state.now.trees before command)
 HasCause Database command state = IsNamed command × IsSound command
 HasCause Write command state = IsNamed command × IsExport command

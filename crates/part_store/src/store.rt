@@ -206,6 +206,7 @@ fn take_entry<S: Alter>(tx: &mut Transaction<'_, S>, user: &str, number: u32) ->
     ensures none { IfDone S.Store tx.old.conn.now tx.new.conn.now result
         (λ done old _. done ≡ false → (before : _) → Stands old.now before
         → HasNone before user.now number) }
+    ensures open { OnDone S.Store tx.old.conn.now tx.new.conn.now result WasOpen }
     ensures inside { IfDone S.Store tx.old.conn.now tx.new.conn.now result
         (λ done old new. done ≡ true → old.now.schema ≡ store_schema → IsTrue new.in_transaction) }
     ensures shut { Always S.Store tx.old.conn.now tx.new.conn.now StaysShut }
@@ -444,8 +445,8 @@ impl<S: Alter> PartStore<S> {
         list_all(&mut tx, user)
     }
 
-    /// The octets of the user's entry of that number. Refuses `Memory`, `NoSuchEntry` exactly where he has none, and
-    /// `Database`.
+    /// The octets of the user's entry of that number. Refuses `Memory`, `NoSuchEntry` exactly where
+    /// he has none, and `Database`. A store that a failure has shut refuses `Memory` or `Database`.
     pub fn bytes_of(&mut self, user: &str, number: u32) -> Result<Vec<u8>, StoreError>
         ensures told { Tells S.Store self.old self.new result
             (λ before octets. (x : _) × IsEntryAt before user.now number x
@@ -453,6 +454,8 @@ impl<S: Alter> PartStore<S> {
         ensures open { OnDone S.Store self.old self.new result WasOpen }
         ensures absent { RefusedWhere S.Store self.old self.new result NoSuchEntry
             (λ before. HasNone before user.now number) }
+        ensures begun { IfRefused S.Store self.old self.new result
+            (λ old _ e. e ≡ NoSuchEntry → IsTrue old.is_open) }
         ensures spared { Always S.Store self.old self.new Spares }
         ensures settled { Always S.Store self.old self.new Settles }
         ensures refused { IfErr result (λ e. (e ≡ Memory) ⊎ ((e ≡ NoSuchEntry) ⊎ (e ≡ Database))) }
@@ -466,8 +469,9 @@ impl<S: Alter> PartStore<S> {
         }
     }
 
-    /// Removes the user's entry of that number, and its octets where no other entry has them. The number isn't given
-    /// again. Refuses `Memory`, `NoSuchEntry` exactly where he has none, and `Database`.
+    /// Removes the user's entry of that number, and its octets where no other entry has them. The
+    /// number isn't given again. Refuses `Memory`, `NoSuchEntry` exactly where he has none, and
+    /// `Database`. A store that a failure has shut refuses `Memory` or `Database`.
     pub fn remove_entry(&mut self, user: &str, number: u32) -> Result<(), StoreError>
         ensures made { OnDone S.Store self.old self.new result
             (Makes (without_entry user.now number)) }
@@ -475,6 +479,8 @@ impl<S: Alter> PartStore<S> {
             (λ before. (x : _) × IsEntryAt before user.now number x) }
         ensures absent { RefusedWhere S.Store self.old self.new result NoSuchEntry
             (λ before. HasNone before user.now number) }
+        ensures begun { IfRefused S.Store self.old self.new result
+            (λ old _ e. e ≡ NoSuchEntry → IsTrue old.is_open) }
         ensures spared { OnRefused S.Store self.old self.new result Spares }
         ensures refused { IfErr result (λ e. (e ≡ Memory) ⊎ ((e ≡ NoSuchEntry) ⊎ (e ≡ Database))) }
         ensures cause { IfRefused S.Store self.old self.new result Blames }

@@ -1,17 +1,17 @@
 -- What the functions answer that make the typed form.
-use Rattle.std.specs.Prelude.{Option, option_map}
+use Rattle.std.specs.Prelude.{◌≡◌, Option, None, option_map, MatchOption}
 use Rattle.sieve_parser.specs.Tree.{CommandsTree}
 use Rattle.sieve_parser.specs.declared.tree.Head.{Head}
-use Rattle.sieve_check.specs.declared.test_forms.Junction.{Junction}
-use Rattle.sieve_check.specs.declared.test_forms.Junction.TheVariants.{All, Any}
-use Rattle.sieve_check.specs.declared.forming.Opening.{Opening}
-use Rattle.sieve_check.specs.declared.forming.Opening.TheVariants.{First, Next}
+use Rattle.sieve_check.specs.declared.names.CommandName.{CommandName}
+use Rattle.sieve_check.specs.declared.names.TestName.{TestName}
+use Rattle.sieve_check.specs.declared.signature.Reading.{Reading}
 use Rattle.sieve_check.specs.Names.{command_named, test_named}
+use Rattle.sieve_check.specs.Reading.{read_of}
 use Rattle.sieve_check.specs.Rules.{arguments_of}
 use Rattle.sieve_check.specs.Signatures.{◌>>=◌, reading, command_signature, test_signature}
-use Rattle.sieve_check.specs.FormOf.{InnerForms, one, bracketed, test_of, PartForm, first, next_branch, simple_of, block_of, closed, forms_of}
+use Rattle.sieve_check.specs.FormOf.{InnerForms, one, bracketed, test_of, PartForm, simple_of, block_of, closed, forms_of}
 use Rattle.sieve_check.specs.Surroundings.{Context}
-use Rattle.sieve_check.specs.Typed.{TestForm, all_of, any_of, TestForms, CommandForms}
+use Rattle.sieve_check.specs.Typed.{TestForm, TestForms, CommandForms}
 
 -- the test of a head, with the tests behind it
 abbrev pub head_test : Context → Head → InnerForms → Option TestForm
@@ -39,10 +39,17 @@ head_block head inner body = command_named head.name >>= λ name. reading (comma
 abbrev pub commands_formed : Context → CommandsTree → Option CommandForms
 commands_formed s trees = forms_of s trees >>= closed
 
-abbrev pub joined_by : Junction → TestForm → TestForms → TestForm
-joined_by All f fs = all_of f fs
-joined_by Any f fs = any_of f fs
+-- the test that a head names, with its arguments as they were read; nothing where a head makes no test, whatever is behind it
+abbrev pub IsTestRead : Head → Option (TestName × Reading) → Type 0
+IsTestRead head answer = MatchOption answer ((s : Context) (inner : InnerForms) → head_test s head inner ≡ None)
+    (λ found. (s : Context) (inner : InnerForms) → head_test s head inner ≡ test_of s found.0 (read_of found.1) inner)
 
-abbrev pub opened_by : Opening → TestForm → CommandForms → PartForm
-opened_by First f body = first f body
-opened_by Next f body = next_branch f body
+-- the command that a head names, with its arguments as they were read, where it ends in a semicolon, and where it ends in a block;
+-- nothing where a head makes no command
+abbrev pub IsSimpleRead : Head → Option (CommandName × Reading) → Type 0
+IsSimpleRead head answer = MatchOption answer ((s : Context) (inner : InnerForms) → head_simple s head inner ≡ None)
+    (λ found. (s : Context) (inner : InnerForms) → head_simple s head inner ≡ simple_of s found.0 (read_of found.1) inner)
+
+abbrev pub IsBlockRead : Head → Option (CommandName × Reading) → Type 0
+IsBlockRead head answer = MatchOption answer ((inner : InnerForms) (body : CommandForms) → head_block head inner body ≡ None)
+    (λ found. (inner : InnerForms) (body : CommandForms) → head_block head inner body ≡ block_of found.0 inner body)

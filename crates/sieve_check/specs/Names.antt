@@ -1,6 +1,7 @@
 -- What commands, tests, tags, capabilities and comparators are called.
-use Rattle.std.specs.Prelude.{ℕ, Bool, true, false, if◌then◌else◌, List, Option, Some, None, bytes_eq, codes}
-use Rattle.octets.specs.Ascii.{lowercase_of}
+use Rattle.std.specs.Prelude.{ℕ, true, false, if◌then◌else◌, List, Option, Some, None, bytes_eq, codes}
+use Rattle.std.specs.Option.{option_or}
+use Rattle.octets.specs.Ascii.{is_word}
 use Rattle.glob_match.specs.declared.comparator.Comparator.{Comparator as ComparatorName}
 use Rattle.glob_match.specs.declared.comparator.Comparator.TheVariants.{Octet, Casemap}
 use Rattle.glob_match.specs.declared.match_type.MatchType.TheVariants.{Is, Contains, Matches}
@@ -15,10 +16,6 @@ use Rattle.sieve_check.specs.declared.names.Tag.TheVariants.{Order, Kind, Compar
 use Rattle.bytecode_format.specs.declared.selection.Selector.TheVariants.{Main, Sub, ContentType, Param}
 use Rattle.sieve_check.specs.declared.names.Capability.{Capability}
 use Rattle.sieve_check.specs.declared.names.Capability.TheVariants.{FileInto as FileIntoCapability, Variables, Mime, ForEveryPart as ForEveryPartCapability, Depot, OctetComparator, CasemapComparator}
-
--- the texts are equal but for the case of ASCII letters
-abbrev pub is_word : List ℕ → List ℕ → Bool
-is_word name word = bytes_eq (lowercase_of name) (lowercase_of word)
 
 -- the command of that name, if it is known
 abbrev pub command_named : List ℕ → Option CommandName
@@ -55,21 +52,31 @@ test_named name =
     if is_word name (codes "partdigest") then Some PartDigest else
     None
 
--- the tag of that name, if it is known
-abbrev pub tag_named : List ℕ → Option Tag
-tag_named name =
+-- the tag of that name, if it is one that says how values are compared (RFC 5228)
+abbrev pub test_tag_named : List ℕ → Option Tag
+test_tag_named name =
     if is_word name (codes "over") then Some (Order Over) else
     if is_word name (codes "under") then Some (Order Under) else
     if is_word name (codes "is") then Some (Kind Is) else
     if is_word name (codes "contains") then Some (Kind Contains) else
     if is_word name (codes "matches") then Some (Kind Matches) else
     if is_word name (codes "comparator") then Some Comparator else
+    None
+
+-- the modifier of that name, if it is known (RFC 5229)
+abbrev pub modifier_named : List ℕ → Option Tag
+modifier_named name =
     if is_word name (codes "lower") then Some (Letters Lower) else
     if is_word name (codes "upper") then Some (Letters Upper) else
     if is_word name (codes "lowerfirst") then Some (FirstLetter Lower) else
     if is_word name (codes "upperfirst") then Some (FirstLetter Upper) else
     if is_word name (codes "quotewildcard") then Some QuoteWildcard else
     if is_word name (codes "length") then Some Length else
+    None
+
+-- the tag of that name, if it is one of parts and loops (RFC 5703), or of our own
+abbrev pub part_tag_named : List ℕ → Option Tag
+part_tag_named name =
     if is_word name (codes "mime") then Some MimeTag else
     if is_word name (codes "anychild") then Some AnyChild else
     if is_word name (codes "type") then Some (Select Main) else
@@ -79,6 +86,10 @@ tag_named name =
     if is_word name (codes "name") then Some Name else
     if is_word name (codes "first") then Some First else
     None
+
+-- the tag of that name, if it is known
+abbrev pub tag_named : List ℕ → Option Tag
+tag_named name = option_or (test_tag_named name) (option_or (modifier_named name) (part_tag_named name))
 
 -- the capability of that name, if it is known; capabilities are taken as they are written
 abbrev pub capability_named : List ℕ → Option Capability

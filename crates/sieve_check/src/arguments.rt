@@ -60,8 +60,8 @@ fn is_second_modifier(tag: Tag, tags: Tags) -> bool
     ensures { result ≡ is_second_modifier tag tags }
 {
     match tag {
-        Tag::Letters(case) => tags.modifiers.letters.is_some_and(|other| other != case),
-        Tag::FirstLetter(case) => tags.modifiers.first.is_some_and(|other| other != case),
+        Tag::Letters(case) => matches!(tags.modifiers.letters, Some(other) if other != case),
+        Tag::FirstLetter(case) => matches!(tags.modifiers.first, Some(other) if other != case),
         _ => false,
     }
 }

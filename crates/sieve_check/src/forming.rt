@@ -2,17 +2,17 @@
 ghost use Rattle.std.specs.Prelude.{◌≡◌, IfOk, map, option_map, Some, None};
 ghost use Rattle.sieve_parser.specs.View.{argument_tree, command_tree, commands_tree, invocation_tree};
 ghost use Rattle.sieve_check.specs.FormOf.{none, one, action, block_part, filing_in, form_of, most_of, part_of, setting_in, simple_part, taking_in};
-ghost use Rattle.sieve_check.specs.Forming.{commands_formed, head_block, head_simple, opened_by};
+ghost use Rattle.sieve_check.specs.Forming.{IsBlockRead, IsSimpleRead, commands_formed, head_block, head_simple};
 ghost use Rattle.sieve_check.specs.Reading.{name_in};
 ghost use Rattle.sieve_check.specs.Refusing.{context_of};
 ghost use Rattle.sieve_check.specs.Sequences.{part_form};
 ghost use Rattle.sieve_check.specs.Surroundings.{loops_left};
-ghost use Rattle.sieve_check.specs.Typed.{CommandForms, TestForm, file_into, leave, store};
+ghost use Rattle.sieve_check.specs.Typed.{file_into, leave, store};
 ghost use Rattle.sieve_check.specs.TypedView.{commands_form, test_form};
 
 use crate::names::{CommandName, command_named};
 use crate::sequence::{Part, Sequence};
-use crate::signature::{Tags, command_signature};
+use crate::signature::{Reading, Tags, command_signature};
 use crate::strings::template;
 use crate::surroundings::Surroundings;
 use crate::test_forms::test;
@@ -25,11 +25,11 @@ use std::alloc::{AllocError, Global};
 // The command that files the message into the folder which the arguments are.
 fn file_into(
     alloc: Global,
-    surroundings: Surroundings<'_>,
+    surroundings: &Surroundings<'_>,
     arguments: &[Argument],
 ) -> Result<Option<Part>, AllocError>
     ensures { IfOk result (λ part. option_map part_form part
-        ≡ filing_in (context_of surroundings.entry) file_into
+        ≡ filing_in (context_of surroundings.now) file_into
         (map argument_tree arguments.now)) }
 {
     match arguments {
@@ -44,11 +44,11 @@ fn file_into(
 // The command that files the current part into the folder which the arguments are.
 fn store(
     alloc: Global,
-    surroundings: Surroundings<'_>,
+    surroundings: &Surroundings<'_>,
     arguments: &[Argument],
 ) -> Result<Option<Part>, AllocError>
     ensures { IfOk result (λ part. option_map part_form part
-        ≡ filing_in (context_of surroundings.entry) store (map argument_tree arguments.now)) }
+        ≡ filing_in (context_of surroundings.now) store (map argument_tree arguments.now)) }
 {
     match arguments {
         [Argument::Text(folder)] => {
@@ -60,10 +60,10 @@ fn store(
 }
 
 // The command that leaves the loop of the name, or the innermost one, with those within it.
-fn leaving(surroundings: Surroundings<'_>, name: Option<&[u8]>) -> Option<Part>
+fn leaving(surroundings: &Surroundings<'_>, name: Option<&[u8]>) -> Option<Part>
     ensures { option_map part_form result
         ≡ option_map (λ loops. action (leave loops))
-        (loops_left (name_in name.entry) (context_of surroundings.entry).loops) }
+        (loops_left (name_in name.entry) (context_of surroundings.now).loops) }
 {
     let loops = surroundings.loops.left_by(name)?;
     Some(Part::Action(Command::Break(loops)))
@@ -72,12 +72,12 @@ fn leaving(surroundings: Surroundings<'_>, name: Option<&[u8]>) -> Option<Part>
 // The command that sets the variable of the name to the value, which the arguments are. The name isn't expanded.
 fn setting(
     alloc: Global,
-    surroundings: Surroundings<'_>,
+    surroundings: &Surroundings<'_>,
     modifiers: Modifiers,
     arguments: &[Argument],
 ) -> Result<Option<Part>, AllocError>
     ensures { IfOk result (λ part. option_map part_form part
-        ≡ option_map action (setting_in (context_of surroundings.entry) modifiers
+        ≡ option_map action (setting_in (context_of surroundings.now) modifiers
         (map argument_tree arguments.now))) }
 {
     match arguments {
@@ -118,19 +118,26 @@ fn taking(alloc: Global, tags: Tags, arguments: &[Argument]) -> Result<Option<Pa
     }
 }
 
+// The command that this names, with its arguments as they were read.
+fn command_read(head: &Head) -> Option<(CommandName, Reading<'_>)>
+    ensures simple { IsSimpleRead head.now result }
+    ensures block { IsBlockRead head.now result }
+{
+    let name = command_named(head.name.as_slice())?;
+    let reading = command_signature(name).read(&head.arguments).ok()?;
+    Some((name, reading))
+}
+
 // A command that ends in a semicolon, and after whose arguments no test stands.
 fn plain_part(
     alloc: Global,
-    surroundings: Surroundings<'_>,
+    surroundings: &Surroundings<'_>,
     head: &Head,
 ) -> Result<Option<Part>, AllocError>
     ensures { IfOk result (λ part. option_map part_form part
-        ≡ head_simple (context_of surroundings.entry) head.now none) }
+        ≡ head_simple (context_of surroundings.now) head.now none) }
 {
-    let Some(name) = command_named(head.name.as_slice()) else {
-        return Ok(None);
-    };
-    let Ok(reading) = command_signature(name).read(&head.arguments) else {
+    let Some((name, reading)) = command_read(head) else {
         return Ok(None);
     };
     match name {
@@ -154,38 +161,17 @@ fn plain_part(
     }
 }
 
-/// Which branch of a choice a command opens.
-#[derive(Clone, Copy)]
-pub enum Opening {
-    /// That of an `if`.
-    First,
-    /// That of an `elsif`.
-    Next,
-}
-
-// Which branch this opens, with one test and a block behind it.
-fn opened(head: &Head) -> Option<Opening>
-    ensures { (f : TestForm) (body : CommandForms)
-        → head_block head.now (one f) body ≡ option_map (λ o. opened_by o f body) result }
-{
-    let name = command_named(head.name.as_slice())?;
-    command_signature(name).read(&head.arguments).ok()?;
-    match name {
-        CommandName::If => Some(Opening::First),
-        CommandName::Elsif => Some(Opening::Next),
-        _ => None,
-    }
-}
-
 // What this adds, with a test and a block of these commands behind it.
 fn branch_part(head: &Head, test: Test, block: Vec<Command>) -> Option<Part>
     ensures { option_map part_form result
         ≡ head_block head.now (one (test_form test)) (commands_form block.items) }
 {
     let branch = Branch { test, block };
-    match opened(head)? {
-        Opening::First => Some(Part::First(branch)),
-        Opening::Next => Some(Part::Next(branch)),
+    let (name, _) = command_read(head)?;
+    match name {
+        CommandName::If => Some(Part::First(branch)),
+        CommandName::Elsif => Some(Part::Next(branch)),
+        _ => None,
     }
 }
 
@@ -193,8 +179,7 @@ fn branch_part(head: &Head, test: Test, block: Vec<Command>) -> Option<Part>
 fn untested_part(head: &Head, block: Vec<Command>) -> Option<Part>
     ensures { option_map part_form result ≡ head_block head.now none (commands_form block.items) }
 {
-    let name = command_named(head.name.as_slice())?;
-    command_signature(name).read(&head.arguments).ok()?;
+    let (name, _) = command_read(head)?;
     match name {
         CommandName::Else => Some(Part::Last(block)),
         CommandName::ForEveryPart => Some(Part::Action(Command::ForEveryPart(block))),
@@ -205,12 +190,12 @@ fn untested_part(head: &Head, block: Vec<Command>) -> Option<Part>
 // A command with a block of these commands, as a part of the commands around it.
 fn block_part(
     alloc: Global,
-    surroundings: Surroundings<'_>,
+    surroundings: &Surroundings<'_>,
     invocation: &Invocation,
     body: Vec<Command>,
 ) -> Result<Option<Part>, AllocError>
     ensures { IfOk result (λ part. option_map part_form part
-        ≡ block_part (context_of surroundings.entry) (invocation_tree invocation.now)
+        ≡ block_part (context_of surroundings.now) (invocation_tree invocation.now)
         (commands_form body.items)) }
 {
     match invocation {
@@ -226,11 +211,11 @@ fn block_part(
 // A command without a block, as a part of the commands around it.
 fn simple_part(
     alloc: Global,
-    surroundings: Surroundings<'_>,
+    surroundings: &Surroundings<'_>,
     invocation: &Invocation,
 ) -> Result<Option<Part>, AllocError>
     ensures { IfOk result (λ part. option_map part_form part
-        ≡ simple_part (context_of surroundings.entry) (invocation_tree invocation.now)) }
+        ≡ simple_part (context_of surroundings.now) (invocation_tree invocation.now)) }
 {
     match invocation {
         Invocation::Plain(head) => plain_part(alloc, surroundings, head),
@@ -242,11 +227,11 @@ fn simple_part(
 #[cycle(commands)]
 fn part<'t>(
     alloc: Global,
-    surroundings: Surroundings<'t>,
+    surroundings: &Surroundings<'t>,
     tree: &'t Tree,
 ) -> Result<Option<Part>, AllocError>
     ensures { IfOk result (λ part. option_map part_form part
-        ≡ part_of (context_of surroundings.entry) (command_tree tree.now)) }
+        ≡ part_of (context_of surroundings.now) (command_tree tree.now)) }
 {
     match tree {
         Tree::Simple(invocation) => simple_part(alloc, surroundings, invocation),
@@ -254,7 +239,7 @@ fn part<'t>(
             let Some(inside) = surroundings.in_block(invocation) else {
                 return Ok(None);
             };
-            match commands(alloc, inside, block)? {
+            match commands(alloc, &inside, block)? {
                 Some(body) => block_part(alloc, surroundings, invocation, body),
                 None => Ok(None),
             }
@@ -266,16 +251,16 @@ fn part<'t>(
 #[cycle(commands)]
 fn commands<'t>(
     alloc: Global,
-    surroundings: Surroundings<'t>,
+    surroundings: &Surroundings<'t>,
     trees: &'t [Tree],
 ) -> Result<Option<Vec<Command>>, AllocError>
     ensures { IfOk result (λ cs. option_map (λ cs. commands_form cs.items) cs
-        ≡ commands_formed (context_of surroundings.entry) (commands_tree trees.now)) }
+        ≡ commands_formed (context_of surroundings.now) (commands_tree trees.now)) }
 {
-    let mut around = surroundings;
+    let mut around = *surroundings;
     let mut sequence = Sequence::new(alloc, trees.len())?;
     'trees: for tree in trees {
-        let Some(part) = part(alloc, around, tree)? else {
+        let Some(part) = part(alloc, &around, tree)? else {
             return Ok(None);
         };
         if !sequence.push(alloc, part)? {
@@ -291,5 +276,5 @@ pub fn form_of(alloc: Global, trees: &[Tree]) -> Result<Option<Vec<Command>>, Al
     ensures { IfOk result (λ cs. option_map (λ cs. commands_form cs.items) cs
         ≡ form_of (commands_tree trees.now)) }
 {
-    commands(alloc, Surroundings::at_start(), trees)
+    commands(alloc, &Surroundings::at_start(), trees)
 }

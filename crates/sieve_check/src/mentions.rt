@@ -122,13 +122,13 @@ impl<'t> Mentions<'t> {
 
     /// Those of a command that is known by that name, by its arguments: none where variables weren't required.
     pub fn of_command(
-        surroundings: Surroundings<'_>,
+        surroundings: &Surroundings<'_>,
         name: CommandName,
         reading: Reading<'t>,
     ) -> Mentions<'t>
         requires { is_positional (command_signature name).positional (left_of reading) ≡ true }
         ensures { mentions_in result
-            ≡ where_required (context_of surroundings.entry)
+            ≡ where_required (context_of surroundings.now)
             (mentions_of name (strings_of (lists_read (read_of reading.entry)))) }
     {
         if !surroundings.required.has(Capability::Variables) {
@@ -146,9 +146,9 @@ impl<'t> Mentions<'t> {
     }
 
     /// Those of a test, by its arguments.
-    pub fn of_test(surroundings: Surroundings<'_>, reading: Reading<'t>) -> Mentions<'t>
+    pub fn of_test(surroundings: &Surroundings<'_>, reading: Reading<'t>) -> Mentions<'t>
         ensures { mentions_in result
-            ≡ where_required (context_of surroundings.entry)
+            ≡ where_required (context_of surroundings.now)
             (expanding (strings_of (lists_read (read_of reading.entry)))) }
     {
         if !surroundings.required.has(Capability::Variables) {

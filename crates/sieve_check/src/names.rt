@@ -1,11 +1,11 @@
 // What commands, tests, tags, capabilities and comparators are called. ASCII case is ignored but in the last two.
 ghost use Rattle.std.specs.Prelude.{◌≡◌};
-ghost use Rattle.sieve_check.specs.Names.{capability_named, command_named, comparator_named, is_word, tag_named, test_named};
+ghost use Rattle.sieve_check.specs.Names.{capability_named, command_named, comparator_named, modifier_named, part_tag_named, tag_named, test_named, test_tag_named};
 
 use crate::typed::Order;
 use bytecode_format::{Case, Selector};
 use glob_match::{Comparator, MatchType};
-use octets::equal_ignoring_case;
+use octets::is_word;
 
 /// The commands that are known.
 #[derive(Clone, Copy, PartialEq, Eq)]
@@ -114,13 +114,6 @@ pub enum Capability {
     CasemapComparator,
 }
 
-// Whether the name is the word but for the case of ASCII letters.
-fn is_word(name: &[u8], word: &[u8]) -> bool
-    ensures { result ≡ is_word name.now word.now }
-{
-    equal_ignoring_case(name, word)
-}
-
 /// The command of that name, if it is known.
 pub fn command_named(name: &[u8]) -> Option<CommandName>
     ensures { result ≡ command_named name.now }
@@ -189,9 +182,9 @@ pub fn test_named(name: &[u8]) -> Option<TestName>
     }
 }
 
-/// The tag of that name, if it is known.
-pub fn tag_named(name: &[u8]) -> Option<Tag>
-    ensures { result ≡ tag_named name.now }
+// The tag of that name, if it is one that says how values are compared (RFC 5228).
+fn test_tag_named(name: &[u8]) -> Option<Tag>
+    ensures { result ≡ test_tag_named name.now }
 {
     if is_word(name, b"over") {
         Some(Tag::Order(Order::Over))
@@ -205,7 +198,16 @@ pub fn tag_named(name: &[u8]) -> Option<Tag>
         Some(Tag::Kind(MatchType::Matches))
     } else if is_word(name, b"comparator") {
         Some(Tag::Comparator)
-    } else if is_word(name, b"lower") {
+    } else {
+        None
+    }
+}
+
+// The modifier of that name, if it is known (RFC 5229).
+fn modifier_named(name: &[u8]) -> Option<Tag>
+    ensures { result ≡ modifier_named name.now }
+{
+    if is_word(name, b"lower") {
         Some(Tag::Letters(Case::Lower))
     } else if is_word(name, b"upper") {
         Some(Tag::Letters(Case::Upper))
@@ -217,7 +219,16 @@ pub fn tag_named(name: &[u8]) -> Option<Tag>
         Some(Tag::QuoteWildcard)
     } else if is_word(name, b"length") {
         Some(Tag::Length)
-    } else if is_word(name, b"mime") {
+    } else {
+        None
+    }
+}
+
+// The tag of that name, if it is one of parts and loops (RFC 5703), or of our own.
+fn part_tag_named(name: &[u8]) -> Option<Tag>
+    ensures { result ≡ part_tag_named name.now }
+{
+    if is_word(name, b"mime") {
         Some(Tag::Mime)
     } else if is_word(name, b"anychild") {
         Some(Tag::AnyChild)
@@ -236,6 +247,19 @@ pub fn tag_named(name: &[u8]) -> Option<Tag>
     } else {
         None
     }
+}
+
+/// The tag of that name, if it is known.
+pub fn tag_named(name: &[u8]) -> Option<Tag>
+    ensures { result ≡ tag_named name.now }
+{
+    if let Some(tag) = test_tag_named(name) {
+        return Some(tag);
+    }
+    if let Some(tag) = modifier_named(name) {
+        return Some(tag);
+    }
+    part_tag_named(name)
 }
 
 /// The capability of that name, if it is known; its octets are compared as they are.

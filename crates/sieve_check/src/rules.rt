@@ -3,7 +3,7 @@ ghost use Rattle.std.specs.Prelude.{◌≡◌, [], ◌∷◌, map, option_map, t
 ghost use Rattle.sieve_parser.specs.View.{argument_tree, command_tree, commands_tree, invocation_tree, more_tests_of};
 ghost use Rattle.sieve_check.specs.Reading.{left_of, read_of};
 ghost use Rattle.sieve_check.specs.ReasonView.{cause_view};
-ghost use Rattle.sieve_check.specs.Rules.{arguments_of, command_mentions, command_needs, command_visit, command_visits, commands_visits, ending_cause, expanding, head_visits, ill_formed_command, ill_formed_test, is_mime_tag, known_command_cause, known_test_cause, lacking_cause, lists_read, long_string_cause, looks_inside, many_loops_cause, many_strings_cause, max_reasons, may_stand, mentions_of, mime_where_given, misplaced, more_visits, names_mentioned, oversized_command, oversized_test, place_cause, read_command_cause, read_test_cause, reasons_of, strings_of, takes_tests, test_may_stand, test_mentions, test_needs, test_place_cause, test_visit, test_visits, tests_cause, unknown_cause, where_required};
+ghost use Rattle.sieve_check.specs.Rules.{arguments_of, command_mentions, command_needs, command_visit, command_visits, commands_visits, expanding, head_visits, ill_formed_command, ill_formed_test, is_mime_tag, known_command_cause, known_test_cause, lacking_cause, lists_read, long_string_cause, looks_inside, max_reasons, mentions_of, mime_where_given, misplaced, more_visits, names_mentioned, oversized_command, oversized_test, place_cause, read_command_cause, read_test_cause, reasons_of, strings_of, takes_tests, test_mentions, test_needs, test_place_cause, test_visit, test_visits, tests_cause, unknown_cause, where_required};
 ghost use Rattle.sieve_check.specs.Signatures.{command_signature, is_positional, test_signature};
 ghost use Rattle.sieve_check.specs.Names.{command_named, test_named};
 ghost use Rattle.sieve_check.specs.Refusing.{AreVisited, Finds, context_of, looks_inside_as, mentions_in, refused_in, visit_as, visits_as};
@@ -67,31 +67,6 @@ fn test_needs(name: TestName, head: &Head) -> &'static [Capability]
     }
 }
 
-// Whether the command may stand there, with these arguments.
-fn may_stand(surroundings: Surroundings<'_>, name: CommandName, reading: Reading<'_>) -> bool
-    ensures { result ≡ may_stand (context_of surroundings.entry) name (read_of reading.entry) }
-{
-    match name {
-        CommandName::Require => surroundings.takes_require,
-        CommandName::Elsif | CommandName::Else => surroundings.after_if,
-        CommandName::Break => surroundings.loops.left_by(reading.name).is_some(),
-        CommandName::Store | CommandName::Take => surroundings.loops.are_some(),
-        _ => true,
-    }
-}
-
-// Whether the test may stand there.
-fn test_may_stand(surroundings: Surroundings<'_>, name: TestName) -> bool
-    ensures { result ≡ test_may_stand (context_of surroundings.entry) name }
-{
-    match name {
-        TestName::PartSize | TestName::PartBody | TestName::PartDigest => {
-            surroundings.loops.are_some()
-        }
-        _ => true,
-    }
-}
-
 // What is wrong with a command at a wrong place.
 fn misplaced<'t>(name: CommandName, reading: Reading<'t>) -> Cause<'t>
     ensures { cause_view result ≡ misplaced name (read_of reading.entry) }
@@ -107,28 +82,41 @@ fn misplaced<'t>(name: CommandName, reading: Reading<'t>) -> Cause<'t>
 
 // What is wrong with the place of a command, where it may not stand there.
 fn place_cause<'t>(
-    surroundings: Surroundings<'_>,
+    surroundings: &Surroundings<'_>,
     name: CommandName,
     reading: Reading<'t>,
 ) -> Option<Cause<'t>>
     ensures { option_map cause_view result
-        ≡ place_cause (context_of surroundings.entry) name (read_of reading.entry) }
+        ≡ place_cause (context_of surroundings.now) name (read_of reading.entry) }
 {
-    (!may_stand(surroundings, name, reading)).then_some(misplaced(name, reading))
+    let may_stand = match name {
+        CommandName::Require => surroundings.takes_require,
+        CommandName::Elsif | CommandName::Else => surroundings.after_if,
+        CommandName::Break => surroundings.loops.left_by(reading.name).is_some(),
+        CommandName::Store | CommandName::Take => surroundings.loops.are_some(),
+        _ => true,
+    };
+    (!may_stand).then_some(misplaced(name, reading))
 }
 
 // What is wrong with the place of a test, where it may not stand there.
-fn test_place_cause<'t>(surroundings: Surroundings<'_>, name: TestName) -> Option<Cause<'t>>
+fn test_place_cause<'t>(surroundings: &Surroundings<'_>, name: TestName) -> Option<Cause<'t>>
     ensures { option_map cause_view result
-        ≡ test_place_cause (context_of surroundings.entry) name }
+        ≡ test_place_cause (context_of surroundings.now) name }
 {
-    (!test_may_stand(surroundings, name)).then_some(Cause::plain(ReasonKind::Misplaced))
+    let may_stand = match name {
+        TestName::PartSize | TestName::PartBody | TestName::PartDigest => {
+            surroundings.loops.are_some()
+        }
+        _ => true,
+    };
+    (!may_stand).then_some(Cause::plain(ReasonKind::Misplaced))
 }
 
 // The first capability that is needed and wasn't required.
-fn lacking_cause<'t>(surroundings: Surroundings<'_>, needed: &[Capability]) -> Option<Cause<'t>>
+fn lacking_cause<'t>(surroundings: &Surroundings<'_>, needed: &[Capability]) -> Option<Cause<'t>>
     ensures { option_map cause_view result
-        ≡ lacking_cause (context_of surroundings.entry) needed.now }
+        ≡ lacking_cause (context_of surroundings.now) needed.now }
 {
     let capability = surroundings.required.first_lacking(needed)?;
     Some(Cause::plain(ReasonKind::MissingCapability(capability)))
@@ -154,41 +142,12 @@ fn tests_cause<'t>(signature: Signature, tests: Tests) -> Option<Cause<'t>>
     (signature.tests != tests).then_some(Cause::plain(ReasonKind::WrongTests(signature.tests)))
 }
 
-// What is wrong with how a command ends.
-fn ending_cause<'t>(name: CommandName, ending: Ending) -> Option<Cause<'t>>
-    ensures { option_map cause_view result ≡ ending_cause name ending }
-{
-    let wanted = ending_of(name);
-    (wanted != ending).then_some(Cause::plain(ReasonKind::WrongEnding(wanted)))
-}
-
 // The string that is longer than the limit, if one is.
 fn long_string_cause(head: &Head) -> Option<Cause<'_>>
     ensures { option_map cause_view result ≡ long_string_cause (arguments_of head.now) }
 {
     let string = StringFault::Long.first_in(&head.arguments)?;
     Some(Cause::about(ReasonKind::LongString, string))
-}
-
-// That the lists of a test have more strings than the limit, if they have.
-fn many_strings_cause<'t>(reading: Reading<'_>) -> Option<Cause<'t>>
-    ensures { option_map cause_view result ≡ many_strings_cause (read_of reading.entry) }
-{
-    has_many_strings(reading).then_some(Cause::plain(ReasonKind::ManyStrings))
-}
-
-// That a command opens a loop within as many others as may be open, if it does.
-fn many_loops_cause<'t>(
-    surroundings: Surroundings<'_>,
-    name: CommandName,
-    head: &Head,
-) -> Option<Cause<'t>>
-    ensures { option_map cause_view result
-        ≡ many_loops_cause (context_of surroundings.entry) name (arguments_of head.now) }
-{
-    surroundings
-        .opens_many(name)
-        .then_some(Cause::plain(ReasonKind::ManyLoops))
 }
 
 // What is wrong behind the arguments of a command, or with references and names among them.
@@ -204,21 +163,22 @@ fn ill_formed_command<'t>(
     if let Some(cause) = tests_cause(command_signature(name), tests) {
         return Some(cause);
     }
-    if let Some(cause) = ending_cause(name, ending) {
-        return Some(cause);
+    let wanted = ending_of(name);
+    if wanted != ending {
+        return Some(Cause::plain(ReasonKind::WrongEnding(wanted)));
     }
     mentions.wrong_cause()
 }
 
 // What of a command is beyond a limit.
 fn oversized_command<'t>(
-    surroundings: Surroundings<'_>,
+    surroundings: &Surroundings<'_>,
     name: CommandName,
     head: &'t Head,
     mentions: Mentions<'t>,
 ) -> Option<Cause<'t>>
     ensures { option_map cause_view result
-        ≡ oversized_command (context_of surroundings.entry) name (arguments_of head.now)
+        ≡ oversized_command (context_of surroundings.now) name (arguments_of head.now)
         (mentions_in mentions.entry) }
 {
     if let Some(cause) = long_string_cause(head) {
@@ -227,7 +187,9 @@ fn oversized_command<'t>(
     if let Some(cause) = mentions.large_cause() {
         return Some(cause);
     }
-    many_loops_cause(surroundings, name, head)
+    surroundings
+        .opens_many(name)
+        .then_some(Cause::plain(ReasonKind::ManyLoops))
 }
 
 // Whether a command or test takes tests.
@@ -242,7 +204,7 @@ fn takes_tests(signature: Signature) -> bool
 
 // What a command whose arguments were read has to do with variables, where nothing is wrong with it.
 fn read_command<'t>(
-    surroundings: Surroundings<'_>,
+    surroundings: &Surroundings<'_>,
     name: CommandName,
     head: &'t Head,
     tests: Tests,
@@ -250,9 +212,9 @@ fn read_command<'t>(
     reading: Reading<'t>,
 ) -> Result<Mentions<'t>, Cause<'t>>
     requires { is_positional (command_signature name).positional (left_of reading) ≡ true }
-    ensures { Finds (names_mentioned (where_required (context_of surroundings.entry)
+    ensures { Finds (names_mentioned (where_required (context_of surroundings.now)
         (mentions_of name (strings_of (lists_read (read_of reading.entry))))))
-        (read_command_cause (context_of surroundings.entry) name (arguments_of head.now) tests
+        (read_command_cause (context_of surroundings.now) name (arguments_of head.now) tests
         ending (read_of reading.entry)) result }
 {
     let mentions = Mentions::of_command(surroundings, name, reading);
@@ -270,15 +232,15 @@ fn read_command<'t>(
 
 // The same of a command that is known by that name.
 fn known_command<'t>(
-    surroundings: Surroundings<'_>,
+    surroundings: &Surroundings<'_>,
     name: CommandName,
     head: &'t Head,
     tests: Tests,
     ending: Ending,
 ) -> Result<Mentions<'t>, Cause<'t>>
     ensures { Finds (names_mentioned
-        (command_mentions (context_of surroundings.entry) name (arguments_of head.now)))
-        (known_command_cause (context_of surroundings.entry) name (arguments_of head.now) tests
+        (command_mentions (context_of surroundings.now) name (arguments_of head.now)))
+        (known_command_cause (context_of surroundings.now) name (arguments_of head.now) tests
         ending) result }
 {
     if let Some(cause) = lacking_cause(surroundings, command_needs(name)) {
@@ -295,14 +257,14 @@ fn known_command<'t>(
 
 // The same of any command; and whether its tests are looked at.
 fn found_command<'t>(
-    surroundings: Surroundings<'_>,
+    surroundings: &Surroundings<'_>,
     head: &'t Head,
     tests: Tests,
     ending: Ending,
 ) -> (Result<Mentions<'t>, Cause<'t>>, bool)
-    ensures found { Finds (command_visit (context_of surroundings.entry) head.now.token
+    ensures found { Finds (command_visit (context_of surroundings.now) head.now.token
         head.now.name (arguments_of head.now) tests ending).names
-        (command_visit (context_of surroundings.entry) head.now.token head.now.name
+        (command_visit (context_of surroundings.now) head.now.token head.now.name
         (arguments_of head.now) tests ending).cause result.0 }
     ensures inside { result.1 ≡ looks_inside command_signature (command_named head.now.name) }
 {
@@ -339,23 +301,23 @@ fn oversized_test<'t>(
     if let Some(cause) = long_string_cause(head) {
         return Some(cause);
     }
-    if let Some(cause) = many_strings_cause(reading) {
-        return Some(cause);
+    if has_many_strings(reading) {
+        return Some(Cause::plain(ReasonKind::ManyStrings));
     }
     mentions.large_cause()
 }
 
 // What a test whose arguments were read has to do with variables, where nothing is wrong with it.
 fn read_test<'t>(
-    surroundings: Surroundings<'_>,
+    surroundings: &Surroundings<'_>,
     name: TestName,
     head: &'t Head,
     tests: Tests,
     reading: Reading<'t>,
 ) -> Result<Mentions<'t>, Cause<'t>>
-    ensures { Finds (names_mentioned (where_required (context_of surroundings.entry)
+    ensures { Finds (names_mentioned (where_required (context_of surroundings.now)
         (expanding (strings_of (lists_read (read_of reading.entry))))))
-        (read_test_cause (context_of surroundings.entry) name (arguments_of head.now) tests
+        (read_test_cause (context_of surroundings.now) name (arguments_of head.now) tests
         (read_of reading.entry)) result }
 {
     let mentions = Mentions::of_test(surroundings, reading);
@@ -373,14 +335,14 @@ fn read_test<'t>(
 
 // The same of a test that is known by that name.
 fn known_test<'t>(
-    surroundings: Surroundings<'_>,
+    surroundings: &Surroundings<'_>,
     name: TestName,
     head: &'t Head,
     tests: Tests,
 ) -> Result<Mentions<'t>, Cause<'t>>
     ensures { Finds (names_mentioned
-        (test_mentions (context_of surroundings.entry) name (arguments_of head.now)))
-        (known_test_cause (context_of surroundings.entry) name (arguments_of head.now) tests)
+        (test_mentions (context_of surroundings.now) name (arguments_of head.now)))
+        (known_test_cause (context_of surroundings.now) name (arguments_of head.now) tests)
         result }
 {
     if let Some(cause) = lacking_cause(surroundings, test_needs(name, head)) {
@@ -394,13 +356,13 @@ fn known_test<'t>(
 
 // The same of any test; and whether its tests are looked at.
 fn found_test<'t>(
-    surroundings: Surroundings<'_>,
+    surroundings: &Surroundings<'_>,
     head: &'t Head,
     tests: Tests,
 ) -> (Result<Mentions<'t>, Cause<'t>>, bool)
-    ensures found { Finds (test_visit (context_of surroundings.entry) head.now.token
+    ensures found { Finds (test_visit (context_of surroundings.now) head.now.token
         head.now.name (arguments_of head.now) tests).names
-        (test_visit (context_of surroundings.entry) head.now.token head.now.name
+        (test_visit (context_of surroundings.now) head.now.token head.now.name
         (arguments_of head.now) tests).cause result.0 }
     ensures inside { result.1 ≡ looks_inside test_signature (test_named head.now.name) }
 {
@@ -415,14 +377,14 @@ fn found_test<'t>(
 
 // The same of a command, which ends so, or of a test.
 fn found<'t>(
-    surroundings: Surroundings<'_>,
+    surroundings: &Surroundings<'_>,
     head: &'t Head,
     tests: Tests,
     ending: Option<Ending>,
 ) -> (Result<Mentions<'t>, Cause<'t>>, bool)
-    ensures found { Finds (visit_as ending (context_of surroundings.entry) head.now.token
+    ensures found { Finds (visit_as ending (context_of surroundings.now) head.now.token
         head.now.name (arguments_of head.now) tests).names
-        (visit_as ending (context_of surroundings.entry) head.now.token head.now.name
+        (visit_as ending (context_of surroundings.now) head.now.token head.now.name
         (arguments_of head.now) tests).cause result.0 }
     ensures inside { result.1 ≡ looks_inside_as ending head.now.name }
 {
@@ -436,13 +398,13 @@ fn found<'t>(
 // stands there may be meant as something else.
 fn visit<'t>(
     findings: &mut Findings<'t>,
-    surroundings: Surroundings<'_>,
+    surroundings: &Surroundings<'_>,
     head: &'t Head,
     tests: Tests,
     ending: Option<Ending>,
 ) -> bool
     ensures visited { AreVisited findings.old
-        (visit_as ending (context_of surroundings.entry) head.now.token head.now.name
+        (visit_as ending (context_of surroundings.now) head.now.token head.now.name
         (arguments_of head.now) tests ∷ []) findings.new }
     ensures inside { result ≡ looks_inside_as ending head.now.name }
 {
@@ -462,12 +424,12 @@ fn visit<'t>(
 #[cycle(tests)]
 fn invocation<'t>(
     findings: &mut Findings<'t>,
-    surroundings: Surroundings<'_>,
+    surroundings: &Surroundings<'_>,
     tree: &'t Invocation,
     ending: Option<Ending>,
 )
     ensures { AreVisited findings.old
-        (visits_as ending (context_of surroundings.entry) (invocation_tree tree.now))
+        (visits_as ending (context_of surroundings.now) (invocation_tree tree.now))
         findings.new }
 {
     match tree {
@@ -490,9 +452,9 @@ fn invocation<'t>(
 
 // Looks at the tests of a list after its first.
 #[cycle(tests)]
-fn tests<'t>(findings: &mut Findings<'t>, surroundings: Surroundings<'_>, list: &'t [Invocation])
+fn tests<'t>(findings: &mut Findings<'t>, surroundings: &Surroundings<'_>, list: &'t [Invocation])
     ensures { AreVisited findings.old
-        (more_visits (context_of surroundings.entry) (more_tests_of (map invocation_tree list.now)))
+        (more_visits (context_of surroundings.now) (more_tests_of (map invocation_tree list.now)))
         findings.new }
 {
     'list: for tree in list {
@@ -502,9 +464,9 @@ fn tests<'t>(findings: &mut Findings<'t>, surroundings: Surroundings<'_>, list: 
 
 // Looks at a command and what stands below it. The block of a loop too many isn't looked at.
 #[cycle(commands)]
-fn command<'t>(findings: &mut Findings<'t>, surroundings: Surroundings<'t>, tree: &'t Command)
+fn command<'t>(findings: &mut Findings<'t>, surroundings: &Surroundings<'t>, tree: &'t Command)
     ensures { AreVisited findings.old
-        (command_visits (context_of surroundings.entry) (command_tree tree.now)) findings.new }
+        (command_visits (context_of surroundings.now) (command_tree tree.now)) findings.new }
 {
     match tree {
         Command::Simple(first) => {
@@ -513,7 +475,7 @@ fn command<'t>(findings: &mut Findings<'t>, surroundings: Surroundings<'t>, tree
         Command::Block(first, block) => {
             invocation(findings, surroundings, first, Some(Ending::Block));
             if let Some(inside) = surroundings.in_block(first) {
-                commands(findings, inside, block);
+                commands(findings, &inside, block);
             }
         }
     }
@@ -521,13 +483,13 @@ fn command<'t>(findings: &mut Findings<'t>, surroundings: Surroundings<'t>, tree
 
 // Looks at the commands of a script or block.
 #[cycle(commands)]
-fn commands<'t>(findings: &mut Findings<'t>, surroundings: Surroundings<'t>, trees: &'t [Command])
+fn commands<'t>(findings: &mut Findings<'t>, surroundings: &Surroundings<'t>, trees: &'t [Command])
     ensures { AreVisited findings.old
-        (commands_visits (context_of surroundings.entry) (commands_tree trees.now)) findings.new }
+        (commands_visits (context_of surroundings.now) (commands_tree trees.now)) findings.new }
 {
-    let mut around = surroundings;
+    let mut around = *surroundings;
     'trees: for tree in trees {
-        command(findings, around, tree);
+        command(findings, &around, tree);
         around = around.after(tree);
     }
 }
@@ -537,6 +499,6 @@ pub fn script(trees: &[Command]) -> Findings<'_>
     ensures { refused_in result ≡ take max_reasons (reasons_of (commands_tree trees.now)) }
 {
     let mut findings = Findings::new();
-    commands(&mut findings, Surroundings::at_start(), trees);
+    commands(&mut findings, &Surroundings::at_start(), trees);
     findings
 }

@@ -51,11 +51,11 @@ fn expanded(alloc: Global, string: &[u8]) -> Result<Vec<Segment>, AllocError>
 /// (RFC 5229, section 3). An error comes only where memory was refused.
 pub fn template(
     alloc: Global,
-    surroundings: Surroundings<'_>,
+    surroundings: &Surroundings<'_>,
     string: &Octets,
 ) -> Result<Vec<Segment>, AllocError>
     ensures { IfOk result (λ all. all.items
-        ≡ template_of (context_of surroundings.entry) string.now) }
+        ≡ template_of (context_of surroundings.now) string.now) }
 {
     if surroundings.required.has(Capability::Variables) {
         return expanded(alloc, string.as_slice());
@@ -68,12 +68,12 @@ pub fn template(
 // The strings, as they are meant.
 fn templates(
     alloc: Global,
-    surroundings: Surroundings<'_>,
+    surroundings: &Surroundings<'_>,
     first: &Octets,
     others: &[Octets],
 ) -> Result<Vec<Vec<Segment>>, AllocError>
     ensures { IfOk result (λ all. templates_of all.items
-        ≡ map (template_of (context_of surroundings.entry)) (first.now ∷ others.now)) }
+        ≡ map (template_of (context_of surroundings.now)) (first.now ∷ others.now)) }
 {
     let mut all = Vec::with_capacity(alloc, others.len() + 1)?;
     all.push(template(alloc, surroundings, first)?)?;
@@ -87,11 +87,11 @@ fn templates(
 /// only where memory was refused.
 pub fn list_in(
     alloc: Global,
-    surroundings: Surroundings<'_>,
+    surroundings: &Surroundings<'_>,
     argument: &Argument,
 ) -> Result<Option<Vec<Vec<Segment>>>, AllocError>
     ensures { IfOk result (λ list. option_map (λ all. templates_of all.items) list
-        ≡ list_in (context_of surroundings.entry) (argument_tree argument.now)) }
+        ≡ list_in (context_of surroundings.now) (argument_tree argument.now)) }
 {
     match argument {
         Argument::Text(string) => Ok(Some(templates(alloc, surroundings, string, &[])?)),
@@ -106,12 +106,12 @@ pub fn list_in(
 /// refused.
 pub fn only_list_in(
     alloc: Global,
-    surroundings: Surroundings<'_>,
+    surroundings: &Surroundings<'_>,
     arguments: &[Argument],
 ) -> Result<Option<Vec<Vec<Segment>>>, AllocError>
     ensures { IfOk result (λ list. (make : List Template → TestForm)
         → option_map (λ all. make (templates_of all.items)) list
-        ≡ of_list (context_of surroundings.entry) make (map argument_tree arguments.now)) }
+        ≡ of_list (context_of surroundings.now) make (map argument_tree arguments.now)) }
 {
     match arguments {
         [list] => list_in(alloc, surroundings, list),
@@ -123,12 +123,12 @@ pub fn only_list_in(
 /// refused.
 pub fn lists_in(
     alloc: Global,
-    surroundings: Surroundings<'_>,
+    surroundings: &Surroundings<'_>,
     arguments: &[Argument],
 ) -> Result<Option<(Vec<Vec<Segment>>, Vec<Vec<Segment>>)>, AllocError>
     ensures { IfOk result (λ lists. (make : List Template → List Template → TestForm)
         → option_map (λ both. make (templates_of both.0.items) (templates_of both.1.items))
-        lists ≡ of_lists (context_of surroundings.entry) make
+        lists ≡ of_lists (context_of surroundings.now) make
         (map argument_tree arguments.now)) }
 {
     let [first, second] = arguments else {

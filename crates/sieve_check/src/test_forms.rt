@@ -2,7 +2,7 @@
 ghost use Rattle.std.specs.Prelude.{◌≡◌, IfOk, map, option_map, Some, None, if◌then◌else◌};
 ghost use Rattle.sieve_parser.specs.View.{argument_tree, invocation_tree, more_tests_of};
 ghost use Rattle.sieve_check.specs.FormOf.{none, one, bracketed, header_of, match_of, more_forms_of, number_in, of_list, of_lists, params_in, scope_of, selected_by, size_of, test_form_of};
-ghost use Rattle.sieve_check.specs.Forming.{head_test, joined_by, test_with_list, test_with_one};
+ghost use Rattle.sieve_check.specs.Forming.{IsTestRead, head_test, test_with_list, test_with_one};
 ghost use Rattle.sieve_check.specs.Reading.{read_of};
 ghost use Rattle.sieve_check.specs.Refusing.{context_of};
 ghost use Rattle.sieve_check.specs.Surroundings.{Context};
@@ -68,11 +68,11 @@ fn selected_by(selector: Selector, names: Vec<Vec<Segment>>) -> Selection
 // The names of the parameters, which the argument is, if there is one.
 fn params_in(
     alloc: Global,
-    surroundings: Surroundings<'_>,
+    surroundings: &Surroundings<'_>,
     arguments: &[Argument],
 ) -> Result<Option<Vec<Vec<Segment>>>, AllocError>
     ensures { IfOk result (λ names. option_map (λ all. templates_of all.items) names
-        ≡ params_in (context_of surroundings.entry) (map argument_tree arguments.now)) }
+        ≡ params_in (context_of surroundings.now) (map argument_tree arguments.now)) }
 {
     match arguments {
         [] => Ok(Some(Vec::new(alloc))),
@@ -83,11 +83,11 @@ fn params_in(
 // The test of a header's names and keys.
 fn header(
     alloc: Global,
-    surroundings: Surroundings<'_>,
+    surroundings: &Surroundings<'_>,
     reading: Reading<'_>,
 ) -> Result<Option<Test>, AllocError>
     ensures { IfOk result (λ t. option_map test_form t
-        ≡ header_of (context_of surroundings.entry) (read_of reading.entry)) }
+        ≡ header_of (context_of surroundings.now) (read_of reading.entry)) }
 {
     let Some(params) = params_in(alloc, surroundings, reading.params)? else {
         return Ok(None);
@@ -110,12 +110,12 @@ fn header(
 // The test of sources and keys, which the arguments are.
 fn string(
     alloc: Global,
-    surroundings: Surroundings<'_>,
+    surroundings: &Surroundings<'_>,
     tags: Tags,
     arguments: &[Argument],
 ) -> Result<Option<Test>, AllocError>
     ensures { IfOk result (λ t. option_map test_form t
-        ≡ of_lists (context_of surroundings.entry) (string (match_of tags))
+        ≡ of_lists (context_of surroundings.now) (string (match_of tags))
         (map argument_tree arguments.now)) }
 {
     let Some((sources, keys)) = lists_in(alloc, surroundings, arguments)? else {
@@ -132,12 +132,12 @@ fn string(
 // The test that there are fields of the names, which the arguments are.
 fn exists(
     alloc: Global,
-    surroundings: Surroundings<'_>,
+    surroundings: &Surroundings<'_>,
     scope: Scope,
     arguments: &[Argument],
 ) -> Result<Option<Test>, AllocError>
     ensures { IfOk result (λ t. option_map test_form t
-        ≡ of_list (context_of surroundings.entry) (exists scope)
+        ≡ of_list (context_of surroundings.now) (exists scope)
         (map argument_tree arguments.now)) }
 {
     match only_list_in(alloc, surroundings, arguments)? {
@@ -149,12 +149,12 @@ fn exists(
 // The test of the current part's content against the keys, which the arguments are.
 fn part_body(
     alloc: Global,
-    surroundings: Surroundings<'_>,
+    surroundings: &Surroundings<'_>,
     tags: Tags,
     arguments: &[Argument],
 ) -> Result<Option<Test>, AllocError>
     ensures { IfOk result (λ t. option_map test_form t
-        ≡ of_list (context_of surroundings.entry) (part_body (match_of tags))
+        ≡ of_list (context_of surroundings.now) (part_body (match_of tags))
         (map argument_tree arguments.now)) }
 {
     let Some(keys) = only_list_in(alloc, surroundings, arguments)? else {
@@ -167,11 +167,11 @@ fn part_body(
 // The test of the digest of the current part's content against the keys, which the arguments are.
 fn part_digest(
     alloc: Global,
-    surroundings: Surroundings<'_>,
+    surroundings: &Surroundings<'_>,
     arguments: &[Argument],
 ) -> Result<Option<Test>, AllocError>
     ensures { IfOk result (λ t. option_map test_form t
-        ≡ of_list (context_of surroundings.entry) part_digest
+        ≡ of_list (context_of surroundings.now) part_digest
         (map argument_tree arguments.now)) }
 {
     match only_list_in(alloc, surroundings, arguments)? {
@@ -197,19 +197,25 @@ fn part_size(tags: Tags, arguments: &[Argument]) -> Option<Test>
     Some(Test::PartSize(order, number_in(arguments)?))
 }
 
+// The test that this names, with its arguments as they were read.
+fn test_read(head: &Head) -> Option<(TestName, Reading<'_>)>
+    ensures { IsTestRead head.now result }
+{
+    let name = test_named(head.name.as_slice())?;
+    let reading = test_signature(name).read(&head.arguments).ok()?;
+    Some((name, reading))
+}
+
 // A test after whose arguments no test stands.
 fn plain_test(
     alloc: Global,
-    surroundings: Surroundings<'_>,
+    surroundings: &Surroundings<'_>,
     head: &Head,
 ) -> Result<Option<Test>, AllocError>
     ensures { IfOk result (λ t. option_map test_form t
-        ≡ head_test (context_of surroundings.entry) head.now none) }
+        ≡ head_test (context_of surroundings.now) head.now none) }
 {
-    let Some(name) = test_named(head.name.as_slice()) else {
-        return Ok(None);
-    };
-    let Ok(reading) = test_signature(name).read(&head.arguments) else {
+    let Some((name, reading)) = test_read(head) else {
         return Ok(None);
     };
     match name {
@@ -228,44 +234,6 @@ fn plain_test(
     }
 }
 
-// Whether this is a test that turns the one behind it around.
-fn negates(head: &Head) -> bool
-    ensures { (s : Context) (f : TestForm)
-        → head_test s head.now (one f) ≡ (if result then Some (negation f) else None) }
-{
-    let Some(name) = test_named(head.name.as_slice()) else {
-        return false;
-    };
-    if test_signature(name).read(&head.arguments).is_err() {
-        return false;
-    }
-    match name {
-        TestName::Not => true,
-        _ => false,
-    }
-}
-
-/// How a test of tests in round brackets combines them.
-#[derive(Clone, Copy)]
-pub enum Junction {
-    All,
-    Any,
-}
-
-// How the tests in round brackets behind this are combined.
-fn combining(head: &Head) -> Option<Junction>
-    ensures { (s : Context) (f : TestForm) (fs : TestForms)
-        → head_test s head.now (bracketed f fs) ≡ option_map (λ j. joined_by j f fs) result }
-{
-    let name = test_named(head.name.as_slice())?;
-    test_signature(name).read(&head.arguments).ok()?;
-    match name {
-        TestName::AllOf => Some(Junction::All),
-        TestName::AnyOf => Some(Junction::Any),
-        _ => None,
-    }
-}
-
 // The test that turns around the one behind it, if that has a form.
 fn negated(alloc: Global, head: &Head, inner: Option<Test>) -> Result<Option<Test>, AllocError>
     ensures { IfOk result (λ t. (s : Context)
@@ -274,10 +242,9 @@ fn negated(alloc: Global, head: &Head, inner: Option<Test>) -> Result<Option<Tes
     let Some(inner) = inner else {
         return Ok(None);
     };
-    if negates(head) {
-        Ok(Some(Test::Not(Box::new(alloc, inner)?)))
-    } else {
-        Ok(None)
+    match test_read(head) {
+        Some((TestName::Not, _)) => Ok(Some(Test::Not(Box::new(alloc, inner)?))),
+        _ => Ok(None),
     }
 }
 
@@ -299,10 +266,10 @@ fn combined(
         return Ok(None);
     };
     let first = Box::new(alloc, first)?;
-    match combining(head) {
-        Some(Junction::All) => Ok(Some(Test::AllOf(first, others))),
-        Some(Junction::Any) => Ok(Some(Test::AnyOf(first, others))),
-        None => Ok(None),
+    match test_read(head) {
+        Some((TestName::AllOf, _)) => Ok(Some(Test::AllOf(first, others))),
+        Some((TestName::AnyOf, _)) => Ok(Some(Test::AnyOf(first, others))),
+        _ => Ok(None),
     }
 }
 
@@ -310,11 +277,11 @@ fn combined(
 #[cycle(tests)]
 pub fn test(
     alloc: Global,
-    surroundings: Surroundings<'_>,
+    surroundings: &Surroundings<'_>,
     invocation: &Invocation,
 ) -> Result<Option<Test>, AllocError>
     ensures { IfOk result (λ t. option_map test_form t
-        ≡ test_form_of (context_of surroundings.entry) (invocation_tree invocation.now)) }
+        ≡ test_form_of (context_of surroundings.now) (invocation_tree invocation.now)) }
 {
     match invocation {
         Invocation::Plain(head) => plain_test(alloc, surroundings, head),
@@ -334,11 +301,11 @@ pub fn test(
 #[cycle(tests)]
 fn tests(
     alloc: Global,
-    surroundings: Surroundings<'_>,
+    surroundings: &Surroundings<'_>,
     list: &[Invocation],
 ) -> Result<Option<Vec<Test>>, AllocError>
     ensures { IfOk result (λ ts. option_map (λ ts. tests_of (map test_form ts.items)) ts
-        ≡ more_forms_of (context_of surroundings.entry)
+        ≡ more_forms_of (context_of surroundings.now)
         (more_tests_of (map invocation_tree list.now))) }
 {
     let mut tests = Vec::with_capacity(alloc, list.len())?;

@@ -1,22 +1,14 @@
 // The names of variables, as they are met.
-ghost use Rattle.std.specs.Prelude.{◌≡◌, ◌≤◌, bytes_eq, length};
-ghost use Rattle.octets.specs.Ascii.{lowercase_of};
+ghost use Rattle.std.specs.Prelude.{◌≤◌, length};
 ghost use Rattle.octets.specs.Limits.{max_variables};
 
 use crate::causes::ReasonKind;
 use crate::signature::Lists;
 use arrayvec::ArrayVec;
 use bytecode_format::MAX_VARIABLES;
-use octets::{Octets, equal_ignoring_case};
+use octets::{Octets, is_word};
 use sieve_parser::Argument;
 use sieve_references::{Segment, first_segment};
-
-// Whether the names are of one variable.
-fn is_same(name: &[u8], other: &[u8]) -> bool
-    ensures { result ≡ bytes_eq (lowercase_of name.now) (lowercase_of other.now) }
-{
-    equal_ignoring_case(name, other)
-}
 
 /// The different names of variables so far, in the order of their first use, lent by the script. Case doesn't matter.
 ///
@@ -51,7 +43,7 @@ impl<'t> VariableNames<'t> {
         ensures { result ≡ is_listed bytes_eq (lowercase_of name.now) (listed self.now) }
     {
         for known in self.names.as_slice() {
-            if is_same(name, known) {
+            if is_word(name, known) {
                 return true;
             }
         }

@@ -1,6 +1,5 @@
 -- A refusal that is told is the script's explanation.
-use Rattle.std.proofs.Common.{◌≡◌, ◌≢◌, ◌⊎◌, ℕ, ◌≤◌, List, length, subst, sym, inl, inr, arith}
-use Rattle.octets.specs.Limits.{max_script}
+use Rattle.std.proofs.Common.{◌≡◌, ◌≢◌, ℕ, List, subst, sym}
 use Rattle.refusals.specs.Causes.{of_checker}
 use Rattle.refusals.specs.Scripts.{IsFaulty, IsScriptRefusal}
 use Rattle.refusals.specs.declared.refusal.Refusal.{Refusal}
@@ -8,11 +7,6 @@ use Rattle.refusals.specs.declared.refusal.Refusal.TheVariants.{Memory}
 use Rattle.sieve_check.specs.Causes.{refusal}
 use Rattle.sieve_check.specs.declared.error.Fault.{Fault}
 use Rattle.sieve_check.specs.declared.error.Fault.TheVariants as fault
-use Rattle.sieve_lexer.specs.Tokens.{AreTokens, IsFault}
-use Rattle.sieve_lexer.specs.declared.token.Token.{Token}
-use Rattle.sieve_parser.specs.Scripts.{IsParseRefusal}
-use Rattle.sieve_parser.specs.declared.error.ParseError.{ParseError}
-use Rattle.sieve_parser.specs.declared.error.ParseError.TheVariants as parser
 use Rattle.sieve_explain.specs.Explaining.{Explains, TellsReasons}
 
 -- what `IsExplained` says of a refusal and its text

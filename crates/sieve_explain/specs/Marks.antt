@@ -2,7 +2,7 @@
 use Rattle.std.specs.Prelude.{ℕ, ◌-◌, ◌+◌, ◌≤◌, Bool, true, false, not, ◌&&◌, ◌||◌, ◌==◌, if◌then◌else◌, List, [], ◌∷◌, length, take, drop, take_while, Option, Some, None, IfSome, bytes_eq, codes, slice_range}
 use Rattle.std.specs.List.{list_any, slice_get}
 use Rattle.std.specs.Option.{option_or}
-use Rattle.sieve_check.specs.Names.{is_word}
+use Rattle.octets.specs.Ascii.{is_word}
 use Rattle.sieve_lexer.specs.declared.token.Token.{Token}
 use Rattle.sieve_lexer.specs.declared.token.TokenKind.{TokenKind}
 use Rattle.sieve_lexer.specs.declared.token.TokenKind.TheVariants.{Identifier, Number, QuotedString, Semicolon, OpeningBrace, ClosingBrace}

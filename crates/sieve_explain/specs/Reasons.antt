@@ -1,7 +1,8 @@
 -- What is said of a command or test that isn't accepted: a sentence for each reason.
 use Rattle.std.specs.Prelude.{ℕ, List, [], ◌||◌, if◌then◌else◌, is_some, codes}
 use Rattle.octets.specs.Limits.{max_loops, max_name, max_segments, max_string, max_test_strings, max_variables}
-use Rattle.sieve_check.specs.Names.{command_named, is_word}
+use Rattle.octets.specs.Ascii.{is_word}
+use Rattle.sieve_check.specs.Names.{command_named}
 use Rattle.sieve_check.specs.declared.names.Capability.{Capability}
 use Rattle.sieve_check.specs.declared.names.Capability.TheVariants as capability
 use Rattle.sieve_check.specs.declared.names.Tag.{Tag}

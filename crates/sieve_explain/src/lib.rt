@@ -1,12 +1,16 @@
 //! Why a script is refused, in plain words for whoever wrote it.
 //!
-//! [`explain`] gives the refusal of a script and a text for it, [`listing_explanation`] a text for the fault of a program's listing: a
-//! line that names the script, the line and the column and says in a sentence what is wrong there, then the line of the script, and a
-//! mark under the place. Where the checker refuses a script, each command and test that it refuses is told so, up to
-//! [`MAX_REASONS`](sieve_check::MAX_REASONS). `specs/Explaining` says the text of each refusal, `specs/Faults`, `specs/Reasons` and
-//! `specs/Hints` are its sentences, `specs/Words` is which words are one letter off, `specs/Marks` what is looked for among the tokens,
-//! and `specs/Places` what lines and columns are. Octets of the script are escaped and cut by `specs/Shown`. `laws` says that a refusal
-//! has one text, which can be printed anywhere, whoever wrote the script.
+//! [`explain`] gives the refusal of a script and a text for it, [`listing_explanation`] a text for the
+//! fault of a program's listing: a line that names the script, the line and the column and says in a
+//! sentence what is wrong there, then the line of the script, and a mark under the place. Where the
+//! checker refuses a script, each command and test that it refuses is told so, up to
+//! [`MAX_REASONS`](sieve_check::MAX_REASONS).
+//!
+//! `specs/Explaining` says the text of each refusal, `specs/Faults`, `specs/Reasons` and `specs/Hints`
+//! are its sentences, `specs/Words` is which words are one letter off, `specs/Marks` what is looked for
+//! among the tokens, and `specs/Places` what lines and columns are. Octets of the script are escaped
+//! and cut by `specs/Shown`. `laws` says that a refusal has one text, which can be printed anywhere,
+//! whoever wrote the script.
 #![tactic(auto)]
 
 mod excerpt;

@@ -12,8 +12,7 @@ use crate::hints::{
 };
 use crate::marks::{has_unit, tokens_from};
 use crate::sentence::Sentence;
-use crate::words::is_word;
-use octets::MAX_STRING;
+use octets::{MAX_STRING, is_word};
 use sieve_check::{
     Capability, Ending, Fault, MAX_LOOPS, MAX_NAME, MAX_SEGMENTS, MAX_TEST_STRINGS, MAX_VARIABLES,
     Positional, Reason, ReasonKind, Refused, Tag, Tests, command_named,
@@ -53,9 +52,9 @@ fn positional_words(taken: Positional) -> &'static str
 fn no_test_words(name: &[u8]) -> &'static str
     ensures { result.now ≡ no_test_words name.now }
 {
-    if is_word(name, "else") {
+    if is_word(name, b"else") {
         "takes no test: is `elsif` meant, or its opening brace missing?"
-    } else if is_word(name, "foreverypart") {
+    } else if is_word(name, b"foreverypart") {
         "takes no test: is its opening brace missing?"
     } else if command_named(name).is_some() {
         "takes no test: is a semicolon missing at its end?"
@@ -144,9 +143,9 @@ fn reason_limit(kind: ReasonKind) -> u64
 fn place_text(name: &[u8]) -> &'static str
     ensures { result.now ≡ place_text name.now }
 {
-    if is_word(name, "require") {
+    if is_word(name, b"require") {
         "@ stands before all other commands, outside of blocks"
-    } else if is_word(name, "elsif") || is_word(name, "else") {
+    } else if is_word(name, b"elsif") || is_word(name, b"else") {
         "@ stands directly after an `if` or `elsif`"
     } else {
         "@ stands only inside of a `foreverypart`"

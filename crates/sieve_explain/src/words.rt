@@ -1,35 +1,21 @@
 // Tables of words, and words that are one letter off.
 ghost use Rattle.std.specs.Prelude.{◌≡◌, map};
 ghost use Rattle.std.specs.List.{list_any};
-ghost use Rattle.sieve_check.specs.Names.{is_word};
+ghost use Rattle.octets.specs.Ascii.{is_word};
 ghost use Rattle.sieve_explain.specs.Words.{begin_off, begin_swapped, differ_at, hint_of, is_near, nearest, texts_of, with_words, words_for};
 
 use crate::places::around;
-use octets::equal_ignoring_case;
+use octets::is_word;
 
 /// A row of a table: names, and the words for each of them.
 pub type Row = (&'static [&'static str], &'static str);
-
-// Whether the texts are the same but for the case of ASCII letters.
-fn is_same(a: &[u8], b: &[u8]) -> bool
-    ensures { result ≡ is_word a.now b.now }
-{
-    equal_ignoring_case(a, b)
-}
-
-// Whether the name is the word but for the case of ASCII letters.
-pub fn is_word(name: &[u8], word: &str) -> bool
-    ensures { result ≡ is_word name.now word.now }
-{
-    is_same(name, word.as_bytes())
-}
 
 // Whether the name is one of the words but for the case of ASCII letters.
 pub fn is_any(name: &[u8], words: &[&str]) -> bool
     ensures { result ≡ list_any (is_word name.now) (texts_of words.now) }
 {
     for word in words {
-        if is_word(name, word) {
+        if is_word(name, word.as_bytes()) {
             return true;
         }
     }
@@ -65,7 +51,7 @@ fn begin_swapped(a: &[u8], b: &[u8]) -> bool
     let (second_b, _) = around(behind_b, 1);
     let (_, rest_a) = around(a, 2);
     let (_, rest_b) = around(b, 2);
-    is_same(first_a, second_b) && is_same(second_a, first_b) && is_same(rest_a, rest_b)
+    is_word(first_a, second_b) && is_word(second_a, first_b) && is_word(rest_a, rest_b)
 }
 
 // Whether the first octet is another one, is missing, is one too many, or is swapped with the next, and all else is the same.
@@ -74,9 +60,9 @@ fn begin_off(a: &[u8], b: &[u8]) -> bool
 {
     let (_, behind_a) = around(a, 1);
     let (_, behind_b) = around(b, 1);
-    is_same(behind_a, behind_b)
-        || is_same(a, behind_b)
-        || is_same(behind_a, b)
+    is_word(behind_a, behind_b)
+        || is_word(a, behind_b)
+        || is_word(behind_a, b)
         || begin_swapped(a, b)
 }
 
@@ -86,7 +72,7 @@ fn differ_at(a: &[u8], b: &[u8], place: usize) -> bool
 {
     let (before_a, from_a) = around(a, place);
     let (before_b, from_b) = around(b, place);
-    is_same(before_a, before_b) && begin_off(from_a, from_b)
+    is_word(before_a, before_b) && begin_off(from_a, from_b)
 }
 
 // Whether the name is the word but for one letter, or but for the case of ASCII letters.

@@ -77,6 +77,17 @@ fn accepted(alloc: Global, program: Program) -> Result<Verified, Refusal> {
     }
 }
 
+// The program as it is read from its own octets.
+fn reread(alloc: Global, program: &Program) -> Result<Program, Refusal> {
+    Ok(Program::read(alloc, &program.write(alloc)?)?)
+}
+
+// The text of the program's budget, if it is accepted.
+fn budget_of(alloc: Global, program: Program) -> Result<String, Refusal> {
+    Ok(accepted(alloc, program)?.budget().to_string(alloc)?)
+}
+
+// Adds a program's budget; and before it a word, where the verifier says something else of the program as it is read from its octets.
 fn put_budget(
     alloc: Global,
     code: &[u8],
@@ -84,8 +95,17 @@ fn put_budget(
     answer: &mut Printed,
 ) -> Result<bool, Refusal> {
     let program = program(alloc, code, strings)?;
-    let verified = accepted(alloc, program)?;
-    answer.word(verified.budget().to_string(alloc)?.as_str())?;
+    let read = budget_of(alloc, reread(alloc, &program)?);
+    let built = budget_of(alloc, program);
+    let same = match (&built, &read) {
+        (Ok(built), Ok(read)) => built == read,
+        (Err(built), Err(read)) => built == read,
+        _ => false,
+    };
+    if !same {
+        answer.word("else as it is read")?;
+    }
+    answer.word(built?.as_str())?;
     Ok(true)
 }
 
@@ -136,6 +156,20 @@ fn put_actions_of(
     Ok(true)
 }
 
+// Whether the two came to the same.
+fn are_same(one: &Result<Report, Refusal>, other: &Result<Report, Refusal>) -> bool {
+    match (one, other) {
+        (Ok(one), Ok(other)) => {
+            one.outcome.actions == other.outcome.actions
+                && one.outcome.charged == other.outcome.charged
+                && one.limit == other.limit
+        }
+        (Err(one), Err(other)) => one == other,
+        _ => false,
+    }
+}
+
+// Adds what a program does, as it is read from its octets; and before it a word, where it does something else as it is built.
 fn put_run(
     alloc: Global,
     message: &[u8],
@@ -144,7 +178,12 @@ fn put_run(
     answer: &mut Printed,
 ) -> Result<bool, Refusal> {
     let program = program(alloc, code, strings)?;
-    put_execution(alloc, &program.write(alloc)?, message, answer)
+    let octets = program.write(alloc)?;
+    let built = report(alloc, program, message);
+    if !are_same(&built, &execute(alloc, &octets, message)) {
+        answer.word("else as it is built")?;
+    }
+    put_execution(alloc, &octets, message, answer)
 }
 
 fn put_execution(

@@ -7,4 +7,4 @@ use Rattle.sieve_check.proofs.forming.block_part.Goals as goal
 pub returns-in-WithTests : goal.returns-in-WithTests
 returns-in-WithTests c =
     let w = c.in-WithTests in
-    sym (no_block_part (context_of c.args.surroundings) c.args.invocation.now w.field-0 w.field-1 w.field-2 (commands_form c.args.body.items) w.is)
+    sym (no_block_part (context_of c.args.surroundings.now) c.args.invocation.now w.field-0 w.field-1 w.field-2 (commands_form c.args.body.items) w.is)

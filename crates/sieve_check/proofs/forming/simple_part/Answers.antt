@@ -5,7 +5,7 @@ use Rattle.sieve_check.proofs.forming.simple_part.Goals as goal
 
 pub returns-in-WithTest : goal.returns-in-WithTest
 returns-in-WithTest c =
-    let s = context_of c.args.surroundings in
+    let s = context_of c.args.surroundings.now in
     elim c.in-WithTest.is [
       | inl w ↦ sym (no_part_with_test s c.args.invocation.now w.0 w.1 w.2)
       | inr w ↦ sym (no_part_with_tests s c.args.invocation.now w.0 w.1 w.2 w.3)

@@ -15,7 +15,7 @@ use Rattle.sieve_check.proofs.rules.+commands.Goals as goal
 pub command-returns-in-Some : goal.command-returns-in-Some
 command-returns-in-Some t c =
     let b = c.in-Block in
-    let s = context_of c.args.surroundings in
+    let s = context_of c.args.surroundings.now in
     let i = invocation_tree b.first in
     let inside = context_of c.in-Some.inside in
     let body = commands_tree b.block.items in
@@ -28,7 +28,7 @@ command-returns-in-Some t c =
 pub command-returns-in_default : goal.command-returns-in_default
 command-returns-in_default t c =
     let b = c.in-Block in
-    let s = context_of c.args.surroundings in
+    let s = context_of c.args.surroundings.now in
     let i = invocation_tree b.first in
     let body = commands_tree b.block.items in
     let visits : command_visits s (command_tree c.args.tree.now) ≡ head_visits s i Block =
@@ -43,7 +43,7 @@ commands-trees-preserved t c =
     let i = c.trees.tree-index in
     let x = command_tree c.tree-item.result in
     let rest = commands_tree (drop (i + 1) c.args.trees.now) in
-    let all = commands_visits (context_of c.args.surroundings) (commands_tree c.args.trees.now) in
+    let all = commands_visits (context_of c.args.surroundings.now) (commands_tree c.args.trees.now) in
     subst (λ (around : Context). AreLeft c.command.new.findings (commands_visits around rest) c.args.findings.now all) (sym c.after-around.ensures)
     (fewer_left c.trees.findings c.command.new.findings c.args.findings.now (commands_visits s (commands_tree (drop i c.args.trees.now))) (command_visits s x) (commands_visits (after_invocation s (invocation_of x)) rest) all
     (next_visits s c.args.trees.now i c.tree-item.result c.trees-test.true c.tree-item.is) c.command.ensures c.trees.invariant)
@@ -51,5 +51,5 @@ commands-trees-preserved t c =
 pub commands-returns : goal.commands-returns
 commands-returns t c =
     let s = context_of c.trees.around in
-    none_left c.trees.findings c.args.findings.now (commands_visits s (commands_tree (drop c.trees.tree-index c.args.trees.now))) (commands_visits (context_of c.args.surroundings) (commands_tree c.args.trees.now))
+    none_left c.trees.findings c.args.findings.now (commands_visits s (commands_tree (drop c.trees.tree-index c.args.trees.now))) (commands_visits (context_of c.args.surroundings.now) (commands_tree c.args.trees.now))
     (ap (λ xs. commands_visits s (commands_tree xs)) (drop_all c.trees.tree-index c.args.trees.now c.trees-test.false)) c.trees.invariant

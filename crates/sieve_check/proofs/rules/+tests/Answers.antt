@@ -13,12 +13,12 @@ use Rattle.sieve_check.proofs.rules.+tests.Goals as goal
 pub invocation-returns-in-Plain : goal.invocation-returns-in-Plain
 invocation-returns-in-Plain t c =
     subst (λ (visits : List Visit). AreVisited c.args.findings.now visits c.visit.new.findings)
-    (sym (nothing_inside c.args.ending (context_of c.args.surroundings) c.args.tree.now c.in-Plain.head c.in-Plain.is)) c.visit.ensures.visited
+    (sym (nothing_inside c.args.ending (context_of c.args.surroundings.now) c.args.tree.now c.in-Plain.head c.in-Plain.is)) c.visit.ensures.visited
 
 pub invocation-returns-then-visit : goal.invocation-returns-then-visit
 invocation-returns-then-visit t c =
     let w = c.in-WithTest in
-    let s = context_of c.args.surroundings in
+    let s = context_of c.args.surroundings.now in
     let all = visits_as c.args.ending s (invocation_tree c.args.tree.now) in
     let own = visit_as c.args.ending s w.head.token w.head.name (arguments_of w.head) One in
     let inner = test_visits s (invocation_tree w.inner.value) in
@@ -29,7 +29,7 @@ invocation-returns-then-visit t c =
 pub invocation-returns-else-visit : goal.invocation-returns-else-visit
 invocation-returns-else-visit t c =
     let w = c.in-WithTest in
-    let s = context_of c.args.surroundings in
+    let s = context_of c.args.surroundings.now in
     let all = visits_as c.args.ending s (invocation_tree c.args.tree.now) in
     let own = visit_as c.args.ending s w.head.token w.head.name (arguments_of w.head) One in
     let inner = test_visits s (invocation_tree w.inner.value) in
@@ -39,7 +39,7 @@ invocation-returns-else-visit t c =
 pub invocation-returns-then-visit-2 : goal.invocation-returns-then-visit-2
 invocation-returns-then-visit-2 t c =
     let w = c.in-WithTests in
-    let s = context_of c.args.surroundings in
+    let s = context_of c.args.surroundings.now in
     let after = c.visit-in-WithTests.new.findings in
     let between = c.invocation-then-visit-2.new.findings in
     let all = visits_as c.args.ending s (invocation_tree c.args.tree.now) in
@@ -55,7 +55,7 @@ invocation-returns-then-visit-2 t c =
 pub invocation-returns-else-visit-2 : goal.invocation-returns-else-visit-2
 invocation-returns-else-visit-2 t c =
     let w = c.in-WithTests in
-    let s = context_of c.args.surroundings in
+    let s = context_of c.args.surroundings.now in
     let all = visits_as c.args.ending s (invocation_tree c.args.tree.now) in
     let own = visit_as c.args.ending s w.head.token w.head.name (arguments_of w.head) Bracketed in
     let inner = test_visits s (invocation_tree w.first.value) ++ more_visits s (others_of w.others.items) in
@@ -64,13 +64,13 @@ invocation-returns-else-visit-2 t c =
 
 pub tests-list-preserved : goal.tests-list-preserved
 tests-list-preserved t c =
-    let s = context_of c.args.surroundings in
+    let s = context_of c.args.surroundings.now in
     let i = c.list.tree-index in
     fewer_left c.list.findings c.invocation.new.findings c.args.findings.now (more_visits s (others_of (drop i c.args.list.now))) (test_visits s (invocation_tree c.tree-item.result)) (more_visits s (others_of (drop (i + 1) c.args.list.now)))
     (more_visits s (others_of c.args.list.now)) (rest_visits s c.args.list.now i c.tree-item.result c.list-test.true c.tree-item.is) c.invocation.ensures c.list.invariant
 
 pub tests-returns : goal.tests-returns
 tests-returns t c =
-    let s = context_of c.args.surroundings in
+    let s = context_of c.args.surroundings.now in
     none_left c.list.findings c.args.findings.now (more_visits s (others_of (drop c.list.tree-index c.args.list.now))) (more_visits s (others_of c.args.list.now))
     (ap (λ xs. more_visits s (others_of xs)) (drop_all c.list.tree-index c.args.list.now c.list-test.false)) c.list.invariant

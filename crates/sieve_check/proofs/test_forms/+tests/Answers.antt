@@ -15,25 +15,25 @@ use Rattle.sieve_check.proofs.test_forms.+tests.Goals as goal
 
 pub tests-list-preserved : goal.tests-list-preserved
 tests-list-preserved t c =
-    rw c.in_ok-push.ensures.items (tests_more (context_of c.args.surroundings) c.args.list.now c.list.invocation-index c.invocation-item.result c.list-test.true c.invocation-item.is c.list.tests.items c.in-Some.test (sym c.in_ok-test.ensures ∙ ap (option_map test_form) c.in-Some.is) ∙ c.list.invariant)
+    rw c.in_ok-push.ensures.items (tests_more (context_of c.args.surroundings.now) c.args.list.now c.list.invocation-index c.invocation-item.result c.list-test.true c.invocation-item.is c.list.tests.items c.in-Some.test (sym c.in_ok-test.ensures ∙ ap (option_map test_form) c.in-Some.is) ∙ c.list.invariant)
 
 pub tests-returns : goal.tests-returns
 tests-returns t c =
     ap Some (sym (onto_nothing (map test_form c.list.tests.items)))
-    ∙ sym (ap (λ xs. option_map (tests_onto (map test_form c.list.tests.items)) (more_forms_of (context_of c.args.surroundings) (others_of xs))) (drop_all c.list.invocation-index c.args.list.now c.list-test.false))
+    ∙ sym (ap (λ xs. option_map (tests_onto (map test_form c.list.tests.items)) (more_forms_of (context_of c.args.surroundings.now) (others_of xs))) (drop_all c.list.invocation-index c.args.list.now c.list-test.false))
     ∙ c.list.invariant
 
 pub test-returns-in_ok-inner-in-WithTest : goal.test-returns-in_ok-inner-in-WithTest
 test-returns-in_ok-inner-in-WithTest t c =
     let w = c.in-WithTest in
-    let s = context_of c.args.surroundings in
+    let s = context_of c.args.surroundings.now in
     let formed = sym (c.in_ok-inner-in-WithTest.ensures ∙ ap (λ x. test_form_of s (invocation_tree x)) c.deref.ensures) in
     IfOk-weaker c.negated.result _ _ (λ t' h. h s ∙ sym (form_with_test s c.args.invocation.now w.head w.inner (option_map test_form c.in_ok-inner-in-WithTest.inner) formed w.is)) c.negated.ensures
 
 pub test-returns-in_ok-others-in-WithTests : goal.test-returns-in_ok-others-in-WithTests
 test-returns-in_ok-others-in-WithTests t c =
     let w = c.in-WithTests in
-    let s = context_of c.args.surroundings in
+    let s = context_of c.args.surroundings.now in
     let first = sym (c.in_ok-first-in-WithTests.ensures ∙ ap (λ x. test_form_of s (invocation_tree x)) c.deref-in-WithTests.ensures) in
     let others = sym (c.in_ok-others-in-WithTests.ensures ∙ ap (λ xs. more_forms_of s (others_of xs)) c.deref-in-WithTests-2.ensures.value) in
     IfOk-weaker c.combined.result _ _

@@ -1,6 +1,6 @@
 use Rattle.std.proofs.Common.{◌≡◌, drop}
 use Rattle.std.specs.List.{list_any}
-use Rattle.sieve_check.specs.Names.{is_word}
+use Rattle.octets.specs.Ascii.{is_word}
 use Rattle.sieve_explain.specs.Words.{texts_of}
 use Rattle.sieve_explain.proofs.words.is_any.Given as goal
 
