@@ -14,10 +14,10 @@ use Rattle.sieve_check.specs.declared.sequence.Part.{Part}
 use Rattle.sieve_check.specs.declared.sequence.Sequence.{Sequence}
 use Rattle.sieve_check.specs.declared.typed.Test.{Test}
 use Rattle.sieve_check.specs.FormOf.{InnerForms, one, bracketed, PartForm, simple_of, simple_part, block_of, block_part, Forms, put, test_form_of, more_forms_of, part_of, forms_of}
-use Rattle.sieve_check.specs.Forming.{head_block, head_simple, head_test, test_with_list, test_with_one}
+use Rattle.sieve_check.specs.Forming.{head_block, head_simple, head_test}
 use Rattle.sieve_check.specs.Names.{command_named}
 use Rattle.sieve_check.specs.Rules.{after_invocation, arguments_of, invocation_of}
-use Rattle.sieve_check.specs.Sequences.{part_form, finished_by, Pushed}
+use Rattle.sieve_check.specs.Sequences.{part_form, finished_by, Pushed, Unfit}
 use Rattle.sieve_check.specs.Signatures.{◌>>=◌, Read, reading, command_signature}
 use Rattle.sieve_check.specs.Surroundings.{Context}
 use Rattle.sieve_check.specs.Typed.{TestForm, TestForms, test, CommandForms}
@@ -26,17 +26,14 @@ use Rattle.sieve_check.proofs.TestLists.{tests_onto, onto-append}
 use Rattle.sieve_check.proofs.FromIndex.{others_of, split_at}
 use Rattle.sieve_check.proofs.Options.{step_none}
 
--- a test with the tests behind it, which have these forms, if they have any
-module _ (s : Context) (i : Invocation) (h : Head) (t : Box Invocation) (first : Option TestForm) (formed : test_form_of s (invocation_tree t.value) ≡ first) where
-  pub form_with_test : i ≡ WithTest h t → test_form_of s (invocation_tree i) ≡ test_with_one s h first
-  form_with_test is = ap (test_form_of s) (ap invocation_tree is ∙ tree_test h t) ∙ ap (λ o. option_map one o >>= λ inner. head_test s h inner) formed
+-- a test with the tests behind it
+module _ (s : Context) (i : Invocation) (h : Head) (t : Box Invocation) where
+  pub form_with_test : i ≡ WithTest h t → test_form_of s (invocation_tree i) ≡ (option_map one (test_form_of s (invocation_tree t.value)) >>= λ inner. head_test s h inner)
+  form_with_test is = ap (test_form_of s) (ap invocation_tree is ∙ tree_test h t)
 
-  pub form_with_tests : (ts : Vec Invocation) (others : Option TestForms) → more_forms_of s (others_of ts.items) ≡ others → i ≡ WithTests h t ts
-      → test_form_of s (invocation_tree i) ≡ test_with_list s h first others
-  form_with_tests ts others formed_others is =
-      ap (test_form_of s) (ap invocation_tree is ∙ tree_tests h t ts)
-      ∙ ap (λ o. (o >>= λ f. option_map (bracketed f) (more_forms_of s (others_of ts.items))) >>= λ inner. head_test s h inner) formed
-      ∙ ap (λ o. (first >>= λ f. option_map (bracketed f) o) >>= λ inner. head_test s h inner) formed_others
+  pub form_with_tests : (ts : Vec Invocation) → i ≡ WithTests h t ts
+      → test_form_of s (invocation_tree i) ≡ ((test_form_of s (invocation_tree t.value) >>= λ f. option_map (bracketed f) (more_forms_of s (others_of ts.items))) >>= λ inner. head_test s h inner)
+  form_with_tests ts is = ap (test_form_of s) (ap invocation_tree is ∙ tree_tests h t ts)
 
 -- one more test of a list
 module _ (s : Context) (list : List Invocation) (i : ℕ) (x : Invocation) (lt : i < length list) (is : x ≡ get_or list i x) (done : List Test) (t : Test) (formed : test_form_of s (invocation_tree x) ≡ Some (test_form t)) where
@@ -99,18 +96,18 @@ module _ (s : Context) (list : List Tree) (i : ℕ) (x : Tree) (lt : i < length 
   here = ap (λ xs. forms_of s (commands_tree xs) >>= finished_by old) (split_at list i x lt is)
 
   module _ (part : Part) (formed : part_of s (command_tree x) ≡ Some (part_form part)) (new : Sequence) where
-    added : Pushed old part true new → (o : Option Forms) → ((o >>= λ rest. put (part_form part) rest) >>= finished_by old) ≡ (o >>= finished_by new)
+    added : Pushed old part new → (o : Option Forms) → ((o >>= λ rest. put (part_form part) rest) >>= finished_by old) ≡ (o >>= finished_by new)
     added pushed None = refl
     added pushed (Some rest) = pushed rest
 
-    refused : Pushed old part false new → (o : Option Forms) → ((o >>= λ rest. put (part_form part) rest) >>= finished_by old) ≡ None
+    refused : Unfit old part → (o : Option Forms) → ((o >>= λ rest. put (part_form part) rest) >>= finished_by old) ≡ None
     refused pushed None = refl
     refused pushed (Some rest) = pushed rest
 
-    pub part_added : Pushed old part true new → (later >>= finished_by new) ≡ (forms_of s (commands_tree (drop i list)) >>= finished_by old)
+    pub part_added : Pushed old part new → (later >>= finished_by new) ≡ (forms_of s (commands_tree (drop i list)) >>= finished_by old)
     part_added pushed = sym (here ∙ ap (λ p. (later >>= λ rest. p >>= λ part. put part rest) >>= finished_by old) formed ∙ added pushed later)
 
-    pub part_refused : Pushed old part false new → (forms_of s (commands_tree (drop i list)) >>= finished_by old) ≡ None
+    pub part_refused : Unfit old part → (forms_of s (commands_tree (drop i list)) >>= finished_by old) ≡ None
     part_refused pushed = here ∙ ap (λ p. (later >>= λ rest. p >>= λ part. put part rest) >>= finished_by old) formed ∙ refused pushed later
 
   pub part_missing : part_of s (command_tree x) ≡ None → (forms_of s (commands_tree (drop i list)) >>= finished_by old) ≡ None

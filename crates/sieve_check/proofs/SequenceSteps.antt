@@ -10,7 +10,7 @@ use Rattle.sieve_check.specs.declared.typed.Command.TheVariants.{If}
 use Rattle.sieve_check.specs.declared.sequence.Part.TheVariants.{Nothing, Action, First, Next, Last}
 use Rattle.sieve_check.specs.FormOf.{Forms, after_none, closed as closed_forms}
 use Rattle.sieve_check.specs.Signatures.{◌>>=◌}
-use Rattle.sieve_check.specs.Sequences.{onto, choice_onto, joined, has_branch, is_open, finished_by, Closed, Pushed}
+use Rattle.sieve_check.specs.Sequences.{onto, choice_onto, joined, has_branch, is_open, finished_by, Closed, Pushed, Unfit}
 use Rattle.sieve_check.specs.Typed.{CommandForm, choice, CommandForms, no_command, command, BranchForms, no_branch, otherwise, branch}
 use Rattle.sieve_check.specs.TypedView.{GuardedForm, test_form, branch_form, command_form, commands_of, commands_form, branch_forms, else_form}
 use Rattle.sieve_check.proofs.Forms.{form_if, form_branch}
@@ -85,11 +85,11 @@ module _ (old new : Sequence) (add : CommandForms → CommandForms) (none : new.
   pub added : (rest : Forms) → (option_map (λ cs. after_none (add cs)) (closed_forms rest) >>= finished_by old) ≡ finished_by new rest
   added rest = added_to (closed_forms rest) ∙ sym (shut new none rest)
 
-pub nothing_added : (old new : Sequence) → Closed old no_branch new → Pushed old Nothing true new
+pub nothing_added : (old new : Sequence) → Closed old no_branch new → Pushed old Nothing new
 nothing_added old new is rest = added old new (λ cs. cs) is.none is.same rest
 
 pub action_added : (old shut_one new : Sequence) (c : Command) → Closed old no_branch shut_one → new.commands.items ≡ shut_one.commands.items ++ c ∷ [] → new.branches.items ≡ shut_one.branches.items
-    → Pushed old (Action c) true new
+    → Pushed old (Action c) new
 action_added old shut_one new c is more same rest = added old new (λ cs. command (command_form c) cs) (same ∙ is.none)
     (λ others. ap (λ cs. onto (map command_form cs) (choice_onto new.branches.items no_branch others)) more
     ∙ ap (λ bs. onto (map command_form (shut_one.commands.items ++ c ∷ [])) (choice_onto bs no_branch others)) (same ∙ is.none)
@@ -100,7 +100,7 @@ action_added old shut_one new c is more same rest = added old new (λ cs. comman
 
 -- the first branch of a choice
 pub first_added : (old shut_one new : Sequence) (b : Branch) → Closed old no_branch shut_one → new.commands.items ≡ shut_one.commands.items → new.branches.items ≡ shut_one.branches.items ++ b ∷ []
-    → Pushed old (First b) true new
+    → Pushed old (First b) new
 first_added old shut_one new b is same more rest =
     let cs = command (choice (branch (test_form b.test) (commands_form b.block.items) rest.branches)) rest.commands in
     let alone : new.branches.items ≡ b ∷ [] = more ∙ ap (λ bs. bs ++ b ∷ []) is.none in
@@ -113,7 +113,7 @@ first_added old shut_one new b is same more rest =
     ∙ sym (wide new (ap has_branch alone) rest)
 
 -- a branch after another
-pub next_added : (old new : Sequence) (b : Branch) → new.commands ≡ old.commands → new.branches.items ≡ old.branches.items ++ b ∷ [] → is_open old ≡ true → Pushed old (Next b) true new
+pub next_added : (old new : Sequence) (b : Branch) → new.commands ≡ old.commands → new.branches.items ≡ old.branches.items ++ b ∷ [] → is_open old ≡ true → Pushed old (Next b) new
 next_added old new b same more open_before rest =
     wide old open_before (record { branches = branch (test_form b.test) (commands_form b.block.items) rest.branches; commands = rest.commands })
     ∙ ap Some (sym (
@@ -124,18 +124,18 @@ next_added old new b same more open_before rest =
     ∙ sym (wide new (ap has_branch more ∙ still_open old.branches.items b) rest)
 
 -- the last branch of a choice
-pub last_added : (old new : Sequence) (block : Vec Command) → Closed old (otherwise (commands_form block.items)) new → is_open old ≡ true → Pushed old (Last block) true new
+pub last_added : (old new : Sequence) (block : Vec Command) → Closed old (otherwise (commands_form block.items)) new → is_open old ≡ true → Pushed old (Last block) new
 last_added old new block is open_before rest = with (closed_forms rest) ∙ sym (shut new is.none rest) where
   with : (o : Option CommandForms) → (option_map (λ cs. let r : Forms = record { branches = otherwise (commands_form block.items); commands = cs } in r) o >>= finished_by old) ≡ option_map (λ others. joined new no_branch others) o
   with None = refl
   with (Some cs) = wide old open_before (record { branches = otherwise (commands_form block.items); commands = cs }) ∙ ap Some (sym (is.same cs))
 
 -- where no choice is open no branch can be added
-pub no_next : (old new : Sequence) (b : Branch) → old.branches.items ≡ [] → Pushed old (Next b) false new
-no_next old new b none rest = shut old none (record { branches = branch (test_form b.test) (commands_form b.block.items) rest.branches; commands = rest.commands })
+pub no_next : (old : Sequence) (b : Branch) → old.branches.items ≡ [] → Unfit old (Next b)
+no_next old b none rest = shut old none (record { branches = branch (test_form b.test) (commands_form b.block.items) rest.branches; commands = rest.commands })
 
-pub no_last : (old new : Sequence) (block : Vec Command) → old.branches.items ≡ [] → Pushed old (Last block) false new
-no_last old new block none rest = with (closed_forms rest) where
+pub no_last : (old : Sequence) (block : Vec Command) → old.branches.items ≡ [] → Unfit old (Last block)
+no_last old block none rest = with (closed_forms rest) where
   with : (o : Option CommandForms) → (option_map (λ cs. let r : Forms = record { branches = otherwise (commands_form block.items); commands = cs } in r) o >>= finished_by old) ≡ None
   with None = refl
   with (Some cs) = shut old none (record { branches = otherwise (commands_form block.items); commands = cs })

@@ -1,7 +1,9 @@
 -- What the functions answer that make the typed form.
-use Rattle.std.specs.Prelude.{◌≡◌, Option, None, option_map, MatchOption}
+use Rattle.std.specs.Prelude.{◌≡◌, Option, Some, None, option_map, MatchOption, Result, MatchResult}
 use Rattle.sieve_parser.specs.Tree.{CommandsTree}
 use Rattle.sieve_parser.specs.declared.tree.Head.{Head}
+use Rattle.sieve_check.specs.declared.form_error.FormError.{FormError}
+use Rattle.sieve_check.specs.declared.form_error.FormError.TheVariants.{Malformed}
 use Rattle.sieve_check.specs.declared.names.CommandName.{CommandName}
 use Rattle.sieve_check.specs.declared.names.TestName.{TestName}
 use Rattle.sieve_check.specs.declared.signature.Reading.{Reading}
@@ -13,18 +15,14 @@ use Rattle.sieve_check.specs.FormOf.{InnerForms, one, bracketed, test_of, PartFo
 use Rattle.sieve_check.specs.Surroundings.{Context}
 use Rattle.sieve_check.specs.Typed.{TestForm, TestForms, CommandForms}
 
+-- the form of what was read, if it has one; nothing is said where memory was refused
+abbrev pub Formed : {A : Type 0} {B : Type 0} → (A → B) → Option B → Result A FormError → Type 0
+Formed form_of form result = MatchResult result (λ made. form ≡ Some (form_of made)) (λ e. e ≡ Malformed → form ≡ None)
+
 -- the test of a head, with the tests behind it
 abbrev pub head_test : Context → Head → InnerForms → Option TestForm
 head_test s head inner = test_named head.name >>= λ name. reading (test_signature name)
     (arguments_of head) >>= λ read. test_of s name read inner
-
--- the same, with one test behind it, and with tests in round brackets, if these have forms
-abbrev pub test_with_one : Context → Head → Option TestForm → Option TestForm
-test_with_one s head inner = option_map one inner >>= λ inner. head_test s head inner
-
-abbrev pub test_with_list : Context → Head → Option TestForm → Option TestForms → Option TestForm
-test_with_list s head leading others = (leading >>= λ f. option_map
-    (bracketed f) others) >>= λ inner. head_test s head inner
 
 -- the command of a head, which ends in a semicolon, and which ends in a block
 abbrev pub head_simple : Context → Head → InnerForms → Option PartForm

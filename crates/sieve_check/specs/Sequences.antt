@@ -48,7 +48,10 @@ pub record Closed (old : Sequence) (last : BranchForms) (new : Sequence) : Type 
   pub none : new.branches.items ≡ []
   pub same : (others : CommandForms) → joined new no_branch others ≡ joined old last others
 
--- what a command adds was added, or it can't be
-abbrev pub Pushed : Sequence → Part → Bool → Sequence → Type 0
-Pushed old part true new = (rest : Forms) → (put (part_form part) rest >>= finished_by old) ≡ finished_by new rest
-Pushed old part false new = (rest : Forms) → (put (part_form part) rest >>= finished_by old) ≡ None
+-- what a command adds was added
+abbrev pub Pushed : Sequence → Part → Sequence → Type 0
+Pushed old part new = (rest : Forms) → (put (part_form part) rest >>= finished_by old) ≡ finished_by new rest
+
+-- what a command adds can't be added
+abbrev pub Unfit : Sequence → Part → Type 0
+Unfit old part = (rest : Forms) → (put (part_form part) rest >>= finished_by old) ≡ None

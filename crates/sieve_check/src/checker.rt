@@ -11,6 +11,7 @@ use crate::causes::Refused;
 use crate::checked::Checked;
 use crate::error::CheckError;
 use crate::findings::MAX_REASONS;
+use crate::form_error::FormError;
 use crate::{forming, rules};
 use arrayvec::ArrayVec;
 use sieve_parser::Script;
@@ -59,8 +60,9 @@ pub fn check(alloc: Global, script: Script) -> Result<Checked, CheckError>
     if let Some(refused) = reasons_of(&script).first() {
         return Err(refused.refusal());
     }
-    match forming::form_of(alloc, script.commands())? {
-        Some(commands) => Ok(Checked::of(script, commands)),
-        None => unreachable!(),
+    match forming::form_of(alloc, script.commands()) {
+        Ok(commands) => Ok(Checked::of(script, commands)),
+        Err(FormError::Memory) => Err(CheckError::Memory),
+        Err(FormError::Malformed) => unreachable!(),
     }
 }

@@ -21,6 +21,7 @@ mod checked;
 mod checker;
 mod error;
 mod findings;
+mod form_error;
 mod forming;
 pub mod laws;
 mod loops;

@@ -1,14 +1,15 @@
 // The strings of the typed form: those of a script, cut into what stands in them.
-ghost use Rattle.std.specs.Prelude.{◌≡◌, ◌∷◌, List, IfOk, flat_map, map, option_map};
-ghost use Rattle.std.specs.Option.{option_to_list};
+ghost use Rattle.std.specs.Prelude.{◌≡◌, [], ◌∷◌, ◌++◌, List, IfOk, OnOk, flat_map, map};
 ghost use Rattle.sieve_references.specs.References.{segments};
 ghost use Rattle.sieve_references.specs.SegmentView.{segment_of};
 ghost use Rattle.sieve_parser.specs.View.{argument_tree};
 ghost use Rattle.sieve_check.specs.FormOf.{list_in, meant, of_list, of_lists, template_of};
+ghost use Rattle.sieve_check.specs.Forming.{Formed};
 ghost use Rattle.sieve_check.specs.Refusing.{context_of};
 ghost use Rattle.sieve_check.specs.Typed.{Template, TestForm};
 ghost use Rattle.sieve_check.specs.TypedView.{templates_of};
 
+use crate::form_error::FormError;
 use crate::names::Capability;
 use crate::surroundings::Surroundings;
 use crate::typed::Segment;
@@ -17,19 +18,18 @@ use sieve_parser::Argument;
 use sieve_references::{Segment as Piece, first_segment};
 use std::alloc::{AllocError, Global};
 
-// The piece as it is meant; nothing for a wrong reference, with which no script is accepted.
-fn meant(alloc: Global, piece: Piece<'_>) -> Result<Option<Segment>, AllocError>
-    ensures { IfOk result (λ segment. option_to_list segment ≡ meant (segment_of piece.entry)) }
+// Appends the piece as it is meant; nothing for a wrong reference, with which no script is accepted.
+fn push_meant(alloc: Global, all: &mut Vec<Segment>, piece: Piece<'_>) -> Result<(), AllocError>
+    ensures { OnOk result (all.new.items ≡ all.old.items ++ meant (segment_of piece.entry)) }
 {
-    match piece {
-        Piece::Text(octets) => {
-            let octets = Octets::from_vec(Vec::from_slice(alloc, octets)?);
-            Ok(Some(Segment::Text(octets)))
-        }
-        Piece::Variable(name) => Ok(Some(Segment::Variable(to_lowercase(alloc, name)?))),
-        Piece::Capture(number) => Ok(Some(Segment::Capture(number))),
-        Piece::Beyond | Piece::Foreign => Ok(None),
-    }
+    let segment = match piece {
+        Piece::Text(octets) => Segment::Text(Octets::from_vec(Vec::from_slice(alloc, octets)?)),
+        Piece::Variable(name) => Segment::Variable(to_lowercase(alloc, name)?),
+        Piece::Capture(number) => Segment::Capture(number),
+        Piece::Beyond | Piece::Foreign => return Ok(()),
+    };
+    all.push(segment)?;
+    Ok(())
 }
 
 // The string with the references in it.
@@ -39,9 +39,7 @@ fn expanded(alloc: Global, string: &[u8]) -> Result<Vec<Segment>, AllocError>
     let mut all = Vec::with_capacity(alloc, 1)?;
     let mut rest = string;
     'pieces: while let Some((piece, after)) = first_segment(rest) {
-        if let Some(segment) = meant(alloc, piece)? {
-            all.push(segment)?;
-        }
+        push_meant(alloc, &mut all, piece)?;
         rest = after;
     }
     Ok(all)
@@ -65,6 +63,21 @@ pub fn template(
     Ok(all)
 }
 
+// Appends the string as it is meant.
+fn push_template(
+    alloc: Global,
+    all: &mut Vec<Vec<Segment>>,
+    surroundings: &Surroundings<'_>,
+    string: &Octets,
+) -> Result<(), AllocError>
+    ensures { OnOk result (templates_of all.new.items ≡ templates_of all.old.items
+        ++ template_of (context_of surroundings.now) string.now ∷ []) }
+{
+    let template = template(alloc, surroundings, string)?;
+    all.push(template)?;
+    Ok(())
+}
+
 // The strings, as they are meant.
 fn templates(
     alloc: Global,
@@ -76,69 +89,59 @@ fn templates(
         ≡ map (template_of (context_of surroundings.now)) (first.now ∷ others.now)) }
 {
     let mut all = Vec::with_capacity(alloc, others.len() + 1)?;
-    all.push(template(alloc, surroundings, first)?)?;
+    push_template(alloc, &mut all, surroundings, first)?;
     for string in others {
-        all.push(template(alloc, surroundings, string)?)?;
+        push_template(alloc, &mut all, surroundings, string)?;
     }
     Ok(all)
 }
 
-/// The strings of a list, as they are meant; one string is a list, too. Nothing for what is no list. An error comes
-/// only where memory was refused.
+/// The strings of a list, as they are meant; one string is a list, too. What is no list has no form.
 pub fn list_in(
     alloc: Global,
     surroundings: &Surroundings<'_>,
     argument: &Argument,
-) -> Result<Option<Vec<Vec<Segment>>>, AllocError>
-    ensures { IfOk result (λ list. option_map (λ all. templates_of all.items) list
-        ≡ list_in (context_of surroundings.now) (argument_tree argument.now)) }
+) -> Result<Vec<Vec<Segment>>, FormError>
+    ensures { Formed (λ list. templates_of list.items)
+        (list_in (context_of surroundings.now) (argument_tree argument.now)) result }
 {
     match argument {
-        Argument::Text(string) => Ok(Some(templates(alloc, surroundings, string, &[])?)),
-        Argument::TextList(first, others) => {
-            Ok(Some(templates(alloc, surroundings, first, others)?))
-        }
-        Argument::Number(_) | Argument::Tag(_) => Ok(None),
+        Argument::Text(string) => Ok(templates(alloc, surroundings, string, &[])?),
+        Argument::TextList(first, others) => Ok(templates(alloc, surroundings, first, others)?),
+        Argument::Number(_) | Argument::Tag(_) => Err(FormError::Malformed),
     }
 }
 
-/// The one list that the arguments are. Nothing where they are something else. An error comes only where memory was
-/// refused.
+/// The one list that the arguments are.
 pub fn only_list_in(
     alloc: Global,
     surroundings: &Surroundings<'_>,
     arguments: &[Argument],
-) -> Result<Option<Vec<Vec<Segment>>>, AllocError>
-    ensures { IfOk result (λ list. (make : List Template → TestForm)
-        → option_map (λ all. make (templates_of all.items)) list
-        ≡ of_list (context_of surroundings.now) make (map argument_tree arguments.now)) }
+) -> Result<Vec<Vec<Segment>>, FormError>
+    ensures { (make : List Template → TestForm)
+        → Formed (λ list. make (templates_of list.items))
+        (of_list (context_of surroundings.now) make (map argument_tree arguments.now)) result }
 {
     match arguments {
         [list] => list_in(alloc, surroundings, list),
-        _ => Ok(None),
+        _ => Err(FormError::Malformed),
     }
 }
 
-/// The two lists that the arguments are. Nothing where they are something else. An error comes only where memory was
-/// refused.
+/// The two lists that the arguments are.
 pub fn lists_in(
     alloc: Global,
     surroundings: &Surroundings<'_>,
     arguments: &[Argument],
-) -> Result<Option<(Vec<Vec<Segment>>, Vec<Vec<Segment>>)>, AllocError>
-    ensures { IfOk result (λ lists. (make : List Template → List Template → TestForm)
-        → option_map (λ both. make (templates_of both.0.items) (templates_of both.1.items))
-        lists ≡ of_lists (context_of surroundings.now) make
-        (map argument_tree arguments.now)) }
+) -> Result<(Vec<Vec<Segment>>, Vec<Vec<Segment>>), FormError>
+    ensures { (make : List Template → List Template → TestForm)
+        → Formed (λ lists. make (templates_of lists.0.items) (templates_of lists.1.items))
+        (of_lists (context_of surroundings.now) make (map argument_tree arguments.now)) result }
 {
     let [first, second] = arguments else {
-        return Ok(None);
+        return Err(FormError::Malformed);
     };
-    let Some(first) = list_in(alloc, surroundings, first)? else {
-        return Ok(None);
-    };
-    match list_in(alloc, surroundings, second)? {
-        Some(second) => Ok(Some((first, second))),
-        None => Ok(None),
-    }
+    let first = list_in(alloc, surroundings, first)?;
+    let second = list_in(alloc, surroundings, second)?;
+    Ok((first, second))
 }

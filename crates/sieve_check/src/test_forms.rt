@@ -1,33 +1,25 @@
-// The typed form of tests. Nothing is answered where one isn't written as it has to be.
-ghost use Rattle.std.specs.Prelude.{◌≡◌, IfOk, map, option_map, Some, None, if◌then◌else◌};
+// The typed form of tests.
+ghost use Rattle.std.specs.Prelude.{◌≡◌, ℕ, map};
+ghost use Rattle.sieve_check.specs.declared.typed.Order.{Order};
 ghost use Rattle.sieve_parser.specs.View.{argument_tree, invocation_tree, more_tests_of};
-ghost use Rattle.sieve_check.specs.FormOf.{none, one, bracketed, header_of, match_of, more_forms_of, number_in, of_list, of_lists, params_in, scope_of, selected_by, size_of, test_form_of};
-ghost use Rattle.sieve_check.specs.Forming.{IsTestRead, head_test, test_with_list, test_with_one};
+ghost use Rattle.sieve_check.specs.FormOf.{none, one, bracketed, header_of, match_of, more_forms_of, of_list, of_lists, params_in, scope_of, selected_by, size_of, test_form_of};
+ghost use Rattle.sieve_check.specs.Forming.{Formed, IsTestRead, head_test};
 ghost use Rattle.sieve_check.specs.Reading.{read_of};
 ghost use Rattle.sieve_check.specs.Refusing.{context_of};
 ghost use Rattle.sieve_check.specs.Surroundings.{Context};
 ghost use Rattle.sieve_check.specs.Typed.{TestForm, TestForms, exists, negation, part_body, part_digest, part_size, size, string};
 ghost use Rattle.sieve_check.specs.TypedView.{selected_form, templates_of, test_form, tests_of};
 
+use crate::form_error::FormError;
 use crate::names::{TestName, test_named};
 use crate::signature::{Reading, Tags, test_signature};
 use crate::strings::{list_in, lists_in, only_list_in};
 use crate::surroundings::Surroundings;
-use crate::typed::{Segment, Selection, Test};
+use crate::typed::{Order, Segment, Selection, Test};
 use bytecode_format::{Scope, Selector};
 use glob_match::{Comparator, Match, MatchType};
 use sieve_parser::{Argument, Head, Invocation};
-use std::alloc::{AllocError, Global};
-
-// The number that the arguments are.
-fn number_in(arguments: &[Argument]) -> Option<u64>
-    ensures { result ≡ number_in (map argument_tree arguments.now) }
-{
-    match arguments {
-        [Argument::Number(number)] => Some(*number),
-        _ => None,
-    }
-}
+use std::alloc::Global;
 
 // How values and keys are matched.
 fn match_of(tags: Tags) -> Match
@@ -70,12 +62,12 @@ fn params_in(
     alloc: Global,
     surroundings: &Surroundings<'_>,
     arguments: &[Argument],
-) -> Result<Option<Vec<Vec<Segment>>>, AllocError>
-    ensures { IfOk result (λ names. option_map (λ all. templates_of all.items) names
-        ≡ params_in (context_of surroundings.now) (map argument_tree arguments.now)) }
+) -> Result<Vec<Vec<Segment>>, FormError>
+    ensures { Formed (λ names. templates_of names.items)
+        (params_in (context_of surroundings.now) (map argument_tree arguments.now)) result }
 {
     match arguments {
-        [] => Ok(Some(Vec::new(alloc))),
+        [] => Ok(Vec::new(alloc)),
         [list, ..] => list_in(alloc, surroundings, list),
     }
 }
@@ -84,27 +76,20 @@ fn params_in(
 fn header(
     alloc: Global,
     surroundings: &Surroundings<'_>,
-    reading: Reading<'_>,
-) -> Result<Option<Test>, AllocError>
-    ensures { IfOk result (λ t. option_map test_form t
-        ≡ header_of (context_of surroundings.now) (read_of reading.entry)) }
+    reading: &Reading<'_>,
+) -> Result<Test, FormError>
+    ensures { Formed test_form (header_of (context_of surroundings.now) (read_of reading.now))
+        result }
 {
-    let Some(params) = params_in(alloc, surroundings, reading.params)? else {
-        return Ok(None);
-    };
-    let selection = selected_by(reading.tags.selector, params);
-    let Some((names, keys)) = lists_in(alloc, surroundings, reading.positional)? else {
-        return Ok(None);
-    };
-    let matching = match_of(reading.tags);
-    let scope = scope_of(reading.tags);
-    Ok(Some(Test::Header {
-        matching,
-        scope,
-        selection,
+    let params = params_in(alloc, surroundings, reading.params)?;
+    let (names, keys) = lists_in(alloc, surroundings, reading.positional)?;
+    Ok(Test::Header {
+        matching: match_of(reading.tags),
+        scope: scope_of(reading.tags),
+        selection: selected_by(reading.tags.selector, params),
         names,
         keys,
-    }))
+    })
 }
 
 // The test of sources and keys, which the arguments are.
@@ -113,37 +98,30 @@ fn string(
     surroundings: &Surroundings<'_>,
     tags: Tags,
     arguments: &[Argument],
-) -> Result<Option<Test>, AllocError>
-    ensures { IfOk result (λ t. option_map test_form t
-        ≡ of_lists (context_of surroundings.now) (string (match_of tags))
-        (map argument_tree arguments.now)) }
+) -> Result<Test, FormError>
+    ensures { Formed test_form (of_lists (context_of surroundings.now) (string (match_of tags))
+        (map argument_tree arguments.now)) result }
 {
-    let Some((sources, keys)) = lists_in(alloc, surroundings, arguments)? else {
-        return Ok(None);
-    };
-    let matching = match_of(tags);
-    Ok(Some(Test::String {
-        matching,
+    let (sources, keys) = lists_in(alloc, surroundings, arguments)?;
+    Ok(Test::String {
+        matching: match_of(tags),
         sources,
         keys,
-    }))
+    })
 }
 
 // The test that there are fields of the names, which the arguments are.
 fn exists(
     alloc: Global,
     surroundings: &Surroundings<'_>,
-    scope: Scope,
+    tags: Tags,
     arguments: &[Argument],
-) -> Result<Option<Test>, AllocError>
-    ensures { IfOk result (λ t. option_map test_form t
-        ≡ of_list (context_of surroundings.now) (exists scope)
-        (map argument_tree arguments.now)) }
+) -> Result<Test, FormError>
+    ensures { Formed test_form (of_list (context_of surroundings.now) (exists (scope_of tags))
+        (map argument_tree arguments.now)) result }
 {
-    match only_list_in(alloc, surroundings, arguments)? {
-        Some(names) => Ok(Some(Test::Exists(scope, names))),
-        None => Ok(None),
-    }
+    let names = only_list_in(alloc, surroundings, arguments)?;
+    Ok(Test::Exists(scope_of(tags), names))
 }
 
 // The test of the current part's content against the keys, which the arguments are.
@@ -152,16 +130,15 @@ fn part_body(
     surroundings: &Surroundings<'_>,
     tags: Tags,
     arguments: &[Argument],
-) -> Result<Option<Test>, AllocError>
-    ensures { IfOk result (λ t. option_map test_form t
-        ≡ of_list (context_of surroundings.now) (part_body (match_of tags))
-        (map argument_tree arguments.now)) }
+) -> Result<Test, FormError>
+    ensures { Formed test_form (of_list (context_of surroundings.now) (part_body (match_of tags))
+        (map argument_tree arguments.now)) result }
 {
-    let Some(keys) = only_list_in(alloc, surroundings, arguments)? else {
-        return Ok(None);
-    };
-    let matching = match_of(tags);
-    Ok(Some(Test::PartBody { matching, keys }))
+    let keys = only_list_in(alloc, surroundings, arguments)?;
+    Ok(Test::PartBody {
+        matching: match_of(tags),
+        keys,
+    })
 }
 
 // The test of the digest of the current part's content against the keys, which the arguments are.
@@ -169,32 +146,24 @@ fn part_digest(
     alloc: Global,
     surroundings: &Surroundings<'_>,
     arguments: &[Argument],
-) -> Result<Option<Test>, AllocError>
-    ensures { IfOk result (λ t. option_map test_form t
-        ≡ of_list (context_of surroundings.now) part_digest
-        (map argument_tree arguments.now)) }
+) -> Result<Test, FormError>
+    ensures { Formed test_form (of_list (context_of surroundings.now) part_digest
+        (map argument_tree arguments.now)) result }
 {
-    match only_list_in(alloc, surroundings, arguments)? {
-        Some(keys) => Ok(Some(Test::PartDigest(keys))),
-        None => Ok(None),
+    let keys = only_list_in(alloc, surroundings, arguments)?;
+    Ok(Test::PartDigest(keys))
+}
+
+// How a size is compared, and with which number.
+fn compared(tags: Tags, arguments: &[Argument]) -> Result<(Order, u64), FormError>
+    ensures { (make : Order → ℕ → TestForm)
+        → Formed (λ found. make found.0 found.1)
+        (size_of make tags (map argument_tree arguments.now)) result }
+{
+    match (tags.order, arguments) {
+        (Some(order), [Argument::Number(number)]) => Ok((order, *number)),
+        _ => Err(FormError::Malformed),
     }
-}
-
-// The comparison of the message's size.
-fn size(tags: Tags, arguments: &[Argument]) -> Option<Test>
-    ensures { option_map test_form result ≡ size_of size tags (map argument_tree arguments.now) }
-{
-    let order = tags.order?;
-    Some(Test::Size(order, number_in(arguments)?))
-}
-
-// The comparison of the size of the current part's content.
-fn part_size(tags: Tags, arguments: &[Argument]) -> Option<Test>
-    ensures { option_map test_form result
-        ≡ size_of part_size tags (map argument_tree arguments.now) }
-{
-    let order = tags.order?;
-    Some(Test::PartSize(order, number_in(arguments)?))
 }
 
 // The test that this names, with its arguments as they were read.
@@ -211,77 +180,72 @@ fn plain_test(
     alloc: Global,
     surroundings: &Surroundings<'_>,
     head: &Head,
-) -> Result<Option<Test>, AllocError>
-    ensures { IfOk result (λ t. option_map test_form t
-        ≡ head_test (context_of surroundings.now) head.now none) }
+) -> Result<Test, FormError>
+    ensures { Formed test_form (head_test (context_of surroundings.now) head.now none) result }
 {
     let Some((name, reading)) = test_read(head) else {
-        return Ok(None);
+        return Err(FormError::Malformed);
     };
+    let tags = reading.tags;
+    let arguments = reading.positional;
     match name {
-        TestName::Constant(value) => Ok(Some(Test::Constant(value))),
-        TestName::Header => header(alloc, surroundings, reading),
-        TestName::Exists => {
-            let scope = scope_of(reading.tags);
-            exists(alloc, surroundings, scope, reading.positional)
+        TestName::Constant(value) => Ok(Test::Constant(value)),
+        TestName::Header => header(alloc, surroundings, &reading),
+        TestName::Exists => exists(alloc, surroundings, tags, arguments),
+        TestName::Size => {
+            let (order, number) = compared(tags, arguments)?;
+            Ok(Test::Size(order, number))
         }
-        TestName::Size => Ok(size(reading.tags, reading.positional)),
-        TestName::String => string(alloc, surroundings, reading.tags, reading.positional),
-        TestName::PartSize => Ok(part_size(reading.tags, reading.positional)),
-        TestName::PartBody => part_body(alloc, surroundings, reading.tags, reading.positional),
-        TestName::PartDigest => part_digest(alloc, surroundings, reading.positional),
-        TestName::Not | TestName::AllOf | TestName::AnyOf => Ok(None),
+        TestName::String => string(alloc, surroundings, tags, arguments),
+        TestName::PartSize => {
+            let (order, number) = compared(tags, arguments)?;
+            Ok(Test::PartSize(order, number))
+        }
+        TestName::PartBody => part_body(alloc, surroundings, tags, arguments),
+        TestName::PartDigest => part_digest(alloc, surroundings, arguments),
+        TestName::Not | TestName::AllOf | TestName::AnyOf => Err(FormError::Malformed),
     }
 }
 
-// The test that turns around the one behind it, if that has a form.
-fn negated(alloc: Global, head: &Head, inner: Option<Test>) -> Result<Option<Test>, AllocError>
-    ensures { IfOk result (λ t. (s : Context)
-        → option_map test_form t ≡ test_with_one s head.now (option_map test_form inner)) }
+// The test that turns around the one behind it.
+fn negated(alloc: Global, head: &Head, inner: Test) -> Result<Test, FormError>
+    ensures { (s : Context)
+        → Formed test_form (head_test s head.now (one (test_form inner))) result }
 {
-    let Some(inner) = inner else {
-        return Ok(None);
-    };
     match test_read(head) {
-        Some((TestName::Not, _)) => Ok(Some(Test::Not(Box::new(alloc, inner)?))),
-        _ => Ok(None),
+        Some((TestName::Not, _)) => Ok(Test::Not(Box::new(alloc, inner)?)),
+        _ => Err(FormError::Malformed),
     }
 }
 
-// The test of the tests in round brackets behind it, if they have forms.
+// The test of the tests in round brackets behind it.
 fn combined(
     alloc: Global,
     head: &Head,
-    first: Option<Test>,
-    others: Option<Vec<Test>>,
-) -> Result<Option<Test>, AllocError>
-    ensures { IfOk result (λ t. (s : Context)
-        → option_map test_form t ≡ test_with_list s head.now (option_map test_form first)
-        (option_map (λ ts. tests_of (map test_form ts.items)) others)) }
+    first: Test,
+    others: Vec<Test>,
+) -> Result<Test, FormError>
+    ensures { (s : Context)
+        → Formed test_form (head_test s head.now
+        (bracketed (test_form first) (tests_of (map test_form others.items)))) result }
 {
-    let Some(first) = first else {
-        return Ok(None);
-    };
-    let Some(others) = others else {
-        return Ok(None);
-    };
     let first = Box::new(alloc, first)?;
     match test_read(head) {
-        Some((TestName::AllOf, _)) => Ok(Some(Test::AllOf(first, others))),
-        Some((TestName::AnyOf, _)) => Ok(Some(Test::AnyOf(first, others))),
-        _ => Ok(None),
+        Some((TestName::AllOf, _)) => Ok(Test::AllOf(first, others)),
+        Some((TestName::AnyOf, _)) => Ok(Test::AnyOf(first, others)),
+        _ => Err(FormError::Malformed),
     }
 }
 
-/// A test with the tests behind it. An error comes only where memory was refused.
+/// A test with the tests behind it.
 #[cycle(tests)]
 pub fn test(
     alloc: Global,
     surroundings: &Surroundings<'_>,
     invocation: &Invocation,
-) -> Result<Option<Test>, AllocError>
-    ensures { IfOk result (λ t. option_map test_form t
-        ≡ test_form_of (context_of surroundings.now) (invocation_tree invocation.now)) }
+) -> Result<Test, FormError>
+    ensures { Formed test_form
+        (test_form_of (context_of surroundings.now) (invocation_tree invocation.now)) result }
 {
     match invocation {
         Invocation::Plain(head) => plain_test(alloc, surroundings, head),
@@ -303,17 +267,15 @@ fn tests(
     alloc: Global,
     surroundings: &Surroundings<'_>,
     list: &[Invocation],
-) -> Result<Option<Vec<Test>>, AllocError>
-    ensures { IfOk result (λ ts. option_map (λ ts. tests_of (map test_form ts.items)) ts
-        ≡ more_forms_of (context_of surroundings.now)
-        (more_tests_of (map invocation_tree list.now))) }
+) -> Result<Vec<Test>, FormError>
+    ensures { Formed (λ ts. tests_of (map test_form ts.items))
+        (more_forms_of (context_of surroundings.now)
+        (more_tests_of (map invocation_tree list.now))) result }
 {
     let mut tests = Vec::with_capacity(alloc, list.len())?;
     'list: for invocation in list {
-        let Some(test) = test(alloc, surroundings, invocation)? else {
-            return Ok(None);
-        };
+        let test = test(alloc, surroundings, invocation)?;
         tests.push(test)?;
     }
-    Ok(Some(tests))
+    Ok(tests)
 }

@@ -1,5 +1,5 @@
 use Rattle.std.proofs.Common.{◌≡◌, ◌∙◌, None, sym, ap}
-use Rattle.std.specs.Prelude.{option_copied, option_map, slice_get}
+use Rattle.std.specs.Prelude.{option_copied, slice_get}
 use Rattle.std.proofs.lemmas.Option.{none-some}
 use Rattle.sieve_parser.specs.View.{commands_tree}
 use Rattle.sieve_check.specs.FormOf.{form_of}
@@ -13,7 +13,7 @@ unreachable-requires c =
     let tree = commands_tree c.args.script in
     let faultless : fault_of tree ≡ None = none_told tree c.reasons_of.result.items c.reasons_of.ensures (ap (λ xs. slice_get xs 0) (sym c.deref.ensures.0) ∙ sym c.first.ensures.value ∙ ap option_copied c.in_default.is) in
     let formed = form_exists tree faultless in
-    none-some formed.form (ap (option_map _) (sym c.in-None.is) ∙ c.in_ok-commands.ensures ∙ ap (λ ts. form_of (commands_tree ts)) c.commands.ensures.value ∙ formed.is)
+    none-some formed.form (sym (c.in-Err-Malformed.ensures c.in-Err-Malformed.field-0-is) ∙ ap (λ ts. form_of (commands_tree ts)) c.commands.ensures.value ∙ formed.is)
 
 pub returns-in-Some-clause-refused : goal.returns-in-Some-clause-refused
 returns-in-Some-clause-refused c =

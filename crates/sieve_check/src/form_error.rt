@@ -1,0 +1,30 @@
+// Why commands and tests get no typed form.
+ghost use Rattle.std.specs.Prelude.{◌≡◌};
+ghost use Rattle.sieve_check.specs.declared.form_error.FormError.TheVariants.{Memory};
+
+use std::alloc::{AllocError, AllocFailed};
+
+/// Why a command, a test or what belongs to one has no typed form.
+#[derive(Clone, Copy)]
+pub enum FormError {
+    /// An allocation was refused.
+    Memory,
+    /// It isn't written as it has to be.
+    Malformed,
+}
+
+impl From<AllocError> for FormError {
+    ghost from_gives = { λ _ e. e ≡ Memory };
+
+    fn from(_: AllocError) -> FormError {
+        FormError::Memory
+    }
+}
+
+impl<T: Drop> From<AllocFailed<T>> for FormError {
+    ghost from_gives = { λ _ e. e ≡ Memory };
+
+    fn from(_: AllocFailed<T>) -> FormError {
+        FormError::Memory
+    }
+}
