@@ -23,15 +23,17 @@ pub stored_as : (trees : Trees) (d : Database) (e : Entries) → trees ≡ d.tre
 stored_as trees d e same stands = subst (λ (t : Trees). IsStored t e) (sym same)
     (record { listed = subst (λ (s : Schema). IsDatabase (record { schema = s; trees = d.trees })) stands.schema stands.listed; tables = stands.tables })
 
--- what a transaction brings is all that its commit may leave beside what was
+-- what a transaction of an open store brings is all that its commit may leave beside what was
 pub committed_change : {S : Type 0} (g : store.Ghosts S) (old : Held S) (mid new : State) (change : Entries → Entries) → Survives (state g (record old { in_transaction = true })) mid (λ _. ⊥)
-    → (HasCleanDisk mid → Brings change (state g (record old { in_transaction = true })) mid) → Survives mid new (λ trees. trees ≡ mid.now.trees)
-    → Survives (state g old) new (λ trees. MayMake change (state g old) trees)
-committed_change g old mid new change first brings commits =
-    survives_begin g old new _ (survives_then (state g (record old { in_transaction = true })) mid new (λ _. ⊥) (λ trees. trees ≡ mid.now.trees) (λ trees. MayMake change (state g old) trees) (λ clean trees none. absurd none)
-    (λ clean trees is before stands. let early : HasCleanDisk mid = omega (arith, commits.clean) in stored_as trees mid.now (change before) is (brings early before stands).0) first commits)
+    → (HasCleanDisk mid → IsTrue (state g (record old { in_transaction = true })).is_open) → (HasCleanDisk mid → Brings change (state g (record old { in_transaction = true })) mid)
+    → Survives mid new (λ trees. trees ≡ mid.now.trees) → Survives (state g old) new (λ trees. IsTrue (state g old).is_open × MayMake change (state g old) trees)
+committed_change g old mid new change first is_open brings commits =
+    survives_begin g old new _ (survives_then (state g (record old { in_transaction = true })) mid new (λ _. ⊥) (λ trees. trees ≡ mid.now.trees)
+    (λ trees. IsTrue (state g old).is_open × MayMake change (state g old) trees) (λ clean trees none. absurd none)
+    (λ clean trees is.
+    let early : HasCleanDisk mid = omega (arith, commits.clean) in (is_open early, λ before stands. stored_as trees mid.now (change before) is (brings early before stands).0)) first commits)
 
--- so too of entries, which only an open store is given
+-- so too of entries
 pub committed_entries : {S : Type 0} (g : store.Ghosts S) (old : Held S) (mid new : State) (user : List ℕ) (drafts : List Draft) (first : ℕ)
     → Survives (state g (record old { in_transaction = true })) mid (λ _. ⊥) → (HasCleanDisk mid → IsTrue (state g (record old { in_transaction = true })).is_open)
     → (HasCleanDisk mid → Adds user drafts (state g (record old { in_transaction = true })) mid (From first)) → Survives mid new (λ trees. trees ≡ mid.now.trees)

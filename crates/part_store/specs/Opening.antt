@@ -41,9 +41,9 @@ IsEmptied s = Stands s.now no_entries × (s.committed ≡ s.now) × IsTrue s.is_
 abbrev pub IsKept : State → State → Type 0
 IsKept old new = (new.now ≡ old.now) × (new.committed ≡ old.committed)
 
--- what an open may commit: the tables of the empty state, in a database that had none
+-- what an open may commit: the tables of the empty state, in an open database that had none
 abbrev pub MakesEmpty : State → Trees → Type 0
-MakesEmpty found trees = IsBare found × IsStored trees no_entries
+MakesEmpty found trees = IsTrue found.is_open × IsBare found × IsStored trees no_entries
 
 -- the files were opened, and a database without tables has those of the empty state now; any other is as it was
 pub record IsReady {D : Type 0} {g : Ghosts D} (now : Held (FileStore D g)) : Type 0 where

@@ -92,6 +92,7 @@ fn create_tables<S: Alter>(tx: &mut Transaction<'_, S>) -> Result<(), Error>
     ensures same_reference { tx.new.conn.ghost_name ≡ tx.old.conn.ghost_name }
     ensures step { OnDone S.Store tx.old.conn.now tx.new.conn.now result
         (λ old new. old.now.schema ≡ no_schema → Stands new.now no_entries) }
+    ensures open { OnDone S.Store tx.old.conn.now tx.new.conn.now result WasOpen }
     ensures inside { OnDone S.Store tx.old.conn.now tx.new.conn.now result IsInside }
     ensures kept { Always S.Store tx.old.conn.now tx.new.conn.now KeepsCommit }
     ensures survives { CommitsNothing S.Store tx.old.conn.now tx.new.conn.now }
@@ -228,6 +229,7 @@ impl<S: Alter> PartStore<S> {
     /// connection stays as it is. A crash on the way leaves the database as it was, or with the empty tables. A refusal, `Memory` or
     /// `Database`, hands the connection back, with what it shows and what is committed as they were, unless a failure has shut it, and
     /// in a transaction if it was in one. One in a transaction is refused `Database`; of the others only one without tables is refused.
+    /// Through a connection that a failure has shut nothing is committed.
     pub fn adopt(conn: Connection<S>) -> Result<PartStore<S>, (StoreError, Connection<S>)>
         ensures made { IfOk result
             (λ s. Always S.Store conn s (λ old new. IsBare old → IsEmptied new)) }
@@ -282,6 +284,7 @@ impl<S: Alter> PartStore<S> {
     }
 
     /// Stores the user's program in place of the one before. Refuses `Memory`, and `Database` also where the user's row has no room.
+    /// A store that a failure has shut commits nothing.
     pub fn set_program(&mut self, user: &str, program: &[u8]) -> Result<(), StoreError>
         ensures made { OnDone S.Store self.old self.new result
             (Makes (with_program user.now program.now)) }
@@ -290,7 +293,8 @@ impl<S: Alter> PartStore<S> {
         ensures cause { IfRefused S.Store self.old self.new result
             (BlamesRow user.now (with_program user.now program.now)) }
         ensures survives { MayCommit S.Store self.old self.new
-            (MayMake (with_program user.now program.now)) }
+            (λ old trees. IsTrue old.is_open
+            × MayMake (with_program user.now program.now) old trees) }
     {
         let mut tx = begin(&mut self.conn);
         put_program(&mut tx, user, program)?;
@@ -471,7 +475,7 @@ impl<S: Alter> PartStore<S> {
 
     /// Removes the user's entry of that number, and its octets where no other entry has them. The
     /// number isn't given again. Refuses `Memory`, `NoSuchEntry` exactly where he has none, and
-    /// `Database`. A store that a failure has shut refuses `Memory` or `Database`.
+    /// `Database`. A store that a failure has shut refuses `Memory` or `Database`, and commits nothing.
     pub fn remove_entry(&mut self, user: &str, number: u32) -> Result<(), StoreError>
         ensures made { OnDone S.Store self.old self.new result
             (Makes (without_entry user.now number)) }
@@ -485,9 +489,9 @@ impl<S: Alter> PartStore<S> {
         ensures refused { IfErr result (λ e. (e ≡ Memory) ⊎ ((e ≡ NoSuchEntry) ⊎ (e ≡ Database))) }
         ensures cause { IfRefused S.Store self.old self.new result Blames }
         ensures survives { MayCommit S.Store self.old self.new
-            (λ old trees. (before : _) → Stands old.now before
+            (λ old trees. IsTrue old.is_open × ((before : _) → Stands old.now before
             → ((x : _) × IsEntryAt before user.now number x)
-            × IsStored trees (without_entry user.now number before)) }
+            × IsStored trees (without_entry user.now number before))) }
     {
         let mut tx = begin(&mut self.conn);
         if !take_entry(&mut tx, user, number)? {

@@ -33,6 +33,7 @@ pub(crate) fn put_program<S: Alter>(
     ensures same_reference { tx.new.conn.ghost_name ≡ tx.old.conn.ghost_name }
     ensures step { OnDone S.Store tx.old.conn.now tx.new.conn.now result
         (Brings (with_program user.now program.now)) }
+    ensures open { OnDone S.Store tx.old.conn.now tx.new.conn.now result WasOpen }
     ensures inside { OnDone S.Store tx.old.conn.now tx.new.conn.now result IsInside }
     ensures schema { OnDone S.Store tx.old.conn.now tx.new.conn.now result KeepsTables }
     ensures shut { Always S.Store tx.old.conn.now tx.new.conn.now StaysShut }

@@ -3,7 +3,7 @@ ghost use Rattle.std.specs.Prelude.{◌≡◌, []};
 ghost use Rattle.sqlite.specs.State.{KeepsCommit};
 ghost use Rattle.part_store.specs.Changes.{users_tree, contents_tree, entries_tree};
 ghost use Rattle.part_store.specs.Tables.{no_schema, with_users, with_contents, store_schema, IsMade};
-ghost use Rattle.part_store.specs.Calls.{Always, CommitsNothing, IsInside, OnDone};
+ghost use Rattle.part_store.specs.Calls.{Always, CommitsNothing, IsInside, OnDone, WasOpen};
 
 use sqlite::{Alter, Error, Transaction};
 
@@ -12,6 +12,7 @@ pub(crate) fn create_users<S: Alter>(tx: &mut Transaction<'_, S>) -> Result<usiz
     ensures same_reference { tx.new.conn.ghost_name ≡ tx.old.conn.ghost_name }
     ensures step { OnDone S.Store tx.old.conn.now tx.new.conn.now result
         (λ old new. IsMade no_schema with_users users_tree old.now new.now) }
+    ensures open { OnDone S.Store tx.old.conn.now tx.new.conn.now result WasOpen }
     ensures inside { OnDone S.Store tx.old.conn.now tx.new.conn.now result IsInside }
     ensures kept { Always S.Store tx.old.conn.now tx.new.conn.now KeepsCommit }
     ensures survives { CommitsNothing S.Store tx.old.conn.now tx.new.conn.now }

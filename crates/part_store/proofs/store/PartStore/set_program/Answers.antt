@@ -15,9 +15,9 @@ returns-in_err-commit-clause-survives g c =
     let new = state g.S.Store c.commit.new.self.0 in
     let change = with_program c.args.user.now c.args.program.now in
     let begun = c.begin-tx.ensures.begun in
-    subst (λ h. Survives (state g.S.Store h) new (λ trees. MayMake change (state g.S.Store h) trees)) c.self.view_is
+    subst (λ h. Survives (state g.S.Store h) new (λ trees. IsTrue (state g.S.Store h).is_open × MayMake change (state g.S.Store h) trees)) c.self.view_is
     (committed_change g.S.Store c.self.inside.conn mid new change (subst (λ h. Survives (state g.S.Store h) mid (λ _. ⊥)) begun c.put_program.ensures.survives)
-    (λ clean. subst (λ h. Brings change (state g.S.Store h) mid) begun (c.in_ok-put_program.ensures.step clean)) c.commit.ensures.survives)
+    (λ clean. subst (λ h. IsTrue (state g.S.Store h).is_open) begun (c.in_ok-put_program.ensures.open clean)) (λ clean. subst (λ h. Brings change (state g.S.Store h) mid) begun (c.in_ok-put_program.ensures.step clean)) c.commit.ensures.survives)
 
 pub returns-in_err-put_program-clause-cause : goal.returns-in_err-put_program-clause-cause
 returns-in_err-put_program-clause-cause g c clean =
