@@ -57,23 +57,30 @@ module _ (old new : State) (user : List ℕ) (named : IsTrue (is_user_name user)
       (λ before stands. record { named = named; step = (code, compiled, refl, ap (λ p. with_program user p before) is) })
 
   pub script_left : (script octets : List ℕ) (code : Code) → IsCompiled script code → octets ≡ spelling code → (trees : Trees)
-      → MayMake (with_program user octets) old trees → MayLeave (SetScript user script) old trees
-  script_left script octets code compiled is trees left = λ before stands. (
-    Done,
-    with_program user octets before,
-    record { named = named; step = (code, compiled, refl, ap (λ p. with_program user p before) is) },
-    left before stands,
+      → IsTrue old.is_open × MayMake (with_program user octets) old trees → MayLeave (SetScript user script) old trees
+  script_left script octets code compiled is trees (is_open, left) = (
+    is_open,
+    λ before stands. (
+      Done,
+      with_program user octets before,
+      record { named = named; step = (code, compiled, refl, ap (λ p. with_program user p before) is) },
+      left before stands,
+    ),
   )
 
   pub removal_left : (number : ℕ) → (trees : Trees)
-      → ((before : Entries) → Stands old.now before → ((x : Entry) × IsEntryAt before user number x) × IsStored trees (without_entry user number before)) → MayLeave (Remove user number) old trees
-  removal_left number trees left = λ before stands.
-      let found = left before stands in (
-        Done,
-        without_entry user number before,
-        record { named = named; step = (found.0.0, found.0.1, refl, refl) },
-        found.1,
-      )
+      → IsTrue old.is_open × ((before : Entries) → Stands old.now before → ((x : Entry) × IsEntryAt before user number x) × IsStored trees (without_entry user number before))
+      → MayLeave (Remove user number) old trees
+  removal_left number trees (is_open, left) = (
+    is_open,
+    λ before stands.
+        let found = left before stands in (
+          Done,
+          without_entry user number before,
+          record { named = named; step = (found.0.0, found.0.1, refl, refl) },
+          found.1,
+        ),
+  )
 
 -- ---- answers of the store, as refusals
 

@@ -72,7 +72,7 @@ module _ {D : Type 0} {g : Ghosts D} (one_left : (c : Held (FileStore D g)) → 
     comes : (trees : Trees) → (file_state run.ended).may_leave trees → Comes run.command before trees
     comes trees may = elim (it.survives.crash it.clean trees may) [
       | inl was ↦ record { after = before; either = inl refl; stored = trees_of run.opened before at.2 at.1 at.0 trees was }
-      | inr is ↦ let made = is before at.0 in record { after = made.1; either = inr (made.0, made.2); stored = made.3 }
+      | inr is ↦ let made = is.1 before at.0 in record { after = made.1; either = inr (made.0, made.2); stored = made.3 }
     ]
 
     ended_shut : (file_state run.ended).is_open ≡ false → ∥ Made ∥₁

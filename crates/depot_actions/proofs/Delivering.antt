@@ -109,24 +109,27 @@ module _ (old mid new : State) (user message : List ℕ) (program : Option (List
 
   -- a crash may leave that they are filed
   pub may_be_filed : 0 < length actions → (trees : Trees) → MayFile user drafts mid trees → MayLeave (Deliver user message) old trees
-  may_be_filed some trees (is_open, left) = λ before stands.
-      let after = left before (stands_still old mid before spares stands is_open) in
-      let more : 0 < length drafts = omega (arith, number, some) in (
-        Listed (map listing_of (numbered user (before.lasts user + 1) drafts)),
-        with_entries user drafts before,
-        record {
-          named = named;
-          step = record {
-            readable = readable;
-            actions = actions;
-            are = actions_are before stands;
-            room = room_left before trees after.tables;
-            listed = refl;
-            filed = filed_some user drafts before more;
-          };
-        },
-        after,
-      )
+  may_be_filed some trees (is_open, left) = (
+    spares.shut is_open,
+    λ before stands.
+        let after = left before (stands_still old mid before spares stands is_open) in
+        let more : 0 < length drafts = omega (arith, number, some) in (
+          Listed (map listing_of (numbered user (before.lasts user + 1) drafts)),
+          with_entries user drafts before,
+          record {
+            named = named;
+            step = record {
+              readable = readable;
+              actions = actions;
+              are = actions_are before stands;
+              room = room_left before trees after.tables;
+              listed = refl;
+              filed = filed_some user drafts before more;
+            };
+          },
+          after,
+        ),
+  )
 
   -- why they aren't
   pub unfiled_cause : (e : Refusal) → IsUnfiled e user drafts mid → HasCause e (Deliver user message) old

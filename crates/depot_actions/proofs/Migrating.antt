@@ -219,11 +219,14 @@ module _ (old mid new : State) (stored renewed : List UserProgram) (was_open : I
       nothing (pair ∷ pairs) h = absurd (omega (arith, h))
 
   pub may_be_migrated : (trees : Trees) → IsTrue mid.is_open → MayMake (with_programs renewed) mid trees → MayLeave Migrate old trees
-  may_be_migrated trees is_open left = λ before stands. (
-    Migrated (length renewed),
-    with_programs renewed before,
-    accepts before stored renewed (told before stands) are,
-    left before (stands_still old mid before spares stands is_open),
+  may_be_migrated trees is_open left = (
+    was_open,
+    λ before stands. (
+      Migrated (length renewed),
+      with_programs renewed before,
+      accepts before stored renewed (told before stands) are,
+      left before (stands_still old mid before spares stands is_open),
+    ),
   )
 
 -- ---- what is refused

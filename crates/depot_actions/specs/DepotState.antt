@@ -142,8 +142,8 @@ Does command reply old new =
     IsTrue old.is_open × ((before : Entries) → Stands old.now before
     → (after : Entries) × Accepts before command reply after × Leaves before after old new)
 
--- the store of what the command leaves: with the step that the store itself makes, all that a crash may leave
+-- the store, which was open, of what the command leaves: with the step that the store itself makes, all that a crash may leave
 abbrev pub MayLeave : Command → State → Trees → Type 0
 MayLeave command old trees =
-    (before : Entries) → Stands old.now before
-    → (reply : Reply) × (after : Entries) × Accepts before command reply after × IsStored trees after
+    IsTrue old.is_open × ((before : Entries) → Stands old.now before
+    → (reply : Reply) × (after : Entries) × Accepts before command reply after × IsStored trees after)
