@@ -15,9 +15,10 @@ use Rattle.sieve_check.specs.FormOf.{InnerForms, one, bracketed, test_of, PartFo
 use Rattle.sieve_check.specs.Surroundings.{Context}
 use Rattle.sieve_check.specs.Typed.{TestForm, TestForms, CommandForms}
 
--- the form of what was read, if it has one; nothing is said where memory was refused
+-- what was made has that form, or there is none; nothing is said where memory was refused
 abbrev pub Formed : {A : Type 0} {B : Type 0} → (A → B) → Option B → Result A FormError → Type 0
-Formed form_of form result = MatchResult result (λ made. form ≡ Some (form_of made)) (λ e. e ≡ Malformed → form ≡ None)
+Formed form_of form result =
+    MatchResult result (λ made. form ≡ Some (form_of made)) (λ e. e ≡ Malformed → form ≡ None)
 
 -- the test of a head, with the tests behind it
 abbrev pub head_test : Context → Head → InnerForms → Option TestForm
@@ -37,17 +38,27 @@ head_block head inner body = command_named head.name >>= λ name. reading (comma
 abbrev pub commands_formed : Context → CommandsTree → Option CommandForms
 commands_formed s trees = forms_of s trees >>= closed
 
--- the test that a head names, with its arguments as they were read; nothing where a head makes no test, whatever is behind it
+-- the test that a head names, with its arguments as they were read; nothing where a head makes no test,
+-- whatever is behind it
 abbrev pub IsTestRead : Head → Option (TestName × Reading) → Type 0
-IsTestRead head answer = MatchOption answer ((s : Context) (inner : InnerForms) → head_test s head inner ≡ None)
-    (λ found. (s : Context) (inner : InnerForms) → head_test s head inner ≡ test_of s found.0 (read_of found.1) inner)
+IsTestRead head answer =
+    MatchOption answer
+    ((s : Context) (inner : InnerForms) → head_test s head inner ≡ None)
+    (λ found. (s : Context) (inner : InnerForms)
+    → head_test s head inner ≡ test_of s found.0 (read_of found.1) inner)
 
--- the command that a head names, with its arguments as they were read, where it ends in a semicolon, and where it ends in a block;
--- nothing where a head makes no command
+-- the command that a head names, with its arguments as they were read, where it ends in a semicolon, and
+-- where it ends in a block; nothing where a head makes no command
 abbrev pub IsSimpleRead : Head → Option (CommandName × Reading) → Type 0
-IsSimpleRead head answer = MatchOption answer ((s : Context) (inner : InnerForms) → head_simple s head inner ≡ None)
-    (λ found. (s : Context) (inner : InnerForms) → head_simple s head inner ≡ simple_of s found.0 (read_of found.1) inner)
+IsSimpleRead head answer =
+    MatchOption answer
+    ((s : Context) (inner : InnerForms) → head_simple s head inner ≡ None)
+    (λ found. (s : Context) (inner : InnerForms)
+    → head_simple s head inner ≡ simple_of s found.0 (read_of found.1) inner)
 
 abbrev pub IsBlockRead : Head → Option (CommandName × Reading) → Type 0
-IsBlockRead head answer = MatchOption answer ((inner : InnerForms) (body : CommandForms) → head_block head inner body ≡ None)
-    (λ found. (inner : InnerForms) (body : CommandForms) → head_block head inner body ≡ block_of found.0 inner body)
+IsBlockRead head answer =
+    MatchOption answer
+    ((inner : InnerForms) (body : CommandForms) → head_block head inner body ≡ None)
+    (λ found. (inner : InnerForms) (body : CommandForms)
+    → head_block head inner body ≡ block_of found.0 inner body)

@@ -255,25 +255,40 @@ fn known_command<'t>(
     }
 }
 
-// The same of any command; and whether its tests are looked at.
+// What was found out about a command or test, apart from what stands below it.
+struct Outcome<'t> {
+    // What it has to do with variables, where nothing is wrong with it.
+    mentions: Result<Mentions<'t>, Cause<'t>>,
+    // Whether its tests are looked at.
+    looks_inside: bool,
+}
+
+// The same of any command.
 fn found_command<'t>(
     surroundings: &Surroundings<'_>,
     head: &'t Head,
     tests: Tests,
     ending: Ending,
-) -> (Result<Mentions<'t>, Cause<'t>>, bool)
+) -> Outcome<'t>
     ensures found { Finds (command_visit (context_of surroundings.now) head.now.token
         head.now.name (arguments_of head.now) tests ending).names
         (command_visit (context_of surroundings.now) head.now.token head.now.name
-        (arguments_of head.now) tests ending).cause result.0 }
-    ensures inside { result.1 ≡ looks_inside command_signature (command_named head.now.name) }
+        (arguments_of head.now) tests ending).cause result.mentions }
+    ensures inside { result.looks_inside ≡ looks_inside command_signature (command_named head.now.name) }
 {
     match command_named(head.name.as_slice()) {
         Some(name) => {
-            let found = known_command(surroundings, name, head, tests, ending);
-            (found, takes_tests(command_signature(name)))
+            let mentions = known_command(surroundings, name, head, tests, ending);
+            let looks_inside = takes_tests(command_signature(name));
+            Outcome {
+                mentions,
+                looks_inside,
+            }
         }
-        None => (Err(Cause::plain(ReasonKind::UnknownCommand)), true),
+        None => Outcome {
+            mentions: Err(Cause::plain(ReasonKind::UnknownCommand)),
+            looks_inside: true,
+        },
     }
 }
 
@@ -354,24 +369,27 @@ fn known_test<'t>(
     }
 }
 
-// The same of any test; and whether its tests are looked at.
-fn found_test<'t>(
-    surroundings: &Surroundings<'_>,
-    head: &'t Head,
-    tests: Tests,
-) -> (Result<Mentions<'t>, Cause<'t>>, bool)
+// The same of any test.
+fn found_test<'t>(surroundings: &Surroundings<'_>, head: &'t Head, tests: Tests) -> Outcome<'t>
     ensures found { Finds (test_visit (context_of surroundings.now) head.now.token
         head.now.name (arguments_of head.now) tests).names
         (test_visit (context_of surroundings.now) head.now.token head.now.name
-        (arguments_of head.now) tests).cause result.0 }
-    ensures inside { result.1 ≡ looks_inside test_signature (test_named head.now.name) }
+        (arguments_of head.now) tests).cause result.mentions }
+    ensures inside { result.looks_inside ≡ looks_inside test_signature (test_named head.now.name) }
 {
     match test_named(head.name.as_slice()) {
         Some(name) => {
-            let found = known_test(surroundings, name, head, tests);
-            (found, takes_tests(test_signature(name)))
+            let mentions = known_test(surroundings, name, head, tests);
+            let looks_inside = takes_tests(test_signature(name));
+            Outcome {
+                mentions,
+                looks_inside,
+            }
         }
-        None => (Err(Cause::plain(ReasonKind::UnknownTest)), true),
+        None => Outcome {
+            mentions: Err(Cause::plain(ReasonKind::UnknownTest)),
+            looks_inside: true,
+        },
     }
 }
 
@@ -381,12 +399,12 @@ fn found<'t>(
     head: &'t Head,
     tests: Tests,
     ending: Option<Ending>,
-) -> (Result<Mentions<'t>, Cause<'t>>, bool)
+) -> Outcome<'t>
     ensures found { Finds (visit_as ending (context_of surroundings.now) head.now.token
         head.now.name (arguments_of head.now) tests).names
         (visit_as ending (context_of surroundings.now) head.now.token head.now.name
-        (arguments_of head.now) tests).cause result.0 }
-    ensures inside { result.1 ≡ looks_inside_as ending head.now.name }
+        (arguments_of head.now) tests).cause result.mentions }
+    ensures inside { result.looks_inside ≡ looks_inside_as ending head.now.name }
 {
     match ending {
         Some(ending) => found_command(surroundings, head, tests, ending),
@@ -408,7 +426,10 @@ fn visit<'t>(
         (arguments_of head.now) tests ∷ []) findings.new }
     ensures inside { result ≡ looks_inside_as ending head.now.name }
 {
-    let (mentions, inside) = found(surroundings, head, tests, ending);
+    let Outcome {
+        mentions,
+        looks_inside,
+    } = found(surroundings, head, tests, ending);
     match mentions {
         Ok(mentions) => {
             if let Err(kind) = mentions.add_to(&mut findings.names) {
@@ -417,7 +438,7 @@ fn visit<'t>(
         }
         Err(cause) => findings.refuse(head, cause),
     }
-    inside
+    looks_inside
 }
 
 // Looks at a command and its tests, apart from its block, or at a test and its own tests.

@@ -219,12 +219,7 @@ fn negated(alloc: Global, head: &Head, inner: Test) -> Result<Test, FormError>
 }
 
 // The test of the tests in round brackets behind it.
-fn combined(
-    alloc: Global,
-    head: &Head,
-    first: Test,
-    others: Vec<Test>,
-) -> Result<Test, FormError>
+fn combined(alloc: Global, head: &Head, first: Test, others: Vec<Test>) -> Result<Test, FormError>
     ensures { (s : Context)
         → Formed test_form (head_test s head.now
         (bracketed (test_form first) (tests_of (map test_form others.items)))) result }
