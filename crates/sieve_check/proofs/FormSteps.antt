@@ -1,5 +1,5 @@
 -- The form of tests and commands, piece by piece.
-use Rattle.std.proofs.Common.{◌≡◌, ℕ, ◌+◌, ◌<◌, List, [], ◌∷◌, ◌++◌, true, false, map, drop, length, get_or, Option, Some, None, option_map, refl, sym, ap, ◌∙◌}
+use Rattle.std.proofs.Common.{◌≡◌, ℕ, ◌+◌, ◌<◌, List, [], ◌∷◌, ◌++◌, map, drop, length, get_or, Option, Some, None, option_map, refl, sym, ap, ◌∙◌}
 use Rattle.std.specs.Global.{Vec, Box}
 use Rattle.std.proofs.lemmas.List.{map-append}
 use Rattle.sieve_parser.specs.View.{invocation_tree, command_tree, commands_tree}

@@ -1,5 +1,5 @@
 -- What the functions answer that make the typed form.
-use Rattle.std.specs.Prelude.{◌≡◌, Option, Some, None, option_map, MatchOption, Result, MatchResult}
+use Rattle.std.specs.Prelude.{◌≡◌, Option, Some, None, MatchOption, Result, MatchResult}
 use Rattle.sieve_parser.specs.Tree.{CommandsTree}
 use Rattle.sieve_parser.specs.declared.tree.Head.{Head}
 use Rattle.sieve_check.specs.declared.form_error.FormError.{FormError}
@@ -11,9 +11,9 @@ use Rattle.sieve_check.specs.Names.{command_named, test_named}
 use Rattle.sieve_check.specs.Reading.{read_of}
 use Rattle.sieve_check.specs.Rules.{arguments_of}
 use Rattle.sieve_check.specs.Signatures.{◌>>=◌, reading, command_signature, test_signature}
-use Rattle.sieve_check.specs.FormOf.{InnerForms, one, bracketed, test_of, PartForm, simple_of, block_of, closed, forms_of}
+use Rattle.sieve_check.specs.FormOf.{InnerForms, test_of, PartForm, simple_of, block_of, closed, forms_of}
 use Rattle.sieve_check.specs.Surroundings.{Context}
-use Rattle.sieve_check.specs.Typed.{TestForm, TestForms, CommandForms}
+use Rattle.sieve_check.specs.Typed.{TestForm, CommandForms}
 
 -- what was made has that form, or there is none; nothing is said where memory was refused
 abbrev pub Formed : {A : Type 0} {B : Type 0} → (A → B) → Option B → Result A FormError → Type 0
