@@ -1,5 +1,5 @@
-# A mail with a file whose name hides what it ends in goes apart: it is in pieces, isn't written plainly, ends in a sign that a
-# reader of mail may drop, or stands there twice.
+# A mail with a file whose name hides what it ends in goes apart: it is in pieces, isn't written plainly, ends in a character
+# that a reader of mail may drop, or stands there twice.
 require ["mime", "fileinto"];
 
 if anyof (

@@ -39,7 +39,7 @@ pub const ALL: &str = concat!(
     "The help of a command has an example, and says with which refusals it may end.\n\n",
     // The versions of the program and of the kit that it is proved with; no other place of the code has
     // them.
-    "depot 0.21.0, proved with rattle-kit-13f"
+    "depot 0.22.0, proved with rattle-kit-13f"
 );
 
 pub const CHECK: &str = script_ending!("depot check filter.sieve", "1, 2, 11 to 19, 45, 46");

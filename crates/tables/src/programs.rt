@@ -87,7 +87,8 @@ fn budget_of(alloc: Global, program: Program) -> Result<String, Refusal> {
     Ok(accepted(alloc, program)?.budget().to_string(alloc)?)
 }
 
-// Adds a program's budget; and before it a word, where the verifier says something else of the program as it is read from its octets.
+// Adds a program's budget; and before it a word, where the verifier says something else of the program as it is
+// read from its octets.
 fn put_budget(
     alloc: Global,
     code: &[u8],
@@ -169,7 +170,8 @@ fn are_same(one: &Result<Report, Refusal>, other: &Result<Report, Refusal>) -> b
     }
 }
 
-// Adds what a program does, as it is read from its octets; and before it a word, where it does something else as it is built.
+// Adds what a program does, as it is read from its octets; and before it a word, where it does something else as
+// it is built.
 fn put_run(
     alloc: Global,
     message: &[u8],
