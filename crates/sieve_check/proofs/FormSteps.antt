@@ -47,6 +47,13 @@ module _ (s : Context) (list : List Invocation) (i : ℕ) (x : Invocation) (lt :
       ∙ sym (ap (λ xs. option_map (tests_onto (map test_form done)) (more_forms_of s (others_of xs))) (split_at list i x lt is)
       ∙ ap (λ o. option_map (tests_onto (map test_form done)) (o >>= λ f. option_map (test f) (more_forms_of s (others_of (drop (i + 1) list))))) formed)
 
+-- a test of a list that has no form
+module _ (s : Context) (list : List Invocation) (i : ℕ) (x : Invocation) (lt : i < length list) (is : x ≡ get_or list i x) (done : List Test) where
+  pub test_missing : test_form_of s (invocation_tree x) ≡ None → option_map (tests_onto (map test_form done)) (more_forms_of s (others_of (drop i list))) ≡ None
+  test_missing missing =
+      ap (λ xs. option_map (tests_onto (map test_form done)) (more_forms_of s (others_of xs))) (split_at list i x lt is)
+      ∙ ap (λ o. option_map (tests_onto (map test_form done)) (o >>= λ f. option_map (test f) (more_forms_of s (others_of (drop (i + 1) list))))) missing
+
 -- a command with tests in round brackets and a block is none
 no_block : (name : CommandName) (f : TestForm) (fs : TestForms) (body : CommandForms) → block_of name (bracketed f fs) body ≡ None
 no_block Require f fs body = refl

@@ -17,25 +17,10 @@ use Rattle.sieve_check.specs.Signatures.{Read, Given, awaited, is_list, reading,
 
 -- the name of the first argument and the arguments after it, if that is a tag
 abbrev pub FirstTag : List ArgumentTree → Option (Bor (List ℕ) × Bor (List Argument)) → Type 0
-FirstTag args answer = MatchOption answer ((name : List ℕ) (rest : List ArgumentTree) → args ≡ label name ∷ rest → ⊥)
+FirstTag args answer =
+    MatchOption answer
+    ((name : List ℕ) (rest : List ArgumentTree) → args ≡ label name ∷ rest → ⊥)
     (λ found. args ≡ label found.0.now ∷ map argument_tree found.1.now)
-
--- the first argument and the arguments after it, if that is one string
-abbrev pub FirstText : List ArgumentTree → Option (Bor (List ℕ) × Bor (List Argument)) → Type 0
-FirstText args answer = MatchOption answer ((s : List ℕ) (rest : List ArgumentTree) → args ≡ text s ∷ rest → ⊥)
-    (λ found. args ≡ text found.0.now ∷ map argument_tree found.1.now)
-
--- the first argument and the arguments after it, if that is a number
-abbrev pub FirstNumber : List ArgumentTree → Option (ℕ × Bor (List Argument)) → Type 0
-FirstNumber args answer = MatchOption answer ((n : ℕ) (rest : List ArgumentTree) → args ≡ amount n ∷ rest → ⊥)
-    (λ found. args ≡ amount found.0 ∷ map argument_tree found.1.now)
-
--- the first argument alone and the arguments after it, if that is a list
-abbrev pub FirstList : List ArgumentTree → Option (Bor (List Argument) × Bor (List Argument)) → Type 0
-FirstList args answer =
-    MatchOption answer ((a : ArgumentTree) (rest : List ArgumentTree) → args ≡ a ∷ rest → is_list a ≡ true → ⊥)
-    (λ found. (a : ArgumentTree) × (map argument_tree found.0.now ≡ a ∷ []) × (is_list a ≡ true)
-    × (args ≡ a ∷ map argument_tree found.1.now))
 
 -- a name that was lent, if one was
 abbrev pub name_in : Option (Bor (List ℕ)) → Option (List ℕ)

@@ -1,18 +1,17 @@
 // How a signature reads arguments, and what is wrong with those that it can't read (RFC 5228, section 2.6).
 ghost use Rattle.std.specs.Prelude.{◌≡◌, length, map, option_map};
-ghost use Rattle.std.specs.Option.{option_or};
 ghost use Rattle.sieve_parser.specs.View.{argument_tree};
 ghost use Rattle.sieve_check.specs.Arguments.{first_label, is_second_modifier, label_needing_mime, missing_cause, needs_mime, number_of, positional_cause, untaken_kind};
 ghost use Rattle.sieve_check.specs.Names.{tag_named};
-ghost use Rattle.sieve_check.specs.Reading.{FirstList, FirstNumber, FirstTag, FirstText, Settles, left_of, name_in};
+ghost use Rattle.sieve_check.specs.Reading.{FirstTag, Settles, name_in};
 ghost use Rattle.sieve_check.specs.ReasonView.{cause_view};
 
 use crate::causes::{Cause, ReasonKind};
 use crate::names::{Tag, comparator_named, tag_named};
 use crate::signature::{Positional, Reading, Signature, Tags, is_list};
 use bytecode_format::Selector;
-use octets::Octets;
 use sieve_parser::Argument;
+use std::slice;
 
 // The first argument's name and the arguments after it, where it is a tag.
 fn first_tag(arguments: &[Argument]) -> Option<(&[u8], &[Argument])>
@@ -20,37 +19,6 @@ fn first_tag(arguments: &[Argument]) -> Option<(&[u8], &[Argument])>
 {
     match arguments {
         [Argument::Tag(name), rest @ ..] => Some((name.as_slice(), rest)),
-        _ => None,
-    }
-}
-
-/// The first argument and the arguments after it, where it is one string.
-pub fn first_text(arguments: &[Argument]) -> Option<(&Octets, &[Argument])>
-    ensures { FirstText (map argument_tree arguments.now) result }
-{
-    match arguments {
-        [Argument::Text(text), rest @ ..] => Some((text, rest)),
-        _ => None,
-    }
-}
-
-// The first argument and the arguments after it, where it is a number.
-fn first_number(arguments: &[Argument]) -> Option<(u64, &[Argument])>
-    ensures { FirstNumber (map argument_tree arguments.now) result }
-{
-    match arguments {
-        [Argument::Number(number), rest @ ..] => Some((*number, rest)),
-        _ => None,
-    }
-}
-
-// The first argument alone and the arguments after it, where it is a list: a string, or strings in square brackets.
-fn first_list(arguments: &[Argument]) -> Option<(&[Argument], &[Argument])>
-    ensures { FirstList (map argument_tree arguments.now) result }
-{
-    let (list, rest) = arguments.split_at(arguments.len().min(1));
-    match list {
-        [argument] if is_list(argument) => Some((list, rest)),
         _ => None,
     }
 }
@@ -83,7 +51,9 @@ fn untaken_kind(signature: Signature, tag: Tag, tags: Tags) -> ReasonKind
 fn with_comparator(reading: Reading<'_>) -> Option<Reading<'_>>
     ensures { Settles reading.entry Tag.Comparator result }
 {
-    let (name, rest) = first_text(reading.positional)?;
+    let [Argument::Text(name), rest @ ..] = reading.positional else {
+        return None;
+    };
     let comparator = comparator_named(name.as_slice())?;
     let tags = Tags {
         comparator: Some(comparator),
@@ -100,19 +70,23 @@ fn with_comparator(reading: Reading<'_>) -> Option<Reading<'_>>
 fn with_params(reading: Reading<'_>) -> Option<Reading<'_>>
     ensures { Settles reading.entry (Tag.Select Selector.Param) result }
 {
-    let (params, rest) = first_list(reading.positional)?;
-    Some(Reading {
-        params,
-        positional: rest,
-        ..reading
-    })
+    match reading.positional {
+        [list, rest @ ..] if is_list(list) => Some(Reading {
+            params: slice::from_ref(list),
+            positional: rest,
+            ..reading
+        }),
+        _ => None,
+    }
 }
 
 // What was read so far, with the string of `:name`, which comes next.
 fn with_name(reading: Reading<'_>) -> Option<Reading<'_>>
     ensures { Settles reading.entry Tag.Name result }
 {
-    let (loop_name, rest) = first_text(reading.positional)?;
+    let [Argument::Text(loop_name), rest @ ..] = reading.positional else {
+        return None;
+    };
     Some(Reading {
         name: Some(loop_name.as_slice()),
         positional: rest,
@@ -124,12 +98,14 @@ fn with_name(reading: Reading<'_>) -> Option<Reading<'_>>
 fn with_first(reading: Reading<'_>) -> Option<Reading<'_>>
     ensures { Settles reading.entry Tag.First result }
 {
-    let (number, rest) = first_number(reading.positional)?;
-    if number == 0 {
+    let [Argument::Number(number), rest @ ..] = reading.positional else {
+        return None;
+    };
+    if *number == 0 {
         return None;
     }
     let tags = Tags {
-        first: Some(number),
+        first: Some(*number),
         ..reading.tags
     };
     Some(Reading {
@@ -241,22 +217,6 @@ fn missing_cause(signature: Signature, tags: Tags, arguments: &[Argument]) -> Op
     }
 }
 
-// What is wrong with what is left, where no tag is next, or else with the tags that were given.
-fn end_cause<'a>(
-    signature: Signature,
-    reading: Reading<'a>,
-    arguments: &'a [Argument],
-) -> Option<Cause<'a>>
-    ensures { option_map cause_view result
-        ≡ option_or (positional_cause signature.positional (left_of reading.entry))
-        (missing_cause signature reading.entry.tags (map argument_tree arguments.now)) }
-{
-    if let Some(cause) = positional_cause(signature, reading.positional) {
-        return Some(cause);
-    }
-    missing_cause(signature, reading.tags, arguments)
-}
-
 impl Signature {
     ghost use Rattle.std.specs.Prelude.{map};
     ghost use Rattle.sieve_parser.specs.View.{argument_tree};
@@ -290,7 +250,10 @@ impl Signature {
             };
             reading = settled;
         }
-        match end_cause(self, reading, arguments) {
+        if let Some(cause) = positional_cause(self, reading.positional) {
+            return Err(cause);
+        }
+        match missing_cause(self, reading.tags, arguments) {
             Some(cause) => Err(cause),
             None => Ok(reading),
         }

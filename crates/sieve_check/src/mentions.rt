@@ -10,7 +10,6 @@ ghost use Rattle.sieve_check.specs.Refusing.{Adds, context_of, listed, mentions_
 ghost use Rattle.sieve_check.specs.Rules.{expanding, large_cause, large_mention_cause, lists_read, long_name, mention_cause, mentions_of, names_mentioned, no_mention, reference_kind, strings_of, where_required};
 ghost use Rattle.sieve_check.specs.Signatures.{command_signature, is_positional};
 
-use crate::arguments::first_text;
 use crate::causes::{Cause, ReasonKind};
 use crate::names::{Capability, CommandName};
 use crate::references::is_long_name;
@@ -19,6 +18,7 @@ use crate::string_faults::StringFault;
 use crate::surroundings::Surroundings;
 use crate::variable_names::VariableNames;
 use octets::Octets;
+use sieve_parser::Argument;
 use sieve_references::{Segment, first_segment, is_identifier};
 
 // What kind of fault the first wrong reference in the string is.
@@ -92,8 +92,8 @@ impl<'t> Mentions<'t> {
         ensures { mentions_in result
             ≡ mentions_of CommandName.Set (strings_of (lists_read (read_of reading.entry))) }
     {
-        match first_text(reading.positional) {
-            Some((name, value)) => Mentions {
+        match reading.positional {
+            [Argument::Text(name), value @ ..] => Mentions {
                 expanded: Lists {
                     first: &[],
                     params: reading.params,
@@ -101,7 +101,7 @@ impl<'t> Mentions<'t> {
                 },
                 set: Some(name),
             },
-            None => unreachable!(),
+            _ => unreachable!(),
         }
     }
 
@@ -111,12 +111,12 @@ impl<'t> Mentions<'t> {
         ensures { mentions_in result
             ≡ mentions_of CommandName.Take (strings_of (lists_read (read_of reading.entry))) }
     {
-        match first_text(reading.positional) {
-            Some((name, _)) => Mentions {
+        match reading.positional {
+            [Argument::Text(name), ..] => Mentions {
                 expanded: Lists::none(),
                 set: Some(name),
             },
-            None => unreachable!(),
+            _ => unreachable!(),
         }
     }
 

@@ -29,7 +29,6 @@ pub struct Sequence {
 impl Sequence {
     ghost use Rattle.std.specs.Prelude.{◌≡◌, [], IfOk, OnOk, MatchResult};
     ghost use Rattle.sieve_check.specs.declared.form_error.FormError.TheVariants.{Malformed};
-    ghost use Rattle.sieve_check.specs.declared.sequence.Part.TheVariants.{Action, First};
     ghost use Rattle.sieve_check.specs.Sequences.{Closed, Pushed, Unfit, joined};
     ghost use Rattle.sieve_check.specs.Typed.{CommandForms, no_branch, no_command};
     ghost use Rattle.sieve_check.specs.TypedView.{commands_form, else_form};
@@ -57,26 +56,6 @@ impl Sequence {
         Ok(())
     }
 
-    // Ends the choice, if there is one, and adds a command.
-    fn act(&mut self, alloc: Global, command: Command) -> Result<(), AllocError>
-        ensures { OnOk result (Pushed self.old (Action command) self.new) }
-    {
-        self.close(alloc, None)?;
-        self.commands.push(command)?;
-        Ok(())
-    }
-
-    // Ends the choice, if there is one, and begins another one.
-    fn choose(&mut self, alloc: Global, branch: Branch) -> Result<(), AllocError>
-        ensures { OnOk result (Pushed self.old (First branch) self.new) }
-    {
-        self.close(alloc, None)?;
-        // Most choices have one branch.
-        self.branches.reserve_exact(1)?;
-        self.branches.push(branch)?;
-        Ok(())
-    }
-
     /// Adds what a command adds. A further branch can be added to an open choice alone.
     pub fn push(&mut self, alloc: Global, part: Part) -> Result<(), FormError>
         ensures { MatchResult result (λ _. Pushed self.old part self.new)
@@ -85,8 +64,16 @@ impl Sequence {
         let is_open = !self.branches.is_empty();
         match part {
             Part::Nothing => self.close(alloc, None)?,
-            Part::Action(command) => self.act(alloc, command)?,
-            Part::First(branch) => self.choose(alloc, branch)?,
+            Part::Action(command) => {
+                self.close(alloc, None)?;
+                self.commands.push(command)?;
+            }
+            Part::First(branch) => {
+                self.close(alloc, None)?;
+                // Most choices have one branch.
+                self.branches.reserve_exact(1)?;
+                self.branches.push(branch)?;
+            }
             Part::Next(branch) if is_open => self.branches.push(branch)?,
             Part::Last(block) if is_open => self.close(alloc, Some(block))?,
             Part::Next(_) | Part::Last(_) => return Err(FormError::Malformed),

@@ -1,16 +1,25 @@
-use Rattle.std.proofs.Common.{◌∙◌, Some, sym, ap, map}
+use Rattle.std.proofs.Common.{rules, ◌≡◌, ◌∙◌, None, Some, sym, ap, map}
 use Rattle.std.specs.Prelude.{option_map}
 use Rattle.std.proofs.lemmas.List.{drop_all}
 use Rattle.sieve_parser.specs.View.{invocation_tree}
+use Rattle.sieve_check.specs.declared.form_error.FormError.TheVariants.{Malformed}
 use Rattle.sieve_check.specs.FormOf.{one, bracketed, test_form_of, more_forms_of}
 use Rattle.sieve_check.specs.Forming.{head_test}
 use Rattle.sieve_check.specs.Refusing.{context_of}
 use Rattle.sieve_check.specs.Signatures.{◌>>=◌}
 use Rattle.sieve_check.specs.TypedView.{test_form}
 use Rattle.sieve_check.proofs.FromIndex.{others_of}
-use Rattle.sieve_check.proofs.FormSteps.{form_with_test, form_with_tests, tests_more}
+use Rattle.sieve_check.proofs.FormSteps.{form_with_test, form_with_tests, test_missing, tests_more}
 use Rattle.sieve_check.proofs.TestLists.{tests_onto, onto_nothing}
 use Rattle.sieve_check.proofs.test_forms.+tests.Goals as goal
+
+pub tests-returns-in_err-test : goal.tests-returns-in_err-test
+tests-returns-in_err-test t c =
+    let s = context_of c.args.surroundings.now in
+    let none : c.in_err-test.field-0.0 ≡ Malformed → more_forms_of s (others_of c.args.list.now) ≡ None = λ malformed.
+    sym c.list.invariant
+    ∙ test_missing s c.args.list.now c.list.invocation-index c.invocation-item.result c.list-test.true c.invocation-item.is c.list.tests.items (c.in_err-test.ensures malformed) in
+    search rules
 
 pub tests-list-preserved : goal.tests-list-preserved
 tests-list-preserved t c =
