@@ -1,7 +1,7 @@
 -- What the readers of arguments answer.
-use Rattle.std.specs.Prelude.{◌≡◌, ℕ, ◌≤◌, true, List, [], ◌∷◌, ◌++◌, map, length, Option, Some, None, option_map, Result, MatchOption, MatchResult}
+use Rattle.std.specs.Prelude.{◌≡◌, ℕ, ◌≤◌, List, ◌∷◌, ◌++◌, map, length, Option, Some, None, option_map, Result, MatchOption, MatchResult}
 use Rattle.std.specs.Borrow.{Bor}
-use Rattle.sieve_parser.specs.Tree.{ArgumentTree, text, amount, label}
+use Rattle.sieve_parser.specs.Tree.{ArgumentTree, label}
 use Rattle.sieve_parser.specs.View.{argument_tree}
 use Rattle.sieve_parser.specs.declared.tree.Argument.{Argument}
 use Rattle.sieve_check.specs.declared.causes.Cause.{Cause}
@@ -13,7 +13,7 @@ use Rattle.sieve_check.specs.declared.signature.Lists.{Lists}
 use Rattle.sieve_check.specs.Arguments.{arguments_cause, awaiting, rest_cause}
 use Rattle.sieve_check.specs.Causes.{about}
 use Rattle.sieve_check.specs.ReasonView.{cause_view}
-use Rattle.sieve_check.specs.Signatures.{Read, Given, awaited, is_list, reading, tags_read}
+use Rattle.sieve_check.specs.Signatures.{Read, Given, awaited, reading, tags_read}
 
 -- the name of the first argument and the arguments after it, if that is a tag
 abbrev pub FirstTag : List ArgumentTree → Option (Bor (List ℕ) × Bor (List Argument)) → Type 0
