@@ -14,15 +14,15 @@ use Rattle.sieve_lexer.specs.declared.token.TokenKind.{TokenKind}
 use Rattle.sieve_lexer.specs.declared.token.TokenKind.TheVariants.{ClosingBrace, ClosingBracket, Comma, Identifier, Number, OpeningBrace, OpeningBracket, QuotedString, Semicolon}
 use Rattle.sieve_check.specs.declared.causes.ReasonKind.{ReasonKind}
 use Rattle.sieve_check.specs.declared.causes.ReasonKind.TheVariants.{ExtraArgument, ForeignTag, LongString, MissingCapability, Misplaced, UnknownCapability, UnknownCommand, UnknownTag, UnknownTest, WrongTests}
-use Rattle.sieve_explain.specs.Explaining.{told}
-use Rattle.sieve_explain.specs.Faults.{lexical_blanks, syntax_blanks}
-use Rattle.sieve_explain.specs.Hints.{known_capabilities, known_commands, known_tags, known_tests, lacking, meant}
-use Rattle.sieve_explain.specs.Words.{is_near, nearest}
-use Rattle.sieve_explain.specs.Marks.{has_unit, string_among, unclosed}
+use Rattle.sieve_explain.specs.Explaining.{remark, told}
+use Rattle.sieve_explain.specs.Faults.{end_blanks, lexical_blanks, misplaced_token, token_blanks}
+use Rattle.sieve_explain.specs.Hints.{known_capabilities, known_commands, known_tags, known_tests, lacking, meant, unknown_capability, unknown_command, unknown_tag, unknown_test}
+use Rattle.sieve_explain.specs.Words.{begin_off, differ_at, is_near, nearest}
+use Rattle.sieve_explain.specs.Marks.{has_unit, spells, string_among, unclosed}
 use Rattle.sieve_explain.specs.Places.{column, line_at, line_number}
-use Rattle.sieve_explain.specs.Reasons.{capability_words, reason_blanks}
-use Rattle.sieve_explain.specs.Sentences.{filled}
-use Rattle.sieve_explain.specs.Shown.{excerpt, line, shown, shown_end, shown_start}
+use Rattle.sieve_explain.specs.Reasons.{capability_words, other_blanks, reason_blanks}
+use Rattle.sieve_explain.specs.Sentences.{filled, filled_octet}
+use Rattle.sieve_explain.specs.Shown.{excerpt, line, marked, shown, shown_end, shown_octet, shown_start}
 
 -- a line ends with its LF, after the last of which comes one more line, in which nothing stands
 places :
@@ -41,6 +41,7 @@ prints :
     × (shown_start (replicate 61 97) ≡ replicate 60 97 ++ codes "...")
     × (shown_end (98 ∷ replicate 60 97) ≡ codes "..." ++ replicate 60 97)
     × (excerpt (codes "if true\n\tstop }\n") 14 ≡ line (codes " stop }") ++ line (codes "      ^"))
+unfolding excerpt shown_octet shown_start shown_end marked
 prints = (refl, refl, refl, refl, refl)
 
 -- what can't be a token, or can't stand where it does
@@ -51,9 +52,9 @@ faults_said :
     × (filled (lexical_blanks (239 ∷ 187 ∷ 191 ∷ codes "keep;")) ≡ codes "a byte order mark stands here: save the script as UTF-8 without one")
     × (filled (lexical_blanks (codes "// bills")) ≡ codes "no comment begins so: one begins with `#`, or stands between `/*` and `*/`")
     × (filled (lexical_blanks (codes "/* bills")) ≡ codes "a comment is never closed")
-    × (filled (syntax_blanks (codes "keep") None) ≡ codes "the script ends before its last command does")
-    × (filled (syntax_blanks (codes "stop }") (Some (record { kind = ClosingBrace; start = 5; end = 6 }))) ≡ codes "`}` can't stand here: is a semicolon missing before it, or its opening brace?")
-unfolding digits
+    × (filled (end_blanks) ≡ codes "the script ends before its last command does")
+    × (filled (token_blanks (codes "stop }") (record { kind = ClosingBrace; start = 5; end = 6 })) ≡ codes "`}` can't stand here: is a semicolon missing before it, or its opening brace?")
+unfolding digits lexical_blanks misplaced_token filled_octet shown_octet shown_start
 faults_said = (refl, refl, refl, refl, refl, refl, refl, refl)
 
 abbrev said : ReasonKind → List ℕ → List ℕ → List ℕ
@@ -70,6 +71,7 @@ unknown_said :
     × (said UnknownTest (codes "address") [] ≡ codes "depot has no `address`: `header` tests the whole value of a field")
     × (said UnknownCommand (codes "header") [] ≡ codes "`header` is a test: is an `if` missing before it?")
     × (said UnknownTest (codes "keep") [] ≡ codes "`keep` is a command, and a test is needed here")
+unfolding unknown_command unknown_test unknown_tag unknown_capability filled_octet shown_octet shown_start is_near differ_at begin_off
 unknown_said = (refl, refl, refl, refl, refl, refl, refl, refl, refl)
 
 -- other reasons
@@ -82,21 +84,24 @@ reasons_said :
     × (said (ExtraArgument Text) (codes "fileinto") [] ≡ codes "`fileinto` has too many arguments: it takes one string without brackets")
     × (said LongString (codes "fileinto") (codes "a@b") ≡ codes "the string \"a@b\" has more than 16384 octets")
     × (said Misplaced (codes "else") [] ≡ codes "`else` stands directly after an `if` or `elsif`")
-unfolding digits
+unfolding digits other_blanks filled_octet shown_octet shown_start
 reasons_said = (refl, refl, refl, refl, refl, refl, refl, refl)
 
 -- a letter that is another, is missing, is one too many, and two that are swapped; and the case of letters
 one_letter_off : list_all (λ name. bytes_eq (meant name known_commands) (codes "keep"))
     (codes "kerp" ∷ codes "leep" ∷ codes "keel" ∷ codes "kep" ∷ codes "eep" ∷ codes "kee" ∷ codes "keepp" ∷ codes "skeep" ∷ codes "ekep" ∷ codes "kepe" ∷ codes "KEP" ∷ []) ≡ true
+unfolding is_near differ_at begin_off
 one_letter_off = refl
 
 two_letters_off : list_any (λ name. is_near name (codes "keep"))
     (codes "kp" ∷ codes "ke" ∷ codes "keepss" ∷ codes "eekp" ∷ codes "peek" ∷ codes "kllp" ∷ []) ≡ false
+unfolding is_near differ_at begin_off
 two_letters_off = refl
 
 -- a capability is told as a `require` has to name it, and is among those that may be meant
 capability_found : (c : Capability) → (capability_named (capability_words c) ≡ Some c)
     × (nearest (capability_words c) known_capabilities.names ≡ capability_words c)
+unfolding is_near differ_at begin_off
 capability_found capability.FileInto = (refl, refl)
 capability_found capability.Variables = (refl, refl)
 capability_found capability.Mime = (refl, refl)
@@ -133,6 +138,7 @@ braces = (refl, refl)
 strings :
     (string_among (codes "[\"a\",\"bc\"];") (codes "bc") (token_of OpeningBracket 0 1 ∷ token_of QuotedString 1 4 ∷ token_of Comma 4 5 ∷ token_of QuotedString 5 9 ∷ token_of ClosingBracket 9 10 ∷ token_of Semicolon 10 11 ∷ []) ≡ Some (token_of QuotedString 5 9))
     × (string_among (codes ";\"bc\"") (codes "bc") (token_of Semicolon 0 1 ∷ token_of QuotedString 1 5 ∷ []) ≡ None)
+unfolding spells
 strings = (refl, refl)
 
 -- a unit with more letters, and none
@@ -142,7 +148,7 @@ units :
 units = (refl, refl)
 
 -- all of it
-whole : told (codes "my.sieve") (codes "keep;\nstop }\n") 11 (syntax_blanks (codes "keep;\nstop }\n") (Some (record { kind = ClosingBrace; start = 11; end = 12 })))
+whole : told (codes "my.sieve") (codes "keep;\nstop }\n") 11 (token_blanks (codes "keep;\nstop }\n") (record { kind = ClosingBrace; start = 11; end = 12 }))
     ≡ line (codes "my.sieve:2:6: error: `}` can't stand here: is a semicolon missing before it, or its opening brace?") ++ line (codes "stop }") ++ line (codes "     ^")
-unfolding digits
+unfolding digits remark excerpt misplaced_token marked filled_octet shown_octet shown_start shown_end
 whole = refl

@@ -5,7 +5,7 @@ use Rattle.std.specs.Fmt.{decimal, digit_glyph, digits, digits_onto}
 use Rattle.std.proofs.lemmas.Bool.Decides.{nat_tests}
 use Rattle.std.proofs.lemmas.List.Folds.{list_all-append}
 use Rattle.sieve_explain.specs.Printable.{are_printable, is_printable}
-use Rattle.sieve_explain.specs.Shown.{cut_mark, max_shown, named, quoted, shown, shown_end, shown_octet, shown_start, tagged}
+use Rattle.sieve_explain.specs.Shown.{between, cut_mark, max_shown, named, quoted, shown, shown_end, shown_octet, shown_start, tagged}
 use Rattle.sieve_explain.specs.Sentences.{Blanks, filled, filled_octet}
 
 abbrev pub Fine : List ℕ → Type 0
@@ -61,12 +61,15 @@ fine_case octet true e = ap (λ (b : Bool). (b || octet == 10) && true) e
 fine_case octet false e = fine_if (octet == 9) (32 ∷ []) _ refl (fine_two (digit_glyph false (octet / 16 % 16)) (digit_glyph false (octet % 16)) (fine_glyph (octet / 16 % 16) (omega arith)) (fine_glyph (octet % 16) (omega arith)))
 
 fine_shown : (text : List ℕ) → Fine (shown text)
+unfolding shown_octet
 fine_shown text = fine_each shown_octet (λ octet. fine_case octet (nat_le 32 octet && nat_le octet 126) refl) text
 
 pub fine_start : (text : List ℕ) → Fine (shown_start text)
+unfolding shown_start
 fine_start text = fine_if (nat_le (length text) max_shown) (shown text) (shown (take max_shown text) ++ cut_mark) (fine_shown text) (fine_append (shown (take max_shown text)) cut_mark (fine_shown (take max_shown text)) refl)
 
 pub fine_end : (text : List ℕ) → Fine (shown_end text)
+unfolding shown_end
 fine_end text = fine_if (nat_le (length text) max_shown) (shown text) _ (fine_shown text) (fine_append cut_mark (shown (drop (length text - max_shown) text)) refl (fine_shown (drop (length text - max_shown) text)))
 
 pub fine_spaces : (n : ℕ) → Fine (replicate n 32)
@@ -83,23 +86,18 @@ pub fine_decimal : (n : ℕ) → Fine (decimal n)
 unfolding digits
 fine_decimal n = fine_onto 64 n [] refl
 
-pub fine_named : (name : List ℕ) → Fine (named name)
-fine_named name = fine_append (codes "`" ++ shown_start name) (codes "`") (fine_append (codes "`") (shown_start name) refl (fine_start name)) refl
-
-fine_tagged : (tag : List ℕ) → Fine (tagged tag)
-fine_tagged tag = fine_append (codes "`:" ++ shown_start tag) (codes "`") (fine_append (codes "`:") (shown_start tag) refl (fine_start tag)) refl
-
-fine_quoted : (text : List ℕ) → Fine (quoted text)
-fine_quoted text = fine_append (codes "\"" ++ shown_start text) (codes "\"") (fine_append (codes "\"") (shown_start text) refl (fine_start text)) refl
+fine_between : (opening text closing : List ℕ) → Fine opening → Fine closing → Fine (between opening text closing)
+fine_between opening text closing p q = fine_append (opening ++ shown_start text) closing (fine_append opening (shown_start text) p (fine_start text)) q
 
 -- a sentence whose text and words are printable
 abbrev pub FineBlanks : Blanks → Type 0
 FineBlanks blanks = Fine blanks.text × Fine blanks.words
 
 pub fine_filled : (blanks : Blanks) → FineBlanks blanks → Fine (filled blanks)
+unfolding filled_octet
 fine_filled blanks h = fine_fills (filled_octet blanks) (λ octet e.
-    fine_if (octet == 64) (named blanks.name) _ (fine_named blanks.name)
-    (fine_if (octet == 35) (tagged blanks.subject) _ (fine_tagged blanks.subject)
-    (fine_if (octet == 36) (quoted blanks.subject) _ (fine_quoted blanks.subject)
+    fine_if (octet == 64) (named blanks.name) _ (fine_between (codes "`") blanks.name (codes "`") refl refl)
+    (fine_if (octet == 35) (tagged blanks.subject) _ (fine_between (codes "`:") blanks.subject (codes "`") refl refl)
+    (fine_if (octet == 36) (quoted blanks.subject) _ (fine_between (codes "\"") blanks.subject (codes "\"") refl refl)
     (fine_if (octet == 38) blanks.words _ h.1
     (fine_if (octet == 37) (decimal blanks.number) (octet ∷ []) (fine_decimal blanks.number) (fine_one octet e)))))) blanks.text h.0

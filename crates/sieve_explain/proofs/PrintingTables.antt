@@ -1,7 +1,7 @@
 -- The sentences are printable, whatever is filled in.
 use Rattle.std.proofs.Common.{◌≡◌, ℕ, Bool, true, false, List, [], ◌∷◌, length, take, refl, arith}
 use Rattle.std.specs.List.{list_all, list_any}
-use Rattle.std.specs.Prelude.{◌&&◌, ◌||◌, ◌==◌, if◌then◌else◌, Option, Some, None, is_some, bytes_eq, codes, slice_index}
+use Rattle.std.specs.Prelude.{◌&&◌, ◌||◌, ◌==◌, if◌then◌else◌, is_some, bytes_eq, codes, slice_index}
 use Rattle.std.specs.Char.{is_ascii_digit}
 use Rattle.sieve_lexer.specs.Classes.{begins_identifier}
 use Rattle.sieve_lexer.specs.declared.token.Token.{Token}
@@ -19,10 +19,10 @@ use Rattle.sieve_check.specs.declared.causes.ReasonKind.{ReasonKind}
 use Rattle.sieve_check.specs.declared.causes.ReasonKind.TheVariants as reasons
 use Rattle.bytecode_listing.specs.declared.error.FaultKind.{FaultKind}
 use Rattle.bytecode_listing.specs.declared.error.FaultKind.TheVariants.{Misplaced, SecondLabel, NoLabel, Limits}
-use Rattle.sieve_explain.specs.Faults.{Beginning, lexical_blanks, listing_blanks, misplaced_blanks, misplaced_token, mistaken, mistaken_blanks, other_blanks, syntax_blanks, text_at}
-use Rattle.sieve_explain.specs.Hints.{Vocabulary, known_capabilities, known_commands, known_tags, known_tests, lacking, lacking_rows, meant, unknown_text, unknown_words}
+use Rattle.sieve_explain.specs.Faults.{Beginning, beginnings, lexical_blanks, listing_blanks, listing_text, misplaced_text, misplaced_token, other_text, text_at, token_blanks}
+use Rattle.sieve_explain.specs.Hints.{Vocabulary, known_capabilities, known_commands, known_tags, known_tests, lacking, lacking_rows, meant, unknown, unknown_capability, unknown_command, unknown_tag, unknown_test, unknown_text, unknown_words}
 use Rattle.sieve_explain.specs.Printable.{are_printable}
-use Rattle.sieve_explain.specs.Reasons.{capability_words, ending_words, no_test_words, place_text, positional_words, reason_blanks, reason_text, reason_words, tag_words, tests_words}
+use Rattle.sieve_explain.specs.Reasons.{capability_words, ending_words, kind_blanks, no_test_words, other_blanks, place_text, positional_words, reason_blanks, reason_text, reason_words, tag_words, tests_words}
 use Rattle.sieve_explain.specs.Sentences.{Blanks}
 use Rattle.sieve_explain.specs.Words.{Hint, is_near, nearest, with_words, words_for}
 use Rattle.sieve_explain.proofs.Printing.{Fine, FineBlanks, both, fine_if}
@@ -90,49 +90,49 @@ fine_ending taken = grind arith
 fine_tag : (given : Tag) → Fine (tag_words given)
 fine_tag given = grind arith
 
-fine_words : (kind : ReasonKind) (name subject : List ℕ) → Fine (reason_words kind name subject)
-fine_words reasons.UnknownCommand name subject = fine_unknown_words name known_commands (refl, refl, refl, refl, refl)
-fine_words reasons.UnknownTest name subject = fine_unknown_words name known_tests (refl, refl, refl, refl, refl)
-fine_words reasons.UnknownCapability name subject = fine_unknown_words subject known_capabilities (refl, refl, refl, refl, refl)
-fine_words reasons.UnknownTag name subject = fine_unknown_words subject known_tags (refl, refl, refl, refl, refl)
-fine_words (reasons.MissingCapability needed) name subject = fine_capability needed
-fine_words (reasons.TagArgument given) name subject = fine_tag given
-fine_words (reasons.MissingArgument taken) name subject = fine_positional taken
-fine_words (reasons.ExtraArgument taken) name subject = fine_positional taken
-fine_words (reasons.WrongArgument taken) name subject = fine_positional taken
-fine_words (reasons.WrongTests taken) name subject = fine_tests taken name
-fine_words (reasons.WrongEnding taken) name subject = fine_ending taken
-fine_words _ name subject = refl
+fine_words : (kind : ReasonKind) (name : List ℕ) → Fine (reason_words kind name)
+fine_words (reasons.MissingCapability needed) name = fine_capability needed
+fine_words (reasons.TagArgument given) name = fine_tag given
+fine_words (reasons.MissingArgument taken) name = fine_positional taken
+fine_words (reasons.ExtraArgument taken) name = fine_positional taken
+fine_words (reasons.WrongArgument taken) name = fine_positional taken
+fine_words (reasons.WrongTests taken) name = fine_tests taken name
+fine_words (reasons.WrongEnding taken) name = fine_ending taken
+fine_words _ name = refl
 
-fine_text : (kind : ReasonKind) (name subject : List ℕ) → Fine (reason_text kind name subject)
-fine_text reasons.UnknownCommand name subject = fine_if (is_some (test_named name)) _ _ refl (fine_unknown_text name known_commands (refl, refl, refl, refl, refl))
-fine_text reasons.UnknownTest name subject = fine_if (is_some (command_named name)) _ _ refl (fine_unknown_text name known_tests (refl, refl, refl, refl, refl))
-fine_text reasons.UnknownCapability name subject = fine_unknown_text subject known_capabilities (refl, refl, refl, refl, refl)
-fine_text reasons.UnknownTag name subject = fine_unknown_text subject known_tags (refl, refl, refl, refl, refl)
-fine_text reasons.Misplaced name subject = fine_place name
-fine_text _ name subject = refl
-
-pub fine_reason : (reason : Reason) → FineBlanks (reason_blanks reason)
-fine_reason reason = (fine_text reason.kind reason.name reason.subject, fine_words reason.kind reason.name reason.subject)
-
-fine_token : (kind : TokenKind) → Fine (misplaced_token kind)
-fine_token kind = grind arith
-
-pub fine_syntax : (script : List ℕ) (token : Option Token) → FineBlanks (syntax_blanks script token)
-fine_syntax script None = (refl, refl)
-fine_syntax script (Some token) = (fine_token token.kind, refl)
+fine_text : (kind : ReasonKind) (name : List ℕ) → Fine (reason_text kind name)
+fine_text reasons.Misplaced name = fine_place name
+fine_text _ name = refl
 
 pub blanks_if : (b : Bool) (x y : Blanks) → FineBlanks x → FineBlanks y → FineBlanks (if b then x else y)
 blanks_if true x y p q = p
 blanks_if false x y p q = q
 
-fine_other : (rest : List ℕ) → FineBlanks (other_blanks rest)
+fine_unknown : (name : List ℕ) (known : Vocabulary) → FineVocabulary known → FineBlanks (unknown name known)
+fine_unknown name known fine = (fine_unknown_text name known fine, fine_unknown_words name known fine)
+
+fine_kind : (kind : ReasonKind) (found : Reason) → FineBlanks (kind_blanks kind found)
+unfolding other_blanks unknown_command unknown_test unknown_tag unknown_capability
+fine_kind reasons.UnknownCommand found = blanks_if (is_some (test_named found.name)) _ _ (refl, refl) (fine_unknown found.name known_commands (refl, refl, refl, refl, refl))
+fine_kind reasons.UnknownTest found = blanks_if (is_some (command_named found.name)) _ _ (refl, refl) (fine_unknown found.name known_tests (refl, refl, refl, refl, refl))
+fine_kind reasons.UnknownCapability found = fine_unknown found.subject known_capabilities (refl, refl, refl, refl, refl)
+fine_kind reasons.UnknownTag found = fine_unknown found.subject known_tags (refl, refl, refl, refl, refl)
+fine_kind _ found = (fine_text found.kind found.name, fine_words found.kind found.name)
+
+pub fine_reason : (reason : Reason) → FineBlanks (reason_blanks reason)
+fine_reason reason = fine_kind reason.kind reason
+
+fine_token : (kind : TokenKind) → Fine (misplaced_token kind)
+unfolding misplaced_token
+fine_token kind = grind arith
+
+pub fine_misplaced_token : (script : List ℕ) (token : Token) → FineBlanks (token_blanks script token)
+fine_misplaced_token script token = (fine_token token.kind, refl)
+
+fine_other : (rest : List ℕ) → Fine (other_text rest)
 fine_other rest =
-    blanks_if (slice_index rest 0 == 34) _ _ (refl, refl)
-    (blanks_if ((slice_index rest 0 == 47) && (slice_index rest 1 == 42)) _ _ (refl, refl)
-    (blanks_if (is_ascii_digit (slice_index rest 0)) _ _ (refl, refl)
-    (blanks_if (begins_identifier (slice_index rest 0)) _ _ (refl, refl)
-    (blanks_if (slice_index rest 0 == 58) _ _ (refl, refl) (refl, refl)))))
+    fine_if (is_ascii_digit (slice_index rest 0)) _ _ refl
+    (fine_if (begins_identifier (slice_index rest 0)) _ _ refl refl)
 
 abbrev fine_beginning : Beginning → Bool
 fine_beginning row = are_printable row.text
@@ -143,19 +143,20 @@ fine_at rest (row ∷ rows) e =
     let p = both (fine_beginning row) (list_all fine_beginning rows) e in
     fine_if (bytes_eq (take (length row.octets) rest) row.octets) row.text (text_at rest rows) p.0 (fine_at rest rows p.1)
 
-fine_mistaken : (text : List ℕ) (other : Blanks) → Fine text → FineBlanks other → FineBlanks (mistaken_blanks text other)
-fine_mistaken [] other p q = q
-fine_mistaken (c ∷ text) other p q = (p, refl)
-
 pub fine_lexical : (rest : List ℕ) → FineBlanks (lexical_blanks rest)
-fine_lexical rest = fine_mistaken (text_at rest mistaken) (other_blanks rest) (fine_at rest mistaken refl) (fine_other rest)
+unfolding lexical_blanks
+fine_lexical rest = (fine_with (text_at rest beginnings) _ _ (fine_at rest beginnings refl) (fine_other rest), refl)
 
-fine_misplaced : (rest : List ℕ) → FineBlanks (misplaced_blanks rest)
-fine_misplaced [] = (refl, refl)
-fine_misplaced (octet ∷ rest) = blanks_if (octet == 34) _ _ (refl, refl) (refl, refl)
+fine_misplaced : (rest : List ℕ) → Fine (misplaced_text rest)
+fine_misplaced [] = refl
+fine_misplaced (octet ∷ rest) = fine_if (octet == 34) _ _ refl refl
+
+fine_listing_text : (kind : FaultKind) (rest : List ℕ) → Fine (listing_text kind rest)
+fine_listing_text Misplaced rest = fine_misplaced rest
+fine_listing_text SecondLabel rest = refl
+fine_listing_text NoLabel rest = refl
+fine_listing_text Limits rest = refl
 
 pub fine_listing : (kind : FaultKind) (rest : List ℕ) → FineBlanks (listing_blanks kind rest)
-fine_listing Misplaced rest = fine_misplaced rest
-fine_listing SecondLabel rest = (refl, refl)
-fine_listing NoLabel rest = (refl, refl)
-fine_listing Limits rest = (refl, refl)
+unfolding listing_blanks
+fine_listing kind rest = (fine_listing_text kind rest, refl)

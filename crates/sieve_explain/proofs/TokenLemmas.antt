@@ -6,7 +6,7 @@ use Rattle.std.specs.Option.{option_or}
 use Rattle.sieve_lexer.specs.Tokens.{AreTokens, IsToken}
 use Rattle.sieve_lexer.specs.declared.token.Token.{Token}
 use Rattle.sieve_parser.proofs.Here.{token_here}
-use Rattle.sieve_explain.specs.Marks.{Stands, has_unit, if_spelled, if_unclosed, is_no_name, is_number_at, is_opening, is_unit_at, passes, spells, string_among, unclosed, unopened}
+use Rattle.sieve_explain.specs.Marks.{Stands, has_unit, if_unclosed, is_no_name, is_number_at, is_opening, is_semicolon, is_unit_at, spells, string_among, unclosed, unopened}
 
 -- a token among those of a script stands in it
 pub stands_numbered : (script : List ℕ) (tokens : List Token) → AreTokens script tokens → (number : ℕ) (o : Option Token) → o ≡ slice_get tokens number → Stands script o
@@ -29,24 +29,28 @@ later : (token : Token) (tokens : List Token) (o : Option Token) → IsOne token
 later token tokens None one = tt
 later token tokens (Some found) (number, e) = (suc number, e)
 
-one_behind : (n : ℕ) (tokens : List Token) (number : ℕ) → IsOne tokens (slice_get (drop n tokens) number)
-one_behind zero tokens number = one_numbered tokens number (slice_get tokens number) refl
-one_behind (suc n) [] number = tt
-one_behind (suc n) (token ∷ tokens) number = later token tokens (slice_get (drop n tokens) number) (one_behind n tokens number)
+one_dropped : (n : ℕ) (tokens : List Token) (o : Option Token) → IsOne (drop n tokens) o → IsOne tokens o
+one_dropped zero tokens o one = one
+one_dropped (suc n) [] o one = one
+one_dropped (suc n) (token ∷ tokens) o one = later token tokens o (one_dropped n tokens o one)
 
 one_if : (tokens : List Token) (b : Bool) (token : Token) → IsOne tokens (Some token) → IsOne tokens (if b then Some token else None)
 one_if tokens true token one = one
 one_if tokens false token one = tt
 
-one_spelled : (script string : List ℕ) (tokens : List Token) (o : Option Token) → IsOne tokens o → IsOne tokens (if_spelled script string o)
-one_spelled script string tokens None one = tt
-one_spelled script string tokens (Some token) one = one_if tokens (spells script string token) token one
+one_found : (token : Token) (tokens : List Token) (a b : Bool) (o : Option Token) → IsOne tokens o → IsOne (token ∷ tokens) (if a then Some token else (if b then None else o))
+one_found token tokens true b o one = (0, refl)
+one_found token tokens false true o one = tt
+one_found token tokens false false o one = later token tokens o one
+
+one_among : (script string : List ℕ) (tokens : List Token) → IsOne tokens (string_among script string tokens)
+one_among script string [] = tt
+one_among script string (token ∷ tokens) = one_found token tokens (spells script string token) (is_semicolon token.kind) (string_among script string tokens) (one_among script string tokens)
 
 -- a string behind a command
 pub string_stands : (script string : List ℕ) (tokens : List Token) (number : ℕ) → AreTokens script tokens → (o : Option Token) → o ≡ string_among script string (drop number tokens) → Stands script o
 string_stands script string tokens number has o e =
-    let place = length (take_while (passes script string) (drop number tokens)) in
-    stands_one script tokens has o (subst (IsOne tokens) (sym e) (one_spelled script string tokens (slice_get (drop number tokens) place) (one_behind number tokens place)))
+    stands_one script tokens has o (subst (IsOne tokens) (sym e) (one_dropped number tokens (string_among script string (drop number tokens)) (one_among script string (drop number tokens))))
 
 one_or : (token : Token) (tokens : List Token) (o p : Option Token) → IsOne tokens o → IsOne (token ∷ tokens) p → IsOne (token ∷ tokens) (option_or o p)
 one_or token tokens None p one other = other

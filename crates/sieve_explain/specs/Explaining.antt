@@ -19,22 +19,25 @@ use Rattle.sieve_check.specs.declared.causes.ReasonKind.TheVariants as kind
 use Rattle.sieve_check.specs.Causes.{Refused, fault_of_kind}
 use Rattle.sieve_check.specs.Rules.{fault_of, max_reasons, reasons_of}
 use Rattle.sieve_explain.specs.declared.explanation.Explanation.{Explanation}
-use Rattle.sieve_explain.specs.Faults.{lexical_blanks, listing_blanks, syntax_blanks, too_deep_blanks, too_long_blanks, unclosed_blanks, unit_blanks}
+use Rattle.sieve_explain.specs.Faults.{end_blanks, lexical_blanks, listing_blanks, token_blanks, too_deep_blanks, too_long_blanks, unclosed_blanks, unit_blanks}
 use Rattle.sieve_explain.specs.Marks.{has_unit, string_among, unclosed}
 use Rattle.sieve_explain.specs.Places.{column, line_number}
 use Rattle.sieve_explain.specs.Reasons.{reason_blanks}
 use Rattle.sieve_explain.specs.Sentences.{Blanks, filled}
 use Rattle.sieve_explain.specs.Shown.{excerpt, line}
 
+-- a colon, and the number
+abbrev pub numbered : ℕ → List ℕ
+numbered number = codes ":" ++ decimal number
+
 -- the script, the line and the column of a place in it, what kind of remark it is, and a sentence
 abbrev pub heading : List ℕ → List ℕ → List ℕ → ℕ → List ℕ → List ℕ
 heading kind name script place sentence =
-    name ++ codes ":" ++ decimal (line_number script place) ++ codes ":" ++ decimal (column script place) ++ kind
-    ++ sentence
+    line (name ++ numbered (line_number script place) ++ numbered (column script place) ++ kind ++ sentence)
 
 -- a remark of that kind about a place of the script, with the line of the place and a mark under it
-abbrev pub remark : List ℕ → List ℕ → List ℕ → ℕ → Blanks → List ℕ
-remark kind name script place blanks = line (heading kind name script place (filled blanks)) ++ excerpt script place
+unfoldable pub remark : List ℕ → List ℕ → List ℕ → ℕ → Blanks → List ℕ
+remark kind name script place blanks = heading kind name script place (filled blanks) ++ excerpt script place
 
 -- what is wrong at a place
 abbrev pub told : List ℕ → List ℕ → ℕ → Blanks → List ℕ
@@ -46,22 +49,25 @@ start_of script None = length script
 start_of script (Some token) = token.start
 
 -- where the brace stands that is never closed
-abbrev pub opened : List ℕ → List ℕ → Option Token → List ℕ
+unfoldable pub opened : List ℕ → List ℕ → Option Token → List ℕ
 opened name script None = []
 opened name script (Some brace) = remark (codes ": note: ") name script brace.start unclosed_blanks
 
--- of the token at fault; of the end, also which brace is never closed, where one isn't
+-- of the end, and which brace is never closed, where one isn't
+unfoldable pub end_told : List ℕ → List ℕ → List Token → List ℕ
+end_told name script tokens = told name script (length script) end_blanks ++ opened name script (unclosed tokens)
+
+-- of the token at fault, or of the end
 abbrev pub token_told : List ℕ → List ℕ → Option Token → List Token → List ℕ
-token_told name script None tokens = told name script (length script) (syntax_blanks script None)
-    ++ opened name script (unclosed tokens)
-token_told name script (Some token) tokens = told name script token.start (syntax_blanks script (Some token))
+token_told name script None tokens = end_told name script tokens
+token_told name script (Some token) tokens = told name script token.start (token_blanks script token)
 
 -- 13, at the token with that number, the first being 0
-abbrev pub syntax_told : List ℕ → List ℕ → ℕ → List Token → List ℕ
+unfoldable pub syntax_told : List ℕ → List ℕ → ℕ → List Token → List ℕ
 syntax_told name script number tokens = token_told name script (slice_get tokens number) tokens
 
 -- 14
-abbrev pub depth_told : List ℕ → List ℕ → ℕ → List Token → List ℕ
+unfoldable pub depth_told : List ℕ → List ℕ → ℕ → List Token → List ℕ
 depth_told name script number tokens = told name script (start_of script (slice_get tokens number)) too_deep_blanks
 
 -- under a string that is no capability, else under the command
@@ -70,7 +76,7 @@ marked_by kind.UnknownCapability string command = option_or string command
 marked_by _ string command = command
 
 -- the token under which the mark stands
-abbrev pub marked_token : List ℕ → List Token → Refused → Option Token
+unfoldable pub marked_token : List ℕ → List Token → Refused → Option Token
 marked_token script tokens found = marked_by found.reason.kind
     (string_among script found.reason.subject (drop found.token tokens)) (slice_get tokens found.token)
 
@@ -80,13 +86,13 @@ is_argument_fault BadArguments = true
 is_argument_fault _ = false
 
 -- arguments with a wrong unit, or another reason
-abbrev pub fault_blanks : List ℕ → List Token → Refused → Blanks
+unfoldable pub fault_blanks : List ℕ → List Token → Refused → Blanks
 fault_blanks script tokens found =
     if is_argument_fault (fault_of_kind found.reason.kind) && has_unit script (drop 1 (drop found.token tokens)) then unit_blanks
     else reason_blanks found.reason
 
 -- why a command or test is refused
-abbrev pub reason_told : List ℕ → List ℕ → List Token → Refused → List ℕ
+unfoldable pub reason_told : List ℕ → List ℕ → List Token → Refused → List ℕ
 reason_told name script tokens found =
     told name script (start_of script (marked_token script tokens found)) (fault_blanks script tokens found)
 

@@ -1,5 +1,5 @@
 -- What is said of a script that isn't parsed.
-use Rattle.std.specs.Prelude.{ℕ, suc, ◌^◌, ◌-◌, ◌==◌, ◌&&◌, nat_lt, if◌then◌else◌, Bool, List, [], ◌∷◌, length, take, take_while, Option, Some, None, slice_index, slice_range, bytes_eq, codes}
+use Rattle.std.specs.Prelude.{ℕ, suc, ◌^◌, ◌-◌, ◌==◌, nat_lt, if◌then◌else◌, Bool, List, [], ◌∷◌, length, take, take_while, slice_index, slice_range, bytes_eq, codes}
 use Rattle.std.specs.Borrow.{Bor}
 use Rattle.std.specs.Char.{is_ascii_digit}
 use Rattle.octets.specs.Limits.{max_nesting, max_script}
@@ -10,8 +10,9 @@ use Rattle.sieve_lexer.specs.declared.token.Token.{Token}
 use Rattle.sieve_lexer.specs.declared.token.TokenKind.{TokenKind}
 use Rattle.sieve_lexer.specs.declared.token.TokenKind.TheVariants.{Identifier, Tag, Number, QuotedString, MultiLineString, Semicolon, Comma, OpeningBrace, ClosingBrace, OpeningParenthesis, ClosingParenthesis, OpeningBracket, ClosingBracket}
 use Rattle.sieve_explain.specs.Sentences.{Blanks, plain}
+use Rattle.sieve_explain.specs.Words.{with_words}
 
--- what people write at a place where a script can't have it: the first octets, and what to write instead
+-- what begins no token and no separator: its first octets, and what is said of it
 pub record Beginning : Type 0 where
   pub octets : List ℕ
   pub text : List ℕ
@@ -26,9 +27,9 @@ beginning_of row = beginning row.0.now row.1.now
 abbrev pub typographic : List ℕ
 typographic = codes "a typographic quote stands here: strings stand between straight double quotes, \"like this\""
 
--- a byte order mark, the four typographic quotes, a single quote, and two slashes
-abbrev pub mistaken : List Beginning
-mistaken =
+-- a byte order mark, the four typographic quotes, a single quote, and two slashes; then what is never closed, and a colon alone
+abbrev pub beginnings : List Beginning
+beginnings =
     beginning (239 ∷ 187 ∷ 191 ∷ []) (codes "a byte order mark stands here: save the script as UTF-8 without one")
     ∷ beginning (226 ∷ 128 ∷ 152 ∷ []) typographic
     ∷ beginning (226 ∷ 128 ∷ 153 ∷ []) typographic
@@ -36,6 +37,9 @@ mistaken =
     ∷ beginning (226 ∷ 128 ∷ 157 ∷ []) typographic
     ∷ beginning (codes "'") (codes "a single quote stands here: strings stand between double quotes, \"like this\"")
     ∷ beginning (codes "//") (codes "no comment begins so: one begins with `&`, or stands between `/*` and `*/`")
+    ∷ beginning (codes "\"") (codes "a string is never closed: this quote, or one before it, has no partner")
+    ∷ beginning (codes "/*") (codes "a comment is never closed")
+    ∷ beginning (codes ":") (codes "a colon stands here without the name of a tag behind it")
     ∷ []
 
 -- the text for the first of the rows with which the octets begin, or nothing
@@ -43,32 +47,30 @@ abbrev pub text_at : List ℕ → List Beginning → List ℕ
 text_at rest [] = []
 text_at rest (row ∷ rows) = if bytes_eq (take (length row.octets) rest) row.octets then row.text else text_at rest rows
 
--- other octets at which neither a token nor a separator begins
-abbrev pub other_blanks : List ℕ → Blanks
-other_blanks rest =
+-- the text for other octets at which neither a token nor a separator begins
+abbrev pub other_text : List ℕ → List ℕ
+other_text rest =
     let octet = slice_index rest 0 in
-    if octet == 34 then plain (codes "a string is never closed: this quote, or one before it, has no partner") else
-    if (octet == 47) && (slice_index rest 1 == 42) then plain (codes "a comment is never closed") else
-    if is_ascii_digit octet then record (plain (codes "a number is above %")) { number = 2 ^ 64 - 1 } else
-    if begins_identifier octet then plain (codes "a multi-line string is never closed: its last line is a dot alone") else
-    if octet == 58 then plain (codes "a colon stands here without the name of a tag behind it") else
-    record (plain (codes "@ begins nothing that a script may have here")) { name = take 1 rest }
-
--- a sentence for what is mistaken for something else, where it is that
-abbrev pub mistaken_blanks : List ℕ → Blanks → Blanks
-mistaken_blanks [] other = other
-mistaken_blanks (c ∷ text) other = record (plain (c ∷ text)) { words = codes "#" }
+    if is_ascii_digit octet then codes "a number is above %" else
+    if begins_identifier octet then codes "a multi-line string is never closed: its last line is a dot alone" else
+    codes "@ begins nothing that a script may have here"
 
 -- 11, by the octets from the place on
-abbrev pub lexical_blanks : List ℕ → Blanks
-lexical_blanks rest = mistaken_blanks (text_at rest mistaken) (other_blanks rest)
+unfoldable pub lexical_blanks : List ℕ → Blanks
+lexical_blanks rest = let text = text_at rest beginnings in record {
+  text = with_words text text (other_text rest);
+  name = take 1 rest;
+  subject = [];
+  words = codes "#";
+  number = 2 ^ 64 - 1;
+}
 
 -- 12
 abbrev pub too_long_blanks : Blanks
 too_long_blanks = record (plain (codes "the script has more than % octets")) { number = max_script }
 
 -- 13, of a token of the kind
-abbrev pub misplaced_token : TokenKind → List ℕ
+unfoldable pub misplaced_token : TokenKind → List ℕ
 misplaced_token Identifier = codes "@ can't stand here: is a brace or a semicolon missing before it?"
 misplaced_token Tag = codes "@ can't stand here: arguments stand directly behind the name that they belong to"
 misplaced_token Number = codes "@ can't stand here: arguments stand directly behind the name that they belong to"
@@ -83,10 +85,13 @@ misplaced_token ClosingParenthesis = codes "@ can't stand here: is a test missin
 misplaced_token OpeningBracket = codes "@ can't stand here: square brackets stand behind a name, around strings"
 misplaced_token ClosingBracket = codes "@ can't stand here: is a string missing before it, or its opening bracket?"
 
--- 13, of the token at fault, or of the end
-abbrev pub syntax_blanks : List ℕ → Option Token → Blanks
-syntax_blanks script None = plain (codes "the script ends before its last command does")
-syntax_blanks script (Some token) = record (plain (misplaced_token token.kind)) { name = slice_range script token.start token.end }
+-- 13, of the token at fault
+abbrev pub token_blanks : List ℕ → Token → Blanks
+token_blanks script token = record (plain (misplaced_token token.kind)) { name = slice_range script token.start token.end }
+
+-- 13, of the end
+abbrev pub end_blanks : Blanks
+end_blanks = plain (codes "the script ends before its last command does")
 
 -- 14
 abbrev pub too_deep_blanks : Blanks
@@ -110,17 +115,21 @@ abbrev pub dark_at : List ℕ → List ℕ
 dark_at [] = []
 dark_at (octet ∷ rest) = take (suc (length (take_while is_dark rest))) (octet ∷ rest)
 
--- what can't stand there, by the octets from the place on
-abbrev pub misplaced_blanks : List ℕ → Blanks
-misplaced_blanks [] = plain (codes "the listing ends before its program does")
-misplaced_blanks (octet ∷ rest) =
+-- the text for what can't stand there, by the octets from the place on
+abbrev pub misplaced_text : List ℕ → List ℕ
+misplaced_text [] = codes "the listing ends before its program does"
+misplaced_text (octet ∷ rest) =
     if octet == 34
-    then plain (codes "no string can stand here, or this one is never closed, too long, or has a backslash without two hexadecimal digits")
-    else record (plain (codes "@ can't stand here: after version and variables stand numbers, strings, and then instructions with their fields")) { name = dark_at (octet ∷ rest) }
+    then codes "no string can stand here, or this one is never closed, too long, or has a backslash without two hexadecimal digits"
+    else codes "@ can't stand here: after version and variables stand numbers, strings, and then instructions with their fields"
+
+-- the text for a fault of the kind
+abbrev pub listing_text : FaultKind → List ℕ → List ℕ
+listing_text Misplaced rest = misplaced_text rest
+listing_text SecondLabel rest = codes "the label @ is there a second time: a label stands once"
+listing_text NoLabel rest = codes "@ is no number, and no label of this listing"
+listing_text Limits rest = codes "the program exceeds the limits of programs"
 
 -- 28, by the kind of the fault, and the octets from its place on
-abbrev pub listing_blanks : FaultKind → List ℕ → Blanks
-listing_blanks Misplaced rest = misplaced_blanks rest
-listing_blanks SecondLabel rest = record (plain (codes "the label @ is there a second time: a label stands once")) { name = dark_at rest }
-listing_blanks NoLabel rest = record (plain (codes "@ is no number, and no label of this listing")) { name = dark_at rest }
-listing_blanks Limits rest = plain (codes "the program exceeds the limits of programs")
+unfoldable pub listing_blanks : FaultKind → List ℕ → Blanks
+listing_blanks kind rest = record (plain (listing_text kind rest)) { name = dark_at rest }

@@ -3,6 +3,7 @@ use Rattle.std.specs.Prelude.{ℕ, if◌then◌else◌, List, [], ◌∷◌, is_
 use Rattle.sieve_check.specs.Names.{command_named, test_named}
 use Rattle.sieve_explain.specs.Words.{Hint, hint, hint_of, nearest, texts_of, with_words, words_for}
 use Rattle.sieve_explain.specs.declared.hints.Vocabulary as code
+use Rattle.sieve_explain.specs.Sentences.{Blanks, plain}
 
 -- ---- what depot lacks
 
@@ -132,12 +133,31 @@ unknown_text name known = with_words (lacking name) known.lacks (with_words (mea
 abbrev pub unknown_words : List ℕ → Vocabulary → List ℕ
 unknown_words name known = with_words (lacking name) (lacking name) (meant name known)
 
+abbrev pub unknown : List ℕ → Vocabulary → Blanks
+unknown name known = record {
+  text = unknown_text name known;
+  name = name;
+  subject = name;
+  words = unknown_words name known;
+  number = 0;
+}
+
 -- a name in a command's place
-abbrev pub unknown_command_text : List ℕ → List ℕ
-unknown_command_text name =
-    if is_some (test_named name) then codes "@ is a test: is an `if` missing before it?" else unknown_text name known_commands
+unfoldable pub unknown_command : List ℕ → Blanks
+unknown_command name =
+    if is_some (test_named name) then record (plain (codes "@ is a test: is an `if` missing before it?")) { name = name }
+    else unknown name known_commands
 
 -- a name in a test's place
-abbrev pub unknown_test_text : List ℕ → List ℕ
-unknown_test_text name =
-    if is_some (command_named name) then codes "@ is a command, and a test is needed here" else unknown_text name known_tests
+unfoldable pub unknown_test : List ℕ → Blanks
+unknown_test name =
+    if is_some (command_named name) then record (plain (codes "@ is a command, and a test is needed here")) { name = name }
+    else unknown name known_tests
+
+-- a tag
+unfoldable pub unknown_tag : List ℕ → Blanks
+unknown_tag tag = unknown tag known_tags
+
+-- a capability
+unfoldable pub unknown_capability : List ℕ → Blanks
+unknown_capability capability = unknown capability known_capabilities

@@ -1,5 +1,5 @@
 -- What an explanation looks for among the tokens of a script.
-use Rattle.std.specs.Prelude.{ℕ, ◌-◌, ◌+◌, ◌≤◌, Bool, true, false, not, ◌&&◌, ◌||◌, ◌==◌, if◌then◌else◌, List, [], ◌∷◌, length, take, drop, take_while, Option, Some, None, IfSome, bytes_eq, codes, slice_range}
+use Rattle.std.specs.Prelude.{ℕ, ◌-◌, ◌+◌, ◌≤◌, Bool, true, false, not, ◌&&◌, ◌==◌, if◌then◌else◌, List, [], ◌∷◌, length, take, drop, take_while, Option, Some, None, IfSome, bytes_eq, codes, slice_range}
 use Rattle.std.specs.List.{list_any, slice_get}
 use Rattle.std.specs.Option.{option_or}
 use Rattle.octets.specs.Ascii.{is_word}
@@ -29,20 +29,16 @@ abbrev pub inner : List ℕ → List ℕ
 inner text = take (length text - 2) (drop 1 text)
 
 -- the token is the string between quotes, without an escape in it
-abbrev pub spells : List ℕ → List ℕ → Token → Bool
+unfoldable pub spells : List ℕ → List ℕ → Token → Bool
 spells script string token = is_quoted token.kind && bytes_eq (inner (text_of script token)) string
-
-abbrev pub passes : List ℕ → List ℕ → Token → Bool
-passes script string token = not (spells script string token || is_semicolon token.kind)
-
-abbrev pub if_spelled : List ℕ → List ℕ → Option Token → Option Token
-if_spelled script string None = None
-if_spelled script string (Some token) = if spells script string token then Some token else None
 
 -- the first token up to the end of the command that spells the string, if there is one
 abbrev pub string_among : List ℕ → List ℕ → List Token → Option Token
-string_among script string tokens = if_spelled script string
-    (slice_get tokens (length (take_while (passes script string) tokens)))
+string_among script string [] = None
+string_among script string (token ∷ tokens) =
+    if spells script string token then Some token else
+    if is_semicolon token.kind then None else
+    string_among script string tokens
 
 -- ---- a unit with more letters
 

@@ -16,7 +16,7 @@ use Rattle.sieve_check.specs.declared.signature.Tests.TheVariants as tests
 use Rattle.sieve_check.specs.Causes.{Reason}
 use Rattle.sieve_check.specs.declared.causes.ReasonKind.{ReasonKind}
 use Rattle.sieve_check.specs.declared.causes.ReasonKind.TheVariants.{UnknownCommand, UnknownTest, MissingCapability, UnknownCapability, UnknownTag, ForeignTag, RepeatedTag, TwoModifiers, TagArgument, MissingOrder, MissingMime, LateTag, MissingArgument, ExtraArgument, WrongArgument, WrongTests, WrongEnding, Namespace, CaptureIndex, VariableName, NoSuchLoop, Misplaced, LongString, ManyStrings, ManySegments, LongName, ManyLoops, ManyVariables}
-use Rattle.sieve_explain.specs.Hints.{known_capabilities, known_commands, known_tags, known_tests, unknown_command_text, unknown_test_text, unknown_text, unknown_words}
+use Rattle.sieve_explain.specs.Hints.{unknown_capability, unknown_command, unknown_tag, unknown_test}
 use Rattle.sieve_explain.specs.Sentences.{Blanks}
 
 -- a capability, as a `require` names it
@@ -72,21 +72,6 @@ tag_words tag.Length = codes "its argument"
 tag_words tag.Mime = codes "its argument"
 tag_words tag.AnyChild = codes "its argument"
 
--- the words of a sentence, by its reason, the name of the command or test, and what in it is at fault
-abbrev pub reason_words : ReasonKind → List ℕ → List ℕ → List ℕ
-reason_words UnknownCommand name subject = unknown_words name known_commands
-reason_words UnknownTest name subject = unknown_words name known_tests
-reason_words UnknownCapability name subject = unknown_words subject known_capabilities
-reason_words UnknownTag name subject = unknown_words subject known_tags
-reason_words (MissingCapability needed) name subject = capability_words needed
-reason_words (TagArgument given) name subject = tag_words given
-reason_words (MissingArgument taken) name subject = positional_words taken
-reason_words (ExtraArgument taken) name subject = positional_words taken
-reason_words (WrongArgument taken) name subject = positional_words taken
-reason_words (WrongTests taken) name subject = tests_words taken name
-reason_words (WrongEnding taken) name subject = ending_words taken
-reason_words _ name subject = []
-
 -- the limit that a reason speaks of
 abbrev pub reason_limit : ReasonKind → ℕ
 reason_limit LongString = max_string
@@ -104,43 +89,62 @@ place_text name =
     if is_word name (codes "elsif") || is_word name (codes "else") then codes "@ stands directly after an `if` or `elsif`" else
     codes "@ stands only inside of a `foreverypart`"
 
--- the sentence, with its blanks
-abbrev pub reason_text : ReasonKind → List ℕ → List ℕ → List ℕ
-reason_text UnknownCommand name subject = unknown_command_text name
-reason_text UnknownTest name subject = unknown_test_text name
-reason_text (MissingCapability needed) name subject = codes "@ needs `require \"&\"` before it"
-reason_text UnknownCapability name subject = unknown_text subject known_capabilities
-reason_text UnknownTag name subject = unknown_text subject known_tags
-reason_text ForeignTag name subject = codes "@ takes no tag #"
-reason_text RepeatedTag name subject = codes "# is repeated, or stands beside another of its kind"
-reason_text TwoModifiers name subject = codes "# can't stand beside another modifier of its precedence"
-reason_text (TagArgument given) name subject = codes "# needs &"
-reason_text MissingOrder name subject = codes "@ needs `:over` or `:under`"
-reason_text MissingMime name subject = codes "# stands only beside `:mime`, which needs `require \"mime\"`"
-reason_text LateTag name subject = codes "the tag # stands after an argument that is no tag"
-reason_text (MissingArgument taken) name subject = codes "@ has too few arguments: it takes &"
-reason_text (ExtraArgument taken) name subject = codes "@ has too many arguments: it takes &"
-reason_text (WrongArgument taken) name subject = codes "@ has an argument of a wrong kind: it takes &"
-reason_text (WrongTests taken) name subject = codes "@ &"
-reason_text (WrongEnding taken) name subject = codes "@ &"
-reason_text Namespace name subject = codes "$ refers into a namespace, and there is none"
-reason_text CaptureIndex name subject = codes "$ refers to a capture above 9"
-reason_text VariableName name subject = codes "$ is no name of a variable"
-reason_text NoSuchLoop name subject = codes "no `foreverypart` around this @ has the name $"
-reason_text Misplaced name subject = place_text name
-reason_text LongString name subject = codes "the string $ has more than % octets"
-reason_text ManyStrings name subject = codes "the lists of @ have more than % strings"
-reason_text ManySegments name subject = codes "the string $ has more than % references and stretches between them"
-reason_text LongName name subject = codes "the name of a variable, $, has more than % octets"
-reason_text ManyLoops name subject = codes "more than % loops stand inside of one another here"
-reason_text ManyVariables name subject = codes "with this @ the script has more than % variables"
+-- the text for a reason, by the name of the command or test; none for a name that isn't known
+abbrev pub reason_text : ReasonKind → List ℕ → List ℕ
+reason_text (MissingCapability needed) name = codes "@ needs `require \"&\"` before it"
+reason_text ForeignTag name = codes "@ takes no tag #"
+reason_text RepeatedTag name = codes "# is repeated, or stands beside another of its kind"
+reason_text TwoModifiers name = codes "# can't stand beside another modifier of its precedence"
+reason_text (TagArgument given) name = codes "# needs &"
+reason_text MissingOrder name = codes "@ needs `:over` or `:under`"
+reason_text MissingMime name = codes "# stands only beside `:mime`, which needs `require \"mime\"`"
+reason_text LateTag name = codes "the tag # stands after an argument that is no tag"
+reason_text (MissingArgument taken) name = codes "@ has too few arguments: it takes &"
+reason_text (ExtraArgument taken) name = codes "@ has too many arguments: it takes &"
+reason_text (WrongArgument taken) name = codes "@ has an argument of a wrong kind: it takes &"
+reason_text (WrongTests taken) name = codes "@ &"
+reason_text (WrongEnding taken) name = codes "@ &"
+reason_text Namespace name = codes "$ refers into a namespace, and there is none"
+reason_text CaptureIndex name = codes "$ refers to a capture above 9"
+reason_text VariableName name = codes "$ is no name of a variable"
+reason_text NoSuchLoop name = codes "no `foreverypart` around this @ has the name $"
+reason_text Misplaced name = place_text name
+reason_text LongString name = codes "the string $ has more than % octets"
+reason_text ManyStrings name = codes "the lists of @ have more than % strings"
+reason_text ManySegments name = codes "the string $ has more than % references and stretches between them"
+reason_text LongName name = codes "the name of a variable, $, has more than % octets"
+reason_text ManyLoops name = codes "more than % loops stand inside of one another here"
+reason_text ManyVariables name = codes "with this @ the script has more than % variables"
+reason_text _ name = []
+
+-- the words for it
+abbrev pub reason_words : ReasonKind → List ℕ → List ℕ
+reason_words (MissingCapability needed) name = capability_words needed
+reason_words (TagArgument given) name = tag_words given
+reason_words (MissingArgument taken) name = positional_words taken
+reason_words (ExtraArgument taken) name = positional_words taken
+reason_words (WrongArgument taken) name = positional_words taken
+reason_words (WrongTests taken) name = tests_words taken name
+reason_words (WrongEnding taken) name = ending_words taken
+reason_words _ name = []
+
+-- a reason that is no unknown name
+unfoldable pub other_blanks : Reason → Blanks
+other_blanks found = record {
+  text = reason_text found.kind found.name;
+  name = found.name;
+  subject = found.subject;
+  words = reason_words found.kind found.name;
+  number = reason_limit found.kind;
+}
+
+abbrev pub kind_blanks : ReasonKind → Reason → Blanks
+kind_blanks UnknownCommand found = unknown_command found.name
+kind_blanks UnknownTest found = unknown_test found.name
+kind_blanks UnknownCapability found = unknown_capability found.subject
+kind_blanks UnknownTag found = unknown_tag found.subject
+kind_blanks _ found = other_blanks found
 
 -- 15 to 19, by the reason
 abbrev pub reason_blanks : Reason → Blanks
-reason_blanks found = record {
-  text = reason_text found.kind found.name found.subject;
-  name = found.name;
-  subject = found.subject;
-  words = reason_words found.kind found.name found.subject;
-  number = reason_limit found.kind;
-}
+reason_blanks found = kind_blanks found.kind found

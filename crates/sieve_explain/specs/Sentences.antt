@@ -22,7 +22,7 @@ plain text = record { text = text; name = []; subject = []; words = []; number =
 -- what stands in the sentence for an octet of its text: for `@` the name, for `#` the subject as a
 -- tag and for `$` as a string, for `&` the words, for `%` the number, and for every other octet
 -- itself
-abbrev pub filled_octet : Blanks → ℕ → List ℕ
+unfoldable pub filled_octet : Blanks → ℕ → List ℕ
 filled_octet blanks octet =
     if octet == 64 then named blanks.name else
     if octet == 35 then tagged blanks.subject else

@@ -39,11 +39,11 @@ begin_swapped a b = is_word (take 1 a) (take 1 (drop 1 b)) && is_word (take 1 (d
     && is_word (drop 2 a) (drop 2 b)
 
 -- the first octet is another one, is missing, is one too many, or is swapped with the next, and all else is the same
-abbrev pub begin_off : List ℕ → List ℕ → Bool
+unfoldable pub begin_off : List ℕ → List ℕ → Bool
 begin_off a b = is_word (drop 1 a) (drop 1 b) || is_word a (drop 1 b) || is_word (drop 1 a) b || begin_swapped a b
 
 -- it is so at the place, before which both are the same
-abbrev pub differ_at : List ℕ → List ℕ → ℕ → Bool
+unfoldable pub differ_at : List ℕ → List ℕ → ℕ → Bool
 differ_at a b place = is_word (take place a) (take place b) && begin_off (drop place a) (drop place b)
 
 abbrev pub differ_below : List ℕ → List ℕ → ℕ → Bool
@@ -51,7 +51,7 @@ differ_below a b zero = false
 differ_below a b (suc place) = differ_below a b place || differ_at a b place
 
 -- the name is the word but for one letter, or but for the case of ASCII letters
-abbrev pub is_near : List ℕ → List ℕ → Bool
+unfoldable pub is_near : List ℕ → List ℕ → Bool
 is_near name word = differ_below name word (length word + 1)
 
 -- the first of the words that is near, or nothing

@@ -27,6 +27,7 @@ fn push_measured(out: &mut Vec<u8>, text: &[u8]) -> Result<usize, AllocError>
 }
 
 // Appends a line of a script, cut around a place in it, and under it a mark at that place.
+#[tactic(auto, unfolding(crate::specs::Shown::marked))]
 fn push_marked(out: &mut Vec<u8>, line: &[u8], place: usize) -> Result<(), AllocError>
     ensures { OnOk result (out.new.items ≡ out.old.items ++ marked line.now place) }
 {
@@ -39,6 +40,7 @@ fn push_marked(out: &mut Vec<u8>, line: &[u8], place: usize) -> Result<(), Alloc
 }
 
 // Appends the line of a place of the script, and a mark under the place.
+#[tactic(auto, unfolding(crate::specs::Shown::excerpt))]
 pub fn push_excerpt(out: &mut Vec<u8>, script: &[u8], place: usize) -> Result<(), AllocError>
     requires { place ≤ length script.now }
     ensures { OnOk result (out.new.items ≡ out.old.items ++ excerpt script.now place) }

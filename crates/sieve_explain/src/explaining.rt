@@ -1,5 +1,5 @@
 // Why a script is refused, and what is told of it.
-ghost use Rattle.std.specs.Prelude.{◌≡◌, ◌≤◌, IfOk, None, flat_map, length, map};
+ghost use Rattle.std.specs.Prelude.{◌≡◌, ◌≤◌, ◌++◌, IfOk, None, OnOk, flat_map, length, map};
 ghost use Rattle.octets.specs.Limits.{max_script};
 ghost use Rattle.refusals.specs.Causes.{of_parser};
 ghost use Rattle.sieve_check.specs.ReasonView.{refused_view};
@@ -7,17 +7,17 @@ ghost use Rattle.sieve_lexer.specs.Tokens.{AreTokens};
 ghost use Rattle.sieve_parser.specs.Refusals.{parse_error};
 ghost use Rattle.sieve_parser.specs.Scripts.{IsGrammarRefusal, IsParsed};
 ghost use Rattle.sieve_parser.specs.View.{commands_tree};
-ghost use Rattle.sieve_explain.specs.Explaining.{Explains, IsExplained, depth_told, listing_told, marked_token, opened, reason_told, syntax_told, token_told};
+ghost use Rattle.sieve_explain.specs.Explaining.{Explains, IsExplained, depth_told, end_told, listing_told, marked_token, opened, reason_told, syntax_told};
 ghost use Rattle.sieve_explain.specs.Marks.{Stands};
 
 use crate::explanation::Explanation;
 use crate::faults::{
-    lexical_sentence, listing_sentence, syntax_sentence, too_deep_sentence, too_long_sentence,
-    unclosed_sentence,
+    end_sentence, lexical_sentence, listing_sentence, token_sentence, too_deep_sentence,
+    too_long_sentence, unclosed_sentence,
 };
 use crate::marks::{start_of, string_behind, token_numbered, unclosed};
 use crate::reasons::fault_sentence;
-use crate::remarks::{Source, remark, told};
+use crate::remarks::{Source, push_remark, told};
 use bytecode_listing::FaultKind;
 use refusals::Refusal;
 use sieve_check::{ReasonKind, Refused, reasons_of};
@@ -124,37 +124,50 @@ fn grammar_told(
     }
 }
 
-// What is told of the token with that number where it can't stand.
+// What is told of the token with that number where it can't stand, or of the script's end.
+#[tactic(auto, unfolding(crate::specs::Explaining::syntax_told))]
 fn syntax_told(source: &Source<'_>, tokens: &[Token], number: usize) -> Result<Vec<u8>, AllocError>
     requires { AreTokens source.now.octets.now tokens.now }
     ensures { IfOk result (λ text.
         text.items ≡ syntax_told source.now.name.now source.now.octets.now number tokens.now) }
 {
-    let token = token_numbered(source.octets, tokens, number);
-    let sentence = syntax_sentence(source.octets, token);
-    match token {
-        Some(token) => told(source, token.start, &sentence),
-        None => {
-            let mut text = told(source, source.octets.len(), &sentence)?;
-            text.extend_from_slice(&opened(source, unclosed(source.octets, tokens))?)?;
-            Ok(text)
-        }
+    match token_numbered(source.octets, tokens, number) {
+        Some(token) => told(source, token.start, &token_sentence(source.octets, token)),
+        None => end_told(source, tokens),
     }
 }
 
-// Where the brace stands that is never closed, where there is one.
-fn opened(source: &Source<'_>, brace: Option<Token>) -> Result<Vec<u8>, AllocError>
-    requires { Stands source.now.octets.now brace }
+// What is told of a script that ends too early.
+#[tactic(auto, unfolding(crate::specs::Explaining::end_told))]
+fn end_told(source: &Source<'_>, tokens: &[Token]) -> Result<Vec<u8>, AllocError>
+    requires { AreTokens source.now.octets.now tokens.now }
     ensures { IfOk result (λ text.
-        text.items ≡ opened source.now.name.now source.now.octets.now brace) }
+        text.items ≡ end_told source.now.name.now source.now.octets.now tokens.now) }
+{
+    let mut text = told(source, source.octets.len(), &end_sentence())?;
+    push_opened(&mut text, source, unclosed(source.octets, tokens))?;
+    Ok(text)
+}
+
+// Appends where the brace stands that is never closed, where there is one.
+#[tactic(auto, unfolding(crate::specs::Explaining::opened))]
+fn push_opened(
+    out: &mut Vec<u8>,
+    source: &Source<'_>,
+    brace: Option<Token>,
+) -> Result<(), AllocError>
+    requires { Stands source.now.octets.now brace }
+    ensures { OnOk result (out.new.items ≡ out.old.items
+        ++ opened source.now.name.now source.now.octets.now brace) }
 {
     match brace {
-        Some(brace) => remark(": note: ", source, brace.start, &unclosed_sentence()),
-        None => Ok(Vec::new(source.alloc)),
+        Some(brace) => push_remark(out, ": note: ", source, brace.start, &unclosed_sentence()),
+        None => Ok(()),
     }
 }
 
 // What is told of the token with that number where it is nested too deep.
+#[tactic(auto, unfolding(crate::specs::Explaining::depth_told))]
 fn depth_told(source: &Source<'_>, tokens: &[Token], number: usize) -> Result<Vec<u8>, AllocError>
     requires { AreTokens source.now.octets.now tokens.now }
     ensures { IfOk result (λ text.
@@ -177,28 +190,37 @@ fn reasons_told(
 {
     let mut text = Vec::new(source.alloc);
     for found in reasons {
-        text.extend_from_slice(&reason_told(source, tokens, *found)?)?;
+        push_reason(&mut text, source, tokens, *found)?;
     }
     Ok(text)
 }
 
-// Why a command or test is refused.
-fn reason_told(
+// Appends why a command or test is refused.
+#[tactic(auto, unfolding(crate::specs::Explaining::reason_told))]
+fn push_reason(
+    out: &mut Vec<u8>,
     source: &Source<'_>,
     tokens: &[Token],
     found: Refused<'_>,
-) -> Result<Vec<u8>, AllocError>
+) -> Result<(), AllocError>
     requires { AreTokens source.now.octets.now tokens.now }
-    ensures { IfOk result (λ text. text.items
-        ≡ reason_told source.now.name.now source.now.octets.now tokens.now
+    ensures { OnOk result (out.new.items ≡ out.old.items
+        ++ reason_told source.now.name.now source.now.octets.now tokens.now
         (refused_view found.entry)) }
 {
     let token = marked_token(source.octets, tokens, found);
     let sentence = fault_sentence(source.octets, tokens, found);
-    told(source, start_of(source.octets, token), &sentence)
+    push_remark(
+        out,
+        ": error: ",
+        source,
+        start_of(source.octets, token),
+        &sentence,
+    )
 }
 
 // The token under which the mark stands.
+#[tactic(auto, unfolding(crate::specs::Explaining::marked_token))]
 fn marked_token(script: &[u8], tokens: &[Token], found: Refused<'_>) -> Option<Token>
     requires { AreTokens script.now tokens.now }
     ensures token { result ≡ marked_token script.now tokens.now (refused_view found.entry) }

@@ -1,23 +1,24 @@
 // What is said of a script that isn't parsed.
-ghost use Rattle.std.specs.Prelude.{◌≡◌, ◌≤◌, bytes_eq, length, map, take, take_while};
-ghost use Rattle.sieve_explain.specs.Faults.{beginning_of, dark_at, is_dark, lexical_blanks, listing_blanks, misplaced_blanks, misplaced_token, mistaken, mistaken_blanks, other_blanks, syntax_blanks, text_at, too_deep_blanks, too_long_blanks, unclosed_blanks, unit_blanks};
+ghost use Rattle.std.specs.Prelude.{◌≡◌, ◌≤◌, Some, bytes_eq, length, map, take, take_while};
+ghost use Rattle.sieve_explain.specs.Faults.{beginning_of, beginnings, dark_at, end_blanks, is_dark, lexical_blanks, listing_blanks, listing_text, misplaced_text, misplaced_token, other_text, text_at, token_blanks, too_deep_blanks, too_long_blanks, unclosed_blanks, unit_blanks};
 ghost use Rattle.sieve_explain.specs.Marks.{Stands};
 ghost use Rattle.sieve_explain.specs.Sentences.{blanks_of};
 
 use crate::places::around;
 use crate::sentence::{Sentence, plain};
+use crate::words::with_words;
 use bytecode_listing::FaultKind;
 use sieve_lexer::{MAX_SCRIPT, Token, TokenKind};
 use sieve_parser::MAX_NESTING;
 
-// What people write at a place where a script can't have it: the first octets, and what to write instead.
-type Mistake = (&'static [u8], &'static str);
+// What begins no token and no separator: its first octets, and what is said of it.
+type Beginning = (&'static [u8], &'static str);
 
 const TYPOGRAPHIC: &str =
     "a typographic quote stands here: strings stand between straight double quotes, \"like this\"";
 
-// A byte order mark, the four typographic quotes, a single quote, and two slashes.
-const MISTAKES: &[Mistake] = &[
+// A byte order mark, the four typographic quotes, a single quote, and two slashes; then what is never closed, and a colon alone.
+const BEGINNINGS: &[Beginning] = &[
     (
         &[0xef, 0xbb, 0xbf],
         "a byte order mark stands here: save the script as UTF-8 without one",
@@ -34,6 +35,15 @@ const MISTAKES: &[Mistake] = &[
         b"//",
         "no comment begins so: one begins with `&`, or stands between `/*` and `*/`",
     ),
+    (
+        b"\"",
+        "a string is never closed: this quote, or one before it, has no partner",
+    ),
+    (b"/*", "a comment is never closed"),
+    (
+        b":",
+        "a colon stands here without the name of a tag behind it",
+    ),
 ];
 
 // Whether the text begins with the octets.
@@ -45,7 +55,7 @@ fn begins_with(text: &[u8], octets: &[u8]) -> bool
 }
 
 // The text for the first of the rows with which the octets begin, or nothing.
-fn text_at(rest: &[u8], rows: &[Mistake]) -> &'static str
+fn text_at(rest: &[u8], rows: &[Beginning]) -> &'static str
     ensures { result.now ≡ text_at rest.now (map beginning_of rows.now) }
 {
     for (octets, text) in rows {
@@ -56,67 +66,77 @@ fn text_at(rest: &[u8], rows: &[Mistake]) -> &'static str
     ""
 }
 
-// What to write instead of what is mistaken for something else.
-fn mistaken_text(rest: &[u8]) -> &'static str
-    ensures { result.now ≡ text_at rest.now mistaken }
+// What is said of octets that begin as one of them.
+fn beginning_text(rest: &[u8]) -> &'static str
+    ensures { result.now ≡ text_at rest.now beginnings }
 {
-    text_at(rest, MISTAKES)
+    text_at(rest, BEGINNINGS)
+}
+
+// The text for other octets at which neither a token nor a separator begins.
+fn other_text(rest: &[u8]) -> &'static str
+    ensures { result.now ≡ other_text rest.now }
+{
+    match rest {
+        [b'0'..=b'9', ..] => "a number is above %",
+        [b'a'..=b'z' | b'A'..=b'Z' | b'_', ..] => {
+            "a multi-line string is never closed: its last line is a dot alone"
+        }
+        _ => "@ begins nothing that a script may have here",
+    }
 }
 
 // The sentence for octets at which neither a token nor a separator begins.
+#[tactic(auto, unfolding(crate::specs::Faults::lexical_blanks))]
 pub fn lexical_sentence(rest: &[u8]) -> Sentence<'_>
     ensures { blanks_of result ≡ lexical_blanks rest.now }
 {
-    let text = mistaken_text(rest);
-    mistaken_sentence(text, other_sentence(rest))
-}
-
-// The sentence for what is mistaken for something else, where it is that.
-fn mistaken_sentence<'a>(text: &'static str, other: Sentence<'a>) -> Sentence<'a>
-    ensures { blanks_of result ≡ mistaken_blanks text.now (blanks_of other.entry) }
-{
-    if text.is_empty() {
-        return other;
-    }
+    let text = beginning_text(rest);
+    let (first, _) = around(rest, 1);
     Sentence {
+        text: with_words(text, text, other_text(rest)),
+        name: first,
+        subject: &[],
         words: "#",
-        ..plain(text)
+        number: u64::MAX,
     }
 }
 
 /// The sentence for a listing's fault of that kind, by what stands at its place.
+#[tactic(auto, unfolding(crate::specs::Faults::listing_blanks))]
 pub fn listing_sentence(kind: FaultKind, rest: &[u8]) -> Sentence<'_>
     ensures { blanks_of result ≡ listing_blanks kind rest.now }
 {
-    match kind {
-        FaultKind::Misplaced => misplaced_sentence(rest),
-        FaultKind::SecondLabel => Sentence {
-            name: dark_at(rest),
-            ..plain("the label @ is there a second time: a label stands once")
-        },
-        FaultKind::NoLabel => Sentence {
-            name: dark_at(rest),
-            ..plain("@ is no number, and no label of this listing")
-        },
-        FaultKind::Limits => plain("the program exceeds the limits of programs"),
+    Sentence {
+        name: dark_at(rest),
+        ..plain(listing_text(kind, rest))
     }
 }
 
-// The sentence for what can't stand where it does in a listing, or for its end.
-fn misplaced_sentence(rest: &[u8]) -> Sentence<'_>
-    ensures { blanks_of result ≡ misplaced_blanks rest.now }
+// Its text.
+fn listing_text(kind: FaultKind, rest: &[u8]) -> &'static str
+    ensures { result.now ≡ listing_text kind rest.now }
+{
+    match kind {
+        FaultKind::Misplaced => misplaced_text(rest),
+        FaultKind::SecondLabel => "the label @ is there a second time: a label stands once",
+        FaultKind::NoLabel => "@ is no number, and no label of this listing",
+        FaultKind::Limits => "the program exceeds the limits of programs",
+    }
+}
+
+// The text for what can't stand where it does in a listing, or for its end.
+fn misplaced_text(rest: &[u8]) -> &'static str
+    ensures { result.now ≡ misplaced_text rest.now }
 {
     match rest {
-        [] => plain("the listing ends before its program does"),
-        [b'"', ..] => plain(
-            "no string can stand here, or this one is never closed, too long, or has a backslash without two hexadecimal digits",
-        ),
-        _ => Sentence {
-            name: dark_at(rest),
-            ..plain(
-                "@ can't stand here: after version and variables stand numbers, strings, and then instructions with their fields",
-            )
-        },
+        [] => "the listing ends before its program does",
+        [b'"', ..] => {
+            "no string can stand here, or this one is never closed, too long, or has a backslash without two hexadecimal digits"
+        }
+        _ => {
+            "@ can't stand here: after version and variables stand numbers, strings, and then instructions with their fields"
+        }
     }
 }
 
@@ -138,30 +158,6 @@ fn dark_length(octets: &[u8]) -> usize
     octets.iter().take_while(|octet| **octet > b' ').count()
 }
 
-// The sentence for other octets there.
-fn other_sentence(rest: &[u8]) -> Sentence<'_>
-    ensures { blanks_of result ≡ other_blanks rest.now }
-{
-    match rest {
-        [b'"', ..] => plain(
-            "a string is never closed: this quote, or one before it, has no partner",
-        ),
-        [b'/', b'*', ..] => plain("a comment is never closed"),
-        [b'0'..=b'9', ..] => Sentence {
-            number: u64::MAX,
-            ..plain("a number is above %")
-        },
-        [b'a'..=b'z' | b'A'..=b'Z' | b'_', ..] => {
-            plain("a multi-line string is never closed: its last line is a dot alone")
-        }
-        [b':', ..] => plain("a colon stands here without the name of a tag behind it"),
-        _ => Sentence {
-            name: &rest[..rest.len().min(1)],
-            ..plain("@ begins nothing that a script may have here")
-        },
-    }
-}
-
 // The sentence for a script with too many octets.
 pub fn too_long_sentence() -> Sentence<'static>
     ensures { blanks_of result ≡ too_long_blanks }
@@ -173,6 +169,7 @@ pub fn too_long_sentence() -> Sentence<'static>
 }
 
 // The text of the sentence for a token of the kind that can't stand where it does.
+#[tactic(auto, unfolding(crate::specs::Faults::misplaced_token))]
 fn misplaced_token(kind: TokenKind) -> &'static str
     ensures { result.now ≡ misplaced_token kind }
 {
@@ -213,18 +210,22 @@ fn misplaced_token(kind: TokenKind) -> &'static str
     }
 }
 
-// The sentence for a token that can't stand where it does, or for a script that ends too early.
-pub fn syntax_sentence<'a>(script: &'a [u8], token: Option<Token>) -> Sentence<'a>
-    requires { Stands script.now token }
-    ensures { blanks_of result ≡ syntax_blanks script.now token }
+// The sentence for a token that can't stand where it does.
+pub fn token_sentence(script: &[u8], token: Token) -> Sentence<'_>
+    requires { Stands script.now (Some token) }
+    ensures { blanks_of result ≡ token_blanks script.now token }
 {
-    match token {
-        None => plain("the script ends before its last command does"),
-        Some(token) => Sentence {
-            name: token.text(script),
-            ..plain(misplaced_token(token.kind))
-        },
+    Sentence {
+        name: token.text(script),
+        ..plain(misplaced_token(token.kind))
     }
+}
+
+// The sentence for a script that ends too early.
+pub fn end_sentence() -> Sentence<'static>
+    ensures { blanks_of result ≡ end_blanks }
+{
+    plain("the script ends before its last command does")
 }
 
 // The sentence for a brace or a test that is nested too deep.

@@ -1,7 +1,9 @@
 // What is said of a name that isn't known where it stands.
 ghost use Rattle.std.specs.Prelude.{◌≡◌};
-ghost use Rattle.sieve_explain.specs.Hints.{lacking, meant, unknown_command_text, unknown_test_text, unknown_text, unknown_words, vocabulary_of};
+ghost use Rattle.sieve_explain.specs.Hints.{lacking, meant, unknown, unknown_capability, unknown_command, unknown_tag, unknown_test, vocabulary_of};
+ghost use Rattle.sieve_explain.specs.Sentences.{blanks_of};
 
+use crate::sentence::{Sentence, plain};
 use crate::words::{Row, nearest, with_words, words_for};
 use sieve_check::{command_named, test_named};
 
@@ -20,7 +22,7 @@ pub struct Vocabulary {
 }
 
 // The commands.
-pub const COMMANDS: &Vocabulary = &Vocabulary {
+const COMMANDS: &Vocabulary = &Vocabulary {
     elsewhere: &[
         (&["elseif", "elif", "else_if"], "elsif"),
         (&["file", "move"], "fileinto"),
@@ -50,7 +52,7 @@ pub const COMMANDS: &Vocabulary = &Vocabulary {
 };
 
 // The tests.
-pub const TESTS: &Vocabulary = &Vocabulary {
+const TESTS: &Vocabulary = &Vocabulary {
     elsewhere: &[
         (&["all", "and"], "allof"),
         (&["any", "or"], "anyof"),
@@ -80,7 +82,7 @@ pub const TESTS: &Vocabulary = &Vocabulary {
 };
 
 // The tags.
-pub const TAGS: &Vocabulary = &Vocabulary {
+const TAGS: &Vocabulary = &Vocabulary {
     elsewhere: &[],
     names: &[
         "over",
@@ -110,7 +112,7 @@ pub const TAGS: &Vocabulary = &Vocabulary {
 };
 
 // The capabilities, all of which are listed where none comes near.
-pub const CAPABILITIES: &Vocabulary = &Vocabulary {
+const CAPABILITIES: &Vocabulary = &Vocabulary {
     elsewhere: &[],
     names: &[
         "fileinto",
@@ -212,37 +214,61 @@ fn meant(name: &[u8], known: &Vocabulary) -> &'static str
 }
 
 // The sentence for a name that nothing has: with why it is lacking, else with what is meant by it, where there is either.
-pub fn unknown_text(name: &[u8], known: &Vocabulary) -> &'static str
-    ensures { result.now ≡ unknown_text name.now (vocabulary_of known.now) }
-{
-    let unlisted = with_words(meant(name, known), known.hinting, known.alone);
-    with_words(lacking(name), known.lacks, unlisted)
-}
-
-// The words of that sentence: why it is lacking, else what is meant by it.
-pub fn unknown_words(name: &[u8], known: &Vocabulary) -> &'static str
-    ensures { result.now ≡ unknown_words name.now (vocabulary_of known.now) }
+fn unknown<'a>(name: &'a [u8], known: &Vocabulary) -> Sentence<'a>
+    ensures { blanks_of result ≡ unknown name.now (vocabulary_of known.now) }
 {
     let lacking = lacking(name);
-    with_words(lacking, lacking, meant(name, known))
+    let meant = meant(name, known);
+    let unlisted = with_words(meant, known.hinting, known.alone);
+    Sentence {
+        text: with_words(lacking, known.lacks, unlisted),
+        name,
+        subject: name,
+        words: with_words(lacking, lacking, meant),
+        number: 0,
+    }
 }
 
 // The sentence for a name in a command's place.
-pub fn unknown_command_text(name: &[u8]) -> &'static str
-    ensures { result.now ≡ unknown_command_text name.now }
+#[tactic(auto, unfolding(crate::specs::Hints::unknown_command))]
+pub fn unknown_command(name: &[u8]) -> Sentence<'_>
+    ensures { blanks_of result ≡ unknown_command name.now }
 {
     if test_named(name).is_some() {
-        return "@ is a test: is an `if` missing before it?";
+        return Sentence {
+            name,
+            ..plain("@ is a test: is an `if` missing before it?")
+        };
     }
-    unknown_text(name, COMMANDS)
+    unknown(name, COMMANDS)
 }
 
 // The sentence for a name in a test's place.
-pub fn unknown_test_text(name: &[u8]) -> &'static str
-    ensures { result.now ≡ unknown_test_text name.now }
+#[tactic(auto, unfolding(crate::specs::Hints::unknown_test))]
+pub fn unknown_test(name: &[u8]) -> Sentence<'_>
+    ensures { blanks_of result ≡ unknown_test name.now }
 {
     if command_named(name).is_some() {
-        return "@ is a command, and a test is needed here";
+        return Sentence {
+            name,
+            ..plain("@ is a command, and a test is needed here")
+        };
     }
-    unknown_text(name, TESTS)
+    unknown(name, TESTS)
+}
+
+// The sentence for a tag.
+#[tactic(auto, unfolding(crate::specs::Hints::unknown_tag))]
+pub fn unknown_tag(tag: &[u8]) -> Sentence<'_>
+    ensures { blanks_of result ≡ unknown_tag tag.now }
+{
+    unknown(tag, TAGS)
+}
+
+// The sentence for a capability.
+#[tactic(auto, unfolding(crate::specs::Hints::unknown_capability))]
+pub fn unknown_capability(capability: &[u8]) -> Sentence<'_>
+    ensures { blanks_of result ≡ unknown_capability capability.now }
+{
+    unknown(capability, CAPABILITIES)
 }

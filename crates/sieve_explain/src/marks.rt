@@ -3,7 +3,7 @@ ghost use Rattle.std.specs.Prelude.{◌≡◌, ◌<◌, ◌≤◌, ◌+◌, ◌-
 ghost use Rattle.std.specs.List.{slice_get};
 ghost use Rattle.sieve_lexer.specs.Tokens.{AreTokens};
 ghost use Rattle.sieve_explain.specs.Explaining.{start_of};
-ghost use Rattle.sieve_explain.specs.Marks.{Stands, has_unit, if_spelled, if_unclosed, inner, is_no_name, is_number_at, is_unit, is_unit_at, passes, spells, string_among, text_of, unclosed, unopened, unopened_over};
+ghost use Rattle.sieve_explain.specs.Marks.{Stands, has_unit, if_unclosed, inner, is_no_name, is_number_at, is_unit, is_unit_at, spells, string_among, text_of, unclosed, unopened, unopened_over};
 
 use crate::places::around;
 use crate::words::is_any;
@@ -65,6 +65,7 @@ fn inner(text: &[u8]) -> &[u8]
 }
 
 // Whether the token is the string between quotes, without an escape in it.
+#[tactic(auto, unfolding(crate::specs::Marks::spells))]
 fn spells(script: &[u8], string: &[u8], token: &Token) -> bool
     ensures { result ≡ spells script.now string.now token.now }
 {
@@ -74,42 +75,28 @@ fn spells(script: &[u8], string: &[u8], token: &Token) -> bool
     }
 }
 
-// Whether the token neither spells the string nor ends the command.
-fn passes(script: &[u8], string: &[u8], token: &Token) -> bool
-    ensures { result ≡ passes script.now string.now token.now }
+// The first token up to the end of the command that spells the string, if there is one.
+fn string_among(script: &[u8], string: &[u8], tokens: &[Token]) -> Option<Token>
+    ensures { result ≡ string_among script.now string.now tokens.now }
 {
-    !(spells(script, string, token) || matches!(token.kind, TokenKind::Semicolon))
-}
-
-// The token, where it spells the string.
-fn if_spelled(script: &[u8], string: &[u8], token: Option<Token>) -> Option<Token>
-    ensures { result ≡ if_spelled script.now string.now token }
-{
-    match token {
-        Some(token) if spells(script, string, &token) => Some(token),
-        _ => None,
+    for token in tokens {
+        if spells(script, string, token) {
+            return Some(*token);
+        }
+        if matches!(token.kind, TokenKind::Semicolon) {
+            return None;
+        }
     }
+    None
 }
 
-// How many tokens stand before the first that spells the string or ends the command.
-fn passed(script: &[u8], string: &[u8], tokens: &[Token]) -> usize
-    ensures { result ≡ length (take_while (passes script.now string.now) tokens.now) }
-{
-    tokens
-        .iter()
-        .take_while(|token| passes(script, string, token))
-        .count()
-}
-
-// The first token up to the end of the command with that number that spells the string, if there is one.
+// The same from the token with that number on.
 pub fn string_behind(script: &[u8], tokens: &[Token], number: usize, string: &[u8]) -> Option<Token>
     requires { AreTokens script.now tokens.now }
     ensures token { result ≡ string_among script.now string.now (drop number tokens.now) }
     ensures within { Stands script.now result }
 {
-    let rest = tokens_from(tokens, number);
-    let place = passed(script, string, rest);
-    if_spelled(script, string, token_at(rest, place))
+    string_among(script, string, tokens_from(tokens, number))
 }
 
 // Whether a number stands there.
@@ -146,8 +133,8 @@ fn is_unit_at(script: &[u8], token: Option<Token>) -> bool
 }
 
 // Whether the token is no identifier.
-fn is_no_name(token: &Token) -> bool
-    ensures { result ≡ is_no_name token.now }
+fn is_no_name(token: &&Token) -> bool
+    ensures { result ≡ is_no_name token.now.now }
 {
     !matches!(token.kind, TokenKind::Identifier)
 }
@@ -156,21 +143,7 @@ fn is_no_name(token: &Token) -> bool
 fn named_at(tokens: &[Token]) -> usize
     ensures { result ≡ length (take_while is_no_name tokens.now) }
 {
-    tokens.iter().take_while(|token| is_no_name(token)).count()
-}
-
-// Whether a number stands before the place.
-fn number_before(tokens: &[Token], place: usize) -> bool
-    ensures { result ≡ is_number_at (slice_get tokens.now (place - 1)) }
-{
-    is_number_at(token_at(tokens, place.saturating_sub(1)))
-}
-
-// Whether such a unit stands at the place.
-fn unit_at(script: &[u8], tokens: &[Token], place: usize) -> bool
-    ensures { result ≡ is_unit_at script.now (slice_get tokens.now place) }
-{
-    is_unit_at(script, token_at(tokens, place))
+    tokens.iter().take_while(is_no_name).count()
 }
 
 // Whether the first identifier of the tokens is such a unit, and stands behind a number.
@@ -178,7 +151,8 @@ pub fn has_unit(script: &[u8], tokens: &[Token]) -> bool
     ensures { result ≡ has_unit script.now tokens.now }
 {
     let place = named_at(tokens);
-    number_before(tokens, place) && unit_at(script, tokens, place)
+    let before = token_at(tokens, place.saturating_sub(1));
+    is_number_at(before) && is_unit_at(script, token_at(tokens, place))
 }
 
 // How many closing braces have no partner, with one more token before those that have that many.

@@ -1,6 +1,6 @@
 // The line and the column of a place in a script, and the text of its line.
 ghost use Rattle.std.specs.Prelude.{◌≡◌, ◌≤◌, drop, length, take};
-ghost use Rattle.sieve_explain.specs.Places.{is_line_feed, line_at, line_number, octets_after, octets_before, without_return};
+ghost use Rattle.sieve_explain.specs.Places.{is_in_line, is_line_feed, line_at, line_number, octets_after, octets_before, without_return};
 
 // A text up to a place, and from it on.
 #[tactic(auto, using(std::proofs::lemmas::List::take_min, std::proofs::lemmas::List::drop_min))]
@@ -23,16 +23,19 @@ pub fn line_number(script: &[u8], place: usize) -> u128
     breaks as u128 + 1
 }
 
+// Whether the octet is part of a line.
+fn is_in_line(octet: &&u8) -> bool
+    ensures { result ≡ is_in_line octet.now.now }
+{
+    **octet != b'\n'
+}
+
 // How many octets of its line stand before the place.
 pub fn octets_before(script: &[u8], place: usize) -> usize
     requires { place ≤ length script.now }
     ensures { result ≡ octets_before script.now place }
 {
-    script[..place]
-        .iter()
-        .rev()
-        .take_while(|octet| **octet != b'\n')
-        .count()
+    script[..place].iter().rev().take_while(is_in_line).count()
 }
 
 // How many octets of its line stand from the place on.
@@ -41,7 +44,7 @@ fn octets_after(script: &[u8], place: usize) -> usize
     ensures { result ≡ octets_after script.now place }
 {
     let (_, rest) = script.split_at(place);
-    rest.iter().take_while(|octet| **octet != b'\n').count()
+    rest.iter().take_while(is_in_line).count()
 }
 
 // The text without the CR that it may end with.

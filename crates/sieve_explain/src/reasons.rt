@@ -2,14 +2,11 @@
 ghost use Rattle.std.specs.Prelude.{◌≡◌};
 ghost use Rattle.sieve_check.specs.ReasonView.{reason_view, refused_view};
 ghost use Rattle.sieve_explain.specs.Explaining.{fault_blanks, is_argument_fault};
-ghost use Rattle.sieve_explain.specs.Reasons.{capability_words, ending_words, no_test_words, place_text, positional_words, reason_blanks, reason_limit, reason_text, reason_words, tag_words, tests_words};
+ghost use Rattle.sieve_explain.specs.Reasons.{capability_words, ending_words, no_test_words, other_blanks, place_text, positional_words, reason_blanks, reason_limit, reason_text, reason_words, tag_words, tests_words};
 ghost use Rattle.sieve_explain.specs.Sentences.{blanks_of};
 
 use crate::faults::unit_sentence;
-use crate::hints::{
-    CAPABILITIES, COMMANDS, TAGS, TESTS, unknown_command_text, unknown_test_text, unknown_text,
-    unknown_words,
-};
+use crate::hints::{unknown_capability, unknown_command, unknown_tag, unknown_test};
 use crate::marks::{has_unit, tokens_from};
 use crate::sentence::Sentence;
 use octets::{MAX_STRING, is_word};
@@ -104,26 +101,6 @@ fn tag_words(tag: Tag) -> &'static str
     }
 }
 
-// The words of a sentence, by its reason, the name of the command or test, and what in it is at fault.
-fn reason_words(kind: ReasonKind, name: &[u8], subject: &[u8]) -> &'static str
-    ensures { result.now ≡ reason_words kind name.now subject.now }
-{
-    match kind {
-        ReasonKind::UnknownCommand => unknown_words(name, COMMANDS),
-        ReasonKind::UnknownTest => unknown_words(name, TESTS),
-        ReasonKind::UnknownCapability => unknown_words(subject, CAPABILITIES),
-        ReasonKind::UnknownTag => unknown_words(subject, TAGS),
-        ReasonKind::MissingCapability(capability) => capability_words(capability),
-        ReasonKind::TagArgument(tag) => tag_words(tag),
-        ReasonKind::MissingArgument(taken)
-        | ReasonKind::ExtraArgument(taken)
-        | ReasonKind::WrongArgument(taken) => positional_words(taken),
-        ReasonKind::WrongTests(taken) => tests_words(taken, name),
-        ReasonKind::WrongEnding(ending) => ending_words(ending),
-        _ => "",
-    }
-}
-
 // The limit that a reason speaks of.
 fn reason_limit(kind: ReasonKind) -> u64
     ensures { result ≡ reason_limit kind }
@@ -152,16 +129,16 @@ fn place_text(name: &[u8]) -> &'static str
     }
 }
 
-// The sentence, with its blanks.
-fn reason_text(kind: ReasonKind, name: &[u8], subject: &[u8]) -> &'static str
-    ensures { result.now ≡ reason_text kind name.now subject.now }
+// The text for a reason, by the name of the command or test; none for a name that isn't known.
+fn reason_text(kind: ReasonKind, name: &[u8]) -> &'static str
+    ensures { result.now ≡ reason_text kind name.now }
 {
     match kind {
-        ReasonKind::UnknownCommand => unknown_command_text(name),
-        ReasonKind::UnknownTest => unknown_test_text(name),
+        ReasonKind::UnknownCommand
+        | ReasonKind::UnknownTest
+        | ReasonKind::UnknownCapability
+        | ReasonKind::UnknownTag => "",
         ReasonKind::MissingCapability(_) => "@ needs `require \"&\"` before it",
-        ReasonKind::UnknownCapability => unknown_text(subject, CAPABILITIES),
-        ReasonKind::UnknownTag => unknown_text(subject, TAGS),
         ReasonKind::ForeignTag => "@ takes no tag #",
         ReasonKind::RepeatedTag => "# is repeated, or stands beside another of its kind",
         ReasonKind::TwoModifiers => "# can't stand beside another modifier of its precedence",
@@ -172,8 +149,7 @@ fn reason_text(kind: ReasonKind, name: &[u8], subject: &[u8]) -> &'static str
         ReasonKind::MissingArgument(_) => "@ has too few arguments: it takes &",
         ReasonKind::ExtraArgument(_) => "@ has too many arguments: it takes &",
         ReasonKind::WrongArgument(_) => "@ has an argument of a wrong kind: it takes &",
-        ReasonKind::WrongTests(_) => "@ &",
-        ReasonKind::WrongEnding(_) => "@ &",
+        ReasonKind::WrongTests(_) | ReasonKind::WrongEnding(_) => "@ &",
         ReasonKind::Namespace => "$ refers into a namespace, and there is none",
         ReasonKind::CaptureIndex => "$ refers to a capture above 9",
         ReasonKind::VariableName => "$ is no name of a variable",
@@ -190,20 +166,51 @@ fn reason_text(kind: ReasonKind, name: &[u8], subject: &[u8]) -> &'static str
     }
 }
 
+// The words for it.
+fn reason_words(kind: ReasonKind, name: &[u8]) -> &'static str
+    ensures { result.now ≡ reason_words kind name.now }
+{
+    match kind {
+        ReasonKind::MissingCapability(capability) => capability_words(capability),
+        ReasonKind::TagArgument(tag) => tag_words(tag),
+        ReasonKind::MissingArgument(taken)
+        | ReasonKind::ExtraArgument(taken)
+        | ReasonKind::WrongArgument(taken) => positional_words(taken),
+        ReasonKind::WrongTests(taken) => tests_words(taken, name),
+        ReasonKind::WrongEnding(ending) => ending_words(ending),
+        _ => "",
+    }
+}
+
 // The sentence for a reason.
 fn reason_sentence(reason: Reason<'_>) -> Sentence<'_>
     ensures { blanks_of result ≡ reason_blanks (reason_view reason.entry) }
 {
+    match reason.kind {
+        ReasonKind::UnknownCommand => unknown_command(reason.name),
+        ReasonKind::UnknownTest => unknown_test(reason.name),
+        ReasonKind::UnknownCapability => unknown_capability(reason.subject),
+        ReasonKind::UnknownTag => unknown_tag(reason.subject),
+        _ => other_sentence(reason),
+    }
+}
+
+// The sentence for a reason that is no unknown name.
+#[tactic(auto, unfolding(crate::specs::Reasons::other_blanks))]
+fn other_sentence(reason: Reason<'_>) -> Sentence<'_>
+    ensures { blanks_of result ≡ other_blanks (reason_view reason.entry) }
+{
     Sentence {
-        text: reason_text(reason.kind, reason.name, reason.subject),
+        text: reason_text(reason.kind, reason.name),
         name: reason.name,
         subject: reason.subject,
-        words: reason_words(reason.kind, reason.name, reason.subject),
+        words: reason_words(reason.kind, reason.name),
         number: reason_limit(reason.kind),
     }
 }
 
 // The sentence for arguments with a wrong unit, or for another reason.
+#[tactic(auto, unfolding(crate::specs::Explaining::fault_blanks))]
 pub fn fault_sentence<'a>(script: &[u8], tokens: &[Token], found: Refused<'a>) -> Sentence<'a>
     ensures { blanks_of result ≡ fault_blanks script.now tokens.now (refused_view found.entry) }
 {

@@ -1,6 +1,6 @@
 // Remarks about a place of a script.
 ghost use Rattle.std.specs.Prelude.{◌≡◌, ◌≤◌, ◌++◌, IfOk, OnOk, length};
-ghost use Rattle.sieve_explain.specs.Explaining.{heading, remark, told};
+ghost use Rattle.sieve_explain.specs.Explaining.{heading, numbered, remark, told};
 ghost use Rattle.sieve_explain.specs.Sentences.{blanks_of, filled};
 
 use crate::excerpt::push_excerpt;
@@ -17,6 +17,14 @@ pub struct Source<'a> {
     pub octets: &'a [u8],
 }
 
+// Appends a colon and the number.
+fn push_number(out: &mut Vec<u8>, number: u128) -> Result<(), AllocError>
+    ensures { OnOk result (out.new.items ≡ out.old.items ++ numbered number) }
+{
+    out.extend_from_slice(b":")?;
+    out.extend_from_slice(Buffer::new().format(number).as_bytes())
+}
+
 // Appends the script's name, the line and the column of the place, what kind of remark it is, and the sentence.
 fn push_heading(
     out: &mut Vec<u8>,
@@ -31,36 +39,33 @@ fn push_heading(
         (filled (blanks_of sentence.now))) }
 {
     out.extend_from_slice(source.name.as_bytes())?;
-    out.extend_from_slice(b":")?;
-    let line = line_number(source.octets, place);
-    out.extend_from_slice(Buffer::new().format(line).as_bytes())?;
-    out.extend_from_slice(b":")?;
+    push_number(out, line_number(source.octets, place))?;
     let column = octets_before(source.octets, place) as u128 + 1;
-    out.extend_from_slice(Buffer::new().format(column).as_bytes())?;
+    push_number(out, column)?;
     out.extend_from_slice(kind.as_bytes())?;
-    push_sentence(out, sentence)
+    push_sentence(out, sentence)?;
+    out.extend_from_slice(b"\n")
 }
 
-// A remark about a place of the script, with the line of the place and a mark under it.
-pub fn remark(
+/// Appends a remark about a place of the script, with the line of the place and a mark under it.
+#[tactic(auto, unfolding(crate::specs::Explaining::remark))]
+pub fn push_remark(
+    out: &mut Vec<u8>,
     kind: &str,
     source: &Source<'_>,
     place: usize,
     sentence: &Sentence<'_>,
-) -> Result<Vec<u8>, AllocError>
+) -> Result<(), AllocError>
     requires { place ≤ length source.now.octets.now }
-    ensures { IfOk result (λ text. text.items
-        ≡ remark kind.now source.now.name.now source.now.octets.now place
+    ensures { OnOk result (out.new.items ≡ out.old.items
+        ++ remark kind.now source.now.name.now source.now.octets.now place
         (blanks_of sentence.now)) }
 {
-    let mut text = Vec::new(source.alloc);
-    push_heading(&mut text, kind, source, place, sentence)?;
-    text.push(b'\n')?;
-    push_excerpt(&mut text, source.octets, place)?;
-    Ok(text)
+    push_heading(out, kind, source, place, sentence)?;
+    push_excerpt(out, source.octets, place)
 }
 
-// What is wrong at a place of the script.
+/// What is wrong at a place of the script.
 pub fn told(
     source: &Source<'_>,
     place: usize,
@@ -70,5 +75,7 @@ pub fn told(
     ensures { IfOk result (λ text. text.items
         ≡ told source.now.name.now source.now.octets.now place (blanks_of sentence.now)) }
 {
-    remark(": error: ", source, place, sentence)
+    let mut text = Vec::new(source.alloc);
+    push_remark(&mut text, ": error: ", source, place, sentence)?;
+    Ok(text)
 }

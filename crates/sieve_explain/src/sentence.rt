@@ -2,7 +2,7 @@
 ghost use Rattle.std.specs.Prelude.{◌≡◌, ◌++◌, OnOk};
 ghost use Rattle.sieve_explain.specs.Sentences.{blanks_of, filled, filled_octet, plain};
 
-use crate::shown::{push_named, push_quoted, push_tagged};
+use crate::shown::push_between;
 use itoa::Buffer;
 use std::alloc::AllocError;
 
@@ -35,14 +35,15 @@ pub fn plain(text: &'static str) -> Sentence<'static>
 }
 
 // Appends what stands in the sentence for an octet of its text.
+#[tactic(auto, unfolding(crate::specs::Sentences::filled_octet))]
 fn push_filled(out: &mut Vec<u8>, sentence: &Sentence<'_>, octet: u8) -> Result<(), AllocError>
     ensures { OnOk result (out.new.items ≡ out.old.items
         ++ filled_octet (blanks_of sentence.now) octet) }
 {
     match octet {
-        b'@' => push_named(out, sentence.name),
-        b'#' => push_tagged(out, sentence.subject),
-        b'$' => push_quoted(out, sentence.subject),
+        b'@' => push_between(out, b"`", sentence.name, b"`"),
+        b'#' => push_between(out, b"`:", sentence.subject, b"`"),
+        b'$' => push_between(out, b"\"", sentence.subject, b"\""),
         b'&' => out.extend_from_slice(sentence.words.as_bytes()),
         b'%' => out.extend_from_slice(Buffer::new().format(sentence.number).as_bytes()),
         _ => out.extend_from_slice(&[octet]),

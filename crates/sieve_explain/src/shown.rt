@@ -1,7 +1,7 @@
 // Printing octets of a script: escaped, and cut where there are many.
 ghost use Rattle.std.specs.Prelude.{◌≡◌, ◌<◌, ◌++◌, OnOk, false};
 ghost use Rattle.std.specs.Fmt.{digit_glyph};
-ghost use Rattle.sieve_explain.specs.Shown.{named, quoted, shown, shown_end, shown_octet, shown_start, tagged};
+ghost use Rattle.sieve_explain.specs.Shown.{between, shown, shown_end, shown_octet, shown_start};
 
 use std::alloc::AllocError;
 
@@ -17,6 +17,7 @@ fn digit(n: u8) -> u8
 }
 
 // Appends an octet as it is printed.
+#[tactic(auto, unfolding(crate::specs::Shown::shown_octet))]
 fn push_octet(out: &mut Vec<u8>, octet: u8) -> Result<(), AllocError>
     ensures { OnOk result (out.new.items ≡ out.old.items ++ shown_octet octet) }
 {
@@ -38,6 +39,7 @@ fn push_shown(out: &mut Vec<u8>, text: &[u8]) -> Result<(), AllocError>
 }
 
 // Appends a text, cut after its first octets.
+#[tactic(auto, unfolding(crate::specs::Shown::shown_start))]
 pub fn push_start(out: &mut Vec<u8>, text: &[u8]) -> Result<(), AllocError>
     ensures { OnOk result (out.new.items ≡ out.old.items ++ shown_start text.now) }
 {
@@ -50,6 +52,7 @@ pub fn push_start(out: &mut Vec<u8>, text: &[u8]) -> Result<(), AllocError>
 }
 
 // Appends a text, cut before its last octets.
+#[tactic(auto, unfolding(crate::specs::Shown::shown_end))]
 pub fn push_end(out: &mut Vec<u8>, text: &[u8]) -> Result<(), AllocError>
     ensures { OnOk result (out.new.items ≡ out.old.items ++ shown_end text.now) }
 {
@@ -60,29 +63,17 @@ pub fn push_end(out: &mut Vec<u8>, text: &[u8]) -> Result<(), AllocError>
     push_shown(out, &text[text.len() - MAX_SHOWN..])
 }
 
-// Appends a name between backquotes.
-pub fn push_named(out: &mut Vec<u8>, name: &[u8]) -> Result<(), AllocError>
-    ensures { OnOk result (out.new.items ≡ out.old.items ++ named name.now) }
+// Appends a text, cut after its first octets, between two marks.
+pub fn push_between(
+    out: &mut Vec<u8>,
+    opening: &[u8],
+    text: &[u8],
+    closing: &[u8],
+) -> Result<(), AllocError>
+    ensures { OnOk result (out.new.items ≡ out.old.items
+        ++ between opening.now text.now closing.now) }
 {
-    out.extend_from_slice(b"`")?;
-    push_start(out, name)?;
-    out.extend_from_slice(b"`")
-}
-
-// Appends a tag with its colon, between backquotes.
-pub fn push_tagged(out: &mut Vec<u8>, tag: &[u8]) -> Result<(), AllocError>
-    ensures { OnOk result (out.new.items ≡ out.old.items ++ tagged tag.now) }
-{
-    out.extend_from_slice(b"`:")?;
-    push_start(out, tag)?;
-    out.extend_from_slice(b"`")
-}
-
-// Appends a string between quotes.
-pub fn push_quoted(out: &mut Vec<u8>, text: &[u8]) -> Result<(), AllocError>
-    ensures { OnOk result (out.new.items ≡ out.old.items ++ quoted text.now) }
-{
-    out.extend_from_slice(b"\"")?;
+    out.extend_from_slice(opening)?;
     push_start(out, text)?;
-    out.extend_from_slice(b"\"")
+    out.extend_from_slice(closing)
 }

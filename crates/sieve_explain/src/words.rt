@@ -55,6 +55,7 @@ fn begin_swapped(a: &[u8], b: &[u8]) -> bool
 }
 
 // Whether the first octet is another one, is missing, is one too many, or is swapped with the next, and all else is the same.
+#[tactic(auto, unfolding(crate::specs::Words::begin_off))]
 fn begin_off(a: &[u8], b: &[u8]) -> bool
     ensures { result ≡ begin_off a.now b.now }
 {
@@ -67,6 +68,7 @@ fn begin_off(a: &[u8], b: &[u8]) -> bool
 }
 
 // Whether it is so at the place, before which both are the same.
+#[tactic(auto, unfolding(crate::specs::Words::differ_at))]
 fn differ_at(a: &[u8], b: &[u8], place: usize) -> bool
     ensures { result ≡ differ_at a.now b.now place }
 {
@@ -76,6 +78,7 @@ fn differ_at(a: &[u8], b: &[u8], place: usize) -> bool
 }
 
 // Whether the name is the word but for one letter, or but for the case of ASCII letters.
+#[tactic(auto, unfolding(crate::specs::Words::is_near))]
 fn is_near(name: &[u8], word: &[u8]) -> bool
     ensures { result ≡ is_near name.now word.now }
 {
