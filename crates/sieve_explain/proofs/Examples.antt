@@ -14,13 +14,13 @@ use Rattle.sieve_lexer.specs.declared.token.TokenKind.{TokenKind}
 use Rattle.sieve_lexer.specs.declared.token.TokenKind.TheVariants.{ClosingBrace, ClosingBracket, Comma, Identifier, Number, OpeningBrace, OpeningBracket, QuotedString, Semicolon}
 use Rattle.sieve_check.specs.declared.causes.ReasonKind.{ReasonKind}
 use Rattle.sieve_check.specs.declared.causes.ReasonKind.TheVariants.{ExtraArgument, ForeignTag, LongString, MissingCapability, Misplaced, UnknownCapability, UnknownCommand, UnknownTag, UnknownTest, WrongTests}
-use Rattle.sieve_explain.specs.Explaining.{remark, told}
-use Rattle.sieve_explain.specs.Faults.{end_blanks, lexical_blanks, misplaced_token, token_blanks}
+use Rattle.sieve_explain.specs.Explaining.{heading, numbered, remark, told}
+use Rattle.sieve_explain.specs.Faults.{beginnings, end_blanks, lexical_blanks, misplaced_token, token_blanks}
 use Rattle.sieve_explain.specs.Hints.{known_capabilities, known_commands, known_tags, known_tests, lacking, meant, unknown_capability, unknown_command, unknown_tag, unknown_test}
 use Rattle.sieve_explain.specs.Words.{begin_off, differ_at, is_near, nearest}
-use Rattle.sieve_explain.specs.Marks.{has_unit, spells, string_among, unclosed}
+use Rattle.sieve_explain.specs.Marks.{has_unit, is_unit, spells, string_among, unclosed}
 use Rattle.sieve_explain.specs.Places.{column, line_at, line_number}
-use Rattle.sieve_explain.specs.Reasons.{capability_words, other_blanks, reason_blanks}
+use Rattle.sieve_explain.specs.Reasons.{capability_words, no_test_words, other_blanks, place_text, reason_blanks}
 use Rattle.sieve_explain.specs.Sentences.{filled, filled_octet}
 use Rattle.sieve_explain.specs.Shown.{excerpt, line, marked, shown, shown_end, shown_octet, shown_start}
 
@@ -54,7 +54,7 @@ faults_said :
     × (filled (lexical_blanks (codes "/* bills")) ≡ codes "a comment is never closed")
     × (filled (end_blanks) ≡ codes "the script ends before its last command does")
     × (filled (token_blanks (codes "stop }") (record { kind = ClosingBrace; start = 5; end = 6 })) ≡ codes "`}` can't stand here: is a semicolon missing before it, or its opening brace?")
-unfolding digits lexical_blanks misplaced_token filled_octet shown_octet shown_start
+unfolding digits lexical_blanks misplaced_token filled_octet shown_octet shown_start beginnings
 faults_said = (refl, refl, refl, refl, refl, refl, refl, refl)
 
 abbrev said : ReasonKind → List ℕ → List ℕ → List ℕ
@@ -71,7 +71,7 @@ unknown_said :
     × (said UnknownTest (codes "address") [] ≡ codes "depot has no `address`: `header` tests the whole value of a field")
     × (said UnknownCommand (codes "header") [] ≡ codes "`header` is a test: is an `if` missing before it?")
     × (said UnknownTest (codes "keep") [] ≡ codes "`keep` is a command, and a test is needed here")
-unfolding unknown_command unknown_test unknown_tag unknown_capability filled_octet shown_octet shown_start is_near differ_at begin_off
+unfolding unknown_command unknown_test unknown_tag unknown_capability filled_octet shown_octet shown_start is_near differ_at begin_off lacking meant
 unknown_said = (refl, refl, refl, refl, refl, refl, refl, refl, refl)
 
 -- other reasons
@@ -84,13 +84,13 @@ reasons_said :
     × (said (ExtraArgument Text) (codes "fileinto") [] ≡ codes "`fileinto` has too many arguments: it takes one string without brackets")
     × (said LongString (codes "fileinto") (codes "a@b") ≡ codes "the string \"a@b\" has more than 16384 octets")
     × (said Misplaced (codes "else") [] ≡ codes "`else` stands directly after an `if` or `elsif`")
-unfolding digits other_blanks filled_octet shown_octet shown_start
+unfolding digits other_blanks filled_octet shown_octet shown_start place_text no_test_words
 reasons_said = (refl, refl, refl, refl, refl, refl, refl, refl)
 
 -- a letter that is another, is missing, is one too many, and two that are swapped; and the case of letters
 one_letter_off : list_all (λ name. bytes_eq (meant name known_commands) (codes "keep"))
     (codes "kerp" ∷ codes "leep" ∷ codes "keel" ∷ codes "kep" ∷ codes "eep" ∷ codes "kee" ∷ codes "keepp" ∷ codes "skeep" ∷ codes "ekep" ∷ codes "kepe" ∷ codes "KEP" ∷ []) ≡ true
-unfolding is_near differ_at begin_off
+unfolding is_near differ_at begin_off meant
 one_letter_off = refl
 
 two_letters_off : list_any (λ name. is_near name (codes "keep"))
@@ -122,6 +122,7 @@ meant_known = (refl, refl, refl, refl, refl, refl)
 
 -- no name that depot has is told as lacking
 known_not_lacking : list_all (λ name. bytes_eq (lacking name) []) (known_commands.names ++ known_tests.names ++ known_tags.names ++ known_capabilities.names) ≡ true
+unfolding lacking
 known_not_lacking = refl
 
 -- a token of that kind from one place up to another
@@ -145,10 +146,11 @@ strings = (refl, refl)
 units :
     (has_unit (codes "5MB{") (token_of Number 0 2 ∷ token_of Identifier 2 3 ∷ token_of OpeningBrace 3 4 ∷ []) ≡ true)
     × (has_unit (codes "5M true") (token_of Number 0 2 ∷ token_of Identifier 3 7 ∷ []) ≡ false)
+unfolding is_unit
 units = (refl, refl)
 
 -- all of it
 whole : told (codes "my.sieve") (codes "keep;\nstop }\n") 11 (token_blanks (codes "keep;\nstop }\n") (record { kind = ClosingBrace; start = 11; end = 12 }))
     ≡ line (codes "my.sieve:2:6: error: `}` can't stand here: is a semicolon missing before it, or its opening brace?") ++ line (codes "stop }") ++ line (codes "     ^")
-unfolding digits remark excerpt misplaced_token marked filled_octet shown_octet shown_start shown_end
+unfolding digits remark excerpt misplaced_token marked filled_octet shown_octet shown_start shown_end heading numbered
 whole = refl

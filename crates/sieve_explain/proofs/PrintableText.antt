@@ -35,9 +35,11 @@ fine_marked text place =
     (fine_line (spaces ++ codes "^") (fine_append spaces (codes "^") (fine_spaces (length before)) refl))
 
 fine_numbered : (number : ℕ) → Fine (numbered number)
+unfolding numbered
 fine_numbered number = fine_append (codes ":") (decimal number) refl (fine_decimal number)
 
 fine_heading : (kind name script : List ℕ) (place : ℕ) (sentence : List ℕ) → Fine kind → Fine name → Fine sentence → Fine (heading kind name script place sentence)
+unfolding heading
 fine_heading kind name script place sentence k p q =
     let row = numbered (line_number script place) in
     let place_in_row = numbered (column script place) in

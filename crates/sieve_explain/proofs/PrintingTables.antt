@@ -48,6 +48,7 @@ fine_with [] some none p q = q
 fine_with (c ∷ cs) some none p q = p
 
 fine_lacking : (name : List ℕ) → Fine (lacking name)
+unfolding lacking
 fine_lacking name = fine_for name lacking_rows refl
 
 -- words and sentences that are printable
@@ -56,6 +57,7 @@ FineVocabulary known = (list_all fine_row known.elsewhere ≡ true) × (list_all
     × Fine known.lacks × Fine known.hinting × Fine known.alone
 
 fine_meant : (name : List ℕ) (known : Vocabulary) → FineVocabulary known → Fine (meant name known)
+unfolding meant
 fine_meant name known fine = fine_with (words_for name known.elsewhere) _ _ (fine_for name known.elsewhere fine.0) (fine_nearest name known.names fine.1)
 
 fine_unknown_text : (name : List ℕ) (known : Vocabulary) → FineVocabulary known → Fine (unknown_text name known)
@@ -65,6 +67,7 @@ fine_unknown_words : (name : List ℕ) (known : Vocabulary) → FineVocabulary k
 fine_unknown_words name known fine = fine_with (lacking name) _ _ (fine_lacking name) (fine_meant name known fine)
 
 fine_place : (name : List ℕ) → Fine (place_text name)
+unfolding place_text
 fine_place name = fine_if (is_word name (codes "require")) _ _ refl (fine_if (is_word name (codes "elsif") || is_word name (codes "else")) _ _ refl refl)
 
 fine_capability : (c : Capability) → Fine (capability_words c)
@@ -74,6 +77,7 @@ fine_positional : (taken : Positional) → Fine (positional_words taken)
 fine_positional taken = grind arith
 
 fine_no_tests : (name : List ℕ) → Fine (no_test_words name)
+unfolding no_test_words
 fine_no_tests name =
     fine_if (is_word name (codes "else")) _ _ refl
     (fine_if (is_word name (codes "foreverypart")) _ _ refl
@@ -144,7 +148,7 @@ fine_at rest (row ∷ rows) e =
     fine_if (bytes_eq (take (length row.octets) rest) row.octets) row.text (text_at rest rows) p.0 (fine_at rest rows p.1)
 
 pub fine_lexical : (rest : List ℕ) → FineBlanks (lexical_blanks rest)
-unfolding lexical_blanks
+unfolding lexical_blanks beginnings
 fine_lexical rest = (fine_with (text_at rest beginnings) _ _ (fine_at rest beginnings refl) (fine_other rest), refl)
 
 fine_misplaced : (rest : List ℕ) → Fine (misplaced_text rest)

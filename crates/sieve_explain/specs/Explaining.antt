@@ -27,11 +27,11 @@ use Rattle.sieve_explain.specs.Sentences.{Blanks, filled}
 use Rattle.sieve_explain.specs.Shown.{excerpt, line}
 
 -- a colon, and the number
-abbrev pub numbered : ℕ → List ℕ
+unfoldable pub numbered : ℕ → List ℕ
 numbered number = codes ":" ++ decimal number
 
 -- the script, the line and the column of a place in it, what kind of remark it is, and a sentence
-abbrev pub heading : List ℕ → List ℕ → List ℕ → ℕ → List ℕ → List ℕ
+unfoldable pub heading : List ℕ → List ℕ → List ℕ → ℕ → List ℕ → List ℕ
 heading kind name script place sentence =
     line (name ++ numbered (line_number script place) ++ numbered (column script place) ++ kind ++ sentence)
 

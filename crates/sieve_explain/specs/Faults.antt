@@ -28,7 +28,7 @@ abbrev pub typographic : List ℕ
 typographic = codes "a typographic quote stands here: strings stand between straight double quotes, \"like this\""
 
 -- a byte order mark, the four typographic quotes, a single quote, and two slashes; then what is never closed, and a colon alone
-abbrev pub beginnings : List Beginning
+unfoldable pub beginnings : List Beginning
 beginnings =
     beginning (239 ∷ 187 ∷ 191 ∷ []) (codes "a byte order mark stands here: save the script as UTF-8 without one")
     ∷ beginning (226 ∷ 128 ∷ 152 ∷ []) typographic

@@ -38,7 +38,7 @@ lacking_rows =
     ∷ hint (codes "encoded-character" ∷ []) (codes "a string may hold any character as it is")
     ∷ []
 
-abbrev pub lacking : List ℕ → List ℕ
+unfoldable pub lacking : List ℕ → List ℕ
 lacking name = words_for name lacking_rows
 
 -- ---- what there is
@@ -123,7 +123,7 @@ known_capabilities = record {
 -- ---- sentences
 
 -- the name that is meant, or nothing where none comes near
-abbrev pub meant : List ℕ → Vocabulary → List ℕ
+unfoldable pub meant : List ℕ → Vocabulary → List ℕ
 meant name known = let elsewhere = words_for name known.elsewhere in with_words elsewhere elsewhere (nearest name known.names)
 
 -- a name that nothing has: with why it is lacking, else with what is meant by it, where there is either

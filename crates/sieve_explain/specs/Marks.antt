@@ -55,7 +55,7 @@ is_number_at None = false
 is_number_at (Some token) = is_amount token.kind
 
 -- what people write behind a number, or behind its K, M or G
-abbrev pub is_unit : List ℕ → Bool
+unfoldable pub is_unit : List ℕ → Bool
 is_unit text =
     list_any (is_word text) (codes "b" ∷ codes "kb" ∷ codes "mb" ∷ codes "gb" ∷ codes "ib" ∷ codes "kib" ∷ codes "mib"
     ∷ codes "gib"

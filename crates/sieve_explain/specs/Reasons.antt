@@ -39,7 +39,7 @@ positional_words positional.OneList = codes "one string or list of strings"
 positional_words positional.TwoLists = codes "two, each a string or a list of strings"
 
 -- what takes no test, by its name: what may be missing before the test behind it
-abbrev pub no_test_words : List ℕ → List ℕ
+unfoldable pub no_test_words : List ℕ → List ℕ
 no_test_words name =
     if is_word name (codes "else") then codes "takes no test: is `elsif` meant, or its opening brace missing?" else
     if is_word name (codes "foreverypart") then codes "takes no test: is its opening brace missing?" else
@@ -83,7 +83,7 @@ reason_limit ManyVariables = max_variables
 reason_limit _ = 0
 
 -- where a command or test may stand that stands elsewhere
-abbrev pub place_text : List ℕ → List ℕ
+unfoldable pub place_text : List ℕ → List ℕ
 place_text name =
     if is_word name (codes "require") then codes "@ stands before all other commands, outside of blocks" else
     if is_word name (codes "elsif") || is_word name (codes "else") then codes "@ stands directly after an `if` or `elsif`" else

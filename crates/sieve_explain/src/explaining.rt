@@ -12,12 +12,13 @@ ghost use Rattle.sieve_explain.specs.Marks.{Stands};
 
 use crate::explanation::Explanation;
 use crate::faults::{
-    end_sentence, lexical_sentence, listing_sentence, token_sentence, too_deep_sentence,
-    too_long_sentence, unclosed_sentence,
+    lexical_sentence, listing_sentence, token_sentence, too_deep_sentence, too_long_sentence,
+    unclosed_sentence,
 };
 use crate::marks::{start_of, string_behind, token_numbered, unclosed};
 use crate::reasons::fault_sentence;
 use crate::remarks::{Source, push_remark, told};
+use crate::sentence::plain;
 use bytecode_listing::FaultKind;
 use refusals::Refusal;
 use sieve_check::{ReasonKind, Refused, reasons_of};
@@ -144,7 +145,11 @@ fn end_told(source: &Source<'_>, tokens: &[Token]) -> Result<Vec<u8>, AllocError
     ensures { IfOk result (λ text.
         text.items ≡ end_told source.now.name.now source.now.octets.now tokens.now) }
 {
-    let mut text = told(source, source.octets.len(), &end_sentence())?;
+    let mut text = told(
+        source,
+        source.octets.len(),
+        &plain("the script ends before its last command does"),
+    )?;
     push_opened(&mut text, source, unclosed(source.octets, tokens))?;
     Ok(text)
 }

@@ -1,6 +1,6 @@
 // What is said of a script that isn't parsed.
 ghost use Rattle.std.specs.Prelude.{◌≡◌, ◌≤◌, Some, bytes_eq, length, map, take, take_while};
-ghost use Rattle.sieve_explain.specs.Faults.{beginning_of, beginnings, dark_at, end_blanks, is_dark, lexical_blanks, listing_blanks, listing_text, misplaced_text, misplaced_token, other_text, text_at, token_blanks, too_deep_blanks, too_long_blanks, unclosed_blanks, unit_blanks};
+ghost use Rattle.sieve_explain.specs.Faults.{beginning_of, beginnings, dark_at, is_dark, lexical_blanks, listing_blanks, listing_text, misplaced_text, misplaced_token, other_text, text_at, token_blanks, too_deep_blanks, too_long_blanks, unclosed_blanks};
 ghost use Rattle.sieve_explain.specs.Marks.{Stands};
 ghost use Rattle.sieve_explain.specs.Sentences.{blanks_of};
 
@@ -67,6 +67,7 @@ fn text_at(rest: &[u8], rows: &[Beginning]) -> &'static str
 }
 
 // What is said of octets that begin as one of them.
+#[tactic(auto, unfolding(crate::specs::Faults::beginnings))]
 fn beginning_text(rest: &[u8]) -> &'static str
     ensures { result.now ≡ text_at rest.now beginnings }
 {
@@ -221,13 +222,6 @@ pub fn token_sentence(script: &[u8], token: Token) -> Sentence<'_>
     }
 }
 
-// The sentence for a script that ends too early.
-pub fn end_sentence() -> Sentence<'static>
-    ensures { blanks_of result ≡ end_blanks }
-{
-    plain("the script ends before its last command does")
-}
-
 // The sentence for a brace or a test that is nested too deep.
 pub fn too_deep_sentence() -> Sentence<'static>
     ensures { blanks_of result ≡ too_deep_blanks }
@@ -243,11 +237,4 @@ pub fn unclosed_sentence() -> Sentence<'static>
     ensures { blanks_of result ≡ unclosed_blanks }
 {
     plain("this brace is never closed")
-}
-
-// The sentence for the letter of a unit with more letters behind it.
-pub fn unit_sentence() -> Sentence<'static>
-    ensures { blanks_of result ≡ unit_blanks }
-{
-    plain("the units of a number are K, M and G, with nothing behind the letter, as in 5M")
 }

@@ -199,6 +199,7 @@ const LACKING: &[Row] = &[
 ];
 
 // Why depot lacks what has that name elsewhere, if it does.
+#[tactic(auto, unfolding(crate::specs::Hints::lacking))]
 fn lacking(name: &[u8]) -> &'static str
     ensures { result.now ≡ lacking name.now }
 {
@@ -206,6 +207,7 @@ fn lacking(name: &[u8]) -> &'static str
 }
 
 // The name that is meant, or nothing where none comes near.
+#[tactic(auto, unfolding(crate::specs::Hints::meant))]
 fn meant(name: &[u8], known: &Vocabulary) -> &'static str
     ensures { result.now ≡ meant name.now (vocabulary_of known.now) }
 {

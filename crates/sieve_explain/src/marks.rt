@@ -110,6 +110,7 @@ fn is_number_at(token: Option<Token>) -> bool
 }
 
 // Whether it is what people write behind a number, or behind its K, M or G.
+#[tactic(auto, unfolding(crate::specs::Marks::is_unit))]
 fn is_unit(text: &[u8]) -> bool
     ensures { result ≡ is_unit text.now }
 {

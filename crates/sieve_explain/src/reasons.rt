@@ -5,10 +5,9 @@ ghost use Rattle.sieve_explain.specs.Explaining.{fault_blanks, is_argument_fault
 ghost use Rattle.sieve_explain.specs.Reasons.{capability_words, ending_words, no_test_words, other_blanks, place_text, positional_words, reason_blanks, reason_limit, reason_text, reason_words, tag_words, tests_words};
 ghost use Rattle.sieve_explain.specs.Sentences.{blanks_of};
 
-use crate::faults::unit_sentence;
 use crate::hints::{unknown_capability, unknown_command, unknown_tag, unknown_test};
 use crate::marks::{has_unit, tokens_from};
-use crate::sentence::Sentence;
+use crate::sentence::{Sentence, plain};
 use octets::{MAX_STRING, is_word};
 use sieve_check::{
     Capability, Ending, Fault, MAX_LOOPS, MAX_NAME, MAX_SEGMENTS, MAX_TEST_STRINGS, MAX_VARIABLES,
@@ -46,6 +45,7 @@ fn positional_words(taken: Positional) -> &'static str
 }
 
 // What takes no test, by its name: what may be missing before the test behind it.
+#[tactic(auto, unfolding(crate::specs::Reasons::no_test_words))]
 fn no_test_words(name: &[u8]) -> &'static str
     ensures { result.now ≡ no_test_words name.now }
 {
@@ -117,6 +117,7 @@ fn reason_limit(kind: ReasonKind) -> u64
 }
 
 // Where a command or test may stand that stands elsewhere.
+#[tactic(auto, unfolding(crate::specs::Reasons::place_text))]
 fn place_text(name: &[u8]) -> &'static str
     ensures { result.now ≡ place_text name.now }
 {
@@ -216,7 +217,7 @@ pub fn fault_sentence<'a>(script: &[u8], tokens: &[Token], found: Refused<'a>) -
 {
     let arguments = tokens_from(tokens_from(tokens, found.token), 1);
     if is_argument_fault(found.reason.kind.fault()) && has_unit(script, arguments) {
-        unit_sentence()
+        plain("the units of a number are K, M and G, with nothing behind the letter, as in 5M")
     } else {
         reason_sentence(found.reason)
     }

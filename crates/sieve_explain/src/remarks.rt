@@ -18,6 +18,7 @@ pub struct Source<'a> {
 }
 
 // Appends a colon and the number.
+#[tactic(auto, unfolding(crate::specs::Explaining::numbered))]
 fn push_number(out: &mut Vec<u8>, number: u128) -> Result<(), AllocError>
     ensures { OnOk result (out.new.items ≡ out.old.items ++ numbered number) }
 {
