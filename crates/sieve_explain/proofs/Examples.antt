@@ -19,7 +19,7 @@ use Rattle.sieve_explain.specs.Faults.{beginnings, end_blanks, lexical_blanks, m
 use Rattle.sieve_explain.specs.Hints.{known_capabilities, known_commands, known_tags, known_tests, lacking, meant, unknown_capability, unknown_command, unknown_tag, unknown_test}
 use Rattle.sieve_explain.specs.Words.{begin_off, differ_at, is_near, nearest}
 use Rattle.sieve_explain.specs.Marks.{has_unit, is_unit, spells, string_among, unclosed}
-use Rattle.sieve_explain.specs.Places.{column, line_at, line_number}
+use Rattle.sieve_explain.specs.Places.{column, line_at, line_number, octets_after, octets_before, without_return}
 use Rattle.sieve_explain.specs.Reasons.{capability_words, no_test_words, other_blanks, place_text, reason_blanks}
 use Rattle.sieve_explain.specs.Sentences.{filled, filled_octet}
 use Rattle.sieve_explain.specs.Shown.{excerpt, line, marked, shown, shown_end, shown_octet, shown_start}
@@ -32,6 +32,7 @@ places :
     × (column (codes "keep;\nstop;\n") 10 ≡ 5)
     × (line_at (codes "keep;\n") 6 ≡ [])
     × (line_at (codes "keep;\r\nstop") 2 ≡ codes "keep;")
+unfolding line_number octets_before octets_after without_return
 places = (refl, refl, refl, refl, refl, refl)
 
 -- TAB, NUL, the octets of a letter that isn't in ASCII, and a backslash; 60 octets, and one too many on either side; a mark
@@ -41,7 +42,7 @@ prints :
     × (shown_start (replicate 61 97) ≡ replicate 60 97 ++ codes "...")
     × (shown_end (98 ∷ replicate 60 97) ≡ codes "..." ++ replicate 60 97)
     × (excerpt (codes "if true\n\tstop }\n") 14 ≡ line (codes " stop }") ++ line (codes "      ^"))
-unfolding excerpt shown_octet shown_start shown_end marked
+unfolding excerpt shown_octet shown_start shown_end marked octets_before octets_after without_return
 prints = (refl, refl, refl, refl, refl)
 
 -- what can't be a token, or can't stand where it does
@@ -152,5 +153,5 @@ units = (refl, refl)
 -- all of it
 whole : told (codes "my.sieve") (codes "keep;\nstop }\n") 11 (token_blanks (codes "keep;\nstop }\n") (record { kind = ClosingBrace; start = 11; end = 12 }))
     ≡ line (codes "my.sieve:2:6: error: `}` can't stand here: is a semicolon missing before it, or its opening brace?") ++ line (codes "stop }") ++ line (codes "     ^")
-unfolding digits remark excerpt misplaced_token marked filled_octet shown_octet shown_start shown_end heading numbered
+unfolding digits remark excerpt misplaced_token marked filled_octet shown_octet shown_start shown_end heading numbered line_number octets_before octets_after without_return
 whole = refl

@@ -9,15 +9,15 @@ abbrev pub is_in_line : ℕ → Bool
 is_in_line octet = not (is_line_feed octet)
 
 -- the octets of the place's line that stand before the place, by their number
-abbrev pub octets_before : List ℕ → ℕ → ℕ
+unfoldable pub octets_before : List ℕ → ℕ → ℕ
 octets_before script place = length (take_while is_in_line (reverse (take place script)))
 
 -- those from the place on
-abbrev pub octets_after : List ℕ → ℕ → ℕ
+unfoldable pub octets_after : List ℕ → ℕ → ℕ
 octets_after script place = length (take_while is_in_line (drop place script))
 
 -- the line's number, the first being 1
-abbrev pub line_number : List ℕ → ℕ → ℕ
+unfoldable pub line_number : List ℕ → ℕ → ℕ
 line_number script place = count_by is_line_feed (take place script) + 1
 
 -- the column, in octets, the first being 1
@@ -25,7 +25,7 @@ abbrev pub column : List ℕ → ℕ → ℕ
 column script place = octets_before script place + 1
 
 -- the text, without the CR that it may end with
-abbrev pub without_return : List ℕ → List ℕ
+unfoldable pub without_return : List ℕ → List ℕ
 without_return text = if slice_index text (length text - 1) == 13 then take (length text - 1) text else text
 
 -- the line of the place, without its break

@@ -12,6 +12,7 @@ pub fn around(text: &[u8], place: usize) -> (&[u8], &[u8])
 }
 
 // The number of the place's line.
+#[tactic(auto, unfolding(crate::specs::Places::line_number))]
 pub fn line_number(script: &[u8], place: usize) -> u128
     requires { place ≤ length script.now }
     ensures { result ≡ line_number script.now place }
@@ -31,6 +32,7 @@ fn is_in_line(octet: &&u8) -> bool
 }
 
 // How many octets of its line stand before the place.
+#[tactic(auto, unfolding(crate::specs::Places::octets_before))]
 pub fn octets_before(script: &[u8], place: usize) -> usize
     requires { place ≤ length script.now }
     ensures { result ≡ octets_before script.now place }
@@ -39,6 +41,7 @@ pub fn octets_before(script: &[u8], place: usize) -> usize
 }
 
 // How many octets of its line stand from the place on.
+#[tactic(auto, unfolding(crate::specs::Places::octets_after))]
 fn octets_after(script: &[u8], place: usize) -> usize
     requires { place ≤ length script.now }
     ensures { result ≡ octets_after script.now place }
@@ -48,6 +51,7 @@ fn octets_after(script: &[u8], place: usize) -> usize
 }
 
 // The text without the CR that it may end with.
+#[tactic(auto, unfolding(crate::specs::Places::without_return))]
 fn without_return(text: &[u8]) -> &[u8]
     ensures { result.now ≡ without_return text.now }
 {
@@ -58,6 +62,7 @@ fn without_return(text: &[u8]) -> &[u8]
 }
 
 // The line of the place, without its break.
+#[tactic(auto, unfolding(crate::specs::Places::octets_before, crate::specs::Places::octets_after))]
 pub fn line_at(script: &[u8], place: usize) -> &[u8]
     requires { place ≤ length script.now }
     ensures { result.now ≡ line_at script.now place }
