@@ -79,8 +79,8 @@ fn other_text(rest: &[u8]) -> &'static str
     ensures { result.now ≡ other_text rest.now }
 {
     match rest {
-        [b'0'..=b'9', ..] => "a number is above %",
-        [b'a'..=b'z' | b'A'..=b'Z' | b'_', ..] => {
+        [octet, ..] if octet.is_ascii_digit() => "a number is above %",
+        [octet, ..] if octet.is_ascii_alphabetic() || *octet == b'_' => {
             "a multi-line string is never closed: its last line is a dot alone"
         }
         _ => "@ begins nothing that a script may have here",
@@ -151,12 +151,19 @@ fn dark_at(rest: &[u8]) -> &[u8]
     }
 }
 
+// Whether the octet is no blank.
+fn is_dark(octet: &&u8) -> bool
+    ensures { result ≡ is_dark octet.now.now }
+{
+    **octet > b' '
+}
+
 // How many octets there are up to the next blank.
 fn dark_length(octets: &[u8]) -> usize
     ensures value { result ≡ length (take_while is_dark octets.now) }
     ensures bound { result ≤ length octets.now }
 {
-    octets.iter().take_while(|octet| **octet > b' ').count()
+    octets.iter().take_while(is_dark).count()
 }
 
 // The sentence for a script with too many octets.

@@ -11,16 +11,20 @@ pub fn around(text: &[u8], place: usize) -> (&[u8], &[u8])
     text.split_at(place.min(text.len()))
 }
 
+// Whether the octet ends a line.
+fn is_line_feed(octet: &&u8) -> bool
+    ensures { result ≡ is_line_feed octet.now.now }
+{
+    **octet == b'\n'
+}
+
 // The number of the place's line.
 #[tactic(auto, unfolding(crate::specs::Places::line_number))]
 pub fn line_number(script: &[u8], place: usize) -> u128
     requires { place ≤ length script.now }
     ensures { result ≡ line_number script.now place }
 {
-    let breaks = script[..place]
-        .iter()
-        .filter(|octet| **octet == b'\n')
-        .count();
+    let breaks = script[..place].iter().filter(is_line_feed).count();
     breaks as u128 + 1
 }
 
