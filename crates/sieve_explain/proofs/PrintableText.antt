@@ -38,21 +38,21 @@ fine_numbered : (number : ℕ) → Fine (numbered number)
 unfolding numbered
 fine_numbered number = fine_append (codes ":") (decimal number) refl (fine_decimal number)
 
-fine_heading : (kind name script : List ℕ) (place : ℕ) (sentence : List ℕ) → Fine kind → Fine name → Fine sentence → Fine (heading kind name script place sentence)
+fine_heading : (kind name script : List ℕ) (place : ℕ) → Fine kind → Fine name → Fine (heading kind name script place)
 unfolding heading
-fine_heading kind name script place sentence k p q =
+fine_heading kind name script place k p =
     let row = numbered (line_number script place) in
     let place_in_row = numbered (column script place) in
     let first : Fine (name ++ row) = fine_append name row p (fine_numbered (line_number script place)) in
     let second : Fine (name ++ row ++ place_in_row) = fine_append (name ++ row) place_in_row first (fine_numbered (column script place)) in
-    let third : Fine (name ++ row ++ place_in_row ++ kind) = fine_append (name ++ row ++ place_in_row) kind second k in
-    fine_line (name ++ row ++ place_in_row ++ kind ++ sentence) (fine_append (name ++ row ++ place_in_row ++ kind) sentence third q)
+    fine_append (name ++ row ++ place_in_row) kind second k
 
 fine_remark : (kind name script : List ℕ) (place : ℕ) (blanks : Blanks) → Fine kind → Fine name → FineBlanks blanks → Fine (remark kind name script place blanks)
 unfolding remark excerpt
 fine_remark kind name script place blanks k p q =
-    fine_append (heading kind name script place (filled blanks)) (excerpt script place)
-    (fine_heading kind name script place (filled blanks) k p (fine_filled blanks q))
+    let begun = heading kind name script place in
+    fine_append (line (begun ++ filled blanks)) (excerpt script place)
+    (fine_line (begun ++ filled blanks) (fine_append begun (filled blanks) (fine_heading kind name script place k p) (fine_filled blanks q)))
     (fine_marked (line_at script place) (octets_before script place))
 
 fine_told : (name script : List ℕ) (place : ℕ) (blanks : Blanks) → Fine name → FineBlanks blanks → Fine (told name script place blanks)

@@ -30,14 +30,13 @@ use Rattle.sieve_explain.specs.Shown.{excerpt, line}
 unfoldable pub numbered : ℕ → List ℕ
 numbered number = codes ":" ++ decimal number
 
--- the script, the line and the column of a place in it, what kind of remark it is, and a sentence
-unfoldable pub heading : List ℕ → List ℕ → List ℕ → ℕ → List ℕ → List ℕ
-heading kind name script place sentence =
-    line (name ++ numbered (line_number script place) ++ numbered (column script place) ++ kind ++ sentence)
+-- the script, the line and the column of a place in it, and what kind of remark it is
+unfoldable pub heading : List ℕ → List ℕ → List ℕ → ℕ → List ℕ
+heading kind name script place = name ++ numbered (line_number script place) ++ numbered (column script place) ++ kind
 
 -- a remark of that kind about a place of the script, with the line of the place and a mark under it
 unfoldable pub remark : List ℕ → List ℕ → List ℕ → ℕ → Blanks → List ℕ
-remark kind name script place blanks = heading kind name script place (filled blanks) ++ excerpt script place
+remark kind name script place blanks = line (heading kind name script place ++ filled blanks) ++ excerpt script place
 
 -- what is wrong at a place
 abbrev pub told : List ℕ → List ℕ → ℕ → Blanks → List ℕ

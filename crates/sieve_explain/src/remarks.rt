@@ -1,7 +1,7 @@
 // Remarks about a place of a script.
 ghost use Rattle.std.specs.Prelude.{◌≡◌, ◌≤◌, ◌++◌, IfOk, OnOk, length};
 ghost use Rattle.sieve_explain.specs.Explaining.{heading, numbered, remark, told};
-ghost use Rattle.sieve_explain.specs.Sentences.{blanks_of, filled};
+ghost use Rattle.sieve_explain.specs.Sentences.{blanks_of};
 
 use crate::excerpt::push_excerpt;
 use crate::places::{line_number, octets_before};
@@ -26,26 +26,22 @@ fn push_number(out: &mut Vec<u8>, number: u128) -> Result<(), AllocError>
     out.extend_from_slice(Buffer::new().format(number).as_bytes())
 }
 
-// Appends the script's name, the line and the column of the place, what kind of remark it is, and the sentence.
+// Appends the script's name, the line and the column of the place, and what kind of remark it is.
 fn push_heading(
     out: &mut Vec<u8>,
     kind: &str,
     source: &Source<'_>,
     place: usize,
-    sentence: &Sentence<'_>,
 ) -> Result<(), AllocError>
     requires { place ≤ length source.now.octets.now }
     ensures { OnOk result (out.new.items ≡ out.old.items
-        ++ heading kind.now source.now.name.now source.now.octets.now place
-        (filled (blanks_of sentence.now))) }
+        ++ heading kind.now source.now.name.now source.now.octets.now place) }
 {
     out.extend_from_slice(source.name.as_bytes())?;
     push_number(out, line_number(source.octets, place))?;
     let column = octets_before(source.octets, place) as u128 + 1;
     push_number(out, column)?;
-    out.extend_from_slice(kind.as_bytes())?;
-    push_sentence(out, sentence)?;
-    out.extend_from_slice(b"\n")
+    out.extend_from_slice(kind.as_bytes())
 }
 
 /// Appends a remark about a place of the script, with the line of the place and a mark under it.
@@ -62,7 +58,9 @@ pub fn push_remark(
         ++ remark kind.now source.now.name.now source.now.octets.now place
         (blanks_of sentence.now)) }
 {
-    push_heading(out, kind, source, place, sentence)?;
+    push_heading(out, kind, source, place)?;
+    push_sentence(out, sentence)?;
+    out.extend_from_slice(b"\n")?;
     push_excerpt(out, source.octets, place)
 }
 
