@@ -1,7 +1,7 @@
 -- The sentences are printable, whatever is filled in.
 use Rattle.std.proofs.Common.{◌≡◌, ℕ, Bool, true, false, List, [], ◌∷◌, length, take, refl, arith}
 use Rattle.std.specs.List.{list_all, list_any}
-use Rattle.std.specs.Prelude.{◌&&◌, ◌||◌, ◌==◌, if◌then◌else◌, is_some, bytes_eq, codes, slice_index}
+use Rattle.std.specs.Prelude.{◌||◌, ◌==◌, if◌then◌else◌, is_some, bytes_eq, codes, slice_index}
 use Rattle.std.specs.Char.{is_ascii_digit}
 use Rattle.sieve_lexer.specs.Classes.{begins_identifier}
 use Rattle.sieve_lexer.specs.declared.token.Token.{Token}

@@ -1,4 +1,4 @@
-use Rattle.std.proofs.Common.{◌≡◌, ◌∙◌, ◌+◌, ℕ, suc, Bool, ap, arith, sym}
+use Rattle.std.proofs.Common.{◌≡◌, ◌∙◌, ◌+◌, suc, Bool, ap, arith, sym}
 use Rattle.std.specs.Prelude.{◌||◌}
 use Rattle.sieve_explain.specs.Words.{differ_at, differ_below}
 use Rattle.sieve_explain.proofs.words.is_near.Goals as goal
