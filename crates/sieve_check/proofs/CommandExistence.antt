@@ -82,12 +82,12 @@ action_goes s own c rest part is within around same alone bounded = record {
 module _ (s : Context) (make : Template → CommandForm) (limits : (folder : Template) → IsBoundedString folder → IsBoundedCommand (make folder)) (around : (folder : Template) → IsCommandIn (length s.loops) (make folder))
     (plain : (folder : Template) → command_variables (make folder) ≡ string_variables folder) where
   filed : (read : Read) (rest : Forms) → is_positional positional.Text read.positional ≡ true → has_long_string read.positional ≡ false → (expands s ≡ true → list_any is_large (strings_of read.positional) ≡ false) → rest.branches ≡ no_branch → AreWithin (length s.loops) rest
-      → Goes s ((mentioned_at (expands s) (expanding (strings_of read.positional)) ++ []) ++ forms_variables rest) (filing_in s make read.positional >>= λ part. put part rest)
+      → Goes s ((mentioned_at (expands s) (expanding (strings_of read.positional)) ++ []) ++ forms_variables rest) (filing_in s.required make read.positional >>= λ part. put part rest)
   filed read rest positional short few alone bounded =
       let b = expands s in
       let folder = texted b read.positional positional short few in
-      let t = template_of s folder.0 in
-      action_goes s (mentioned_at b (expanding (strings_of read.positional))) (make t) rest (filing_in s make read.positional) (ap (filing_in s make) folder.1) (limits t (template_bounded b folder.0 folder.2)) (around t)
+      let t = template_of s.required folder.0 in
+      action_goes s (mentioned_at b (expanding (strings_of read.positional))) (make t) rest (filing_in s.required make read.positional) (ap (filing_in s.required make) folder.1) (limits t (template_bounded b folder.0 folder.2)) (around t)
       (plain t ∙ template_names b folder.0 ∙ sym (append-nil (names_at b folder.0)) ∙ sym (expanding_names b (folder.0 ∷ [])) ∙ ap (λ xs. mentioned_at b (expanding (strings_of xs))) (sym folder.1))
       alone bounded
 
@@ -109,7 +109,7 @@ assigned s read rest has positional short few alone bounded =
     let both = both_texted b read.positional positional short few in
     let name = both.0 in
     let x = both.1 in
-    action_goes s (own_names s Set read) (set modifiers (lowercase_of name) (template_of s x)) rest (simple_of s Set read none) (ap (λ xs. option_map action (setting_in s modifiers xs)) both.2) (template_bounded b x both.3) tt
+    action_goes s (own_names s Set read) (set modifiers (lowercase_of name) (template_of s.required x)) rest (simple_of s Set read none) (ap (λ xs. option_map action (setting_in s.required modifiers xs)) both.2) (template_bounded b x both.3) tt
     (ap (λ names. names ++ lowercase_of name ∷ []) (template_names b x) ∙ set_names b name x (there b capability.Variables None has) ∙ ap (λ xs. mentioned_at b (mentions_of Set (strings_of xs))) (sym both.2))
     alone bounded
 

@@ -135,7 +135,7 @@ simple_exists s (invocation token word args tests) rest h begins bounded =
     let read = k.form.form.read in
     let same = ap (same_tests (command_signature k.name).tests) k.inner.kind ∙ k.form.same in
     along s _ _ _ (simple_of s k.name read k.inner.inner >>= λ part. put part rest)
-    (ap (λ o. o >>= λ part. put part rest) (all_taken (inner_forms_of s tests) k.inner.inner (command_named word) k.name (λ name. reading (command_signature name) args) read (λ inner name read. simple_of s name read inner) k.inner.is k.is_name k.form.form.is))
+    (ap (λ o. o >>= λ part. put part rest) (all_taken (inner_forms_of s.required tests) k.inner.inner (command_named word) k.name (λ name. reading (command_signature name) args) read (λ inner name read. simple_of s name read inner) k.inner.is k.is_name k.form.form.is))
     (ap (λ names. names ++ forms_variables rest) k.names)
     (simple_goes s k.name args read k.inner.inner rest k.form.form.is k.form.stands k.form.has k.form.positional k.form.ends same k.form.short k.form.few (λ h. begins (following_word s word k.name (strings_of args) k.is_name h)) bounded)
 
@@ -146,7 +146,7 @@ block_exists s (invocation token word args tests) body rest h begins within with
     let read = k.form.form.read in
     let same = ap (same_tests (command_signature k.name).tests) k.inner.kind ∙ k.form.same in
     along s _ _ _ (block_of k.name k.inner.inner body >>= λ part. put part rest)
-    (ap (λ o. o >>= λ part. put part rest) (all_taken (inner_forms_of s tests) k.inner.inner (command_named word) k.name (λ name. reading (command_signature name) args) read (λ inner name read. block_of name inner body) k.inner.is k.is_name k.form.form.is))
+    (ap (λ o. o >>= λ part. put part rest) (all_taken (inner_forms_of s.required tests) k.inner.inner (command_named word) k.name (λ name. reading (command_signature name) args) read (λ inner name read. block_of name inner body) k.inner.is k.is_name k.form.form.is))
     (ap (λ names. (names ++ commands_variables body) ++ forms_variables rest) k.names)
     (block_goes s k.name args read k.inner.inner body rest k.form.positional k.form.stands k.form.room k.form.ends same (λ h. begins (following_word s word k.name (strings_of args) k.is_name h)) k.inner.bounded k.inner.around within
     (subst (λ (o : Option CommandName). AreCommandsIn (length (loops_by o args ++ s.loops)) body) k.is_name within_in) bounded)

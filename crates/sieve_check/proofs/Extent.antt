@@ -82,9 +82,9 @@ text_fits : (xs : List ArgumentTree) (x : List ℕ) → text_in xs ≡ Some x �
 text_fits (text t ∷ []) x h = subst (λ y. 2 + length y ≤ arguments_extent (text t ∷ [])) (same_Some t x h) (omega arith)
 text_fits _ x h = absurd (cc)
 
-setting_fits : (s : Context) (m : Modifiers) (xs : List ArgumentTree) (c : CommandForm) → setting_in s m xs ≡ Some c → command_extent c ≤ 2 + arguments_extent xs
+setting_fits : (s : Context) (m : Modifiers) (xs : List ArgumentTree) (c : CommandForm) → setting_in s.required m xs ≡ Some c → command_extent c ≤ 2 + arguments_extent xs
 setting_fits s m (text name ∷ text x ∷ []) c h =
-    let value = template_of s x in
+    let value = template_of s.required x in
     subst (λ c. command_extent c ≤ 2 + arguments_extent (text name ∷ text x ∷ [])) (same_Some (set m (lowercase_of name) value) c h)
     (omega (arith, length-map name to_ascii_lowercase, template_fits (has_capability Variables s.required) x))
 setting_fits s m _ c h = absurd (cc)
@@ -95,27 +95,27 @@ taking_fits tags xs c h =
     subst (λ c. command_extent c ≤ 2 + arguments_extent xs) (same_Some (take_first (most_of tags) (lowercase_of name.0)) c name.2)
     (omega (arith, length-map name.0 to_ascii_lowercase, text_fits xs name.0 name.1))
 
-list_fits : (s : Context) (a : ArgumentTree) (l : List Template) → list_in s a ≡ Some l → strings_extent l ≤ argument_extent a
-list_fits s (text x) l h = subst (λ l. strings_extent l ≤ 2 + length x) (same_Some (template_of s x ∷ []) l h) (omega (arith, templates_fit (has_capability Variables s.required) (x ∷ [])))
-list_fits s (text_list x xs) l h = subst (λ l. strings_extent l ≤ written (x ∷ xs)) (same_Some (map (template_of s) (x ∷ xs)) l h) (templates_fit (has_capability Variables s.required) (x ∷ xs))
+list_fits : (s : Context) (a : ArgumentTree) (l : List Template) → list_in s.required a ≡ Some l → strings_extent l ≤ argument_extent a
+list_fits s (text x) l h = subst (λ l. strings_extent l ≤ 2 + length x) (same_Some (template_of s.required x ∷ []) l h) (omega (arith, templates_fit (has_capability Variables s.required) (x ∷ [])))
+list_fits s (text_list x xs) l h = subst (λ l. strings_extent l ≤ written (x ∷ xs)) (same_Some (map (template_of s.required) (x ∷ xs)) l h) (templates_fit (has_capability Variables s.required) (x ∷ xs))
 list_fits s _ l h = absurd (cc)
 
 -- a test that is made of one list, and one of two
-one_list_fits : (s : Context) (make : List Template → TestForm) → ((l : List Template) → test_extent (make l) ≡ 1 + strings_extent l) → (xs : List ArgumentTree) (f : TestForm) → of_list s make xs ≡ Some f → test_extent f ≤ 1 + arguments_extent xs
+one_list_fits : (s : Context) (make : List Template → TestForm) → ((l : List Template) → test_extent (make l) ≡ 1 + strings_extent l) → (xs : List ArgumentTree) (f : TestForm) → of_list s.required make xs ≡ Some f → test_extent f ≤ 1 + arguments_extent xs
 one_list_fits s make is (a ∷ []) f h =
-    let l = map_some (list_in s a) make f h in
+    let l = map_some (list_in s.required a) make f h in
     subst (λ x. test_extent x ≤ 1 + arguments_extent (a ∷ [])) (same_Some (make l.0) f l.2) (omega (arith, is l.0, list_fits s a l.0 l.1))
 one_list_fits s make is _ f h = absurd (cc)
 
-two_lists_fit : (s : Context) (n : ℕ) (make : List Template → List Template → TestForm) → ((k l : List Template) → test_extent (make k l) ≡ n + strings_extent k + strings_extent l) → (xs : List ArgumentTree) (f : TestForm) → of_lists s make xs ≡ Some f → test_extent f ≤ n + arguments_extent xs
+two_lists_fit : (s : Context) (n : ℕ) (make : List Template → List Template → TestForm) → ((k l : List Template) → test_extent (make k l) ≡ n + strings_extent k + strings_extent l) → (xs : List ArgumentTree) (f : TestForm) → of_lists s.required make xs ≡ Some f → test_extent f ≤ n + arguments_extent xs
 two_lists_fit s n make is (a ∷ b ∷ []) f h =
-    let first = step_some (list_in s a) _ f h in
-    let second = map_some (list_in s b) (make first.0) f first.2 in
+    let first = step_some (list_in s.required a) _ f h in
+    let second = map_some (list_in s.required b) (make first.0) f first.2 in
     subst (λ x. test_extent x ≤ n + arguments_extent (a ∷ b ∷ [])) (same_Some (make first.0 second.0) f second.2) (omega (arith, is first.0 second.0, list_fits s a first.0 first.1, list_fits s b second.0 second.1))
 two_lists_fit s n make is _ f h = absurd (cc)
 
 -- a test of fields, with the names of parameters
-params_fit : (s : Context) (params : List ArgumentTree) (names : List Template) → params_in s params ≡ Some names → strings_extent names ≤ arguments_extent params
+params_fit : (s : Context) (params : List ArgumentTree) (names : List Template) → params_in s.required params ≡ Some names → strings_extent names ≤ arguments_extent params
 params_fit s [] names h = subst (λ names. strings_extent names ≤ 0) (same_Some [] names h) (omega arith)
 params_fit s (a ∷ args) names h = omega (arith, list_fits s a names h)
 
@@ -123,9 +123,9 @@ selected_fits : (selector : Selector) (names : List Template) → strings_extent
 selected_fits Param names = omega arith
 selected_fits _ names = omega arith
 
-header_fits : (s : Context) (read : Read) (f : TestForm) → header_of s read ≡ Some f → test_extent f ≤ 1 + arguments_extent read.params + arguments_extent read.positional
+header_fits : (s : Context) (read : Read) (f : TestForm) → header_of s.required read ≡ Some f → test_extent f ≤ 1 + arguments_extent read.params + arguments_extent read.positional
 header_fits s read f h =
-    let names = step_some (params_in s read.params) _ f h in
+    let names = step_some (params_in s.required read.params) _ f h in
     let selected = selected_by read.tags.selector names.0 in
     omega (
       arith,
@@ -164,7 +164,7 @@ inner_extent none = 0
 inner_extent (one f) = test_extent f
 inner_extent (bracketed f fs) = 2 + test_extent f + tests_extent fs
 
-test_of_fits : (s : Context) (name : TestName) (args : List ArgumentTree) (read : Read) (inner : InnerForms) (f : TestForm) → reading (test_signature name) args ≡ Some read → test_of s name read inner ≡ Some f
+test_of_fits : (s : Context) (name : TestName) (args : List ArgumentTree) (read : Read) (inner : InnerForms) (f : TestForm) → reading (test_signature name) args ≡ Some read → test_of s.required name read inner ≡ Some f
     → test_extent f ≤ 1 + arguments_extent args + inner_extent inner
 test_of_fits s (Constant b) args read none f h is = subst (λ x. test_extent x ≤ 1 + arguments_extent args + 0) (same_Some (constant b) f is) (omega arith)
 test_of_fits s Not args read (one t) f h is = subst (λ x. test_extent x ≤ 1 + arguments_extent args + test_extent t) (same_Some (negation t) f is) (omega arith)
@@ -186,9 +186,9 @@ test_of_fits s Exists args read none f h is = omega (arith, one_list_fits s (exi
 test_of_fits s _ args read _ f h is = absurd (cc)
 
 mutual
-  test_fits : (s : Context) (i : InvocationTree) (f : TestForm) (d : ℕ) → test_form_of s i ≡ Some f → test_extent f ≤ octets_of (invocation_spelled d i)
+  test_fits : (s : Context) (i : InvocationTree) (f : TestForm) (d : ℕ) → test_form_of s.required i ≡ Some f → test_extent f ≤ octets_of (invocation_spelled d i)
   test_fits s (invocation token word args tests) f d h =
-      let inner = step_some (inner_forms_of s tests) _ f h in
+      let inner = step_some (inner_forms_of s.required tests) _ f h in
       let name = step_some (test_named word) _ f inner.2 in
       let read = step_some (reading (test_signature name.0) args) _ f name.2 in
       omega (
@@ -199,14 +199,14 @@ mutual
         octets-append (arguments_spelled d args) (tests_spelled d tests),
       )
 
-  inner_fits : (s : Context) (tests : TestsTree) (inner : InnerForms) (d : ℕ) → inner_forms_of s tests ≡ Some inner → inner_extent inner ≤ octets_of (tests_spelled d tests)
+  inner_fits : (s : Context) (tests : TestsTree) (inner : InnerForms) (d : ℕ) → inner_forms_of s.required tests ≡ Some inner → inner_extent inner ≤ octets_of (tests_spelled d tests)
   inner_fits s no_test inner d h = subst (λ x. inner_extent x ≤ 0) (same_Some none inner h) (omega arith)
   inner_fits s (one_test t) inner d h =
-      let f = map_some (test_form_of s t) one inner h in
+      let f = map_some (test_form_of s.required t) one inner h in
       subst (λ x. inner_extent x ≤ octets_of (invocation_spelled (suc d) t)) (same_Some (one f.0) inner f.2) (test_fits s t f.0 (suc d) f.1)
   inner_fits s (test_list t ts) inner d h =
-      let f = step_some (test_form_of s t) _ inner h in
-      let fs = map_some (more_forms_of s ts) (bracketed f.0) inner f.2 in
+      let f = step_some (test_form_of s.required t) _ inner h in
+      let fs = map_some (more_forms_of s.required ts) (bracketed f.0) inner f.2 in
       subst (λ x. inner_extent x ≤ octets_of (tests_spelled d (test_list t ts))) (same_Some (bracketed f.0 fs.0) inner fs.2) (omega (
         arith,
         test_fits s t f.0 (suc d) f.1,
@@ -215,11 +215,11 @@ mutual
         octets-append (more_tests_spelled d ts) (at_depth d closing_parenthesis ∷ []),
       ))
 
-  more_fit : (s : Context) (ts : MoreTests) (fs : TestForms) (d : ℕ) → more_forms_of s ts ≡ Some fs → tests_extent fs ≤ octets_of (more_tests_spelled d ts)
+  more_fit : (s : Context) (ts : MoreTests) (fs : TestForms) (d : ℕ) → more_forms_of s.required ts ≡ Some fs → tests_extent fs ≤ octets_of (more_tests_spelled d ts)
   more_fit s no_more fs d h = subst (λ x. tests_extent x ≤ 0) (same_Some no_other fs h) (omega arith)
   more_fit s (next t ts) fs d h =
-      let f = step_some (test_form_of s t) _ fs h in
-      let others = map_some (more_forms_of s ts) (test f.0) fs f.2 in
+      let f = step_some (test_form_of s.required t) _ fs h in
+      let others = map_some (more_forms_of s.required ts) (test f.0) fs f.2 in
       subst (λ x. tests_extent x ≤ octets_of (more_tests_spelled d (next t ts))) (same_Some (test f.0 others.0) fs others.2) (omega (
         arith,
         test_fits s t f.0 (suc d) f.1,
@@ -241,18 +241,18 @@ simple_fits s Stop args read none p r h = subst (λ x. part_extent x ≤ 2 + arg
 simple_fits s Keep args read none p r h = subst (λ x. part_extent x ≤ 2 + arguments_extent args) (same_Some (action keep) p h) (omega arith)
 simple_fits s Discard args read none p r h = subst (λ x. part_extent x ≤ 2 + arguments_extent args) (same_Some (action discard) p h) (omega arith)
 simple_fits s FileInto args read none p r h =
-    let folder = map_some (text_in read.positional) (λ folder. action (file_into (template_of s folder))) p h in
-    subst (λ x. part_extent x ≤ 2 + arguments_extent args) (same_Some (action (file_into (template_of s folder.0))) p folder.2)
+    let folder = map_some (text_in read.positional) (λ folder. action (file_into (template_of s.required folder))) p h in
+    subst (λ x. part_extent x ≤ 2 + arguments_extent args) (same_Some (action (file_into (template_of s.required folder.0))) p folder.2)
     (omega (arith, text_fits read.positional folder.0 folder.1, template_fits (has_capability Variables s.required) folder.0, read_fits (command_signature FileInto) args read r))
 simple_fits s Store args read none p r h =
-    let folder = map_some (text_in read.positional) (λ folder. action (store (template_of s folder))) p h in
-    subst (λ x. part_extent x ≤ 2 + arguments_extent args) (same_Some (action (store (template_of s folder.0))) p folder.2)
+    let folder = map_some (text_in read.positional) (λ folder. action (store (template_of s.required folder))) p h in
+    subst (λ x. part_extent x ≤ 2 + arguments_extent args) (same_Some (action (store (template_of s.required folder.0))) p folder.2)
     (omega (arith, text_fits read.positional folder.0 folder.1, template_fits (has_capability Variables s.required) folder.0, read_fits (command_signature Store) args read r))
 simple_fits s Break args read none p r h =
     let loops = map_some (loops_left read.name s.loops) (λ loops. action (leave loops)) p h in
     subst (λ x. part_extent x ≤ 2 + arguments_extent args) (same_Some (action (leave loops.0)) p loops.2) (omega arith)
 simple_fits s Set args read none p r h =
-    let c = map_some (setting_in s read.tags.modifiers read.positional) action p h in
+    let c = map_some (setting_in s.required read.tags.modifiers read.positional) action p h in
     subst (λ x. part_extent x ≤ 2 + arguments_extent args) (same_Some (action c.0) p c.2)
     (omega (arith, setting_fits s read.tags.modifiers read.positional c.0 c.1, read_fits (command_signature Set) args read r))
 simple_fits s Take args read none p r h =
@@ -290,14 +290,14 @@ put_fits (last body) rest r h =
 
 simple_part_fits : (s : Context) (i : InvocationTree) (p : PartForm) (d : ℕ) → simple_part s i ≡ Some p → part_extent p ≤ octets_of (command_spelled d (simple i))
 simple_part_fits s (invocation token word args tests) p d h =
-    let inner = step_some (inner_forms_of s tests) _ p h in
+    let inner = step_some (inner_forms_of s.required tests) _ p h in
     let name = step_some (command_named word) _ p inner.2 in
     let read = step_some (reading (command_signature name.0) args) _ p name.2 in
     omega (arith, simple_fits s name.0 args read.0 inner.0 p read.1 read.2, arguments_fit d args, octets-append (arguments_spelled d args) (tests_spelled d tests), octets-append (invocation_spelled d (invocation token word args tests)) (at_depth d semicolon ∷ []))
 
 block_part_fits : (s : Context) (i : InvocationTree) (body : CommandForms) (p : PartForm) (d : ℕ) → block_part s i body ≡ Some p → part_extent p ≤ 2 + octets_of (invocation_spelled d i) + commands_extent body
 block_part_fits s (invocation token word args tests) body p d h =
-    let inner = step_some (inner_forms_of s tests) _ p h in
+    let inner = step_some (inner_forms_of s.required tests) _ p h in
     let name = step_some (command_named word) _ p inner.2 in
     let read = step_some (reading (command_signature name.0) args) _ p name.2 in
     omega (

@@ -57,7 +57,7 @@ selecting_header name = plain_at 4 "header" (tag name ∷ tag "mime" ∷ str "X"
 abbrev selecting_form : Selected → TestForm
 selecting_form selected = header (caseless Is) Part selected (as_written "X" ∷ []) (as_written "y" ∷ [])
 
-forms_of_tests : Gives (test_form_of at_start) (
+forms_of_tests : Gives (test_form_of at_start.required) (
     -- size :over 10
     (plain_at 0 "size" (tag "over" ∷ amount 10 ∷ []), Some (size Over 10)) ∷
     -- header "a" ["b", "c"]
@@ -97,7 +97,7 @@ abbrev with_variables : Context
 with_variables = record at_start { required = record at_start.required { variables = true } }
 
 -- names of headers, keys and folders are expanded, also in blocks
-inside_too : template_of (in_block [] with_variables) (codes "${1}") ≡ Capture 1 ∷ []
+inside_too : template_of (in_block [] with_variables).required (codes "${1}") ≡ Capture 1 ∷ []
 inside_too = refl
 
 -- names of parameters are expanded, and come between those of fields and the keys
@@ -107,19 +107,19 @@ expanded_params = tag "mime" ∷ tag "param" ∷ str "${b}" ∷ str "${a}" ∷ s
 names_between : names_mentioned (test_mentions with_variables Header expanded_params) ≡ codes "a" ∷ codes "b" ∷ codes "c" ∷ []
 names_between = refl
 
-strings_as_written : Gives (template_of at_start) (
+strings_as_written : Gives (template_of at_start.required) (
     -- where they weren't required, a string is as it is written, also one without octets
     (codes "a${b}", Text (codes "a${b}") ∷ []) ∷
     ([], Text [] ∷ []) ∷ [])  -- empty as written
 strings_as_written = refl
 
-strings_expanded : Gives (template_of with_variables) (
+strings_expanded : Gives (template_of with_variables.required) (
     -- names are in lower case; what is no reference stays in its stretch
     (codes "A${B_9}${07}${}C", Text (codes "A") ∷ Variable (codes "b_9") ∷ Capture 7 ∷ Text (codes "${}C") ∷ []) ∷
     ([], []) ∷ [])  -- empty expanded
 strings_expanded = refl
 
-forms_of_expanded_tests : Gives (test_form_of with_variables) (
+forms_of_expanded_tests : Gives (test_form_of with_variables.required) (
     -- string :matches ["${a}", "b"] "*"
     (
       plain_at 1 "string" (tag "matches" ∷ strs "${a}" ("b" ∷ []) ∷ str "*" ∷ []),

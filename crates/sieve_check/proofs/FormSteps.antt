@@ -12,6 +12,7 @@ use Rattle.sieve_check.specs.declared.names.CommandName.{CommandName}
 use Rattle.sieve_check.specs.declared.names.CommandName.TheVariants.{Require}
 use Rattle.sieve_check.specs.declared.sequence.Part.{Part}
 use Rattle.sieve_check.specs.declared.sequence.Sequence.{Sequence}
+use Rattle.sieve_check.specs.declared.surroundings.Capabilities.{Capabilities}
 use Rattle.sieve_check.specs.declared.typed.Test.{Test}
 use Rattle.sieve_check.specs.FormOf.{InnerForms, one, bracketed, PartForm, simple_of, simple_part, block_of, block_part, Forms, put, test_form_of, more_forms_of, part_of, forms_of}
 use Rattle.sieve_check.specs.Forming.{head_block, head_simple, head_test}
@@ -27,32 +28,32 @@ use Rattle.sieve_check.proofs.FromIndex.{others_of, split_at}
 use Rattle.sieve_check.proofs.Options.{step_none}
 
 -- a test with the tests behind it
-module _ (s : Context) (i : Invocation) (h : Head) (t : Box Invocation) where
-  pub form_with_test : i ≡ WithTest h t → test_form_of s (invocation_tree i) ≡ (option_map one (test_form_of s (invocation_tree t.value)) >>= λ inner. head_test s h inner)
-  form_with_test is = ap (test_form_of s) (ap invocation_tree is ∙ tree_test h t)
+module _ (required : Capabilities) (i : Invocation) (h : Head) (t : Box Invocation) where
+  pub form_with_test : i ≡ WithTest h t → test_form_of required (invocation_tree i) ≡ (option_map one (test_form_of required (invocation_tree t.value)) >>= λ inner. head_test required h inner)
+  form_with_test is = ap (test_form_of required) (ap invocation_tree is ∙ tree_test h t)
 
   pub form_with_tests : (ts : Vec Invocation) → i ≡ WithTests h t ts
-      → test_form_of s (invocation_tree i) ≡ ((test_form_of s (invocation_tree t.value) >>= λ f. option_map (bracketed f) (more_forms_of s (others_of ts.items))) >>= λ inner. head_test s h inner)
-  form_with_tests ts is = ap (test_form_of s) (ap invocation_tree is ∙ tree_tests h t ts)
+      → test_form_of required (invocation_tree i) ≡ ((test_form_of required (invocation_tree t.value) >>= λ f. option_map (bracketed f) (more_forms_of required (others_of ts.items))) >>= λ inner. head_test required h inner)
+  form_with_tests ts is = ap (test_form_of required) (ap invocation_tree is ∙ tree_tests h t ts)
 
 -- one more test of a list
-module _ (s : Context) (list : List Invocation) (i : ℕ) (x : Invocation) (lt : i < length list) (is : x ≡ get_or list i x) (done : List Test) (t : Test) (formed : test_form_of s (invocation_tree x) ≡ Some (test_form t)) where
+module _ (required : Capabilities) (list : List Invocation) (i : ℕ) (x : Invocation) (lt : i < length list) (is : x ≡ get_or list i x) (done : List Test) (t : Test) (formed : test_form_of required (invocation_tree x) ≡ Some (test_form t)) where
   after : (o : Option TestForms) → option_map (tests_onto (map test_form (done ++ t ∷ []))) o ≡ option_map (tests_onto (map test_form done)) (option_map (test (test_form t)) o)
   after None = refl
   after (Some fs) = ap Some (ap (λ ts. tests_onto ts fs) (map-append test_form done (t ∷ [])) ∙ onto-append (map test_form done) (test_form t) fs)
 
-  pub tests_more : option_map (tests_onto (map test_form (done ++ t ∷ []))) (more_forms_of s (others_of (drop (i + 1) list))) ≡ option_map (tests_onto (map test_form done)) (more_forms_of s (others_of (drop i list)))
+  pub tests_more : option_map (tests_onto (map test_form (done ++ t ∷ []))) (more_forms_of required (others_of (drop (i + 1) list))) ≡ option_map (tests_onto (map test_form done)) (more_forms_of required (others_of (drop i list)))
   tests_more =
-      after (more_forms_of s (others_of (drop (i + 1) list)))
-      ∙ sym (ap (λ xs. option_map (tests_onto (map test_form done)) (more_forms_of s (others_of xs))) (split_at list i x lt is)
-      ∙ ap (λ o. option_map (tests_onto (map test_form done)) (o >>= λ f. option_map (test f) (more_forms_of s (others_of (drop (i + 1) list))))) formed)
+      after (more_forms_of required (others_of (drop (i + 1) list)))
+      ∙ sym (ap (λ xs. option_map (tests_onto (map test_form done)) (more_forms_of required (others_of xs))) (split_at list i x lt is)
+      ∙ ap (λ o. option_map (tests_onto (map test_form done)) (o >>= λ f. option_map (test f) (more_forms_of required (others_of (drop (i + 1) list))))) formed)
 
 -- a test of a list that has no form
-module _ (s : Context) (list : List Invocation) (i : ℕ) (x : Invocation) (lt : i < length list) (is : x ≡ get_or list i x) (done : List Test) where
-  pub test_missing : test_form_of s (invocation_tree x) ≡ None → option_map (tests_onto (map test_form done)) (more_forms_of s (others_of (drop i list))) ≡ None
+module _ (required : Capabilities) (list : List Invocation) (i : ℕ) (x : Invocation) (lt : i < length list) (is : x ≡ get_or list i x) (done : List Test) where
+  pub test_missing : test_form_of required (invocation_tree x) ≡ None → option_map (tests_onto (map test_form done)) (more_forms_of required (others_of (drop i list))) ≡ None
   test_missing missing =
-      ap (λ xs. option_map (tests_onto (map test_form done)) (more_forms_of s (others_of xs))) (split_at list i x lt is)
-      ∙ ap (λ o. option_map (tests_onto (map test_form done)) (o >>= λ f. option_map (test f) (more_forms_of s (others_of (drop (i + 1) list))))) missing
+      ap (λ xs. option_map (tests_onto (map test_form done)) (more_forms_of required (others_of xs))) (split_at list i x lt is)
+      ∙ ap (λ o. option_map (tests_onto (map test_form done)) (o >>= λ f. option_map (test f) (more_forms_of required (others_of (drop (i + 1) list))))) missing
 
 -- a command with tests in round brackets and a block is none
 no_block : (name : CommandName) (f : TestForm) (fs : TestForms) (body : CommandForms) → block_of name (bracketed f fs) body ≡ None
@@ -63,7 +64,7 @@ no_head : (h : Head) (f : TestForm) (fs : TestForms) (body : CommandForms) → h
 no_head h f fs body = step_none (command_named h.name) _ (λ name. step_none (reading (command_signature name) (arguments_of h)) _ (λ read. no_block name f fs body))
 
 pub no_block_part : (s : Context) (i : Invocation) (h : Head) (t : Box Invocation) (ts : Vec Invocation) (body : CommandForms) → i ≡ WithTests h t ts → block_part s (invocation_tree i) body ≡ None
-no_block_part s i h t ts body is = ap (λ x. block_part s x body) (ap invocation_tree is ∙ tree_tests h t ts) ∙ inside (test_form_of s (invocation_tree t.value)) (more_forms_of s (others_of ts.items)) where
+no_block_part s i h t ts body is = ap (λ x. block_part s x body) (ap invocation_tree is ∙ tree_tests h t ts) ∙ inside (test_form_of s.required (invocation_tree t.value)) (more_forms_of s.required (others_of ts.items)) where
   inside : (a : Option TestForm) (b : Option TestForms) → ((a >>= λ f. option_map (bracketed f) b) >>= λ inner. head_block h inner body) ≡ None
   inside None b = refl
   inside (Some f) None = refl
@@ -82,13 +83,13 @@ no_simple_part : (s : Context) (h : Head) (inner : InnerForms) → ((name : Comm
 no_simple_part s h inner none = step_none (command_named h.name) _ (λ name. step_none (reading (command_signature name) (arguments_of h)) _ (none name))
 
 pub no_part_with_test : (s : Context) (i : Invocation) (h : Head) (t : Box Invocation) → i ≡ WithTest h t → simple_part s (invocation_tree i) ≡ None
-no_part_with_test s i h t is = ap (simple_part s) (ap invocation_tree is ∙ tree_test h t) ∙ inside (test_form_of s (invocation_tree t.value)) where
+no_part_with_test s i h t is = ap (simple_part s) (ap invocation_tree is ∙ tree_test h t) ∙ inside (test_form_of s.required (invocation_tree t.value)) where
   inside : (o : Option TestForm) → (option_map one o >>= λ inner. head_simple s h inner) ≡ None
   inside None = refl
   inside (Some f) = no_simple_part s h (one f) (λ name read. no_simple_test s name read f)
 
 pub no_part_with_tests : (s : Context) (i : Invocation) (h : Head) (t : Box Invocation) (ts : Vec Invocation) → i ≡ WithTests h t ts → simple_part s (invocation_tree i) ≡ None
-no_part_with_tests s i h t ts is = ap (simple_part s) (ap invocation_tree is ∙ tree_tests h t ts) ∙ inside (test_form_of s (invocation_tree t.value)) (more_forms_of s (others_of ts.items)) where
+no_part_with_tests s i h t ts is = ap (simple_part s) (ap invocation_tree is ∙ tree_tests h t ts) ∙ inside (test_form_of s.required (invocation_tree t.value)) (more_forms_of s.required (others_of ts.items)) where
   inside : (a : Option TestForm) (b : Option TestForms) → ((a >>= λ f. option_map (bracketed f) b) >>= λ inner. head_simple s h inner) ≡ None
   inside None b = refl
   inside (Some f) None = refl

@@ -97,7 +97,7 @@ both_sound b (x ∷ xs) ys all =
 abbrev pub expands : Context → Bool
 expands s = has_capability Variables s.required
 
-listed : (s : Context) (a : ArgumentTree) → is_list a ≡ true → (list_in s a ≡ Some (map (template_of s) (strings_in a))) × (0 < length (strings_in a))
+listed : (s : Context) (a : ArgumentTree) → is_list a ≡ true → (list_in s.required a ≡ Some (map (template_of s.required) (strings_in a))) × (0 < length (strings_in a))
 listed s (text x) h = (refl, omega arith)
 listed s (text_list x xs) h = (refl, omega arith)
 listed s _ h = absurd (cc)
@@ -105,7 +105,7 @@ listed s _ h = absurd (cc)
 -- one list, of which something is made
 pub record OneListed (s : Context) (make : List Template → TestForm) (xs : List ArgumentTree) : Type 0 where
   pub list : List Template
-  pub is : of_list s make xs ≡ Some (make list)
+  pub is : of_list s.required make xs ≡ Some (make list)
   pub bounded : IsBoundedList list
   pub names : strings_variables list ≡ flat_map (names_at (expands s)) (strings_of xs)
 
@@ -131,7 +131,7 @@ one_listed s make _ h few all = absurd (cc)
 pub record TwoListed (s : Context) (make : List Template → List Template → TestForm) (xs : List ArgumentTree) : Type 0 where
   pub first : List Template
   pub second : List Template
-  pub is : of_lists s make xs ≡ Some (make first second)
+  pub is : of_lists s.required make xs ≡ Some (make first second)
   pub bounded : AreBoundedLists first second
   pub names : strings_variables first ++ strings_variables second ≡ flat_map (names_at (expands s)) (strings_of xs)
 
@@ -151,7 +151,7 @@ two_listed s make (a ∷ c ∷ []) h few all =
     record {
       first = first;
       second = second;
-      is = ap (λ o. o >>= λ first. option_map (make first) (list_in s c)) left.0 ∙ ap (option_map (make first)) right.0;
+      is = ap (λ o. o >>= λ first. option_map (make first) (list_in s.required c)) left.0 ∙ ap (option_map (make first)) right.0;
       bounded = record {
         some_first = omega (arith, left.1, xs_count);
         some_second = omega (arith, right.1, ys_count);
@@ -168,19 +168,19 @@ two_listed s make _ h few all = absurd (cc)
 -- what a test takes of a field
 record Selecting (s : Context) (selector : Selector) (params : List ArgumentTree) : Type 0 where
   names : List Template
-  is : params_in s params ≡ Some names
+  is : params_in s.required params ≡ Some names
   some : HasParams (selected_by selector names)
-  same : params_of (selected_by selector names) ≡ map (template_of s) (strings_of params)
+  same : params_of (selected_by selector names) ≡ map (template_of s.required) (strings_of params)
 
 selecting : (s : Context) (selector : Selector) (params : List ArgumentTree) → HasArgument selector params → Selecting s selector params
 selecting s Param params one =
     let list = listed s one.0 one.2 in
     let strings = strings_in one.0 in
     subst (Selecting s Param) (sym one.1) (record {
-      names = map (template_of s) strings;
+      names = map (template_of s.required) strings;
       is = list.0;
-      some = omega (arith, list.1, length-map strings (template_of s));
-      same = ap (map (template_of s)) (sym (append-nil strings));
+      some = omega (arith, list.1, length-map strings (template_of s.required));
+      same = ap (map (template_of s.required)) (sym (append-nil strings));
     })
 selecting s selector params none = subst (Selecting s selector) (sym none) (record { names = []; is = refl; some = tt; same = refl })
 
@@ -189,7 +189,7 @@ pub record ThreeListed (s : Context) (make : Selected → List Template → List
   pub selected : Selected
   pub first : List Template
   pub second : List Template
-  pub is : (params_in s params >>= λ names. of_lists s (make (selected_by selector names)) xs) ≡ Some (make selected first second)
+  pub is : (params_in s.required params >>= λ names. of_lists s.required (make (selected_by selector names)) xs) ≡ Some (make selected first second)
   pub bounded : IsBoundedHeader selected first second
   pub names : strings_variables first ++ strings_variables (params_of selected) ++ strings_variables second ≡ flat_map (names_at (expands s)) (strings_of (take 1 xs ++ params ++ drop 1 xs))
 
@@ -219,8 +219,8 @@ three_listed s make selector params (a ∷ c ∷ []) h has few all =
       selected = selected;
       first = first;
       second = second;
-      is = ap (λ o. o >>= λ names. of_lists s (make (selected_by selector names)) (a ∷ c ∷ [])) between.is
-          ∙ ap (λ o. o >>= λ first. option_map (make selected first) (list_in s c)) left.0
+      is = ap (λ o. o >>= λ names. of_lists s.required (make (selected_by selector names)) (a ∷ c ∷ [])) between.is
+          ∙ ap (λ o. o >>= λ first. option_map (make selected first) (list_in s.required c)) left.0
           ∙ ap (option_map (make selected first)) right.0;
       bounded = record {
         lists = record {

@@ -197,7 +197,7 @@ behind_tags s read alone few sound = record {
 
 made : (s : Context) (name : TestName) (read : Read) (inner : InnerForms) → is_complete (test_signature name) read ≡ true → ((test_signature name).selecting ≡ false → lists_read read ≡ read.positional)
     → same_tests (test_signature name).tests (inner_kind inner) ≡ true → HasArgument read.tags.selector read.params → length (strings_of (lists_read read)) ≤ max_test_strings → All (IsSound (expands s)) (strings_of (lists_read read)) → IsBoundedInner inner
-    → test_may_stand s name ≡ true → IsInnerIn (length s.loops) inner → Made (length s.loops) (own_names s read ++ inner_variables inner) (test_of s name read inner)
+    → test_may_stand s name ≡ true → IsInnerIn (length s.loops) inner → Made (length s.loops) (own_names s read ++ inner_variables inner) (test_of s.required name read inner)
 made s (Constant b) read none complete alone same params few sound inside stands around = record { form = constant b; is = refl; bounded = tt; around = tt; variables = ap (λ names. names ++ []) (none_own s (test_signature (Constant b)) read refl complete (alone refl)) }
 made s Not read (one f) complete alone same params few sound inside stands around = record { form = negation f; is = refl; bounded = inside; around = around; variables = ap (λ names. names ++ test_variables f) (none_own s (test_signature Not) read refl complete (alone refl)) }
 made s AllOf read (bracketed f fs) complete alone same params few sound inside stands around = record { form = all_of f fs; is = refl; bounded = inside; around = around; variables = ap (λ names. names ++ (test_variables f ++ tests_variables fs)) (none_own s (test_signature AllOf) read refl complete (alone refl)) }
@@ -234,7 +234,7 @@ made s _ read _ complete alone same params few sound inside stands around = absu
 -- tests behind arguments, of which nothing is wrong
 pub record Inner (s : Context) (tests : TestsTree) : Type 0 where
   pub inner : InnerForms
-  pub is : inner_forms_of s tests ≡ Some inner
+  pub is : inner_forms_of s.required tests ≡ Some inner
   pub kind : inner_kind inner ≡ kind_of tests
   pub bounded : IsBoundedInner inner
   pub around : IsInnerIn (length s.loops) inner
@@ -243,7 +243,7 @@ pub record Inner (s : Context) (tests : TestsTree) : Type 0 where
 -- tests in round brackets after the first
 record Others (s : Context) (ts : MoreTests) : Type 0 where
   forms : TestForms
-  is : more_forms_of s ts ≡ Some forms
+  is : more_forms_of s.required ts ≡ Some forms
   bounded : AreBoundedTests forms
   around : AreTestsIn (length s.loops) forms
   variables : tests_variables forms ≡ names_brought (more_visits s ts)
@@ -265,7 +265,7 @@ module _ {Name : Type 0} (signature : Name → Signature) (s : Context) where
       step Bracketed tests h = refl
 
 mutual
-  pub test_exists : (s : Context) (i : InvocationTree) → AreFaultless (test_visits s i) → Made (length s.loops) (names_brought (test_visits s i)) (test_form_of s i)
+  pub test_exists : (s : Context) (i : InvocationTree) → AreFaultless (test_visits s i) → Made (length s.loops) (names_brought (test_visits s i)) (test_form_of s.required i)
   test_exists s (invocation token word args tests) h =
       let name = known UnknownTest (λ known. known_test_cause s known args (kind_of tests)) (test_named word) h.0 in
       let well = test_well_formed s name.0 args (kind_of tests) name.2 in
@@ -275,7 +275,7 @@ mutual
       let f = made s name.0 read inner.inner well.form.complete well.form.alone (ap (same_tests (test_signature name.0).tests) inner.kind ∙ well.same) well.params well.few well.sound inner.bounded well.stands inner.around in
       record {
         form = f.form;
-        is = all_taken (inner_forms_of s tests) inner.inner (test_named word) name.0 (λ name. reading (test_signature name) args) read (λ inner name read. test_of s name read inner) inner.is name.1 well.form.is
+        is = all_taken (inner_forms_of s.required tests) inner.inner (test_named word) name.0 (λ name. reading (test_signature name) args) read (λ inner name read. test_of s.required name read inner) inner.is name.1 well.form.is
             ∙ f.is;
         bounded = f.bounded;
         around = f.around;
@@ -295,7 +295,7 @@ mutual
       let fs = more_exist s ts parts.1 in
       record {
         inner = bracketed f.form fs.forms;
-        is = ap (λ o. o >>= λ f. option_map (bracketed f) (more_forms_of s ts)) f.is ∙ ap (option_map (bracketed f.form)) fs.is;
+        is = ap (λ o. o >>= λ f. option_map (bracketed f) (more_forms_of s.required ts)) f.is ∙ ap (option_map (bracketed f.form)) fs.is;
         kind = refl;
         bounded = (f.bounded, fs.bounded);
         around = (f.around, fs.around);
@@ -310,7 +310,7 @@ mutual
       let fs = more_exist s ts parts.1 in
       record {
         forms = test f.form fs.forms;
-        is = ap (λ o. o >>= λ f. option_map (test f) (more_forms_of s ts)) f.is ∙ ap (option_map (test f.form)) fs.is;
+        is = ap (λ o. o >>= λ f. option_map (test f) (more_forms_of s.required ts)) f.is ∙ ap (option_map (test f.form)) fs.is;
         bounded = (f.bounded, fs.bounded);
         around = (f.around, fs.around);
         variables = ap (λ names. names ++ tests_variables fs.forms) f.variables ∙ ap (λ names. names_brought (test_visits s t) ++ names) fs.variables ∙ both_names (test_visits s t) (more_visits s ts);

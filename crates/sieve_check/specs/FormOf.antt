@@ -17,6 +17,7 @@ use Rattle.sieve_check.specs.declared.typed.Segment.{Segment}
 use Rattle.sieve_check.specs.declared.typed.Segment.TheVariants.{Text, Variable, Capture}
 use Rattle.bytecode_format.specs.declared.modifiers.Modifiers.{Modifiers}
 use Rattle.sieve_check.specs.declared.signature.Tags.{Tags}
+use Rattle.sieve_check.specs.declared.surroundings.Capabilities.{Capabilities}
 use Rattle.bytecode_format.specs.declared.selection.Selector.{Selector}
 use Rattle.bytecode_format.specs.declared.selection.Selector.TheVariants.{Value, Main, Sub, ContentType, Param}
 use Rattle.bytecode_format.specs.declared.selection.Scope.{Scope}
@@ -42,8 +43,9 @@ meant references.beyond = []
 meant references.foreign = []
 
 -- a string as it is meant: expanded where variables were required, else as it is written
-abbrev pub template_of : Context → List ℕ → Template
-template_of s octets = if has_capability Variables s.required then flat_map meant (references.segments octets) else Text octets ∷ []
+abbrev pub template_of : Capabilities → List ℕ → Template
+template_of required octets =
+    if has_capability Variables required then flat_map meant (references.segments octets) else Text octets ∷ []
 
 abbrev pub number_in : List ArgumentTree → Option ℕ
 number_in (amount n ∷ []) = Some n
@@ -54,9 +56,10 @@ text_in (text s ∷ []) = Some s
 text_in _ = None
 
 -- two strings: the name of a variable, which is taken as it is written, and its value
-abbrev pub setting_in : Context → Modifiers → List ArgumentTree → Option CommandForm
-setting_in s modifiers (text name ∷ text value ∷ []) = Some (set modifiers (lowercase_of name) (template_of s value))
-setting_in s modifiers _ = None
+abbrev pub setting_in : Capabilities → Modifiers → List ArgumentTree → Option CommandForm
+setting_in required modifiers (text name ∷ text value ∷ []) =
+    Some (set modifiers (lowercase_of name) (template_of required value))
+setting_in required modifiers _ = None
 
 -- at most how many octets are taken: the number of `:first`, and no more than a value may have, as where it isn't given
 abbrev pub most_of : Tags → ℕ
@@ -67,19 +70,19 @@ abbrev pub taking_in : Tags → List ArgumentTree → Option CommandForm
 taking_in tags args = option_map (λ name. take_first (most_of tags) (lowercase_of name)) (text_in args)
 
 -- the strings of a list, which may be one string without brackets
-abbrev pub list_in : Context → ArgumentTree → Option (List Template)
-list_in s (text x) = Some (template_of s x ∷ [])
-list_in s (text_list x xs) = Some (map (template_of s) (x ∷ xs))
-list_in s _ = None
+abbrev pub list_in : Capabilities → ArgumentTree → Option (List Template)
+list_in required (text x) = Some (template_of required x ∷ [])
+list_in required (text_list x xs) = Some (map (template_of required) (x ∷ xs))
+list_in required _ = None
 
 -- what is made of one list, and of two
-abbrev pub of_list : {A : Type 0} → Context → (List Template → A) → List ArgumentTree → Option A
-of_list s make (a ∷ []) = option_map make (list_in s a)
-of_list s make _ = None
+abbrev pub of_list : {A : Type 0} → Capabilities → (List Template → A) → List ArgumentTree → Option A
+of_list required make (a ∷ []) = option_map make (list_in required a)
+of_list required make _ = None
 
-abbrev pub of_lists : {A : Type 0} → Context → (List Template → List Template → A) → List ArgumentTree → Option A
-of_lists s make (a ∷ b ∷ []) = list_in s a >>= λ first. option_map (make first) (list_in s b)
-of_lists s make _ = None
+abbrev pub of_lists : {A : Type 0} → Capabilities → (List Template → List Template → A) → List ArgumentTree → Option A
+of_lists required make (a ∷ b ∷ []) = list_in required a >>= λ first. option_map (make first) (list_in required b)
+of_lists required make _ = None
 
 -- how values and keys are matched: without a tag by `:is`, and by `i;ascii-casemap`
 abbrev pub match_of : Tags → Match
@@ -98,14 +101,14 @@ selected_by ContentType names = content_type
 selected_by Param names = params names
 
 -- the names of the parameters, if they are given
-abbrev pub params_in : Context → List ArgumentTree → Option (List Template)
-params_in s [] = Some []
-params_in s (a ∷ args) = list_in s a
+abbrev pub params_in : Capabilities → List ArgumentTree → Option (List Template)
+params_in required [] = Some []
+params_in required (a ∷ args) = list_in required a
 
 -- a test of fields, by what was read
-abbrev pub header_of : Context → Read → Option TestForm
-header_of s read =
-    params_in s read.params >>= λ names. of_lists s
+abbrev pub header_of : Capabilities → Read → Option TestForm
+header_of required read =
+    params_in required read.params >>= λ names. of_lists required
     (header (match_of read.tags) (scope_of read.tags) (selected_by read.tags.selector names)) read.positional
 
 -- the comparison of a size, that of the message or that of a part
@@ -113,34 +116,35 @@ abbrev pub size_of : (Order → ℕ → TestForm) → Tags → List ArgumentTree
 size_of make tags args = tags.order >>= λ order. number_in args >>= λ n. Some (make order n)
 
 -- a test of this name, with the arguments that were read and the tests behind them
-abbrev pub test_of : Context → TestName → Read → InnerForms → Option TestForm
-test_of s (Constant b) read none = Some (constant b)
-test_of s Not read (one f) = Some (negation f)
-test_of s AllOf read (bracketed f fs) = Some (all_of f fs)
-test_of s AnyOf read (bracketed f fs) = Some (any_of f fs)
-test_of s Header read none = header_of s read
-test_of s Exists read none = of_list s (exists (scope_of read.tags)) read.positional
-test_of s Size read none = size_of size read.tags read.positional
-test_of s String read none = of_lists s (string (match_of read.tags)) read.positional
-test_of s PartSize read none = size_of part_size read.tags read.positional
-test_of s PartBody read none = of_list s (part_body (match_of read.tags)) read.positional
-test_of s PartDigest read none = of_list s part_digest read.positional
-test_of s _ _ _ = None
+abbrev pub test_of : Capabilities → TestName → Read → InnerForms → Option TestForm
+test_of required (Constant b) read none = Some (constant b)
+test_of required Not read (one f) = Some (negation f)
+test_of required AllOf read (bracketed f fs) = Some (all_of f fs)
+test_of required AnyOf read (bracketed f fs) = Some (any_of f fs)
+test_of required Header read none = header_of required read
+test_of required Exists read none = of_list required (exists (scope_of read.tags)) read.positional
+test_of required Size read none = size_of size read.tags read.positional
+test_of required String read none = of_lists required (string (match_of read.tags)) read.positional
+test_of required PartSize read none = size_of part_size read.tags read.positional
+test_of required PartBody read none = of_list required (part_body (match_of read.tags)) read.positional
+test_of required PartDigest read none = of_list required part_digest read.positional
+test_of required _ _ _ = None
 
 abbrev mutual
-  pub test_form_of : Context → InvocationTree → Option TestForm
-  test_form_of s (invocation token word args tests) =
-      inner_forms_of s tests >>= λ inner. test_named word >>= λ name. reading
-      (test_signature name) args >>= λ read. test_of s name read inner
+  pub test_form_of : Capabilities → InvocationTree → Option TestForm
+  test_form_of required (invocation token word args tests) =
+      inner_forms_of required tests >>= λ inner. test_named word >>= λ name. reading
+      (test_signature name) args >>= λ read. test_of required name read inner
 
-  pub inner_forms_of : Context → TestsTree → Option InnerForms
-  inner_forms_of s no_test = Some none
-  inner_forms_of s (one_test t) = option_map one (test_form_of s t)
-  inner_forms_of s (test_list t ts) = test_form_of s t >>= λ f. option_map (bracketed f) (more_forms_of s ts)
+  pub inner_forms_of : Capabilities → TestsTree → Option InnerForms
+  inner_forms_of required no_test = Some none
+  inner_forms_of required (one_test t) = option_map one (test_form_of required t)
+  inner_forms_of required (test_list t ts) =
+      test_form_of required t >>= λ f. option_map (bracketed f) (more_forms_of required ts)
 
-  pub more_forms_of : Context → MoreTests → Option TestForms
-  more_forms_of s no_more = Some no_other
-  more_forms_of s (next t ts) = test_form_of s t >>= λ f. option_map (test f) (more_forms_of s ts)
+  pub more_forms_of : Capabilities → MoreTests → Option TestForms
+  more_forms_of required no_more = Some no_other
+  more_forms_of required (next t ts) = test_form_of required t >>= λ f. option_map (test f) (more_forms_of required ts)
 
 -- what a command adds: nothing, itself, or with its block a choice, a further branch of a choice, or its last one
 pub data PartForm : Type 0 where
@@ -151,8 +155,8 @@ pub data PartForm : Type 0 where
   last : CommandForms → PartForm
 
 -- a command that files into the folder which the arguments are
-abbrev pub filing_in : Context → (Template → CommandForm) → List ArgumentTree → Option PartForm
-filing_in s make args = option_map (λ folder. action (make (template_of s folder))) (text_in args)
+abbrev pub filing_in : Capabilities → (Template → CommandForm) → List ArgumentTree → Option PartForm
+filing_in required make args = option_map (λ folder. action (make (template_of required folder))) (text_in args)
 
 -- a command of this name that ends in a semicolon, with the arguments that were read
 abbrev pub simple_of : Context → CommandName → Read → InnerForms → Option PartForm
@@ -160,11 +164,11 @@ simple_of s Require read none = Some nothing
 simple_of s Stop read none = Some (action stop)
 simple_of s Keep read none = Some (action keep)
 simple_of s Discard read none = Some (action discard)
-simple_of s FileInto read none = filing_in s file_into read.positional
-simple_of s Store read none = filing_in s store read.positional
+simple_of s FileInto read none = filing_in s.required file_into read.positional
+simple_of s Store read none = filing_in s.required store read.positional
 simple_of s Take read none = option_map action (taking_in read.tags read.positional)
 simple_of s Break read none = option_map (λ loops. action (leave loops)) (loops_left read.name s.loops)
-simple_of s Set read none = option_map action (setting_in s read.tags.modifiers read.positional)
+simple_of s Set read none = option_map action (setting_in s.required read.tags.modifiers read.positional)
 simple_of s _ _ _ = None
 
 -- a command of this name that ends in a block
@@ -202,13 +206,13 @@ put (last body) rest = option_map (λ cs. record { branches = otherwise body; co
 -- a command that ends in a semicolon
 abbrev pub simple_part : Context → InvocationTree → Option PartForm
 simple_part s (invocation token word args tests) =
-    inner_forms_of s tests >>= λ inner. command_named word >>= λ name. reading
+    inner_forms_of s.required tests >>= λ inner. command_named word >>= λ name. reading
     (command_signature name) args >>= λ read. simple_of s name read inner
 
 -- a command that ends in a block, which has that form
 abbrev pub block_part : Context → InvocationTree → CommandForms → Option PartForm
 block_part s (invocation token word args tests) body =
-    inner_forms_of s tests >>= λ inner. command_named word >>= λ name. reading
+    inner_forms_of s.required tests >>= λ inner. command_named word >>= λ name. reading
     (command_signature name) args >>= λ read. block_of name inner body
 
 abbrev mutual

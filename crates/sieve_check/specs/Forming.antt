@@ -7,6 +7,7 @@ use Rattle.sieve_check.specs.declared.form_error.FormError.TheVariants.{Malforme
 use Rattle.sieve_check.specs.declared.names.CommandName.{CommandName}
 use Rattle.sieve_check.specs.declared.names.TestName.{TestName}
 use Rattle.sieve_check.specs.declared.signature.Reading.{Reading}
+use Rattle.sieve_check.specs.declared.surroundings.Capabilities.{Capabilities}
 use Rattle.sieve_check.specs.Names.{command_named, test_named}
 use Rattle.sieve_check.specs.Reading.{read_of}
 use Rattle.sieve_check.specs.Rules.{arguments_of}
@@ -21,9 +22,9 @@ Formed form_of form result =
     MatchResult result (λ made. form ≡ Some (form_of made)) (λ e. e ≡ Malformed → form ≡ None)
 
 -- the test of a head, with the tests behind it
-abbrev pub head_test : Context → Head → InnerForms → Option TestForm
-head_test s head inner = test_named head.name >>= λ name. reading (test_signature name)
-    (arguments_of head) >>= λ read. test_of s name read inner
+abbrev pub head_test : Capabilities → Head → InnerForms → Option TestForm
+head_test required head inner = test_named head.name >>= λ name. reading (test_signature name)
+    (arguments_of head) >>= λ read. test_of required name read inner
 
 -- the command of a head, which ends in a semicolon, and which ends in a block
 abbrev pub head_simple : Context → Head → InnerForms → Option PartForm
@@ -43,9 +44,9 @@ commands_formed s trees = forms_of s trees >>= closed
 abbrev pub IsTestRead : Head → Option (TestName × Reading) → Type 0
 IsTestRead head answer =
     MatchOption answer
-    ((s : Context) (inner : InnerForms) → head_test s head inner ≡ None)
-    (λ found. (s : Context) (inner : InnerForms)
-    → head_test s head inner ≡ test_of s found.0 (read_of found.1) inner)
+    ((required : Capabilities) (inner : InnerForms) → head_test required head inner ≡ None)
+    (λ found. (required : Capabilities) (inner : InnerForms)
+    → head_test required head inner ≡ test_of required found.0 (read_of found.1) inner)
 
 -- the command that a head names, with its arguments as they were read, where it ends in a semicolon, and
 -- where it ends in a block; nothing where a head makes no command

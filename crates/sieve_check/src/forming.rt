@@ -15,7 +15,7 @@ use crate::names::{CommandName, command_named};
 use crate::sequence::{Part, Sequence};
 use crate::signature::{Reading, Tags, command_signature};
 use crate::strings::template;
-use crate::surroundings::Surroundings;
+use crate::surroundings::{Capabilities, Surroundings};
 use crate::test_forms::test;
 use crate::typed::{Branch, Command, Segment, Test};
 use bytecode_format::Modifiers;
@@ -26,15 +26,15 @@ use std::alloc::Global;
 // The folder that the arguments are.
 fn folder(
     alloc: Global,
-    surroundings: &Surroundings<'_>,
+    required: Capabilities,
     arguments: &[Argument],
 ) -> Result<Vec<Segment>, FormError>
     ensures { (make : Template → CommandForm)
         → Formed (λ folder. action (make folder.items))
-        (filing_in (context_of surroundings.now) make (map argument_tree arguments.now)) result }
+        (filing_in required make (map argument_tree arguments.now)) result }
 {
     match arguments {
-        [Argument::Text(folder)] => Ok(template(alloc, surroundings, folder)?),
+        [Argument::Text(folder)] => Ok(template(alloc, required, folder)?),
         _ => Err(FormError::Malformed),
     }
 }
@@ -53,17 +53,17 @@ fn leaving(surroundings: &Surroundings<'_>, name: Option<&[u8]>) -> Result<Part,
 // The command that sets the variable of the name to the value, which the arguments are. The name isn't expanded.
 fn setting(
     alloc: Global,
-    surroundings: &Surroundings<'_>,
+    required: Capabilities,
     modifiers: Modifiers,
     arguments: &[Argument],
 ) -> Result<Part, FormError>
-    ensures { Formed part_form (option_map action (setting_in (context_of surroundings.now)
+    ensures { Formed part_form (option_map action (setting_in required
         modifiers (map argument_tree arguments.now))) result }
 {
     match arguments {
         [Argument::Text(name), Argument::Text(value)] => {
             let name = to_lowercase(alloc, name.as_slice())?;
-            let value = template(alloc, surroundings, value)?;
+            let value = template(alloc, required, value)?;
             Ok(Part::Action(Command::Set {
                 modifiers,
                 name,
@@ -127,12 +127,12 @@ fn plain_part(
         CommandName::Keep => Ok(Part::Action(Command::Keep)),
         CommandName::Discard => Ok(Part::Action(Command::Discard)),
         CommandName::FileInto => {
-            let folder = folder(alloc, surroundings, arguments)?;
+            let folder = folder(alloc, surroundings.required, arguments)?;
             Ok(Part::Action(Command::FileInto(folder)))
         }
-        CommandName::Set => setting(alloc, surroundings, tags.modifiers, arguments),
+        CommandName::Set => setting(alloc, surroundings.required, tags.modifiers, arguments),
         CommandName::Store => {
-            let folder = folder(alloc, surroundings, arguments)?;
+            let folder = folder(alloc, surroundings.required, arguments)?;
             Ok(Part::Action(Command::Store(folder)))
         }
         CommandName::Take => taking(alloc, tags, arguments),
@@ -179,7 +179,7 @@ fn block_part(
     match invocation {
         Invocation::Plain(head) => untested_part(head, body),
         Invocation::WithTest(head, guard) => {
-            let test = test(alloc, surroundings, guard)?;
+            let test = test(alloc, surroundings.required, guard)?;
             branch_part(head, test, body)
         }
         Invocation::WithTests(_, _, _) => Err(FormError::Malformed),

@@ -5,13 +5,12 @@ ghost use Rattle.sieve_references.specs.SegmentView.{segment_of};
 ghost use Rattle.sieve_parser.specs.View.{argument_tree};
 ghost use Rattle.sieve_check.specs.FormOf.{list_in, meant, of_list, of_lists, template_of};
 ghost use Rattle.sieve_check.specs.Forming.{Formed};
-ghost use Rattle.sieve_check.specs.Refusing.{context_of};
 ghost use Rattle.sieve_check.specs.Typed.{Template, TestForm};
 ghost use Rattle.sieve_check.specs.TypedView.{templates_of};
 
 use crate::form_error::FormError;
 use crate::names::Capability;
-use crate::surroundings::Surroundings;
+use crate::surroundings::Capabilities;
 use crate::typed::Segment;
 use octets::{Octets, to_lowercase};
 use sieve_parser::Argument;
@@ -49,13 +48,13 @@ fn expanded(alloc: Global, string: &[u8]) -> Result<Vec<Segment>, AllocError>
 /// (RFC 5229, section 3). An error comes only where memory was refused.
 pub fn template(
     alloc: Global,
-    surroundings: &Surroundings<'_>,
+    required: Capabilities,
     string: &Octets,
 ) -> Result<Vec<Segment>, AllocError>
     ensures { IfOk result (λ all. all.items
-        ≡ template_of (context_of surroundings.now) string.now) }
+        ≡ template_of required string.now) }
 {
-    if surroundings.required.has(Capability::Variables) {
+    if required.has(Capability::Variables) {
         return expanded(alloc, string.as_slice());
     }
     let mut all = Vec::with_capacity(alloc, 1)?;
@@ -67,13 +66,13 @@ pub fn template(
 fn push_template(
     alloc: Global,
     all: &mut Vec<Vec<Segment>>,
-    surroundings: &Surroundings<'_>,
+    required: Capabilities,
     string: &Octets,
 ) -> Result<(), AllocError>
     ensures { OnOk result (templates_of all.new.items ≡ templates_of all.old.items
-        ++ template_of (context_of surroundings.now) string.now ∷ []) }
+        ++ template_of required string.now ∷ []) }
 {
-    let template = template(alloc, surroundings, string)?;
+    let template = template(alloc, required, string)?;
     all.push(template)?;
     Ok(())
 }
@@ -81,17 +80,17 @@ fn push_template(
 // The strings, as they are meant.
 fn templates(
     alloc: Global,
-    surroundings: &Surroundings<'_>,
+    required: Capabilities,
     first: &Octets,
     others: &[Octets],
 ) -> Result<Vec<Vec<Segment>>, AllocError>
     ensures { IfOk result (λ all. templates_of all.items
-        ≡ map (template_of (context_of surroundings.now)) (first.now ∷ others.now)) }
+        ≡ map (template_of required) (first.now ∷ others.now)) }
 {
     let mut all = Vec::with_capacity(alloc, others.len() + 1)?;
-    push_template(alloc, &mut all, surroundings, first)?;
+    push_template(alloc, &mut all, required, first)?;
     for string in others {
-        push_template(alloc, &mut all, surroundings, string)?;
+        push_template(alloc, &mut all, required, string)?;
     }
     Ok(all)
 }
@@ -99,15 +98,15 @@ fn templates(
 /// The strings of a list, as they are meant; one string is a list, too. What is no list has no form.
 pub fn list_in(
     alloc: Global,
-    surroundings: &Surroundings<'_>,
+    required: Capabilities,
     argument: &Argument,
 ) -> Result<Vec<Vec<Segment>>, FormError>
     ensures { Formed (λ list. templates_of list.items)
-        (list_in (context_of surroundings.now) (argument_tree argument.now)) result }
+        (list_in required (argument_tree argument.now)) result }
 {
     match argument {
-        Argument::Text(string) => Ok(templates(alloc, surroundings, string, &[])?),
-        Argument::TextList(first, others) => Ok(templates(alloc, surroundings, first, others)?),
+        Argument::Text(string) => Ok(templates(alloc, required, string, &[])?),
+        Argument::TextList(first, others) => Ok(templates(alloc, required, first, others)?),
         Argument::Number(_) | Argument::Tag(_) => Err(FormError::Malformed),
     }
 }
@@ -115,15 +114,15 @@ pub fn list_in(
 /// The one list that the arguments are.
 pub fn only_list_in(
     alloc: Global,
-    surroundings: &Surroundings<'_>,
+    required: Capabilities,
     arguments: &[Argument],
 ) -> Result<Vec<Vec<Segment>>, FormError>
     ensures { (make : List Template → TestForm)
         → Formed (λ list. make (templates_of list.items))
-        (of_list (context_of surroundings.now) make (map argument_tree arguments.now)) result }
+        (of_list required make (map argument_tree arguments.now)) result }
 {
     match arguments {
-        [list] => list_in(alloc, surroundings, list),
+        [list] => list_in(alloc, required, list),
         _ => Err(FormError::Malformed),
     }
 }
@@ -131,17 +130,17 @@ pub fn only_list_in(
 /// The two lists that the arguments are.
 pub fn lists_in(
     alloc: Global,
-    surroundings: &Surroundings<'_>,
+    required: Capabilities,
     arguments: &[Argument],
 ) -> Result<(Vec<Vec<Segment>>, Vec<Vec<Segment>>), FormError>
     ensures { (make : List Template → List Template → TestForm)
         → Formed (λ lists. make (templates_of lists.0.items) (templates_of lists.1.items))
-        (of_lists (context_of surroundings.now) make (map argument_tree arguments.now)) result }
+        (of_lists required make (map argument_tree arguments.now)) result }
 {
     let [first, second] = arguments else {
         return Err(FormError::Malformed);
     };
-    let first = list_in(alloc, surroundings, first)?;
-    let second = list_in(alloc, surroundings, second)?;
+    let first = list_in(alloc, required, first)?;
+    let second = list_in(alloc, required, second)?;
     Ok((first, second))
 }

@@ -5,8 +5,7 @@ ghost use Rattle.sieve_parser.specs.View.{argument_tree, invocation_tree, more_t
 ghost use Rattle.sieve_check.specs.FormOf.{none, one, bracketed, header_of, match_of, more_forms_of, of_list, of_lists, params_in, scope_of, selected_by, size_of, test_form_of};
 ghost use Rattle.sieve_check.specs.Forming.{Formed, IsTestRead, head_test};
 ghost use Rattle.sieve_check.specs.Reading.{read_of};
-ghost use Rattle.sieve_check.specs.Refusing.{context_of};
-ghost use Rattle.sieve_check.specs.Surroundings.{Context};
+ghost use Rattle.sieve_check.specs.declared.surroundings.Capabilities.{Capabilities};
 ghost use Rattle.sieve_check.specs.Typed.{TestForm, TestForms, exists, negation, part_body, part_digest, part_size, size, string};
 ghost use Rattle.sieve_check.specs.TypedView.{selected_form, templates_of, test_form, tests_of};
 
@@ -14,7 +13,7 @@ use crate::form_error::FormError;
 use crate::names::{TestName, test_named};
 use crate::signature::{Reading, Tags, test_signature};
 use crate::strings::{list_in, lists_in, only_list_in};
-use crate::surroundings::Surroundings;
+use crate::surroundings::Capabilities;
 use crate::typed::{Order, Segment, Selection, Test};
 use bytecode_format::{Scope, Selector};
 use glob_match::{Comparator, Match, MatchType};
@@ -60,29 +59,25 @@ fn selected_by(selector: Selector, names: Vec<Vec<Segment>>) -> Selection
 // The names of the parameters, which the argument is, if there is one.
 fn params_in(
     alloc: Global,
-    surroundings: &Surroundings<'_>,
+    required: Capabilities,
     arguments: &[Argument],
 ) -> Result<Vec<Vec<Segment>>, FormError>
     ensures { Formed (λ names. templates_of names.items)
-        (params_in (context_of surroundings.now) (map argument_tree arguments.now)) result }
+        (params_in required (map argument_tree arguments.now)) result }
 {
     match arguments {
         [] => Ok(Vec::new(alloc)),
-        [list, ..] => list_in(alloc, surroundings, list),
+        [list, ..] => list_in(alloc, required, list),
     }
 }
 
 // The test of a header's names and keys.
-fn header(
-    alloc: Global,
-    surroundings: &Surroundings<'_>,
-    reading: &Reading<'_>,
-) -> Result<Test, FormError>
-    ensures { Formed test_form (header_of (context_of surroundings.now) (read_of reading.now))
+fn header(alloc: Global, required: Capabilities, reading: &Reading<'_>) -> Result<Test, FormError>
+    ensures { Formed test_form (header_of required (read_of reading.now))
         result }
 {
-    let params = params_in(alloc, surroundings, reading.params)?;
-    let (names, keys) = lists_in(alloc, surroundings, reading.positional)?;
+    let params = params_in(alloc, required, reading.params)?;
+    let (names, keys) = lists_in(alloc, required, reading.positional)?;
     Ok(Test::Header {
         matching: match_of(reading.tags),
         scope: scope_of(reading.tags),
@@ -95,14 +90,14 @@ fn header(
 // The test of sources and keys, which the arguments are.
 fn string(
     alloc: Global,
-    surroundings: &Surroundings<'_>,
+    required: Capabilities,
     tags: Tags,
     arguments: &[Argument],
 ) -> Result<Test, FormError>
-    ensures { Formed test_form (of_lists (context_of surroundings.now) (string (match_of tags))
+    ensures { Formed test_form (of_lists required (string (match_of tags))
         (map argument_tree arguments.now)) result }
 {
-    let (sources, keys) = lists_in(alloc, surroundings, arguments)?;
+    let (sources, keys) = lists_in(alloc, required, arguments)?;
     Ok(Test::String {
         matching: match_of(tags),
         sources,
@@ -113,28 +108,28 @@ fn string(
 // The test that there are fields of the names, which the arguments are.
 fn exists(
     alloc: Global,
-    surroundings: &Surroundings<'_>,
+    required: Capabilities,
     tags: Tags,
     arguments: &[Argument],
 ) -> Result<Test, FormError>
-    ensures { Formed test_form (of_list (context_of surroundings.now) (exists (scope_of tags))
+    ensures { Formed test_form (of_list required (exists (scope_of tags))
         (map argument_tree arguments.now)) result }
 {
-    let names = only_list_in(alloc, surroundings, arguments)?;
+    let names = only_list_in(alloc, required, arguments)?;
     Ok(Test::Exists(scope_of(tags), names))
 }
 
 // The test of the current part's content against the keys, which the arguments are.
 fn part_body(
     alloc: Global,
-    surroundings: &Surroundings<'_>,
+    required: Capabilities,
     tags: Tags,
     arguments: &[Argument],
 ) -> Result<Test, FormError>
-    ensures { Formed test_form (of_list (context_of surroundings.now) (part_body (match_of tags))
+    ensures { Formed test_form (of_list required (part_body (match_of tags))
         (map argument_tree arguments.now)) result }
 {
-    let keys = only_list_in(alloc, surroundings, arguments)?;
+    let keys = only_list_in(alloc, required, arguments)?;
     Ok(Test::PartBody {
         matching: match_of(tags),
         keys,
@@ -144,13 +139,13 @@ fn part_body(
 // The test of the digest of the current part's content against the keys, which the arguments are.
 fn part_digest(
     alloc: Global,
-    surroundings: &Surroundings<'_>,
+    required: Capabilities,
     arguments: &[Argument],
 ) -> Result<Test, FormError>
-    ensures { Formed test_form (of_list (context_of surroundings.now) part_digest
+    ensures { Formed test_form (of_list required part_digest
         (map argument_tree arguments.now)) result }
 {
-    let keys = only_list_in(alloc, surroundings, arguments)?;
+    let keys = only_list_in(alloc, required, arguments)?;
     Ok(Test::PartDigest(keys))
 }
 
@@ -176,12 +171,8 @@ fn test_read(head: &Head) -> Option<(TestName, Reading<'_>)>
 }
 
 // A test after whose arguments no test stands.
-fn plain_test(
-    alloc: Global,
-    surroundings: &Surroundings<'_>,
-    head: &Head,
-) -> Result<Test, FormError>
-    ensures { Formed test_form (head_test (context_of surroundings.now) head.now none) result }
+fn plain_test(alloc: Global, required: Capabilities, head: &Head) -> Result<Test, FormError>
+    ensures { Formed test_form (head_test required head.now none) result }
 {
     let Some((name, reading)) = test_read(head) else {
         return Err(FormError::Malformed);
@@ -190,27 +181,27 @@ fn plain_test(
     let arguments = reading.positional;
     match name {
         TestName::Constant(value) => Ok(Test::Constant(value)),
-        TestName::Header => header(alloc, surroundings, &reading),
-        TestName::Exists => exists(alloc, surroundings, tags, arguments),
+        TestName::Header => header(alloc, required, &reading),
+        TestName::Exists => exists(alloc, required, tags, arguments),
         TestName::Size => {
             let (order, number) = compared(tags, arguments)?;
             Ok(Test::Size(order, number))
         }
-        TestName::String => string(alloc, surroundings, tags, arguments),
+        TestName::String => string(alloc, required, tags, arguments),
         TestName::PartSize => {
             let (order, number) = compared(tags, arguments)?;
             Ok(Test::PartSize(order, number))
         }
-        TestName::PartBody => part_body(alloc, surroundings, tags, arguments),
-        TestName::PartDigest => part_digest(alloc, surroundings, arguments),
+        TestName::PartBody => part_body(alloc, required, tags, arguments),
+        TestName::PartDigest => part_digest(alloc, required, arguments),
         TestName::Not | TestName::AllOf | TestName::AnyOf => Err(FormError::Malformed),
     }
 }
 
 // The test that turns around the one behind it.
 fn negated(alloc: Global, head: &Head, inner: Test) -> Result<Test, FormError>
-    ensures { (s : Context)
-        → Formed test_form (head_test s head.now (one (test_form inner))) result }
+    ensures { (required : Capabilities)
+        → Formed test_form (head_test required head.now (one (test_form inner))) result }
 {
     match test_read(head) {
         Some((TestName::Not, _)) => Ok(Test::Not(Box::new(alloc, inner)?)),
@@ -220,8 +211,8 @@ fn negated(alloc: Global, head: &Head, inner: Test) -> Result<Test, FormError>
 
 // The test of the tests in round brackets behind it.
 fn combined(alloc: Global, head: &Head, first: Test, others: Vec<Test>) -> Result<Test, FormError>
-    ensures { (s : Context)
-        → Formed test_form (head_test s head.now
+    ensures { (required : Capabilities)
+        → Formed test_form (head_test required head.now
         (bracketed (test_form first) (tests_of (map test_form others.items)))) result }
 {
     let first = Box::new(alloc, first)?;
@@ -236,21 +227,21 @@ fn combined(alloc: Global, head: &Head, first: Test, others: Vec<Test>) -> Resul
 #[cycle(tests)]
 pub fn test(
     alloc: Global,
-    surroundings: &Surroundings<'_>,
+    required: Capabilities,
     invocation: &Invocation,
 ) -> Result<Test, FormError>
     ensures { Formed test_form
-        (test_form_of (context_of surroundings.now) (invocation_tree invocation.now)) result }
+        (test_form_of required (invocation_tree invocation.now)) result }
 {
     match invocation {
-        Invocation::Plain(head) => plain_test(alloc, surroundings, head),
+        Invocation::Plain(head) => plain_test(alloc, required, head),
         Invocation::WithTest(head, inner) => {
-            let inner = test(alloc, surroundings, inner)?;
+            let inner = test(alloc, required, inner)?;
             negated(alloc, head, inner)
         }
         Invocation::WithTests(head, first, others) => {
-            let first = test(alloc, surroundings, first)?;
-            let others = tests(alloc, surroundings, others)?;
+            let first = test(alloc, required, first)?;
+            let others = tests(alloc, required, others)?;
             combined(alloc, head, first, others)
         }
     }
@@ -258,18 +249,14 @@ pub fn test(
 
 // The tests of a list after its first.
 #[cycle(tests)]
-fn tests(
-    alloc: Global,
-    surroundings: &Surroundings<'_>,
-    list: &[Invocation],
-) -> Result<Vec<Test>, FormError>
+fn tests(alloc: Global, required: Capabilities, list: &[Invocation]) -> Result<Vec<Test>, FormError>
     ensures { Formed (λ ts. tests_of (map test_form ts.items))
-        (more_forms_of (context_of surroundings.now)
+        (more_forms_of required
         (more_tests_of (map invocation_tree list.now))) result }
 {
     let mut tests = Vec::with_capacity(alloc, list.len())?;
     'list: for invocation in list {
-        let test = test(alloc, surroundings, invocation)?;
+        let test = test(alloc, required, invocation)?;
         tests.push(test)?;
     }
     Ok(tests)
