@@ -55,19 +55,19 @@ unselecting _ = refl
 
 command_well_formed : (s : Context) (name : CommandName) (args : List ArgumentTree) (tests : Tests) (ending : Ending) → known_command_cause s name args tests ending ≡ None → CommandWellFormed s name args tests ending
 command_well_formed s name args tests ending h =
-    let a = both_none (lacking_cause s (command_needs name)) _ h in
+    let a = both_none (lacking_cause s.required (command_needs name)) _ h in
     let b = both_none (unknown_cause name args) _ a.1 in
     let c = both_none (arguments_cause (command_signature name) args) _ b.1 in
     let form = well_formed (command_signature name) args c.0 in
     let read = form.read in
     let mentions = mentions_of name (strings_of (lists_read read)) in
     let rest : read_command_cause s name args tests ending read ≡ None = sym (ap (option_and_then (read_command_cause s name args tests ending)) form.is) ∙ c.1 in
-    let d = both_none (ill_formed_command name tests ending (where_required s mentions)) _ rest in
+    let d = both_none (ill_formed_command name tests ending (where_required s.required mentions)) _ rest in
     let e = both_none (tests_cause (command_signature name) tests) _ d.0 in
-    let f = both_none (ending_cause name ending) (mention_cause (where_required s mentions)) e.1 in
+    let f = both_none (ending_cause name ending) (mention_cause (where_required s.required mentions)) e.1 in
     let g = both_none (place_cause s name read) _ d.1 in
     let i = both_none (long_string_cause args) _ g.1 in
-    let j = both_none (large_mention_cause (where_required s mentions)) (many_loops_cause s name args) i.1 in
+    let j = both_none (large_mention_cause (where_required s.required mentions)) (many_loops_cause s name args) i.1 in
     let alone = form.alone (unselecting name) in
     record {
       has = map_none lacking (first_lacking (command_needs name) s.required) a.0;
@@ -105,7 +105,7 @@ known_command s token word args tests ending h =
       form = form;
       inner = inner;
       names = names_found (λ known. command_mentions s known args) (command_named word) name.0 (own_names s name.0 form.form.read) (inner_variables inner.inner) _ name.1
-          (ap (λ xs. mentioned_at (expands s) (mentions_of name.0 (strings_of xs))) (sym form.alone) ∙ ap (λ o. names_mentioned (where_required s (mentions_of name.0 (strings_read o)))) (sym form.form.is))
+          (ap (λ xs. mentioned_at (expands s) (mentions_of name.0 (strings_of xs))) (sym form.alone) ∙ ap (λ o. names_mentioned (where_required s.required (mentions_of name.0 (strings_read o)))) (sym form.form.is))
           (inner.variables ∙ ap names_brought (sym looked));
     }
 

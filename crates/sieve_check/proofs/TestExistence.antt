@@ -88,17 +88,17 @@ pub record TestWellFormed (s : Context) (name : TestName) (args : List ArgumentT
 
 test_well_formed : (s : Context) (name : TestName) (args : List ArgumentTree) (tests : Tests) → known_test_cause s name args tests ≡ None → TestWellFormed s name args tests
 test_well_formed s name args tests h =
-    let a = both_none (lacking_cause s (test_needs name args)) _ h in
+    let a = both_none (lacking_cause s.required (test_needs name args)) _ h in
     let b = both_none (arguments_cause (test_signature name) args) _ a.1 in
     let form = well_formed (test_signature name) args b.0 in
     let read = form.read in
     let mentions = expanding (strings_of (lists_read read)) in
     let rest : read_test_cause s name args tests read ≡ None = sym (ap (option_and_then (read_test_cause s name args tests)) form.is) ∙ b.1 in
-    let c = both_none (ill_formed_test name tests (where_required s mentions)) _ rest in
+    let c = both_none (ill_formed_test name tests (where_required s.required mentions)) _ rest in
     let d = both_none (tests_cause (test_signature name) tests) _ c.0 in
     let e = both_none (test_place_cause s name) _ c.1 in
     let f = both_none (long_string_cause args) _ e.1 in
-    let g = both_none (many_strings_cause read) (large_mention_cause (where_required s mentions)) f.1 in
+    let g = both_none (many_strings_cause read) (large_mention_cause (where_required s.required mentions)) f.1 in
     let few = if_none (has_many_strings read) (plain ManyStrings) None g.0 in
     record {
       stands = unless_none (test_may_stand s name) (plain Misplaced) e.0;
@@ -281,7 +281,7 @@ mutual
         around = f.around;
         variables = f.variables
             ∙ names_found (λ known. test_mentions s known args) (test_named word) name.0 (own_names s read) (inner_variables inner.inner) _ name.1
-            (ap (λ o. names_mentioned (where_required s (expanding (strings_read o)))) (sym well.form.is)) (inner.variables ∙ ap names_brought (sym looked));
+            (ap (λ o. names_mentioned (where_required s.required (expanding (strings_read o)))) (sym well.form.is)) (inner.variables ∙ ap names_brought (sym looked));
       }
 
   pub inner_exists : (s : Context) (tests : TestsTree) → AreFaultless (tests_visits s tests) → Inner s tests

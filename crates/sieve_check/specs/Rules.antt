@@ -25,6 +25,7 @@ use Rattle.sieve_check.specs.declared.signature.Tests.TheVariants.{Nothing, One,
 use Rattle.sieve_check.specs.declared.signature.Ending.{Ending}
 use Rattle.sieve_check.specs.declared.signature.Ending.TheVariants.{Semicolon, Block}
 use Rattle.sieve_check.specs.declared.signature.Signature.{Signature}
+use Rattle.sieve_check.specs.declared.surroundings.Capabilities.{Capabilities}
 use Rattle.sieve_check.specs.declared.names.Tag.{Tag}
 use Rattle.sieve_check.specs.declared.names.Tag.TheVariants.{Mime}
 use Rattle.sieve_check.specs.Arguments.{arguments_cause}
@@ -215,15 +216,15 @@ mentions_of Break strings = expanding strings
 mentions_of Store strings = expanding strings
 
 -- variables are there only where they were required
-abbrev pub where_required : Context → Mentions → Mentions
-where_required s mentions = if has_capability capability.Variables s.required then mentions else no_mention
+abbrev pub where_required : Capabilities → Mentions → Mentions
+where_required required mentions = if has_capability capability.Variables required then mentions else no_mention
 
 abbrev pub command_mentions : Context → CommandName → List ArgumentTree → Mentions
-command_mentions s name args = where_required s
+command_mentions s name args = where_required s.required
     (mentions_of name (strings_read (reading (command_signature name) args)))
 
 abbrev pub test_mentions : Context → TestName → List ArgumentTree → Mentions
-test_mentions s name args = where_required s (expanding (strings_read (reading (test_signature name) args)))
+test_mentions s name args = where_required s.required (expanding (strings_read (reading (test_signature name) args)))
 
 -- the names of variables, in lower case
 abbrev pub names_mentioned : Mentions → List (List ℕ)
@@ -235,8 +236,8 @@ abbrev pub lacking : Capability → Cause
 lacking capability = plain (MissingCapability capability)
 
 -- the first capability that is needed and wasn't required
-abbrev pub lacking_cause : Context → List Capability → Option Cause
-lacking_cause s needed = option_map lacking (first_lacking needed s.required)
+abbrev pub lacking_cause : Capabilities → List Capability → Option Cause
+lacking_cause required needed = option_map lacking (first_lacking needed required)
 
 -- the first string of a require that is no capability, wherever it stands and however it is written
 abbrev pub unknown_cause : CommandName → List ArgumentTree → Option Cause
@@ -341,14 +342,14 @@ oversized_command s name args mentions =
 -- a command whose arguments were read, apart from them, with its place and the limits
 abbrev pub read_command_cause : Context → CommandName → List ArgumentTree → Tests → Ending → Read → Option Cause
 read_command_cause s name args tests ending read =
-    let mentions = where_required s (mentions_of name (strings_of (lists_read read))) in
+    let mentions = where_required s.required (mentions_of name (strings_of (lists_read read))) in
     option_or (ill_formed_command name tests ending mentions)
     (option_or (place_cause s name read) (oversized_command s name args mentions))
 
 -- a command that is known by that name
 abbrev pub known_command_cause : Context → CommandName → List ArgumentTree → Tests → Ending → Option Cause
 known_command_cause s name args tests ending =
-    option_or (lacking_cause s (command_needs name))
+    option_or (lacking_cause s.required (command_needs name))
     (option_or (unknown_cause name args)
     (option_or (arguments_cause (command_signature name) args)
     (option_and_then (read_command_cause s name args tests ending) (reading (command_signature name) args))))
@@ -363,13 +364,13 @@ oversized_test args read mentions =
 
 abbrev pub read_test_cause : Context → TestName → List ArgumentTree → Tests → Read → Option Cause
 read_test_cause s name args tests read =
-    let mentions = where_required s (expanding (strings_of (lists_read read))) in
+    let mentions = where_required s.required (expanding (strings_of (lists_read read))) in
     option_or (ill_formed_test name tests mentions)
     (option_or (test_place_cause s name) (oversized_test args read mentions))
 
 abbrev pub known_test_cause : Context → TestName → List ArgumentTree → Tests → Option Cause
 known_test_cause s name args tests =
-    option_or (lacking_cause s (test_needs name args))
+    option_or (lacking_cause s.required (test_needs name args))
     (option_or (arguments_cause (test_signature name) args)
     (option_and_then (read_test_cause s name args tests) (reading (test_signature name) args)))
 

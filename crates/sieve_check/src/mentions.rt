@@ -6,7 +6,7 @@ ghost use Rattle.sieve_references.specs.SegmentView.{segment_of};
 ghost use Rattle.sieve_check.specs.declared.signature.Positional.TheVariants.{Text, TwoTexts};
 ghost use Rattle.sieve_check.specs.Reading.{left_of, name_in, read_of};
 ghost use Rattle.sieve_check.specs.ReasonView.{cause_view};
-ghost use Rattle.sieve_check.specs.Refusing.{Adds, context_of, listed, mentions_in};
+ghost use Rattle.sieve_check.specs.Refusing.{Adds, listed, mentions_in};
 ghost use Rattle.sieve_check.specs.Rules.{expanding, large_cause, large_mention_cause, lists_read, long_name, mention_cause, mentions_of, names_mentioned, no_mention, reference_kind, strings_of, where_required};
 ghost use Rattle.sieve_check.specs.Signatures.{command_signature, is_positional};
 
@@ -15,7 +15,7 @@ use crate::names::{Capability, CommandName};
 use crate::references::is_long_name;
 use crate::signature::{Lists, Reading};
 use crate::string_faults::StringFault;
-use crate::surroundings::Surroundings;
+use crate::surroundings::Capabilities;
 use crate::variable_names::VariableNames;
 use octets::Octets;
 use sieve_parser::Argument;
@@ -122,16 +122,16 @@ impl<'t> Mentions<'t> {
 
     /// Those of a command that is known by that name, by its arguments: none where variables weren't required.
     pub fn of_command(
-        surroundings: &Surroundings<'_>,
+        required: Capabilities,
         name: CommandName,
         reading: Reading<'t>,
     ) -> Mentions<'t>
         requires { is_positional (command_signature name).positional (left_of reading) ≡ true }
         ensures { mentions_in result
-            ≡ where_required (context_of surroundings.now)
+            ≡ where_required required
             (mentions_of name (strings_of (lists_read (read_of reading.entry)))) }
     {
-        if !surroundings.required.has(Capability::Variables) {
+        if !required.has(Capability::Variables) {
             return Mentions::none();
         }
         match name {
@@ -146,12 +146,12 @@ impl<'t> Mentions<'t> {
     }
 
     /// Those of a test, by its arguments.
-    pub fn of_test(surroundings: &Surroundings<'_>, reading: Reading<'t>) -> Mentions<'t>
+    pub fn of_test(required: Capabilities, reading: Reading<'t>) -> Mentions<'t>
         ensures { mentions_in result
-            ≡ where_required (context_of surroundings.now)
+            ≡ where_required required
             (expanding (strings_of (lists_read (read_of reading.entry)))) }
     {
-        if !surroundings.required.has(Capability::Variables) {
+        if !required.has(Capability::Variables) {
             return Mentions::none();
         }
         Mentions {

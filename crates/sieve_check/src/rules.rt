@@ -16,7 +16,7 @@ use crate::signature::{
     Ending, Reading, Signature, Tests, command_signature, ending_of, test_signature,
 };
 use crate::string_faults::{StringFault, has_many_strings};
-use crate::surroundings::Surroundings;
+use crate::surroundings::{Capabilities, Surroundings};
 use sieve_parser::{Argument, Command, Head, Invocation};
 
 // The capabilities that a command needs.
@@ -114,11 +114,11 @@ fn test_place_cause<'t>(surroundings: &Surroundings<'_>, name: TestName) -> Opti
 }
 
 // The first capability that is needed and wasn't required.
-fn lacking_cause<'t>(surroundings: &Surroundings<'_>, needed: &[Capability]) -> Option<Cause<'t>>
+fn lacking_cause<'t>(required: Capabilities, needed: &[Capability]) -> Option<Cause<'t>>
     ensures { option_map cause_view result
-        ≡ lacking_cause (context_of surroundings.now) needed.now }
+        ≡ lacking_cause required needed.now }
 {
-    let capability = surroundings.required.first_lacking(needed)?;
+    let capability = required.first_lacking(needed)?;
     Some(Cause::plain(ReasonKind::MissingCapability(capability)))
 }
 
@@ -212,12 +212,12 @@ fn read_command<'t>(
     reading: Reading<'t>,
 ) -> Result<Mentions<'t>, Cause<'t>>
     requires { is_positional (command_signature name).positional (left_of reading) ≡ true }
-    ensures { Finds (names_mentioned (where_required (context_of surroundings.now)
+    ensures { Finds (names_mentioned (where_required (context_of surroundings.now).required
         (mentions_of name (strings_of (lists_read (read_of reading.entry))))))
         (read_command_cause (context_of surroundings.now) name (arguments_of head.now) tests
         ending (read_of reading.entry)) result }
 {
-    let mentions = Mentions::of_command(surroundings, name, reading);
+    let mentions = Mentions::of_command(surroundings.required, name, reading);
     if let Some(cause) = ill_formed_command(name, tests, ending, mentions) {
         return Err(cause);
     }
@@ -243,7 +243,7 @@ fn known_command<'t>(
         (known_command_cause (context_of surroundings.now) name (arguments_of head.now) tests
         ending) result }
 {
-    if let Some(cause) = lacking_cause(surroundings, command_needs(name)) {
+    if let Some(cause) = lacking_cause(surroundings.required, command_needs(name)) {
         return Err(cause);
     }
     if let Some(cause) = unknown_cause(name, head) {
@@ -330,12 +330,12 @@ fn read_test<'t>(
     tests: Tests,
     reading: Reading<'t>,
 ) -> Result<Mentions<'t>, Cause<'t>>
-    ensures { Finds (names_mentioned (where_required (context_of surroundings.now)
+    ensures { Finds (names_mentioned (where_required (context_of surroundings.now).required
         (expanding (strings_of (lists_read (read_of reading.entry))))))
         (read_test_cause (context_of surroundings.now) name (arguments_of head.now) tests
         (read_of reading.entry)) result }
 {
-    let mentions = Mentions::of_test(surroundings, reading);
+    let mentions = Mentions::of_test(surroundings.required, reading);
     if let Some(cause) = ill_formed_test(name, tests, mentions) {
         return Err(cause);
     }
@@ -360,7 +360,7 @@ fn known_test<'t>(
         (known_test_cause (context_of surroundings.now) name (arguments_of head.now) tests)
         result }
 {
-    if let Some(cause) = lacking_cause(surroundings, test_needs(name, head)) {
+    if let Some(cause) = lacking_cause(surroundings.required, test_needs(name, head)) {
         return Err(cause);
     }
     match test_signature(name).read(&head.arguments) {
