@@ -6,6 +6,10 @@
 ## help, the manual page and the completions
     $ "$TOP/cases/help_and_manual" depot
 
+## the start of the program, with stand-ins for it and for the toolchain
+    $ "$TOP/cases/starts"
+    27 tried, 0 wrong
+
 ## the edits and docs/PROMISES.md
     $ "$TOP/cases/edits_stand"
 
