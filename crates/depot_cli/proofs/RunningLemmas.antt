@@ -6,7 +6,7 @@ use Rattle.clap.specs.declared.error.kind.ErrorKind.TheVariants.{OutOfMemory}
 use Rattle.depot_cli.specs.Jobs.{HasAnswered, HasFound, HasRefused, HasStopped, HasTold, World}
 use Rattle.depot_cli.specs.Host.{HostState, Origin}
 use Rattle.depot_cli.specs.Running.{HasNoLine, HasOutcome, HasRead, HasToldUsage, HaveRead, IsNoLine, KeepsOthers, refused, usage}
-use Rattle.depot_cli.specs.Words.{IsDepot}
+use Rattle.depot_words.specs.Commands.{IsDepot}
 use Rattle.refusals.specs.declared.refusal.Refusal.TheVariants.{Memory}
 use Rattle.depot_cli.specs.declared.job.Job.{Job}
 

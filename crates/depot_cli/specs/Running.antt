@@ -13,7 +13,8 @@ use Rattle.depot_cli.specs.Limits.{max_input}
 use Rattle.depot_cli.specs.Printed.{shown}
 use Rattle.depot_cli.specs.Requests.{file_of, request_command}
 use Rattle.depot_cli.specs.Tasks.{command_of}
-use Rattle.depot_cli.specs.Words.{IsDepot, Says}
+use Rattle.depot_words.specs.Commands.{IsDepot}
+use Rattle.depot_cli.specs.Words.{Says}
 use Rattle.refusals.specs.declared.refusal.Refusal.{Refusal}
 use Rattle.refusals.specs.declared.refusal.Refusal.TheVariants.{Memory, MessageTooLarge, Read}
 use Rattle.depot_cli.specs.declared.job.Job.{Job}

@@ -3,7 +3,7 @@
 //! [`run`] goes from the words to the status (`specs/Running`). What it needs of its surroundings
 //! is a [`Host`], which opens and makes files: a contract sees what it was asked for, and what it
 //! gave. [`System`] is the host of a real system. [`line_of`] says what the words say
-//! (`specs/Words`): [`Work`] that needs no depot, or a [`Request`] to one (`specs/Requests`), each
+//! (`specs/Words`), which commands there are being told by `depot_words`: [`Work`] that needs no depot, or a [`Request`] to one (`specs/Requests`), each
 //! with the names of its files. [`read_limited`] reads a [`Source`](encodings::Source) up to a limit
 //! (`specs/LimitedReading`). With the octets of its files work is a [`Job`], which [`answer`]
 //! carries out, and a request is a [`Task`], which [`perform`] has the depot do: each writes exactly
@@ -11,13 +11,10 @@
 //! takes no memory, and what a sink that failed has got is a prefix of the text.
 #![tactic(auto)]
 
-mod arguments;
 mod carrying;
-mod commands;
 mod entries;
 mod errand;
 mod gathering;
-mod help;
 mod host;
 mod inspection;
 mod job;

@@ -2,12 +2,13 @@
 ghost use Rattle.std.specs.Prelude.{◌≡◌, IfOk, IfErr, MatchOption, Some, map, true};
 ghost use Rattle.clap.specs.Words.{App, FailsBy, fault_of, found_of, kind_of, rows_of, subcommand_of, subcommand_rows_of, takes};
 ghost use Rattle.clap.specs.declared.error.kind.ErrorKind.TheVariants.{OutOfMemory};
-ghost use Rattle.depot_cli.specs.Words.{AreEncodings, IsDepot, IsNoWork, IsNoRequest, IsNumber, Says, SaysRequest, SaysWork, argument as text_of, encoding_named};
+ghost use Rattle.depot_words.specs.Commands.{AreEncodings, IsDepot};
+ghost use Rattle.depot_cli.specs.Words.{IsNoWork, IsNoRequest, IsNumber, Says, SaysRequest, SaysWork, argument as text_of, encoding_named};
 
-use crate::commands::depot_command;
 use crate::request::Request;
 use crate::work::Work;
 use clap::{ArgMatches, Error};
+use depot_words::depot_command;
 use encodings::Encoding;
 use std::alloc::Global;
 

@@ -1,22 +1,11 @@
-use Rattle.std.proofs.Common.{rules, ◌≡◌, ◌∙◌, ap, refl, map, subst, sym, true}
+use Rattle.std.proofs.Common.{rules, ◌∙◌, ap, refl, map, subst, sym}
 use Rattle.std.proofs.lemmas.Result.{err_from_is_err_and}
-use Rattle.clap.proofs.OnLiterals.{clap_on_literals}
 use Rattle.clap.specs.Faults.{is_simple_and_free}
 use Rattle.clap.specs.Words.{App, FailsBy, HasKind, fault_of, is_simple, subcommand_of, takes}
-use Rattle.depot_cli.specs.Words.{AreEncodings, IsDepot, Says, Texts, depot_app}
+use Rattle.depot_words.proofs.AppLemmas.{depot_has, simple, simple_and_free}
+use Rattle.depot_words.specs.Commands.{depot_app}
+use Rattle.depot_cli.specs.Words.{Says}
 use Rattle.depot_cli.proofs.line.line_of.Goals as goal
-
-simple : (names : Texts) → is_simple (depot_app names) ≡ true
-unfolding clap_on_literals
-simple names = refl
-
-simple_and_free : (names : Texts) → is_simple_and_free (depot_app names) ≡ true
-unfolding clap_on_literals
-simple_and_free names = refl
-
--- what holds of the program with its commands
-depot_has : (names : Texts) (P : App → Type 0) → AreEncodings names → P (depot_app names) → (app : App) × IsDepot app × P app
-depot_has names P are h = (depot_app names, (names, are, refl), h)
 
 pub returns-in_err-depot_command-clause-taken : goal.returns-in_err-depot_command-clause-taken
 returns-in_err-depot_command-clause-taken c =

@@ -37,9 +37,9 @@ pub const ALL: &str = concat!(
     "its number and name, and status 1. Status 2 says that the words aren't those of a command.\n",
     "With no words at all, a program that keeps every message runs on standard input.\n",
     "The help of a command has an example, and says with which refusals it may end.\n\n",
-    // The versions of the program and of the kit that it is proved with; no other place of the code has
-    // them.
-    "depot 0.22.0, proved with rattle-kit-13f"
+    // The version of the program, and the logic in which it is proved, which several kits may share; no
+    // other place of the code has them.
+    "depot 0.22.0, proved with Rattle, logic dac8208d650f15bf"
 );
 
 pub const CHECK: &str = script_ending!("depot check filter.sieve", "1, 2, 11 to 19, 45, 46");

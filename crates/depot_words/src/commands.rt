@@ -1,8 +1,8 @@
 // The program with its commands, as it is told to clap.
-ghost use Rattle.std.specs.Prelude.{◌≡◌, IfOk, false};
-ghost use Rattle.clap.specs.Words.{app_of};
+ghost use Rattle.std.specs.Prelude.{◌≡◌, IfOk, codes, false};
+ghost use Rattle.clap.specs.Words.{app_of, new_app, with_subcommand};
 ghost use Rattle.clap.specs.declared.builder.command.Command.TheViews.{out-Command as fields_of};
-ghost use Rattle.depot_cli.specs.Words.{assemble_app, batch_app, check_app, checks_app, code_app, codecs_app, compile_app, decode_app, deliver_app, delivery_app, depot_app, disassemble_app, encode_app, entries_app, eval_app, explain_app, export_app, filing_app, filters_app, inspect_app, keeper_app, keeping_app, list_app, listings_app, mail_app, migrate_app, parts_app, program_app, remove_app, run_app, script_app, scripts_app, user_app, verify_app};
+ghost use Rattle.depot_words.specs.Commands.{assemble_app, batch_app, check_app, checks_app, code_app, codecs_app, compile_app, decode_app, deliver_app, delivery_app, depot_app, disassemble_app, encode_app, entries_app, eval_app, explain_app, export_app, filing_app, filters_app, inspect_app, keeper_app, keeping_app, list_app, listings_app, mail_app, migrate_app, parts_app, program_app, remove_app, run_app, script_app, scripts_app, user_app, verify_app};
 
 use crate::arguments::{
     any_file, depot_file, encoding_name, entry_number, listing_file, message_file, out_file,
@@ -25,9 +25,16 @@ fn keeper_command<'a>(alloc: Global, names: &'a [&'a str]) -> Result<Command<'a>
     ensures app { IfOk result (λ c. app_of c ≡ keeper_app names.entry) }
     ensures local { IfOk result (λ c. (fields_of c).has_globals ≡ false) }
 {
-    entries_command(alloc, names)?
-        .subcommand(migrate_command(alloc)?)?
-        .subcommand(inspect_command(alloc)?)
+    with_migrate(alloc, names)?.subcommand(inspect_command(alloc)?)
+}
+
+// The program as far as the command migrate.
+fn with_migrate<'a>(alloc: Global, names: &'a [&'a str]) -> Result<Command<'a>, AllocError>
+    ensures app { IfOk result (λ c. app_of c
+        ≡ with_subcommand (entries_app names.entry) migrate_app.top) }
+    ensures local { IfOk result (λ c. (fields_of c).has_globals ≡ false) }
+{
+    entries_command(alloc, names)?.subcommand(migrate_command(alloc)?)
 }
 
 // The program with all commands of users.
@@ -35,9 +42,16 @@ fn entries_command<'a>(alloc: Global, names: &'a [&'a str]) -> Result<Command<'a
     ensures app { IfOk result (λ c. app_of c ≡ entries_app names.entry) }
     ensures local { IfOk result (λ c. (fields_of c).has_globals ≡ false) }
 {
-    delivery_command(alloc, names)?
-        .subcommand(export_command(alloc, names)?)?
-        .subcommand(remove_command(alloc)?)
+    with_export(alloc, names)?.subcommand(remove_command(alloc)?)
+}
+
+// The program as far as the command export.
+fn with_export<'a>(alloc: Global, names: &'a [&'a str]) -> Result<Command<'a>, AllocError>
+    ensures app { IfOk result (λ c. app_of c
+        ≡ with_subcommand (delivery_app names.entry) (export_app names.entry).top) }
+    ensures local { IfOk result (λ c. (fields_of c).has_globals ≡ false) }
+{
+    delivery_command(alloc, names)?.subcommand(export_command(alloc, names)?)
 }
 
 // The program with all commands but those on entries that are there.
@@ -45,9 +59,16 @@ fn delivery_command<'a>(alloc: Global, names: &'a [&'a str]) -> Result<Command<'
     ensures app { IfOk result (λ c. app_of c ≡ delivery_app names.entry) }
     ensures local { IfOk result (λ c. (fields_of c).has_globals ≡ false) }
 {
-    keeping_command(alloc, names)?
-        .subcommand(deliver_command(alloc)?)?
-        .subcommand(list_command(alloc)?)
+    with_deliver(alloc, names)?.subcommand(list_command(alloc)?)
+}
+
+// The program as far as the command deliver.
+fn with_deliver<'a>(alloc: Global, names: &'a [&'a str]) -> Result<Command<'a>, AllocError>
+    ensures app { IfOk result (λ c. app_of c
+        ≡ with_subcommand (keeping_app names.entry) deliver_app.top) }
+    ensures local { IfOk result (λ c. (fields_of c).has_globals ≡ false) }
+{
+    keeping_command(alloc, names)?.subcommand(deliver_command(alloc)?)
 }
 
 // The program with the commands that need no depot, and those on filters.
@@ -63,9 +84,16 @@ fn filing_command<'a>(alloc: Global, names: &'a [&'a str]) -> Result<Command<'a>
     ensures app { IfOk result (λ c. app_of c ≡ filing_app names.entry) }
     ensures local { IfOk result (λ c. (fields_of c).has_globals ≡ false) }
 {
-    codecs_command(alloc, names)?
-        .subcommand(script_command(alloc)?)?
-        .subcommand(code_command(alloc)?)
+    with_script(alloc, names)?.subcommand(code_command(alloc)?)
+}
+
+// The program as far as the command script.
+fn with_script<'a>(alloc: Global, names: &'a [&'a str]) -> Result<Command<'a>, AllocError>
+    ensures app { IfOk result (λ c. app_of c
+        ≡ with_subcommand (codecs_app names.entry) script_app.top) }
+    ensures local { IfOk result (λ c. (fields_of c).has_globals ≡ false) }
+{
+    codecs_command(alloc, names)?.subcommand(script_command(alloc)?)
 }
 
 // The program with the commands that need no depot.
@@ -73,9 +101,16 @@ fn codecs_command<'a>(alloc: Global, names: &'a [&'a str]) -> Result<Command<'a>
     ensures app { IfOk result (λ c. app_of c ≡ codecs_app names.entry) }
     ensures local { IfOk result (λ c. (fields_of c).has_globals ≡ false) }
 {
-    mail_command(alloc)?
-        .subcommand(encode_command(alloc, names)?)?
-        .subcommand(decode_command(alloc, names)?)
+    with_encode(alloc, names)?.subcommand(decode_command(alloc, names)?)
+}
+
+// The program as far as the command encode.
+fn with_encode<'a>(alloc: Global, names: &'a [&'a str]) -> Result<Command<'a>, AllocError>
+    ensures app { IfOk result (λ c. app_of c
+        ≡ with_subcommand mail_app (encode_app names.entry).top) }
+    ensures local { IfOk result (λ c. (fields_of c).has_globals ≡ false) }
+{
+    mail_command(alloc)?.subcommand(encode_command(alloc, names)?)
 }
 
 // The program with all commands that take messages, scripts or filter programs.
@@ -83,9 +118,16 @@ fn mail_command<'a>(alloc: Global) -> Result<Command<'a>, AllocError>
     ensures app { IfOk result (λ c. app_of c ≡ mail_app) }
     ensures local { IfOk result (λ c. (fields_of c).has_globals ≡ false) }
 {
-    listings_command(alloc)?
-        .subcommand(eval_command(alloc)?)?
-        .subcommand(parts_command(alloc)?)
+    with_eval(alloc)?.subcommand(parts_command(alloc)?)
+}
+
+// The program as far as the command eval.
+fn with_eval<'a>(alloc: Global) -> Result<Command<'a>, AllocError>
+    ensures app { IfOk result (λ c. app_of c
+        ≡ with_subcommand listings_app eval_app.top) }
+    ensures local { IfOk result (λ c. (fields_of c).has_globals ≡ false) }
+{
+    listings_command(alloc)?.subcommand(eval_command(alloc)?)
 }
 
 // The program with the commands that take a script alone, a filter program, or its listing.
@@ -93,9 +135,16 @@ fn listings_command<'a>(alloc: Global) -> Result<Command<'a>, AllocError>
     ensures app { IfOk result (λ c. app_of c ≡ listings_app) }
     ensures local { IfOk result (λ c. (fields_of c).has_globals ≡ false) }
 {
-    filters_command(alloc)?
-        .subcommand(disassemble_command(alloc)?)?
-        .subcommand(assemble_command(alloc)?)
+    with_disassemble(alloc)?.subcommand(assemble_command(alloc)?)
+}
+
+// The program as far as the command disassemble.
+fn with_disassemble<'a>(alloc: Global) -> Result<Command<'a>, AllocError>
+    ensures app { IfOk result (λ c. app_of c
+        ≡ with_subcommand filters_app disassemble_app.top) }
+    ensures local { IfOk result (λ c. (fields_of c).has_globals ≡ false) }
+{
+    filters_command(alloc)?.subcommand(disassemble_command(alloc)?)
 }
 
 // The program with the commands that take a script alone, or a filter program.
@@ -103,9 +152,16 @@ fn filters_command<'a>(alloc: Global) -> Result<Command<'a>, AllocError>
     ensures app { IfOk result (λ c. app_of c ≡ filters_app) }
     ensures local { IfOk result (λ c. (fields_of c).has_globals ≡ false) }
 {
-    scripts_command(alloc)?
-        .subcommand(verify_command(alloc)?)?
-        .subcommand(run_command(alloc)?)
+    with_verify(alloc)?.subcommand(run_command(alloc)?)
+}
+
+// The program as far as the command verify.
+fn with_verify<'a>(alloc: Global) -> Result<Command<'a>, AllocError>
+    ensures app { IfOk result (λ c. app_of c
+        ≡ with_subcommand scripts_app verify_app.top) }
+    ensures local { IfOk result (λ c. (fields_of c).has_globals ≡ false) }
+{
+    scripts_command(alloc)?.subcommand(verify_command(alloc)?)
 }
 
 // The program with the commands that take a script alone.
@@ -121,13 +177,21 @@ fn checks_command<'a>(alloc: Global) -> Result<Command<'a>, AllocError>
     ensures app { IfOk result (λ c. app_of c ≡ checks_app) }
     ensures local { IfOk result (λ c. (fields_of c).has_globals ≡ false) }
 {
+    with_check(alloc)?.subcommand(explain_command(alloc)?)
+}
+
+// The program as far as the command check.
+fn with_check<'a>(alloc: Global) -> Result<Command<'a>, AllocError>
+    ensures app { IfOk result (λ c. app_of c
+        ≡ with_subcommand (new_app (codes "depot")) check_app.top) }
+    ensures local { IfOk result (λ c. (fields_of c).has_globals ≡ false) }
+{
     Command::new(alloc, "depot")
         .about(
             "Verified mail filters: checks and compiles Sieve scripts, files mail messages as they say, and gives back what was filed.",
         )
         .after_help(help::ALL)
-        .subcommand(check_command(alloc)?)?
-        .subcommand(explain_command(alloc)?)
+        .subcommand(check_command(alloc)?)
 }
 
 // The command check.

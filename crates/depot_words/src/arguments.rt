@@ -1,7 +1,7 @@
 // The arguments of the commands.
 ghost use Rattle.std.specs.Prelude.{◌≡◌, codes, false};
 ghost use Rattle.clap.specs.Words.{rule_of};
-ghost use Rattle.depot_cli.specs.Words.{encoding_rule, number_rule, required_rule};
+ghost use Rattle.depot_words.specs.Commands.{encoding_rule, number_rule, required_rule};
 
 use clap::{Arg, value_parser};
 use std::alloc::Global;
