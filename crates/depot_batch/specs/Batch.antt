@@ -13,13 +13,14 @@ use Rattle.part_store.specs.Standing.{Spares}
 use Rattle.depot_actions.specs.Causes.{HasCause}
 use Rattle.depot_actions.specs.DepotState.{Export as Exports, Text as Written}
 use Rattle.encodings.specs.Device.{HasBroken, HasTaken, Output}
-use Rattle.depot_cli.specs.Host.{HasMade, HasNotMade, HostState, makes, with_call}
-use Rattle.depot_cli.specs.Jobs.{HasTold}
-use Rattle.depot_cli.specs.Printed.{line, refusal_line}
-use Rattle.depot_cli.specs.Requests.{file_of, request_command}
-use Rattle.depot_cli.specs.Running.{HasNotReadFile, HasReadFile}
+use Rattle.depot_jobs.specs.Host.{HasMade, HasNotMade, HostState, makes, with_call}
+use Rattle.depot_jobs.specs.Jobs.{HasTold}
+use Rattle.depot_jobs.specs.Printed.{line, refusal_line}
+use Rattle.depot_jobs.specs.Inputs.{file_of}
+use Rattle.depot_cli.specs.Requests.{request_command}
+use Rattle.depot_jobs.specs.Inputs.{HasNotReadFile, HasReadFile}
 use Rattle.depot_cli.specs.Tasks.{HasAnswered, HasDone, HasRefused, MayAdd}
-use Rattle.depot_cli.specs.declared.request.Request.{Request}
+use Rattle.depot_jobs.specs.declared.request.Request.{Request}
 use Rattle.refusals.specs.declared.refusal.Refusal.{Refusal}
 use Rattle.refusals.specs.declared.refusal.Refusal.TheVariants.{Database, Memory, Read, Write}
 use Rattle.depot_batch.specs.Asked.{AskNothing, Asks, Text}

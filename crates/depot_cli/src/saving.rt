@@ -2,15 +2,12 @@
 ghost use Rattle.std.specs.Prelude.{◌≡◌, IfErr, IfOk, List, length, ℕ, OnErr, OnOk};
 ghost use Rattle.sqlite.specs.Held.{state};
 ghost use Rattle.sqlite.specs.State.{Survives};
-ghost use Rattle.depot_cli.specs.Jobs.{world};
+ghost use Rattle.depot_jobs.specs.Jobs.{world};
 ghost use Rattle.depot_cli.specs.Saving.{HasNotSaved, HasSaved, HasSavedFile, HasServed, IsUnsaved, OutlastsSaving};
 
-use crate::host::Host;
-use crate::job::tell;
-use crate::making::make_file;
-use crate::printing::put_wrote;
 use crate::task::finish;
 use depot_actions::Depot;
+use depot_jobs::{Host, make_file, put_wrote, tell};
 use encodings::Sink;
 use refusals::Refusal;
 use sqlite::Alter;

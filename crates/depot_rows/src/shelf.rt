@@ -1,11 +1,12 @@
 //! A host of two files.
 ghost use Rattle.std.specs.Prelude.{◌≡◌, IfOk, if◌then◌else◌};
 ghost use Rattle.std.specs.Option.{option_copied};
-ghost use Rattle.depot_cli.specs.Host.{makes, opens, origin_of, with_call, with_faults};
+ghost use Rattle.depot_jobs.specs.Host.{makes, opens, origin_of, with_call, with_faults};
 ghost use Rattle.depot_rows.specs.Shelf.{call_of, state_of};
 
-use depot_cli::{Host, Input, Refusal};
+use depot_jobs::{Host, Input};
 use encodings::{DeviceFailed, OfRead, OfWrite};
+use refusals::Refusal;
 use std::alloc::{AllocError, Global};
 use std::io;
 use std::io::Write;

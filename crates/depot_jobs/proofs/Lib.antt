@@ -1,0 +1,5 @@
+pub mod ListingLemmas
+pub mod OutputLemmas
+pub mod PrintedLemmas
+pub mod WorkingLemmas
+pub mod SupplyLemmas
