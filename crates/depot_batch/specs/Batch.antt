@@ -83,7 +83,7 @@ module _ {S : Type 0} (g : Ghosts S) where
       ⊎ ((octets : List ℕ) × HasReadFile (file_of request) octets host host2
       × HasRefused (request_command request octets) refusal (state g old) (state g new))
 
-  -- the text of an entry was made a file, which isn't the depot's own
+  -- the text of an entry was made a file, which is neither the depot's own nor one beside it
   abbrev pub HasExported : Text → Export → Held S → Held S → HostState → HostState → Type 0
   HasExported name export old new host host2 =
       (text : List ℕ) × HasMade export.file.now name text host host2

@@ -27,7 +27,8 @@ pub enum Answer {
 }
 
 /// Does what is asked: reads the request's file, has the depot do its task, and gives the reply; or
-/// makes the file of an export, whole or not at all, unless it is the depot's, which has this name.
+/// makes the file of an export, whole or not at all, unless it is the depot's, which has this name,
+/// or one that the depot has beside it.
 ///
 /// # Errors
 ///

@@ -1,4 +1,5 @@
 pub mod ListingLemmas
+pub mod NameLemmas
 pub mod OutputLemmas
 pub mod PrintedLemmas
 pub mod WorkingLemmas

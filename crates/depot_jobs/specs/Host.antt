@@ -1,5 +1,6 @@
 -- What is known of a host, and what calls do to it.
-use Rattle.std.specs.Prelude.{◌≡◌, ◌⊎◌, ℕ, List, [], ◌∷◌, ◌++◌, Option, None, Some, IfSome, OnSome}
+use Rattle.std.specs.Prelude.{◌≡◌, ◌⊎◌, ℕ, Bool, false, ◌||◌, List, [], ◌∷◌, ◌++◌, codes, Option, None, Some, IfSome, OnSome}
+use Rattle.std.specs.Str.{bytes_eq}
 use Rattle.std.specs.Option.{option_map}
 use Rattle.encodings.specs.Device.{Output, counted}
 use Rattle.encodings.specs.Supply.{Supply}
@@ -17,8 +18,16 @@ abbrev pub origin_of : Input → Origin
 origin_of Standard = standard
 origin_of (File name) = file name.now
 
+-- whether a name is that of a file which a database of another name has beside its own: its log, the
+-- log's index, or its journal
+abbrev pub is_beside : List ℕ → List ℕ → Bool
+is_beside database name =
+    bytes_eq name (database ++ codes "-wal") || bytes_eq name (database ++ codes "-shm")
+    || bytes_eq name (database ++ codes "-journal")
+
 -- what a host is asked for: to open what gives octets; to make a file of a name, unless that is the
--- file of another name; and to keep the file that it made, with the octets that it took
+-- file of another name, or one that a database of that name has beside it; and to keep the file that
+-- it made, with the octets that it took
 pub data Call : Type 0 where
   opens : Origin → Call
   makes : List ℕ → List ℕ → Call
@@ -91,8 +100,10 @@ pub record HasKept (output : Output) (old new : HostState) : Type 0 where
   pub given : new.given ≡ old.given
   pub faults : new.faults ≡ counted output.faults old.faults
 
--- a file was made, took these octets, and was kept, and no call failed
+-- a file was made, which isn't one that a database of the other name has beside it; it took these
+-- octets, and was kept, and no call failed
 pub record HasMade (name script octets : List ℕ) (old new : HostState) : Type 0 where
+  pub apart : is_beside script name ≡ false
   pub calls : new.calls ≡ (with_call (keeps octets) (with_call (makes name script) old)).calls
   pub given : new.given ≡ old.given
   pub faults : new.faults ≡ old.faults

@@ -1,6 +1,6 @@
 // What the program's surroundings give to it.
-ghost use Rattle.std.specs.Prelude.{◌≡◌, suc, IfErr, IfOk, OnErr, OnOk};
-ghost use Rattle.depot_jobs.specs.Host.{HasKept, HasNotMade, HasNotOpened, HostState, IsFreshOutput, IsFreshSupply, makes, opens, origin_of, with_call, with_faults, with_supply};
+ghost use Rattle.std.specs.Prelude.{◌≡◌, false, suc, IfErr, IfOk, OnErr, OnOk};
+ghost use Rattle.depot_jobs.specs.Host.{HasKept, HasNotMade, HasNotOpened, HostState, IsFreshOutput, IsFreshSupply, is_beside, makes, opens, origin_of, with_call, with_faults, with_supply};
 
 use encodings::{DeviceFailed, Sink, Source};
 use refusals::Refusal;
@@ -53,9 +53,10 @@ pub trait Host {
     /// # Errors
     ///
     /// `Memory` where an allocation was refused, `Write` where no file can be made, and where that
-    /// name is the file of `script`: what the new file is made of, be it a script, a listing or a
-    /// depot.
+    /// name is the file of `script`, or one that a database of that name has beside it. That is what
+    /// the new file is made of, be it a script, a listing or a depot.
     fn create(&mut self, alloc: Global, name: &str, script: &str) -> Result<Self::Writer, Refusal>
+        ensures apart { OnOk result (is_beside script.now name.now ≡ false) }
         ensures fresh { IfOk result (λ writer. IsFreshOutput (state self.old)
             (Self.Writer.output writer)) }
         ensures ok { OnOk result (state self.new

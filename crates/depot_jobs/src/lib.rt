@@ -12,6 +12,7 @@
 //! text.
 #![tactic(auto)]
 
+mod beside;
 mod gathering;
 mod host;
 mod inputs;
@@ -30,6 +31,7 @@ mod usage;
 mod work;
 mod working;
 
+pub use beside::is_beside;
 pub use host::{Host, Input};
 pub use inputs::read_file_of;
 pub use job::{Job, REFUSED, SUCCESS, answer, tell};

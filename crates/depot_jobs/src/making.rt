@@ -7,7 +7,8 @@ use encodings::{DeviceFailed, put};
 use refusals::Refusal;
 use std::alloc::Global;
 
-/// Makes the file of a name from these octets, unless it is the script's own file.
+/// Makes the file of a name from these octets, unless it is the script's own file, or one that a
+/// database of the script's name has beside it.
 ///
 /// # Errors
 ///

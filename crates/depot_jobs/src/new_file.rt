@@ -1,14 +1,17 @@
 // A file that is being made, beside the one whose name it is to have.
-ghost use Rattle.std.specs.Prelude.{◌≡◌, IfOk, IfSome};
+ghost use Rattle.std.specs.Prelude.{◌≡◌, false, IfOk, IfSome, OnOk};
 ghost use Rattle.std.specs.Path.{path_buf_bytes, path_with_file_name};
 ghost use Rattle.depot_jobs.specs.Files.{IsReached, new_name};
+ghost use Rattle.depot_jobs.specs.Host.{is_beside};
 
+use crate::beside::is_beside;
 use encodings::{DeviceFailed, OfWrite, Sink};
 use std::alloc::{AllocError, Global};
 use std::fs::{File, Files, Metadata, OpenFile, OpenOptions};
 use std::io;
 use std::io::{Error, ErrorKind, Write};
-use std::os::unix::fs::{MetadataExt, OpenOptionsExt, PermissionsExt};
+use std::os::fd::AsFd;
+use std::os::unix::fs::{MetadataExt, OpenOptionsExt, PermissionsExt, fchown};
 use std::path::PathBuf;
 
 /// How many symbolic links are followed, one from the other: as many as Linux follows.
@@ -52,7 +55,7 @@ impl<F: Write + Drop> Sink for NewFile<F> {
 /// # Errors
 ///
 /// The file can't be made, the one that has the name can't be written, or it is the script's own
-/// file.
+/// file, or one that a database of the script's name has beside it.
 pub fn begin<R: Files>(
     rt: &R,
     alloc: Global,
@@ -60,10 +63,16 @@ pub fn begin<R: Files>(
     name: &str,
     script: &str,
 ) -> io::Result<NewFile<R::File>>
+where
+    R::File: AsFd,
+    ensures apart { OnOk result (is_beside script.now name.now ≡ false) }
     ensures faults { IfOk result (λ file. file.sink.faults ≡ 0) }
     ensures stands { IfOk result (λ file. IfSome file.paths
         (λ paths. IsReached name.now (path_buf_bytes paths.kept))) }
 {
+    if is_beside(script, name) {
+        return Err(Error::from(ErrorKind::InvalidInput));
+    }
     match File::options().write(true).open(rt, name) {
         Ok(file) => {
             let old = file.metadata()?;
@@ -78,6 +87,7 @@ pub fn begin<R: Files>(
         }
         Err(fault) if fault.kind() == ErrorKind::NotFound => {
             let kept = without_links(rt, alloc, name)?;
+            stay_apart(rt, alloc, script, &kept)?;
             begin_beside(rt, alloc, number, kept, NEW_FILE)
         }
         Err(fault) => Err(fault),
@@ -93,6 +103,8 @@ fn begin_in_place_of<R: Files>(
     script: &str,
     old: &Metadata,
 ) -> io::Result<NewFile<R::File>>
+where
+    R::File: AsFd,
     ensures faults { IfOk result (λ file. file.sink.faults ≡ 0) }
     ensures stands { IfOk result (λ file. IfSome file.paths
         (λ paths. IsReached name.now (path_buf_bytes paths.kept))) }
@@ -101,8 +113,9 @@ fn begin_in_place_of<R: Files>(
     if is_same_file(rt, script, old) || !is_same_file(rt, kept.as_str(), old) {
         return Err(Error::from(ErrorKind::InvalidInput));
     }
+    stay_apart(rt, alloc, script, &kept)?;
     let file = begin_beside(rt, alloc, number, kept, old.permissions().mode())?;
-    match take_after(rt, &file, old) {
+    match take_after(&file.sink.inner, old) {
         Ok(()) => Ok(file),
         Err(fault) => {
             discard(rt, file);
@@ -111,12 +124,50 @@ fn begin_in_place_of<R: Files>(
     }
 }
 
-// Gives a file the permissions of another, and its owner and group where the process may.
-fn take_after<R: Files>(rt: &R, file: &NewFile<R::File>, old: &Metadata) -> io::Result<()> {
-    if let Some(paths) = &file.paths {
-        let _ = rt.chown(paths.made.as_str(), Some(old.uid()), Some(old.gid()));
+// Gives a file the permissions of another, and its owner and group where the process may. It is the
+// open file that gets them, whatever has its name by now.
+fn take_after<F: OpenFile + AsFd>(file: &F, old: &Metadata) -> io::Result<()> {
+    let _ = fchown(file, Some(old.uid()), Some(old.gid()));
+    file.set_permissions(old.permissions())
+}
+
+// Refuses a path that leads to a file which the database of a name has beside its own, by whatever
+// names and links.
+fn stay_apart<R: Files>(rt: &R, alloc: Global, script: &str, kept: &PathBuf) -> io::Result<()> {
+    let real = match rt.canonicalize(alloc, script) {
+        Ok(real) => real,
+        Err(fault) if fault.kind() == ErrorKind::OutOfMemory => return Err(fault),
+        // what has no path, as a pipe, is no database
+        Err(_) => return Ok(()),
+    };
+    if are_beside(rt, &real, kept) {
+        return Err(Error::from(ErrorKind::InvalidInput));
     }
-    file.sink.inner.set_permissions(old.permissions())
+    Ok(())
+}
+
+// Whether a path is that of a file which a database of another path has beside its own.
+fn are_beside<R: Files>(rt: &R, database: &PathBuf, path: &PathBuf) -> bool {
+    match (database.file_name(), path.file_name()) {
+        (Some(base), Some(name)) => is_beside(base, name) && is_same_folder(rt, database, path),
+        _ => false,
+    }
+}
+
+// Whether two paths are of one folder.
+fn is_same_folder<R: Files>(rt: &R, first: &PathBuf, second: &PathBuf) -> bool {
+    match rt.metadata(folder_of(first)) {
+        Ok(folder) => is_same_file(rt, folder_of(second), &folder),
+        Err(_) => false,
+    }
+}
+
+// The folder of a path, which is the current one where the path names none.
+fn folder_of(path: &PathBuf) -> &str {
+    match path.parent() {
+        Some(folder) if !folder.as_str().is_empty() => folder.as_str(),
+        _ => ".",
+    }
 }
 
 // Makes a file in the folder of the one that it is to be, under a name that no other has there.

@@ -1,8 +1,8 @@
 // The system as a host.
-ghost use Rattle.std.specs.Prelude.{◌≡◌, ◌⊎◌, IfErr, IfOk, IfSome, OnOk};
+ghost use Rattle.std.specs.Prelude.{◌≡◌, ◌⊎◌, false, IfErr, IfOk, IfSome, OnOk};
 ghost use Rattle.std.specs.Path.{path_buf_bytes};
 ghost use Rattle.depot_jobs.specs.Files.{IsReached};
-ghost use Rattle.depot_jobs.specs.Host.{HasNotMade, IsFreshOutput, makes, untold, with_call};
+ghost use Rattle.depot_jobs.specs.Host.{HasNotMade, IsFreshOutput, is_beside, makes, untold, with_call};
 ghost use Rattle.encodings.specs.Device.{counted};
 ghost use Rattle.refusals.specs.declared.refusal.Refusal.TheVariants.{Memory};
 
@@ -13,6 +13,7 @@ use refusals::Refusal;
 use std::alloc::Global;
 use std::fs::Files;
 use std::io::{ErrorKind, Read};
+use std::os::fd::AsFd;
 use std::{fs, io};
 
 /// The files and the standard input of a system. A contract is told nothing of what they hold.
@@ -71,7 +72,10 @@ impl<'a, R: Files + io::Input> System<'a, R> {
     }
 }
 
-impl<R: Files + io::Input> Host for System<'_, R> {
+impl<R: Files + io::Input> Host for System<'_, R>
+where
+    R::File: AsFd,
+{
     type Reader = OfRead<Stream<R::File, R::Reader>>;
 
     type Writer = NewFile<R::File>;
@@ -94,6 +98,7 @@ impl<R: Files + io::Input> Host for System<'_, R> {
     }
 
     fn create(&mut self, alloc: Global, name: &str, script: &str) -> Result<Self::Writer, Refusal>
+        ensures apart { OnOk result (is_beside script.now name.now ≡ false) }
         ensures fresh { IfOk result (λ file. IsFreshOutput (untold self.old.given self.old.faults)
             (record { written = R.File.contents file.sink.inner; faults = file.sink.faults })) }
         ensures ok { OnOk result (untold self.new.given self.new.faults
