@@ -3,7 +3,7 @@ use Rattle.std.proofs.Common.{◌≡◌, ◌<◌, ℕ, List, [], ◌∷◌, arit
 use Rattle.std.specs.List.{flat_map, list_all}
 use Rattle.std.proofs.lemmas.List.Concat.{flat_map-cons}
 use Rattle.bytecode_format.specs.declared.action.Action.{Action}
-use Rattle.depot_jobs.specs.Printed.{action_text, actions_text, escaped, is_plain, line}
+use Rattle.depot_jobs.specs.Printed.{action_text, actions_text, escaped, escaped_octet, is_plain, line}
 use Rattle.depot_jobs.specs.declared.piece.Setting.{Setting}
 
 -- plain octets are printed as they are
