@@ -7,6 +7,7 @@ ghost use Rattle.encodings.specs.Device.{HasBroken, HasTaken};
 ghost use Rattle.refusals.specs.declared.refusal.Refusal.TheVariants.{Write};
 ghost use Rattle.depot_jobs.specs.Jobs.{HasTold};
 ghost use Rattle.depot_cli.specs.Printed.{migrated_text, removed_text};
+ghost use Rattle.depot_cli.specs.Requests.{request_command};
 ghost use Rattle.depot_cli.specs.Tasks.{HasAnswered, HasPerformed, HasRefused, MayAdd, command_of, desk, text_in};
 
 use crate::entries::{Detail, put_entries};
