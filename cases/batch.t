@@ -222,6 +222,21 @@
     before
     $ depot export mail.depot ann 1 raw | cmp - examples/ticket.eml
 
+## nor the files beside it
+    $ printf 'deliver ann examples/ticket.eml\nexport ann 1 raw mail.depot-wal\n' > lines
+    $ printf 'export ann 1 raw ./mail.depot-shm\nexport ann 1 raw mail.depot-journal\nlist ann\n' >> lines
+    $ depot batch mail.depot < lines
+    1 message "INBOX"
+    = 0
+    refused 45 Write
+    = 1
+    refused 45 Write
+    = 1
+    refused 45 Write
+    = 1
+    1 message "INBOX" "" message/rfc822 3678
+    = 0
+
 ## a depot that is held, and output that is full
     $ depot script mail.depot ann examples/documents.sieve
     stored

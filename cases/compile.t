@@ -115,6 +115,15 @@ A file that is there already.
     $ depot verify out
     A0=2 B0=0 A1=0 B1=0 A2=0 B2=0 A3=0 B3=0 by chains
 
+## with the rights and the owner of the older file
+Only if: [ "$(id -u)" = 0 ] # this user can't give a file to another
+
+    $ echo old > out; chown 12345:23456 out; chmod 640 out
+    $ depot compile examples/documents.sieve out
+    wrote 129 octets
+    $ stat -c '%u %g %a' out
+    12345 23456 640
+
 ## a refused script leaves an older file
     $ echo 'keep;' > script
     $ echo 'keep "x";' > second

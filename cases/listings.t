@@ -366,6 +366,40 @@ The program of a user.
     $ depot list mail.depot ann
     none
 
+## never over the files beside the depot
+    $ depot script mail.depot ann examples/documents.sieve
+    stored
+    $ depot program mail.depot ann mail.depot-wal
+    2> refused 45 Write
+    [1]
+    $ depot program mail.depot ann mail.depot-shm
+    2> refused 45 Write
+    [1]
+    $ depot program mail.depot ann mail.depot-journal
+    2> refused 45 Write
+    [1]
+
+By another path, by a link to the depot, and by one to the name.
+
+    $ depot program mail.depot ann ./mail.depot-journal
+    2> refused 45 Write
+    [1]
+    $ mkdir folder; ln -s ../mail.depot folder/box; ln -s ../mail.depot-wal folder/out
+    $ depot program folder/box ann mail.depot-journal
+    2> refused 45 Write
+    [1]
+    $ depot program mail.depot ann folder/out
+    2> refused 45 Write
+    [1]
+
+The same names in another folder are those of any file.
+
+    $ depot program mail.depot ann folder/mail.depot-journal
+    wrote 129 octets
+    $ rm -r folder
+    $ depot list mail.depot ann
+    none
+
 ## into no folder
     $ depot script mail.depot ann examples/documents.sieve
     stored

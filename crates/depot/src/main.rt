@@ -8,11 +8,10 @@ use crate::place::{Obstacle, look_at};
 use crate::streams::hold_closed;
 use depot_actions::Depot;
 use depot_batch::batch;
-use depot_cli::{
-    Errand, Host, Next, Refusal, Saving, System, carry, inspect_opened, run, save, tell,
-    tell_no_depot, tell_no_words, texts, words,
-};
+use depot_cli::{Errand, Next, Saving, carry, inspect_opened, run, save, tell_no_depot};
+use depot_jobs::{Host, System, tell, tell_no_words, texts, words};
 use encodings::{OfWrite, Sink};
+use refusals::Refusal;
 use sqlite::{File, FileStore};
 use std::io::{BufReader, BufWriter};
 use std::process::ExitCode;

@@ -6,9 +6,9 @@ use Rattle.sqlite.specs.Held.{Held, state}
 use Rattle.sqlite.specs.State.{HasCleanDisk, State, Survives}
 use Rattle.depot_actions.specs.DepotState.{Export as Exports, Text as Written}
 use Rattle.depot_actions.specs.History.{Answers, AreAnswered as HaveReplied, Call}
-use Rattle.depot_cli.specs.Host.{HostState}
+use Rattle.depot_jobs.specs.Host.{HostState}
 use Rattle.depot_cli.specs.Requests.{request_command}
-use Rattle.depot_cli.specs.declared.request.Request.{Request}
+use Rattle.depot_jobs.specs.declared.request.Request.{Request}
 use Rattle.refusals.specs.declared.refusal.Refusal.{Refusal}
 use Rattle.depot_batch.specs.Batch.{AreAnswered, HasCome, HasNotReplied, HasReplied, IsDone, IsMadeAtOne, IsRefused, Office}
 use Rattle.depot_batch.specs.declared.asked.Asked.{Asked}

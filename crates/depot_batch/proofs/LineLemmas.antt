@@ -12,7 +12,7 @@ use Rattle.sqlite.specs.State.{State, Survives}
 use Rattle.encodings.specs.Device.{HasBroken, HasTaken, Output}
 use Rattle.refusals.specs.declared.refusal.Refusal.{Refusal}
 use Rattle.refusals.specs.declared.refusal.Refusal.TheVariants.{Database, Memory, Read, Write}
-use Rattle.depot_cli.specs.Jobs.{HasTold}
+use Rattle.depot_jobs.specs.Jobs.{HasTold}
 use Rattle.depot_batch.specs.Answers.{AreNoTexts, HasComeOf, IsUnasked, IsUnaskedText}
 use Rattle.depot_batch.specs.Asked.{AskNothing}
 use Rattle.depot_batch.specs.Batch.{AreAnswered, HasCome, HasServed, HasWords, IsAnswered, IsAsked, IsBrokenOff, IsWrong, MayMake, Office, Outlasts, closing}

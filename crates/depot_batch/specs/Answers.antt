@@ -5,8 +5,8 @@ use Rattle.std.specs.Str.{IsUtf8}
 use Rattle.sqlite_trees.specs.declared.store.Store.{Ghosts}
 use Rattle.sqlite.specs.Held.{Held}
 use Rattle.encodings.specs.Device.{HasBroken, HasTaken, Output}
-use Rattle.depot_cli.specs.Host.{HostState}
-use Rattle.depot_cli.specs.Printed.{refusal_line}
+use Rattle.depot_jobs.specs.Host.{HostState}
+use Rattle.depot_jobs.specs.Printed.{refusal_line}
 use Rattle.depot_cli.specs.Tasks.{text_in as reply_text}
 use Rattle.refusals.specs.declared.refusal.Refusal.TheVariants.{Memory}
 use Rattle.depot_batch.specs.Batch.{IsDone, IsRefused, IsWrong, closing, exported_text}

@@ -13,13 +13,14 @@ use Rattle.part_store.specs.Standing.{Spares}
 use Rattle.depot_actions.specs.Causes.{HasCause}
 use Rattle.depot_actions.specs.DepotState.{Export as Exports, Text as Written}
 use Rattle.encodings.specs.Device.{HasBroken, HasTaken, Output}
-use Rattle.depot_cli.specs.Host.{HasMade, HasNotMade, HostState, makes, with_call}
-use Rattle.depot_cli.specs.Jobs.{HasTold}
-use Rattle.depot_cli.specs.Printed.{line, refusal_line}
-use Rattle.depot_cli.specs.Requests.{file_of, request_command}
-use Rattle.depot_cli.specs.Running.{HasNotReadFile, HasReadFile}
+use Rattle.depot_jobs.specs.Host.{HasMade, HasNotMade, HostState, makes, with_call}
+use Rattle.depot_jobs.specs.Jobs.{HasTold}
+use Rattle.depot_jobs.specs.Printed.{line, refusal_line}
+use Rattle.depot_jobs.specs.Inputs.{file_of}
+use Rattle.depot_cli.specs.Requests.{request_command}
+use Rattle.depot_jobs.specs.Inputs.{HasNotReadFile, HasReadFile}
 use Rattle.depot_cli.specs.Tasks.{HasAnswered, HasDone, HasRefused, MayAdd}
-use Rattle.depot_cli.specs.declared.request.Request.{Request}
+use Rattle.depot_jobs.specs.declared.request.Request.{Request}
 use Rattle.refusals.specs.declared.refusal.Refusal.{Refusal}
 use Rattle.refusals.specs.declared.refusal.Refusal.TheVariants.{Database, Memory, Read, Write}
 use Rattle.depot_batch.specs.Asked.{AskNothing, Asks, Text}
@@ -82,7 +83,7 @@ module _ {S : Type 0} (g : Ghosts S) where
       ⊎ ((octets : List ℕ) × HasReadFile (file_of request) octets host host2
       × HasRefused (request_command request octets) refusal (state g old) (state g new))
 
-  -- the text of an entry was made a file, which isn't the depot's own
+  -- the text of an entry was made a file, which is neither the depot's own nor one beside it
   abbrev pub HasExported : Text → Export → Held S → Held S → HostState → HostState → Type 0
   HasExported name export old new host host2 =
       (text : List ℕ) × HasMade export.file.now name text host host2

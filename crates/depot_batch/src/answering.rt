@@ -10,10 +10,10 @@ ghost use Rattle.depot_batch.specs.Batch.{HasExported, HasNotExported, HasNotRep
 
 use crate::asked::{Asked, Export};
 use depot_actions::Depot;
-use depot_cli::{
-    Host, Piece, Refusal, Reply, Request, put_pieces, put_reply, read_file_of, reply_to,
-};
+use depot_cli::{Reply, Task, put_reply, reply_to};
+use depot_jobs::{Host, Piece, Request, put_pieces, read_file_of};
 use encodings::{DeviceFailed, Sink};
+use refusals::Refusal;
 use sqlite::Alter;
 use std::alloc::Global;
 
@@ -27,7 +27,8 @@ pub enum Answer {
 }
 
 /// Does what is asked: reads the request's file, has the depot do its task, and gives the reply; or
-/// makes the file of an export, whole or not at all, unless it is the depot's, which has this name.
+/// makes the file of an export, whole or not at all, unless it is the depot's, which has this name,
+/// or one that the depot has beside it.
 ///
 /// # Errors
 ///
@@ -79,7 +80,7 @@ fn reply<S: Alter, H: Host>(
 {
     match read_file_of(alloc, request, host) {
         Ok(octets) => {
-            let task = request.with_octets(octets);
+            let task = Task::of(request, octets);
             reply_to(alloc, &task, depot)
         }
         Err(refusal) => Err(refusal),

@@ -4,7 +4,7 @@ ghost use Rattle.depot_batch.specs.Asked.{Asks, AskNothing, IsEntryNumber, encod
 ghost use Rattle.depot_batch.specs.declared.fault.Form.{Form};
 
 use crate::fault::{Form, LineFault};
-use depot_cli::Request;
+use depot_jobs::Request;
 use encodings::Encoding;
 
 /// What a line asks for.

@@ -9,8 +9,9 @@ ghost use Rattle.depot_batch.specs.declared.outcome.Outcome.TheVariants.{Refused
 use crate::line::serve;
 use crate::outcome::Outcome;
 use depot_actions::Depot;
-use depot_cli::{Host, Refusal, tell};
+use depot_jobs::{Host, tell};
 use encodings::{DeviceFailed, OfWrite, Sink};
+use refusals::Refusal;
 use sqlite::Alter;
 use std::alloc::Global;
 use std::io::{BufRead, ErrorKind, Write};

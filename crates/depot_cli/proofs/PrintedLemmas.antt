@@ -1,31 +1,19 @@
--- Printed texts.
-use Rattle.std.proofs.Common.{◌≡◌, ◌∙◌, ◌<◌, ◌≤◌, ◌++◌, ℕ, List, [], ◌∷◌, ap, arith, length, map, refl, subst, sym, take, true}
+-- The texts of entries.
+use Rattle.std.proofs.Common.{◌≡◌, ◌∙◌, ◌<◌, ◌≤◌, ◌++◌, ℕ, List, [], ◌∷◌, ap, arith, length, map, refl, subst, sym, take}
 use Rattle.std.proofs.lemmas.List.{take_all}
+use Rattle.std.specs.List.{flat_map}
 use Rattle.encodings.specs.Device.{HasTaken, Output}
-use Rattle.std.specs.List.{flat_map, list_all}
-use Rattle.std.proofs.lemmas.List.Concat.{flat_map-cons}
-use Rattle.bytecode_format.specs.declared.action.Action.{Action}
 use Rattle.part_store.specs.Standing.{listed}
 use Rattle.part_store.specs.declared.entry.EntryRow.{EntryRow}
-use Rattle.depot_cli.specs.Printed.{action_text, actions_text, entries_text, entry_text, escaped, escaped_octet, is_plain, line}
+use Rattle.depot_jobs.specs.Printed.{line}
+use Rattle.depot_cli.specs.Printed.{entries_text, entry_text}
 use Rattle.depot_cli.specs.declared.entries.Detail.{Detail}
-use Rattle.depot_cli.specs.declared.piece.Setting.{Setting}
-
--- plain octets are printed as they are
-pub plain_escaped : (setting : Setting) (xs : List ℕ) → list_all (is_plain setting) xs ≡ true → escaped setting xs ≡ xs
-plain_escaped setting [] plain = refl
-plain_escaped setting (x ∷ xs) plain = grind (arith, flat_map-cons (escaped_octet setting) x xs, plain_escaped setting xs)
-
--- where there is an action, there is a line for each
-pub some_actions : (xs : List Action) (i : ℕ) → i < length xs → actions_text xs ≡ flat_map (λ a. line (action_text a)) xs
-some_actions [] i within = absurd (omega arith)
-some_actions (x ∷ xs) i within = refl
 
 each_listed : (detail : Detail) (rows : List EntryRow) → flat_map (λ e. line (entry_text detail e)) (map listed rows) ≡ flat_map (λ row. line (entry_text detail (listed row))) rows
 each_listed detail [] = refl
 each_listed detail (row ∷ rows) = ap (λ text. line (entry_text detail (listed row)) ++ text) (each_listed detail rows)
 
--- and so for entries
+-- where there is an entry, there is a line for each
 pub some_entries : (detail : Detail) (rows : List EntryRow) (i : ℕ) → i < length rows → entries_text detail (map listed rows) ≡ flat_map (λ row. line (entry_text detail (listed row))) rows
 some_entries detail [] i within = absurd (omega arith)
 some_entries detail (row ∷ rows) i within = each_listed detail (row ∷ rows)

@@ -9,7 +9,7 @@ use Rattle.encodings.proofs.Outputs.{taken_both}
 use Rattle.depot_actions.specs.declared.overview.Overview.{Overview}
 use Rattle.refusals.specs.declared.refusal.Refusal.TheVariants.{Write}
 use Rattle.depot_cli.specs.Inspecting.{HasInspected, HasSeen}
-use Rattle.depot_cli.specs.Jobs.{HasTold}
+use Rattle.depot_jobs.specs.Jobs.{HasTold}
 use Rattle.depot_cli.specs.Printed.{overview_text}
 use Rattle.depot_cli.specs.Tasks.{Desk}
 

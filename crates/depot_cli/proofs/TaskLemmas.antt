@@ -7,7 +7,7 @@ use Rattle.depot_actions.specs.DepotState.{Command, Reply}
 use Rattle.encodings.specs.Device.{HasBegun, HasBroken}
 use Rattle.refusals.specs.declared.refusal.Refusal.{Refusal}
 use Rattle.refusals.specs.declared.refusal.Refusal.TheVariants.{Memory, MessageTooLarge, TooManyParts, NotCanonical, Lexical, ScriptTooLong, Syntax, TooDeep, UnknownCommand, MissingCapability, UnknownCapability, BadArguments, Limit, Spelling, Index, Form, End, Loop, Jump, NoPart, Stack, Listing, NoSuchEntry, NumberFull, Collision, Database, UserName, Write, Read}
-use Rattle.depot_cli.specs.Jobs.{HasTold}
+use Rattle.depot_jobs.specs.Jobs.{HasTold}
 use Rattle.depot_cli.specs.Printed.{reply_text}
 use Rattle.depot_cli.specs.Tasks.{Desk, HasDone, HasPerformed}
 

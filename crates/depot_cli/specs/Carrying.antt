@@ -7,7 +7,7 @@ use Rattle.encodings.specs.Device.{Output}
 use Rattle.refusals.specs.declared.refusal.Refusal.{Refusal}
 use Rattle.refusals.specs.declared.refusal.Refusal.TheVariants.{Memory}
 use Rattle.depot_cli.specs.Inspecting.{HasInspected, HasSaidWhy}
-use Rattle.depot_cli.specs.Jobs.{HasTold}
+use Rattle.depot_jobs.specs.Jobs.{HasTold}
 use Rattle.depot_cli.specs.NoDepots.{no_depot_of}
 use Rattle.depot_cli.specs.Tasks.{HasPerformed, MayAdd, desk}
 use Rattle.depot_cli.specs.declared.no_depot.NoDepot.{NoDepot}

@@ -8,7 +8,7 @@ use Rattle.depot_actions.specs.Overviews.{IsOverview}
 use Rattle.depot_actions.specs.declared.overview.Overview.{Overview}
 use Rattle.refusals.specs.declared.refusal.Refusal.{Refusal}
 use Rattle.refusals.specs.declared.refusal.Refusal.TheVariants.{Memory, Database, Write}
-use Rattle.depot_cli.specs.Jobs.{HasTold}
+use Rattle.depot_jobs.specs.Jobs.{HasTold}
 use Rattle.depot_cli.specs.Printed.{no_depot_text, overview_text}
 use Rattle.depot_cli.specs.Tasks.{Desk}
 use Rattle.depot_cli.specs.declared.no_depot.NoDepot.{NoDepot}

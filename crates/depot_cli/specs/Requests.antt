@@ -1,21 +1,11 @@
--- What requests read, and what they ask of a depot.
-use Rattle.std.specs.Prelude.{ℕ, List, Option, None, Some}
+-- What requests ask of a depot.
+use Rattle.std.specs.Prelude.{ℕ, List}
 use Rattle.depot_actions.specs.DepotState.{Command}
 use Rattle.depot_actions.specs.DepotState as depot
-use Rattle.depot_cli.specs.declared.request.Request.{Request}
-use Rattle.depot_cli.specs.declared.request.Request.TheVariants.{Script, Code, Deliver, List as ListEntries, Export, Remove, Migrate}
+use Rattle.depot_jobs.specs.declared.request.Request.{Request}
+use Rattle.depot_jobs.specs.declared.request.Request.TheVariants.{Script, Code, Deliver, List as ListEntries, Export, Remove, Migrate}
 
--- the file that a request reads
-abbrev pub file_of : Request → Option (List ℕ)
-file_of (Script user script) = Some script.now
-file_of (Code user program) = Some program.now
-file_of (Deliver user message) = Some message.now
-file_of (ListEntries user) = None
-file_of (Export user number encoding) = None
-file_of (Remove user number) = None
-file_of Migrate = None
-
--- what it asks of the depot, with the octets of that file
+-- what a request asks of the depot, with the octets of its file
 abbrev pub request_command : Request → List ℕ → Command
 request_command (Script user script) octets = depot.SetScript user.now octets
 request_command (Code user program) octets = depot.SetCode user.now octets

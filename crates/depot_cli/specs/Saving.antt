@@ -7,9 +7,9 @@ use Rattle.depot_actions.specs.DepotState.{Does, Program, ProgramOf}
 use Rattle.encodings.specs.Device.{HasBroken, HasTaken}
 use Rattle.refusals.specs.declared.refusal.Refusal.{Refusal}
 use Rattle.refusals.specs.declared.refusal.Refusal.TheVariants.{NoSuchEntry, Write}
-use Rattle.depot_cli.specs.Host.{HasMade, HasNotMade, HostState}
-use Rattle.depot_cli.specs.Jobs.{HasTold, World}
-use Rattle.depot_cli.specs.Printed.{line, wrote_text}
+use Rattle.depot_jobs.specs.Host.{HasMade, HasNotMade, HostState}
+use Rattle.depot_jobs.specs.Jobs.{HasTold, World}
+use Rattle.depot_jobs.specs.Printed.{line, wrote_text}
 use Rattle.depot_cli.specs.declared.saving.Saving.{Saving}
 
 -- the depot told the user's program, if he has one, and holds that still, as long as its disk

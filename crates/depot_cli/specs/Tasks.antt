@@ -9,7 +9,7 @@ use Rattle.depot_actions.specs.DepotState as depot
 use Rattle.encodings.specs.Device.{HasBegun, HasBroken, HasTaken, Output}
 use Rattle.refusals.specs.declared.refusal.Refusal.{Refusal}
 use Rattle.refusals.specs.declared.refusal.Refusal.TheVariants.{Memory, Write}
-use Rattle.depot_cli.specs.Jobs.{HasTold}
+use Rattle.depot_jobs.specs.Jobs.{HasTold}
 use Rattle.depot_cli.specs.Printed.{entries_text, migrated_text, removed_text, reply_text, stored_text}
 use Rattle.depot_cli.specs.declared.entries.Detail.TheVariants.{Brief, Full}
 use Rattle.depot_cli.specs.declared.task.Reply.{Reply as Replied}

@@ -5,10 +5,10 @@ ghost use Rattle.depot_cli.specs.Tasks.{command_of};
 
 use crate::errand::Errand;
 use crate::inspection::inspect;
-use crate::job::tell;
 use crate::no_depot::{NoDepot, tell_no_depot};
 use crate::task::perform;
 use depot_actions::Depot;
+use depot_jobs::tell;
 use encodings::Sink;
 use part_store::Unopened;
 use refusals::Refusal;

@@ -2,10 +2,10 @@
 ghost use Rattle.std.specs.Prelude.{◌≡◌, map, OnErr, OnOk};
 ghost use Rattle.part_store.specs.Standing.{listed};
 ghost use Rattle.encodings.specs.Device.{HasBroken, HasTaken};
-ghost use Rattle.depot_cli.specs.Printed.{entries_text, entry_text, kind_text, line as line_of};
+ghost use Rattle.depot_jobs.specs.Printed.{line as line_of};
+ghost use Rattle.depot_cli.specs.Printed.{entries_text, entry_text, kind_text};
 
-use crate::piece::Piece;
-use crate::printing::{put_line, put_pieces};
+use depot_jobs::{Piece, put_line, put_pieces};
 use encodings::{DeviceFailed, Sink};
 use part_store::{EntryRow, Kind};
 

@@ -4,14 +4,13 @@ ghost use Rattle.sqlite.specs.Held.{state};
 ghost use Rattle.sqlite.specs.State.{Survives};
 ghost use Rattle.encodings.specs.Device.{HasBroken, HasTaken};
 ghost use Rattle.depot_cli.specs.Inspecting.{HasInspected};
-ghost use Rattle.depot_cli.specs.Printed.{contents_text, head_text, line as line_of, numbers_text, overview_text, state_line, user_line, users_text};
+ghost use Rattle.depot_jobs.specs.Printed.{line as line_of};
+ghost use Rattle.depot_cli.specs.Printed.{contents_text, head_text, numbers_text, overview_text, state_line, user_line, users_text};
 ghost use Rattle.depot_cli.specs.Tasks.{desk};
 
-use crate::job::tell;
-use crate::piece::Piece;
-use crate::printing::put_pieces;
 use crate::task::finish;
 use depot_actions::{Depot, Overview, ProgramState, UserOverview};
+use depot_jobs::{Piece, put_pieces, tell};
 use encodings::{DeviceFailed, Sink};
 use part_store::ContentTotal;
 use sqlite::Alter;

@@ -4,9 +4,7 @@ ghost use Rattle.depot_cli.specs.Inspecting.{HasSaidWhy};
 ghost use Rattle.depot_cli.specs.NoDepots.{no_depot_of};
 ghost use Rattle.depot_cli.specs.Printed.{why_text};
 
-use crate::job::{REFUSED, tell};
-use crate::piece::Piece;
-use crate::printing::put_pieces;
+use depot_jobs::{Piece, REFUSED, put_pieces, tell};
 use encodings::{DeviceFailed, Sink};
 use part_store::Unopened;
 use refusals::Refusal;

@@ -2,15 +2,12 @@
 ghost use Rattle.std.specs.Prelude.{◌≡◌, IfErr, IfOk, List, length, ℕ, OnErr, OnOk};
 ghost use Rattle.sqlite.specs.Held.{state};
 ghost use Rattle.sqlite.specs.State.{Survives};
-ghost use Rattle.depot_cli.specs.Jobs.{world};
+ghost use Rattle.depot_jobs.specs.Jobs.{world};
 ghost use Rattle.depot_cli.specs.Saving.{HasNotSaved, HasSaved, HasSavedFile, HasServed, IsUnsaved, OutlastsSaving};
 
-use crate::host::Host;
-use crate::job::tell;
-use crate::making::make_file;
-use crate::printing::put_wrote;
 use crate::task::finish;
 use depot_actions::Depot;
+use depot_jobs::{Host, make_file, put_wrote, tell};
 use encodings::Sink;
 use refusals::Refusal;
 use sqlite::Alter;
@@ -32,9 +29,9 @@ pub struct Saving<'a> {
 /// the refusal of opening, to `err`, and gives 1. The depot stays as it is, and open.
 ///
 /// It is refused as `Depot::program_of` says; with `NoSuchEntry` where the user has no program; and
-/// with `Memory` or `Write` where the file can't be made, or is the depot's own. Where `out` fails,
-/// the file is there, a prefix of the line is written, and the line of `Write` to `err`, and the
-/// status is 1.
+/// with `Memory` or `Write` where the file can't be made, is the depot's own, or one that the depot
+/// has beside it. Where `out` fails, the file is there, a prefix of the line is written, and the line
+/// of `Write` to `err`, and the status is 1.
 pub fn save<S: Alter, H: Host, O: Sink, E: Sink>(
     alloc: Global,
     saving: Saving<'_>,

@@ -5,15 +5,14 @@ ghost use Rattle.sqlite.specs.State.{Survives};
 ghost use Rattle.depot_actions.specs.Causes.{IsExport};
 ghost use Rattle.encodings.specs.Device.{HasBroken, HasTaken};
 ghost use Rattle.refusals.specs.declared.refusal.Refusal.TheVariants.{Write};
-ghost use Rattle.depot_cli.specs.Jobs.{HasTold};
+ghost use Rattle.depot_jobs.specs.Jobs.{HasTold};
 ghost use Rattle.depot_cli.specs.Printed.{migrated_text, removed_text};
+ghost use Rattle.depot_cli.specs.Requests.{request_command};
 ghost use Rattle.depot_cli.specs.Tasks.{HasAnswered, HasPerformed, HasRefused, MayAdd, command_of, desk, text_in};
 
 use crate::entries::{Detail, put_entries};
-use crate::job::{SUCCESS, tell};
-use crate::piece::Piece;
-use crate::printing::{put_line, put_pieces};
 use depot_actions::Depot;
+use depot_jobs::{Piece, Request, SUCCESS, put_line, put_pieces, tell};
 use encodings::{DeviceFailed, Encoding, Sink};
 use part_store::EntryRow;
 use refusals::Refusal;
@@ -55,6 +54,41 @@ pub enum Task<'a> {
     },
     /// All users' filters, given the latest version.
     Migrate,
+}
+
+impl<'a> Task<'a> {
+    /// The task of a request, with the octets of its file; a request that reads none doesn't look at
+    /// them.
+    pub fn of(request: Request<'a>, octets: Vec<u8>) -> Task<'a>
+        ensures { command_of result ≡ request_command request.entry octets.items }
+    {
+        match request {
+            Request::Script { user, .. } => Task::Script {
+                user,
+                script: octets,
+            },
+            Request::Code { user, .. } => Task::Code {
+                user,
+                program: octets,
+            },
+            Request::Deliver { user, .. } => Task::Deliver {
+                user,
+                message: octets,
+            },
+            Request::List { user } => Task::List { user },
+            Request::Export {
+                user,
+                number,
+                encoding,
+            } => Task::Export {
+                user,
+                number,
+                encoding,
+            },
+            Request::Remove { user, number } => Task::Remove { user, number },
+            Request::Migrate => Task::Migrate,
+        }
+    }
 }
 
 /// What a depot replies to a task that it did, but for an export, whose reply is a text.

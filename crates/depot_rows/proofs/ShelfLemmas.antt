@@ -1,7 +1,7 @@
 -- What is asked of a shelf.
 use Rattle.std.proofs.Common.{◌≡◌, ◌∙◌, ◌+◌, ◌-◌, ◌^◌, min, ℕ, suc, Bool, true, false, if◌then◌else◌, ap, arith}
 use Rattle.encodings.specs.Device.{counted}
-use Rattle.depot_cli.specs.Host.{Call, HostState, with_call, with_faults}
+use Rattle.depot_jobs.specs.Host.{Call, HostState, with_call, with_faults}
 
 -- what was asked was noted, or it wasn't
 pub noted : (b : Bool) (asked call : Call) (old new : HostState) → new ≡ (if b then with_call asked old else old) → b ≡ true → asked ≡ call → new ≡ with_call call old

@@ -1,7 +1,7 @@
 -- What a shelf tells.
 use Rattle.std.specs.Prelude.{List, ℕ, Option, None, Some, if◌then◌else◌, map, string_bytes}
 use Rattle.std.specs.Str.{bytes_eq}
-use Rattle.depot_cli.specs.Host.{Call, HostState, Origin, file, keeps, makes, opens, standard}
+use Rattle.depot_jobs.specs.Host.{Call, HostState, Origin, file, keeps, makes, opens, standard}
 use Rattle.depot_rows.specs.declared.shelf.Known.{Known}
 use Rattle.depot_rows.specs.declared.shelf.Shelf.{Shelf}
 use Rattle.depot_rows.specs.declared.shelf.Asked.{Asked}

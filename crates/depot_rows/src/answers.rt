@@ -2,7 +2,7 @@
 
 use crate::devices::Calls;
 use crate::shelf::{Known, Shelf};
-use depot_cli::{Job, answer};
+use depot_jobs::{Job, answer};
 use encodings::{Encoding, OfWrite};
 use std::io;
 

@@ -1,9 +1,10 @@
 // Reading up to a limit.
 
 use crate::devices::Interrupted;
-use depot_cli::{Refusal, read_limited};
+use depot_jobs::read_limited;
 use encodings::OfRead;
 use mime_decode::MAX_MESSAGE;
+use refusals::Refusal;
 use std::io;
 use std::io::{Error, ErrorKind, Read};
 

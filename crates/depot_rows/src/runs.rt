@@ -2,7 +2,8 @@
 
 use crate::shelf::{Asked, Known, Shelf};
 use depot_actions::Depot;
-use depot_cli::{Errand, Host, Next, Saving, inspect, perform, run, save, tell};
+use depot_cli::{Errand, Next, Saving, inspect, perform, run, save};
+use depot_jobs::{Host, tell};
 use encodings::{OfWrite, Sink};
 use std::alloc::Global;
 use std::io;

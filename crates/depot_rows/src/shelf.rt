@@ -1,11 +1,12 @@
 //! A host of two files.
-ghost use Rattle.std.specs.Prelude.{◌≡◌, IfOk, if◌then◌else◌};
+ghost use Rattle.std.specs.Prelude.{◌≡◌, false, IfOk, if◌then◌else◌};
 ghost use Rattle.std.specs.Option.{option_copied};
-ghost use Rattle.depot_cli.specs.Host.{makes, opens, origin_of, with_call, with_faults};
+ghost use Rattle.depot_jobs.specs.Host.{is_beside, makes, opens, origin_of, with_call, with_faults};
 ghost use Rattle.depot_rows.specs.Shelf.{call_of, state_of};
 
-use depot_cli::{Host, Input, Refusal};
+use depot_jobs::{Host, Input, is_beside};
 use encodings::{DeviceFailed, OfRead, OfWrite};
+use refusals::Refusal;
 use std::alloc::{AllocError, Global};
 use std::io;
 use std::io::Write;
@@ -143,6 +144,14 @@ fn making(alloc: Global, name: &str, script: &str) -> Result<Asked, AllocError>
     ))
 }
 
+// Whether no file of a name is made: it is the script's, or one that a database of that name has
+// beside it.
+fn is_kept_from(script: &str, name: &str) -> bool
+    ensures { result ≡ false → is_beside script.now name.now ≡ false }
+{
+    name == script || is_beside(script, name)
+}
+
 impl<'a> Host for Shelf<'a> {
     type Reader = OfRead<&'a [u8]>;
 
@@ -183,7 +192,7 @@ impl<'a> Host for Shelf<'a> {
         if !self.note(asked) {
             return Err(Refusal::Memory);
         }
-        if name == script {
+        if is_kept_from(script, name) {
             self.fail();
             return Err(Refusal::Write);
         }

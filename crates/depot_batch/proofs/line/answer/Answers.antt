@@ -1,5 +1,5 @@
 use Rattle.std.proofs.Common.{refl}
-use Rattle.depot_cli.specs.Printed.{refusal_line}
+use Rattle.depot_jobs.specs.Printed.{refusal_line}
 use Rattle.depot_batch.specs.Answers.{HasComeOf, text_in}
 use Rattle.depot_batch.specs.declared.outcome.Outcome.TheVariants.{Done, Refused}
 use Rattle.depot_batch.proofs.Writing.{broken_at_end, broken_at_text, broken_somewhere, in_turn, whole}

@@ -1,6 +1,6 @@
 use Rattle.std.proofs.Common.{refl}
 use Rattle.refusals.specs.declared.refusal.Refusal.TheVariants.{Memory}
-use Rattle.depot_cli.specs.Printed.{refusal_line}
+use Rattle.depot_jobs.specs.Printed.{refusal_line}
 use Rattle.depot_batch.specs.Answers.{IsUnaskedText}
 use Rattle.depot_batch.specs.Sentences.{wrong_line}
 use Rattle.depot_batch.specs.declared.line.Unasked.TheVariants as unasked

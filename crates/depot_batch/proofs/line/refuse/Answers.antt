@@ -1,6 +1,6 @@
 use Rattle.std.proofs.lemmas.Result.{on_err_weaker}
 use Rattle.encodings.proofs.Outputs.{broken_first, broken_later, on_err}
-use Rattle.depot_cli.specs.Printed.{refusal_line}
+use Rattle.depot_jobs.specs.Printed.{refusal_line}
 use Rattle.depot_batch.specs.Batch.{closing}
 use Rattle.depot_batch.specs.declared.outcome.Outcome.TheVariants.{Refused}
 use Rattle.depot_batch.proofs.line.refuse.Goals as goal

@@ -1,8 +1,9 @@
 use Rattle.std.proofs.Common.{◌<◌, arith, length, rules}
 use Rattle.part_store.specs.Standing.{listed}
-use Rattle.depot_cli.specs.Printed.{entry_text, line}
+use Rattle.depot_jobs.specs.Printed.{line}
+use Rattle.depot_cli.specs.Printed.{entry_text}
 use Rattle.encodings.proofs.Outputs.{on_err}
-use Rattle.depot_cli.proofs.OutputLemmas.{broken_in_turn}
+use Rattle.depot_jobs.proofs.OutputLemmas.{broken_in_turn}
 use Rattle.depot_cli.proofs.PrintedLemmas.{all_entries, some_entries}
 use Rattle.depot_cli.proofs.entries.put_entries.Goals as goal
 

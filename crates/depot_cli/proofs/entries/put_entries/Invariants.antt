@@ -2,7 +2,8 @@ use Rattle.std.proofs.Common.{take}
 use Rattle.std.specs.List.{flat_map}
 use Rattle.encodings.specs.Device.{HasTaken}
 use Rattle.part_store.specs.Standing.{listed}
-use Rattle.depot_cli.specs.Printed.{entry_text, line}
+use Rattle.depot_jobs.specs.Printed.{line}
+use Rattle.depot_cli.specs.Printed.{entry_text}
 use Rattle.depot_cli.proofs.entries.put_entries.Given as goal
 
 abbrev pub invariant-loop-row : goal.invariant-loop-row

@@ -1,6 +1,7 @@
 use Rattle.std.proofs.Common.{◌++◌}
 use Rattle.std.proofs.lemmas.Result.{on_err_weaker}
-use Rattle.depot_cli.specs.Printed.{contents_text, head_text, line, users_text}
+use Rattle.depot_jobs.specs.Printed.{line}
+use Rattle.depot_cli.specs.Printed.{contents_text, head_text, users_text}
 use Rattle.encodings.proofs.Outputs.{broken_first, broken_later, on_err}
 use Rattle.depot_cli.proofs.inspection.put_overview.Goals as goal
 

@@ -1,6 +1,6 @@
 use Rattle.depot_cli.specs.Printed.{user_line}
 use Rattle.encodings.proofs.Outputs.{on_err}
-use Rattle.depot_cli.proofs.OutputLemmas.{broken_in_turn}
+use Rattle.depot_jobs.proofs.OutputLemmas.{broken_in_turn}
 use Rattle.depot_cli.proofs.Seeing.{taken_in_turn}
 use Rattle.depot_cli.proofs.inspection.put_users.Goals as goal
 

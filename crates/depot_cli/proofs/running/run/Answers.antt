@@ -1,5 +1,5 @@
 use Rattle.std.proofs.Common.{inl, inr, refl}
-use Rattle.depot_cli.proofs.RunningLemmas.{explained}
+use Rattle.depot_jobs.proofs.WorkingLemmas.{explained}
 use Rattle.depot_cli.proofs.running.run.Goals as goal
 
 pub returns-in-Ok : goal.returns-in-Ok

@@ -1,5 +1,5 @@
 use Rattle.std.proofs.Common.{◌∙◌, ap, inr}
-use Rattle.depot_cli.specs.Host.{opens, origin_of, with_faults}
+use Rattle.depot_jobs.specs.Host.{opens, origin_of, with_faults}
 use Rattle.depot_rows.specs.Shelf.{call_of, state_of}
 use Rattle.depot_rows.proofs.ShelfLemmas.{not_noted, noted}
 use Rattle.depot_rows.proofs.shelf.ShelfHost.open.Goals as goal

@@ -1,5 +1,5 @@
 use Rattle.std.proofs.Common.{◌∙◌, ap}
-use Rattle.depot_cli.specs.Host.{with_faults}
+use Rattle.depot_jobs.specs.Host.{with_faults}
 use Rattle.depot_rows.specs.Shelf.{state_of}
 use Rattle.depot_rows.proofs.ShelfLemmas.{not_noted, with_one_more}
 use Rattle.depot_rows.proofs.shelf.ShelfHost.persist.Goals as goal

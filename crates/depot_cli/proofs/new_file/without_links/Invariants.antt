@@ -1,6 +1,0 @@
-use Rattle.std.specs.Path.{path_buf_bytes}
-use Rattle.depot_cli.specs.Files.{IsReached}
-use Rattle.depot_cli.proofs.new_file.without_links.Given as goal
-
-abbrev pub invariant-loop : goal.invariant-loop
-invariant-loop g l = IsReached l.name (path_buf_bytes l.path)

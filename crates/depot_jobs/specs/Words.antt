@@ -1,0 +1,132 @@
+-- What a command line says.
+use Rattle.std.specs.Prelude.{◌≡◌, ◌≢◌, ℕ, ◌<◌, ◌^◌, List, [], Option, Some, IfSome, codes, if◌then◌else◌, unwrap_or}
+use Rattle.std.specs.Str.{bytes_eq}
+use Rattle.std.specs.Str.Parse.{IsNumeral, digits_value, without_leading_plus}
+use Rattle.clap.specs.Words.{App, Row, Text, first_of, subcommand_of}
+use Rattle.depot_words.specs.Commands.{IsDepot}
+use Rattle.encodings.specs.declared.encoding.Encoding.{Encoding}
+use Rattle.encodings.specs.declared.encoding.Encoding.TheVariants.{Raw, Base64, Base64Mime, Base32, Base32Hex, Base16, Qp}
+use Rattle.depot_jobs.specs.declared.line.CommandLine.{CommandLine}
+use Rattle.depot_jobs.specs.declared.line.CommandLine.TheVariants.{Alone, OnDepot, Program, Inspect, Batch}
+use Rattle.depot_jobs.specs.declared.request.Request.{Request}
+use Rattle.depot_jobs.specs.declared.request.Request.TheVariants.{Script, Code, Deliver, List as ListAll, Export, Remove, Migrate}
+use Rattle.depot_jobs.specs.declared.work.Work.{Work}
+use Rattle.depot_jobs.specs.declared.work.Work.TheVariants.{NoWords, Check, Explain, Compile, Verify, Run, Disassemble, Assemble, Eval, Parts, Encode, Decode}
+
+-- the text of an argument, empty where it has none
+abbrev pub argument : Text → List Row → Text
+argument name rows = unwrap_or (first_of name rows) []
+
+-- the encoding of this name; raw stands for any other, which no command line of the program has
+abbrev pub encoding_named : Text → Encoding
+encoding_named name =
+    if bytes_eq name (codes "base64") then Base64
+    else if bytes_eq name (codes "base64-mime") then Base64Mime
+    else if bytes_eq name (codes "base32") then Base32
+    else if bytes_eq name (codes "base32hex") then Base32Hex
+    else if bytes_eq name (codes "base16") then Base16
+    else if bytes_eq name (codes "qp") then Qp
+    else Raw
+
+-- the matches are those of the command of this name
+abbrev pub IsCommand : Text → Option (Text × List Row) → List Row → Type 0
+IsCommand name matches rows = matches ≡ Some (name, rows)
+
+-- the text is decimal digits, perhaps after a plus sign, of a number of 32 bits
+abbrev pub IsNumberText : Text → Type 0
+IsNumberText text = IsNumeral 10 (without_leading_plus text) × (digits_value 10 (without_leading_plus text) < 2 ^ 32)
+
+-- the number that a text is; 0 stands for any text that is none, which no command line of the program has
+pub record IsNumber (text : Text) (number : ℕ) : Type 0 where
+  pub value : IsNumberText text → number ≡ digits_value 10 (without_leading_plus text)
+  pub none : (IsNumberText text → ⊥) → number ≡ 0
+
+-- the name isn't that of a command that needs no depot
+abbrev pub IsNoWork : Text → Type 0
+IsNoWork name =
+    (name ≢ codes "check") × (name ≢ codes "explain") × (name ≢ codes "compile") × (name ≢ codes "verify")
+    × (name ≢ codes "run")
+    × (name ≢ codes "disassemble") × (name ≢ codes "assemble") × (name ≢ codes "eval") × (name ≢ codes "parts")
+    × (name ≢ codes "encode") × (name ≢ codes "decode")
+
+-- the name isn't that of a command which makes a request of a depot
+abbrev pub IsNoRequest : Text → Type 0
+IsNoRequest name =
+    (name ≢ codes "script") × (name ≢ codes "code") × (name ≢ codes "deliver") × (name ≢ codes "list")
+    × (name ≢ codes "export") × (name ≢ codes "remove") × (name ≢ codes "migrate")
+
+-- nor of any other command on a depot
+abbrev pub IsNoDepotCommand : Text → Type 0
+IsNoDepotCommand name =
+    IsNoRequest name × (name ≢ codes "program") × (name ≢ codes "inspect") × (name ≢ codes "batch")
+
+-- the work is what the matches say: which command there is, and its arguments
+abbrev pub SaysWork : Work → Option (Text × List Row) → Type 0
+SaysWork NoWords matches = IfSome matches (λ m. IsNoWork m.0 × IsNoDepotCommand m.0)
+SaysWork (Check script) matches = (rows : List Row) × IsCommand (codes "check") matches rows
+    × (script.now ≡ argument (codes "SCRIPT") rows)
+SaysWork (Explain script) matches = (rows : List Row) × IsCommand (codes "explain") matches rows
+    × (script.now ≡ argument (codes "SCRIPT") rows)
+SaysWork (Compile script out) matches =
+    (rows : List Row) × IsCommand (codes "compile") matches rows × (script.now ≡ argument (codes "SCRIPT") rows)
+    × (out.now ≡ argument (codes "OUT") rows)
+SaysWork (Eval script message) matches =
+    (rows : List Row) × IsCommand (codes "eval") matches rows × (script.now ≡ argument (codes "SCRIPT") rows)
+    × (message.now ≡ argument (codes "MESSAGE") rows)
+SaysWork (Verify program) matches = (rows : List Row) × IsCommand (codes "verify") matches rows
+    × (program.now ≡ argument (codes "PROGRAM") rows)
+SaysWork (Run program message) matches =
+    (rows : List Row) × IsCommand (codes "run") matches rows × (program.now ≡ argument (codes "PROGRAM") rows)
+    × (message.now ≡ argument (codes "MESSAGE") rows)
+SaysWork (Disassemble program) matches =
+    (rows : List Row) × IsCommand (codes "disassemble") matches rows × (program.now ≡ argument (codes "PROGRAM") rows)
+SaysWork (Assemble listing out) matches =
+    (rows : List Row) × IsCommand (codes "assemble") matches rows × (listing.now ≡ argument (codes "LISTING") rows)
+    × (out.now ≡ argument (codes "OUT") rows)
+SaysWork (Parts message) matches = (rows : List Row) × IsCommand (codes "parts") matches rows
+    × (message.now ≡ argument (codes "MESSAGE") rows)
+SaysWork (Encode encoding) matches =
+    (rows : List Row) × IsCommand (codes "encode") matches rows
+    × (encoding ≡ encoding_named (argument (codes "ENCODING") rows))
+SaysWork (Decode encoding) matches =
+    (rows : List Row) × IsCommand (codes "decode") matches rows
+    × (encoding ≡ encoding_named (argument (codes "ENCODING") rows))
+
+-- the request is what the matches say: which command there is, and these arguments of it, but for the depot
+abbrev pub SaysRequest : Request → Option (Text × List Row) → List Row → Type 0
+SaysRequest (Script user script) matches rows =
+    IsCommand (codes "script") matches rows × (user.now ≡ argument (codes "USER") rows)
+    × (script.now ≡ argument (codes "SCRIPT") rows)
+SaysRequest (Code user program) matches rows =
+    IsCommand (codes "code") matches rows × (user.now ≡ argument (codes "USER") rows)
+    × (program.now ≡ argument (codes "PROGRAM") rows)
+SaysRequest (Deliver user message) matches rows =
+    IsCommand (codes "deliver") matches rows × (user.now ≡ argument (codes "USER") rows)
+    × (message.now ≡ argument (codes "MESSAGE") rows)
+SaysRequest (ListAll user) matches rows = IsCommand (codes "list") matches rows
+    × (user.now ≡ argument (codes "USER") rows)
+SaysRequest (Export user number encoding) matches rows =
+    IsCommand (codes "export") matches rows × (user.now ≡ argument (codes "USER") rows)
+    × IsNumber (argument (codes "NUMBER") rows) number
+    × (encoding ≡ encoding_named (argument (codes "ENCODING") rows))
+SaysRequest (Remove user number) matches rows =
+    IsCommand (codes "remove") matches rows × (user.now ≡ argument (codes "USER") rows)
+    × IsNumber (argument (codes "NUMBER") rows) number
+SaysRequest Migrate matches rows = IsCommand (codes "migrate") matches rows
+
+-- the command line says what the matches say
+abbrev pub Says : CommandLine → Option (Text × List Row) → Type 0
+Says (Alone work) matches = SaysWork work matches
+Says (OnDepot depot request) matches = (rows : List Row) × SaysRequest request matches rows
+    × (depot.now ≡ argument (codes "DB") rows)
+Says (Program depot user out) matches =
+    (rows : List Row) × IsCommand (codes "program") matches rows × (depot.now ≡ argument (codes "DB") rows)
+    × (user.now ≡ argument (codes "USER") rows) × (out.now ≡ argument (codes "OUT") rows)
+Says (Inspect depot) matches = (rows : List Row) × IsCommand (codes "inspect") matches rows
+    × (depot.now ≡ argument (codes "DB") rows)
+Says (Batch depot) matches = (rows : List Row) × IsCommand (codes "batch") matches rows
+    × (depot.now ≡ argument (codes "DB") rows)
+
+-- the words say this command
+abbrev pub IsLine : List Text → CommandLine → Type 0
+IsLine words line = (app : App) × IsDepot app × Says line (subcommand_of app words)

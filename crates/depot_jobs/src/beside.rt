@@ -1,0 +1,25 @@
+// The files that a database has beside its own.
+ghost use Rattle.std.specs.Prelude.{◌≡◌, ◌++◌};
+ghost use Rattle.std.specs.Str.{bytes_eq};
+ghost use Rattle.depot_jobs.specs.Host.{is_beside};
+
+/// Whether a name is that of a file which a database of another name has beside its own: its log,
+/// the log's index, or its journal.
+pub fn is_beside(database: &str, name: &str) -> bool
+    ensures { result ≡ is_beside database.now name.now }
+{
+    is_joined(name, database, "-wal")
+        || is_joined(name, database, "-shm")
+        || is_joined(name, database, "-journal")
+}
+
+// Whether a text is two others, one behind the other.
+#[tactic(auto, using(crate::proofs::NameLemmas::is_both))]
+fn is_joined(text: &str, first: &str, second: &str) -> bool
+    ensures { result ≡ bytes_eq text.now (first.now ++ second.now) }
+{
+    match text.as_bytes().strip_prefix(first.as_bytes()) {
+        Some(rest) => rest == second.as_bytes(),
+        None => false,
+    }
+}

@@ -1,0 +1,110 @@
+// What is read: by work and by requests, of files and of standard input.
+ghost use Rattle.std.specs.Prelude.{◌≡◌, List, ℕ, IfErr, IfOk};
+ghost use Rattle.depot_jobs.specs.Host.{origin_of};
+ghost use Rattle.depot_jobs.specs.Inputs.{HasNotRead, HasNotReadFile, HasRead, HasReadFile, HaveNotRead, HaveRead, file_of, input, origins_in, origins_of};
+
+use crate::host::{Host, Input};
+use crate::reading::read_limited;
+use crate::request::Request;
+use crate::work::Work;
+use mime_decode::MAX_MESSAGE;
+use refusals::Refusal;
+use std::alloc::Global;
+
+/// What work reads, in the order of its words.
+#[derive(Clone, Copy)]
+pub enum Inputs<'a> {
+    /// The octets of one file, or of standard input.
+    One(Input<'a>),
+    /// Those of two.
+    Two(Input<'a>, Input<'a>),
+}
+
+/// What work reads, in the order of its words.
+pub fn inputs_of<'a>(work: Work<'a>) -> Inputs<'a>
+    ensures { origins_in result ≡ origins_of work.entry }
+{
+    match work {
+        Work::NoWords | Work::Encode { .. } | Work::Decode { .. } => Inputs::One(Input::Standard),
+        Work::Check { script } | Work::Explain { script } | Work::Compile { script, .. } => {
+            Inputs::One(Input::File(script))
+        }
+        Work::Verify { program } | Work::Disassemble { program } => {
+            Inputs::One(Input::File(program))
+        }
+        Work::Assemble { listing, .. } => Inputs::One(Input::File(listing)),
+        Work::Parts { message } => Inputs::One(Input::File(message)),
+        Work::Run { program, message } => Inputs::Two(Input::File(program), Input::File(message)),
+        Work::Eval { script, message } => Inputs::Two(Input::File(script), Input::File(message)),
+    }
+}
+
+/// The octets of what work reads, the second ones empty where it reads once.
+///
+/// # Errors
+///
+/// The first that can't be read is refused as [`read_input`] says, and nothing after it is opened.
+pub fn read_inputs<H: Host>(
+    alloc: Global,
+    inputs: Inputs<'_>,
+    host: &mut H,
+) -> Result<(Vec<u8>, Vec<u8>), Refusal>
+    ensures read { IfOk result (λ octets. (all : List (List ℕ))
+        × HaveRead (origins_in inputs.entry) all (H.state host.old) (H.state host.new)
+        × (octets.0.items ≡ input all 0) × (octets.1.items ≡ input all 1)) }
+    ensures refused { IfErr result (λ e. HaveNotRead e (origins_in inputs.entry) (H.state host.old)
+        (H.state host.new)) }
+{
+    match inputs {
+        Inputs::One(first) => Ok((read_input(alloc, first, host)?, Vec::new(alloc))),
+        Inputs::Two(first, second) => {
+            let first = read_input(alloc, first, host)?;
+            let second = read_input(alloc, second, host)?;
+            Ok((first, second))
+        }
+    }
+}
+
+/// The octets of a file, or of standard input: at most 64 MiB of them.
+///
+/// # Errors
+///
+/// `MessageTooLarge` where there are more, of which one was read; `Read` where it can't be opened
+/// or read; `Memory` where an allocation was refused.
+pub fn read_input<H: Host>(
+    alloc: Global,
+    input: Input<'_>,
+    host: &mut H,
+) -> Result<Vec<u8>, Refusal>
+    ensures read { IfOk result (λ octets. HasRead (origin_of input.entry) octets.items
+        (H.state host.old) (H.state host.new)) }
+    ensures refused { IfErr result (λ e. HasNotRead e (origin_of input.entry) (H.state host.old)
+        (H.state host.new)) }
+{
+    let mut reader = host.open(input)?;
+    let octets = read_limited(alloc, &mut reader, MAX_MESSAGE);
+    host.close(reader);
+    octets
+}
+
+/// The octets of the file of a request, none where it has none.
+///
+/// # Errors
+///
+/// `MessageTooLarge` where the file has more than 64 MiB, of which one octet more was read; `Read`
+/// where it can't be opened or read; `Memory` where an allocation was refused.
+pub fn read_file_of<H: Host>(
+    alloc: Global,
+    request: Request<'_>,
+    host: &mut H,
+) -> Result<Vec<u8>, Refusal>
+    ensures read { IfOk result (λ octets. HasReadFile (file_of request.entry) octets.items
+        (H.state host.old) (H.state host.new)) }
+    ensures unread { IfErr result (λ e. HasNotReadFile e (file_of request.entry)
+        (H.state host.old) (H.state host.new)) }
+{
+    match request.file() {
+        Some(file) => read_input(alloc, Input::File(file), host),
+        None => Ok(Vec::new(alloc)),
+    }
+}

@@ -1,0 +1,210 @@
+// What the words of the command line say.
+ghost use Rattle.std.specs.Prelude.{◌≡◌, IfOk, IfErr, MatchOption, Some, map, true};
+ghost use Rattle.clap.specs.Words.{App, FailsBy, fault_of, found_of, kind_of, rows_of, subcommand_of, subcommand_rows_of, takes};
+ghost use Rattle.clap.specs.declared.error.kind.ErrorKind.TheVariants.{OutOfMemory};
+ghost use Rattle.depot_words.specs.Commands.{AreEncodings, IsDepot};
+ghost use Rattle.depot_jobs.specs.Words.{IsNoWork, IsNoRequest, IsNumber, Says, SaysRequest, SaysWork, argument as text_of, encoding_named};
+
+use crate::request::Request;
+use crate::work::Work;
+use clap::{ArgMatches, Error};
+use depot_words::depot_command;
+use encodings::Encoding;
+use std::alloc::Global;
+
+/// What a command line says.
+#[derive(Clone, Copy)]
+pub enum CommandLine<'a> {
+    /// A command that needs no depot.
+    Alone(Work<'a>),
+    /// A command on the depot of a file.
+    OnDepot {
+        depot: &'a str,
+        request: Request<'a>,
+    },
+    /// A user's filter program, into a file.
+    Program {
+        depot: &'a str,
+        user: &'a str,
+        out: &'a str,
+    },
+    /// What a file is, and what the depot in it holds.
+    Inspect {
+        depot: &'a str,
+    },
+    /// Commands on a depot, from the lines of standard input.
+    Batch {
+        depot: &'a str,
+    },
+}
+
+/// The names of the encodings.
+const ENCODINGS: &[&str] = &[
+    "raw",
+    "base64",
+    "base64-mime",
+    "base32",
+    "base32hex",
+    "base16",
+    "qp",
+];
+
+/// What the words say, of which the first is the program's name.
+///
+/// Where the words aren't those of a command, or ask for help, the error has the text for the user.
+pub fn line_of<'a>(alloc: Global, words: &'a [&'a str]) -> Result<CommandLine<'a>, Error>
+    ensures says { IfOk result (λ line. (app : App) × IsDepot app
+        × Says line (subcommand_of app (map (λ w. w.now) words.entry.now))) }
+    ensures taken { IfErr result (λ e. (app : App) × IsDepot app
+        × (takes app (map (λ w. w.now) words.entry.now) ≡ true → kind_of e ≡ OutOfMemory)) }
+    ensures kinds { (app : App) × IsDepot app
+        × FailsBy (fault_of app (map (λ w. w.now) words.entry.now)) result }
+{
+    let names = encodings();
+    let matches = depot_command(alloc, names)?.try_get_matches_from(words)?;
+    Ok(line_in(&matches))
+}
+
+// What the matches say.
+fn line_in<'a>(matches: &ArgMatches<'a>) -> CommandLine<'a>
+    ensures { Says result (subcommand_rows_of matches.now) }
+{
+    match matches.subcommand() {
+        Some((name, found)) => command_in(name, found),
+        None => CommandLine::Alone(Work::NoWords),
+    }
+}
+
+// What the matches of a command say. An argument that the command hasn't is empty.
+fn command_in<'a>(name: &str, found: &ArgMatches<'a>) -> CommandLine<'a>
+    ensures { Says result (Some (name.now, rows_of (found_of found.now))) }
+{
+    match work_in(name, found) {
+        Some(work) => CommandLine::Alone(work),
+        None => depot_line_in(name, found),
+    }
+}
+
+// The work that the matches of a command say, if it needs no depot.
+fn work_in<'a>(name: &str, found: &ArgMatches<'a>) -> Option<Work<'a>>
+    ensures { MatchOption result (IsNoWork name.now)
+        (λ work. SaysWork work (Some (name.now, rows_of (found_of found.now)))) }
+{
+    let script = argument(found, "SCRIPT");
+    let program = argument(found, "PROGRAM");
+    let message = argument(found, "MESSAGE");
+    let out = argument(found, "OUT");
+    let encoding = encoding_named(argument(found, "ENCODING"));
+    match name {
+        "check" => Some(Work::Check { script }),
+        "explain" => Some(Work::Explain { script }),
+        "compile" => Some(Work::Compile { script, out }),
+        "verify" => Some(Work::Verify { program }),
+        "run" => Some(Work::Run { program, message }),
+        "disassemble" => Some(Work::Disassemble { program }),
+        "assemble" => Some(Work::Assemble {
+            listing: argument(found, "LISTING"),
+            out,
+        }),
+        "eval" => Some(Work::Eval { script, message }),
+        "parts" => Some(Work::Parts { message }),
+        "encode" => Some(Work::Encode { encoding }),
+        "decode" => Some(Work::Decode { encoding }),
+        _ => None,
+    }
+}
+
+// What the matches of a command on a depot say.
+fn depot_line_in<'a>(name: &str, found: &ArgMatches<'a>) -> CommandLine<'a>
+    ensures { IsNoWork name.now
+        → Says result (Some (name.now, rows_of (found_of found.now))) }
+{
+    let depot = argument(found, "DB");
+    match name {
+        "program" => CommandLine::Program {
+            depot,
+            user: argument(found, "USER"),
+            out: argument(found, "OUT"),
+        },
+        "inspect" => CommandLine::Inspect { depot },
+        "batch" => CommandLine::Batch { depot },
+        _ => match request_in(name, found) {
+            Some(request) => CommandLine::OnDepot { depot, request },
+            None => CommandLine::Alone(Work::NoWords),
+        },
+    }
+}
+
+// The request that the matches of a command say, if it makes one of its depot.
+fn request_in<'a>(name: &str, found: &ArgMatches<'a>) -> Option<Request<'a>>
+    ensures { MatchOption result (IsNoRequest name.now)
+        (λ request. SaysRequest request (Some (name.now, rows_of (found_of found.now)))
+        (rows_of (found_of found.now))) }
+{
+    let user = argument(found, "USER");
+    match name {
+        "script" => Some(Request::Script {
+            user,
+            script: argument(found, "SCRIPT"),
+        }),
+        "code" => Some(Request::Code {
+            user,
+            program: argument(found, "PROGRAM"),
+        }),
+        "deliver" => Some(Request::Deliver {
+            user,
+            message: argument(found, "MESSAGE"),
+        }),
+        "list" => Some(Request::List { user }),
+        "export" => Some(Request::Export {
+            user,
+            number: number(argument(found, "NUMBER")),
+            encoding: encoding_named(argument(found, "ENCODING")),
+        }),
+        "remove" => Some(Request::Remove {
+            user,
+            number: number(argument(found, "NUMBER")),
+        }),
+        "migrate" => Some(Request::Migrate),
+        _ => None,
+    }
+}
+
+// The number that a text is. Only numbers of entries come here.
+fn number(text: &str) -> u32
+    ensures { IsNumber text.now result }
+{
+    match text.parse::<u32>() {
+        Ok(number) => number,
+        Err(_) => 0,
+    }
+}
+
+// The text of an argument. It has one, since each is required.
+fn argument<'a>(matches: &ArgMatches<'a>, name: &str) -> &'a str
+    ensures { result.now ≡ text_of name.now (rows_of (found_of matches.now)) }
+{
+    matches.get_str(name).unwrap_or("")
+}
+
+// The encoding of this name. Only names of encodings come here.
+fn encoding_named(name: &str) -> Encoding
+    ensures { result ≡ encoding_named name.now }
+{
+    match name {
+        "base64" => Encoding::Base64,
+        "base64-mime" => Encoding::Base64Mime,
+        "base32" => Encoding::Base32,
+        "base32hex" => Encoding::Base32Hex,
+        "base16" => Encoding::Base16,
+        "qp" => Encoding::Qp,
+        _ => Encoding::Raw,
+    }
+}
+
+// The names of the encodings.
+fn encodings() -> &'static [&'static str]
+    ensures { AreEncodings result }
+{
+    ENCODINGS
+}

@@ -1,0 +1,81 @@
+// Reading up to a limit.
+ghost use Rattle.std.specs.Prelude.{◌≡◌, ◌+◌, ◌<◌, ◌≤◌, drop, take, vec_len, IfErr, IfOk, OnErr, OnOk};
+ghost use Rattle.depot_jobs.specs.LimitedReading.{HasGivenUp};
+ghost use Rattle.encodings.specs.Supply.{HasEnded, HasFailedToGive, HasGiven};
+
+use encodings::{DeviceFailed, Source};
+use refusals::Refusal;
+use std::alloc::{AllocError, Global};
+
+/// How many octets are asked for at a time.
+const PIECE: usize = 65_536;
+
+/// All octets of a source, if they are no more than the limit.
+///
+/// At most one octet more than the limit is taken, also from a source that never ends; then the
+/// answer is `MessageTooLarge`, and it is in no other case. `Read` comes only where the source
+/// failed, and no other error but `Memory`. Else the source has met its end.
+pub fn read_limited<R: Source>(
+    alloc: Global,
+    source: &mut R,
+    limit: usize,
+) -> Result<Vec<u8>, Refusal>
+    ensures all { IfOk result (λ octets. HasGiven octets.items (R.supply source.old)
+        (R.supply source.new)) }
+    ensures ended { OnOk result (HasEnded (R.supply source.new)) }
+    ensures small { IfOk result (λ octets. vec_len octets ≤ limit) }
+    ensures refused { IfErr result (λ e. HasGivenUp e limit (R.supply source.old)
+        (R.supply source.new)) }
+{
+    let mut octets = Vec::new(alloc);
+    let mut filled = 0;
+    'pieces: loop {
+        make_room(&mut octets, filled, limit)?;
+        match read_from(source, &mut octets, filled) {
+            Ok(0) => {
+                octets.truncate(filled);
+                return Ok(octets);
+            }
+            Ok(n) => filled += n,
+            Err(DeviceFailed) => return Err(Refusal::Read),
+        }
+        if filled > limit {
+            return Err(Refusal::MessageTooLarge);
+        }
+    }
+}
+
+// Makes room after the octets that are filled: for a piece, or for one octet more than the limit.
+// So no octet is taken that memory is refused for.
+fn make_room(octets: &mut Vec<u8>, filled: usize, limit: usize) -> Result<(), AllocError>
+    requires filled { filled ≤ vec_len octets.old }
+    requires more { filled ≤ limit }
+    requires small { vec_len octets.old ≤ limit + 1 }
+    ensures kept { OnOk result (take filled octets.new.items ≡ take filled octets.old.items) }
+    ensures some { OnOk result (filled < vec_len octets.new) }
+    ensures small { OnOk result (vec_len octets.new ≤ limit + 1) }
+{
+    let end = limit.saturating_add(1).min(filled + PIECE);
+    if octets.len() < end {
+        octets.resize(end, 0)?;
+    }
+    Ok(())
+}
+
+// One read into the room after the octets that are filled.
+fn read_from<R: Source>(
+    source: &mut R,
+    octets: &mut Vec<u8>,
+    filled: usize,
+) -> Result<usize, DeviceFailed>
+    requires { filled < vec_len octets.old }
+    ensures len { vec_len octets.new ≡ vec_len octets.old }
+    ensures kept { take filled octets.new.items ≡ take filled octets.old.items }
+    ensures bound { IfOk result (λ n. filled + n ≤ vec_len octets.new) }
+    ensures ok { IfOk result (λ n. HasGiven (take n (drop filled octets.new.items))
+        (R.supply source.old) (R.supply source.new)) }
+    ensures ended { IfOk result (λ n. n ≡ 0 → HasEnded (R.supply source.new)) }
+    ensures err { OnErr result (HasFailedToGive (R.supply source.old) (R.supply source.new)) }
+{
+    source.read(&mut octets[filled..])
+}

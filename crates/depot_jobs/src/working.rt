@@ -1,0 +1,96 @@
+// From work to its status.
+ghost use Rattle.std.specs.Prelude.{◌≡◌, ◌⊎◌, List, ℕ};
+ghost use Rattle.bytecode_format.specs.Spelling.{spelling};
+ghost use Rattle.depot_jobs.specs.Jobs.{world};
+ghost use Rattle.depot_jobs.specs.Inputs.{input};
+ghost use Rattle.depot_jobs.specs.Working.{HasNotWorked, HasWorked, IsJobOf, keeping_code};
+
+use crate::host::Host;
+use crate::inputs::{inputs_of, read_inputs};
+use crate::job::{Job, answer, tell};
+use crate::work::Work;
+use encodings::Sink;
+use std::alloc::Global;
+
+/// The program that keeps every message.
+const KEEPS_ALL: &[u8] = &[
+    b'S', b'V', b'B', b'C', 1, // the format and its version
+    0, 0, 0, 0, 0, 0, // no variables, numbers and strings
+    0, 0, 0, 2, // two instructions
+    0x13, 0, 0, 0, 0, 0, 0, 0, // keep
+    0x01, 0, 0, 0, 0, 0, 0, 0, // halt
+];
+
+/// Reads what work reads, in the order of its words, and answers its job; gives the status. Where
+/// something can't be read, the refusal is told, and nothing after it is opened.
+pub fn carry_out<H: Host, O: Sink, E: Sink>(
+    alloc: Global,
+    work: Work<'_>,
+    host: &mut H,
+    out: &mut O,
+    err: &mut E,
+) -> u8
+    ensures { HasWorked work.entry result
+        (world (H.state host.old) (O.output out.old) (E.output err.old))
+        (world (H.state host.new) (O.output out.new) (E.output err.new))
+        ⊎ HasNotWorked work.entry result
+        (world (H.state host.old) (O.output out.old) (E.output err.old))
+        (world (H.state host.new) (O.output out.new) (E.output err.new)) }
+{
+    match read_inputs(alloc, inputs_of(work), host) {
+        Ok((first, second)) => {
+            let job = job_of(work, &first, &second);
+            answer(alloc, job, host, out, err)
+        }
+        Err(refusal) => tell(err, &refusal),
+    }
+}
+
+// The job that work is, with the octets that it reads, the second ones empty where it reads once.
+fn job_of<'a>(work: Work<'a>, first: &'a [u8], second: &'a [u8]) -> Job<'a>
+    ensures { (inputs : List (List ℕ)) → first.entry.now ≡ input inputs 0
+        → second.entry.now ≡ input inputs 1 → IsJobOf work.entry inputs result }
+{
+    let (octets, text) = (first, first);
+    match work {
+        Work::NoWords => Job::Run {
+            program: keeping_program(),
+            message: first,
+        },
+        Work::Check { .. } => Job::Check { script: first },
+        Work::Explain { script } => Job::Explain {
+            script: first,
+            name: script,
+        },
+        Work::Compile { script, out } => Job::Compile {
+            script: first,
+            name: script,
+            out,
+        },
+        Work::Verify { .. } => Job::Verify { program: first },
+        Work::Run { .. } => Job::Run {
+            program: first,
+            message: second,
+        },
+        Work::Disassemble { .. } => Job::Disassemble { program: first },
+        Work::Assemble { listing, out } => Job::Assemble {
+            listing: first,
+            name: listing,
+            out,
+        },
+        Work::Eval { .. } => Job::Eval {
+            script: first,
+            message: second,
+        },
+        Work::Parts { .. } => Job::Parts { message: first },
+        Work::Encode { encoding } => Job::Encode { encoding, octets },
+        Work::Decode { encoding } => Job::Decode { encoding, text },
+    }
+}
+
+// The program that keeps every message.
+fn keeping_program() -> &'static [u8]
+    ensures { result.now ≡ spelling keeping_code }
+{
+    KEEPS_ALL
+}

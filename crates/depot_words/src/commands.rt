@@ -1,0 +1,461 @@
+// The program with its commands, as it is told to clap.
+ghost use Rattle.std.specs.Prelude.{◌≡◌, IfOk, codes, false};
+ghost use Rattle.clap.specs.Words.{app_of, new_app, with_subcommand};
+ghost use Rattle.clap.specs.declared.builder.command.Command.TheViews.{out-Command as fields_of};
+ghost use Rattle.depot_words.specs.Commands.{assemble_app, batch_app, check_app, checks_app, code_app, codecs_app, compile_app, decode_app, deliver_app, delivery_app, depot_app, disassemble_app, encode_app, entries_app, eval_app, explain_app, export_app, filing_app, filters_app, inspect_app, keeper_app, keeping_app, list_app, listings_app, mail_app, migrate_app, parts_app, program_app, remove_app, run_app, script_app, scripts_app, user_app, verify_app};
+
+use crate::arguments::{
+    any_file, depot_file, encoding_name, entry_number, listing_file, message_file, out_file,
+    program_file, script_file, user_name,
+};
+use crate::help;
+use clap::Command;
+use std::alloc::{AllocError, Global};
+
+/// The program with its commands.
+pub fn depot_command<'a>(alloc: Global, names: &'a [&'a str]) -> Result<Command<'a>, AllocError>
+    ensures app { IfOk result (λ c. app_of c ≡ depot_app names.entry) }
+    ensures local { IfOk result (λ c. (fields_of c).has_globals ≡ false) }
+{
+    keeper_command(alloc, names)?.subcommand(batch_command(alloc)?)
+}
+
+// The program with all commands but the one that takes others.
+fn keeper_command<'a>(alloc: Global, names: &'a [&'a str]) -> Result<Command<'a>, AllocError>
+    ensures app { IfOk result (λ c. app_of c ≡ keeper_app names.entry) }
+    ensures local { IfOk result (λ c. (fields_of c).has_globals ≡ false) }
+{
+    with_migrate(alloc, names)?.subcommand(inspect_command(alloc)?)
+}
+
+// The program as far as the command migrate.
+fn with_migrate<'a>(alloc: Global, names: &'a [&'a str]) -> Result<Command<'a>, AllocError>
+    ensures app { IfOk result (λ c. app_of c
+        ≡ with_subcommand (entries_app names.entry) migrate_app.top) }
+    ensures local { IfOk result (λ c. (fields_of c).has_globals ≡ false) }
+{
+    entries_command(alloc, names)?.subcommand(migrate_command(alloc)?)
+}
+
+// The program with all commands of users.
+fn entries_command<'a>(alloc: Global, names: &'a [&'a str]) -> Result<Command<'a>, AllocError>
+    ensures app { IfOk result (λ c. app_of c ≡ entries_app names.entry) }
+    ensures local { IfOk result (λ c. (fields_of c).has_globals ≡ false) }
+{
+    with_export(alloc, names)?.subcommand(remove_command(alloc)?)
+}
+
+// The program as far as the command export.
+fn with_export<'a>(alloc: Global, names: &'a [&'a str]) -> Result<Command<'a>, AllocError>
+    ensures app { IfOk result (λ c. app_of c
+        ≡ with_subcommand (delivery_app names.entry) (export_app names.entry).top) }
+    ensures local { IfOk result (λ c. (fields_of c).has_globals ≡ false) }
+{
+    delivery_command(alloc, names)?.subcommand(export_command(alloc, names)?)
+}
+
+// The program with all commands but those on entries that are there.
+fn delivery_command<'a>(alloc: Global, names: &'a [&'a str]) -> Result<Command<'a>, AllocError>
+    ensures app { IfOk result (λ c. app_of c ≡ delivery_app names.entry) }
+    ensures local { IfOk result (λ c. (fields_of c).has_globals ≡ false) }
+{
+    with_deliver(alloc, names)?.subcommand(list_command(alloc)?)
+}
+
+// The program as far as the command deliver.
+fn with_deliver<'a>(alloc: Global, names: &'a [&'a str]) -> Result<Command<'a>, AllocError>
+    ensures app { IfOk result (λ c. app_of c
+        ≡ with_subcommand (keeping_app names.entry) deliver_app.top) }
+    ensures local { IfOk result (λ c. (fields_of c).has_globals ≡ false) }
+{
+    keeping_command(alloc, names)?.subcommand(deliver_command(alloc)?)
+}
+
+// The program with the commands that need no depot, and those on filters.
+fn keeping_command<'a>(alloc: Global, names: &'a [&'a str]) -> Result<Command<'a>, AllocError>
+    ensures app { IfOk result (λ c. app_of c ≡ keeping_app names.entry) }
+    ensures local { IfOk result (λ c. (fields_of c).has_globals ≡ false) }
+{
+    filing_command(alloc, names)?.subcommand(program_command(alloc)?)
+}
+
+// The program with the commands that need no depot, and those that store filters.
+fn filing_command<'a>(alloc: Global, names: &'a [&'a str]) -> Result<Command<'a>, AllocError>
+    ensures app { IfOk result (λ c. app_of c ≡ filing_app names.entry) }
+    ensures local { IfOk result (λ c. (fields_of c).has_globals ≡ false) }
+{
+    with_script(alloc, names)?.subcommand(code_command(alloc)?)
+}
+
+// The program as far as the command script.
+fn with_script<'a>(alloc: Global, names: &'a [&'a str]) -> Result<Command<'a>, AllocError>
+    ensures app { IfOk result (λ c. app_of c
+        ≡ with_subcommand (codecs_app names.entry) script_app.top) }
+    ensures local { IfOk result (λ c. (fields_of c).has_globals ≡ false) }
+{
+    codecs_command(alloc, names)?.subcommand(script_command(alloc)?)
+}
+
+// The program with the commands that need no depot.
+fn codecs_command<'a>(alloc: Global, names: &'a [&'a str]) -> Result<Command<'a>, AllocError>
+    ensures app { IfOk result (λ c. app_of c ≡ codecs_app names.entry) }
+    ensures local { IfOk result (λ c. (fields_of c).has_globals ≡ false) }
+{
+    with_encode(alloc, names)?.subcommand(decode_command(alloc, names)?)
+}
+
+// The program as far as the command encode.
+fn with_encode<'a>(alloc: Global, names: &'a [&'a str]) -> Result<Command<'a>, AllocError>
+    ensures app { IfOk result (λ c. app_of c
+        ≡ with_subcommand mail_app (encode_app names.entry).top) }
+    ensures local { IfOk result (λ c. (fields_of c).has_globals ≡ false) }
+{
+    mail_command(alloc)?.subcommand(encode_command(alloc, names)?)
+}
+
+// The program with all commands that take messages, scripts or filter programs.
+fn mail_command<'a>(alloc: Global) -> Result<Command<'a>, AllocError>
+    ensures app { IfOk result (λ c. app_of c ≡ mail_app) }
+    ensures local { IfOk result (λ c. (fields_of c).has_globals ≡ false) }
+{
+    with_eval(alloc)?.subcommand(parts_command(alloc)?)
+}
+
+// The program as far as the command eval.
+fn with_eval<'a>(alloc: Global) -> Result<Command<'a>, AllocError>
+    ensures app { IfOk result (λ c. app_of c
+        ≡ with_subcommand listings_app eval_app.top) }
+    ensures local { IfOk result (λ c. (fields_of c).has_globals ≡ false) }
+{
+    listings_command(alloc)?.subcommand(eval_command(alloc)?)
+}
+
+// The program with the commands that take a script alone, a filter program, or its listing.
+fn listings_command<'a>(alloc: Global) -> Result<Command<'a>, AllocError>
+    ensures app { IfOk result (λ c. app_of c ≡ listings_app) }
+    ensures local { IfOk result (λ c. (fields_of c).has_globals ≡ false) }
+{
+    with_disassemble(alloc)?.subcommand(assemble_command(alloc)?)
+}
+
+// The program as far as the command disassemble.
+fn with_disassemble<'a>(alloc: Global) -> Result<Command<'a>, AllocError>
+    ensures app { IfOk result (λ c. app_of c
+        ≡ with_subcommand filters_app disassemble_app.top) }
+    ensures local { IfOk result (λ c. (fields_of c).has_globals ≡ false) }
+{
+    filters_command(alloc)?.subcommand(disassemble_command(alloc)?)
+}
+
+// The program with the commands that take a script alone, or a filter program.
+fn filters_command<'a>(alloc: Global) -> Result<Command<'a>, AllocError>
+    ensures app { IfOk result (λ c. app_of c ≡ filters_app) }
+    ensures local { IfOk result (λ c. (fields_of c).has_globals ≡ false) }
+{
+    with_verify(alloc)?.subcommand(run_command(alloc)?)
+}
+
+// The program as far as the command verify.
+fn with_verify<'a>(alloc: Global) -> Result<Command<'a>, AllocError>
+    ensures app { IfOk result (λ c. app_of c
+        ≡ with_subcommand scripts_app verify_app.top) }
+    ensures local { IfOk result (λ c. (fields_of c).has_globals ≡ false) }
+{
+    scripts_command(alloc)?.subcommand(verify_command(alloc)?)
+}
+
+// The program with the commands that take a script alone.
+fn scripts_command<'a>(alloc: Global) -> Result<Command<'a>, AllocError>
+    ensures app { IfOk result (λ c. app_of c ≡ scripts_app) }
+    ensures local { IfOk result (λ c. (fields_of c).has_globals ≡ false) }
+{
+    checks_command(alloc)?.subcommand(compile_command(alloc)?)
+}
+
+// The program with the commands that look for faults.
+fn checks_command<'a>(alloc: Global) -> Result<Command<'a>, AllocError>
+    ensures app { IfOk result (λ c. app_of c ≡ checks_app) }
+    ensures local { IfOk result (λ c. (fields_of c).has_globals ≡ false) }
+{
+    with_check(alloc)?.subcommand(explain_command(alloc)?)
+}
+
+// The program as far as the command check.
+fn with_check<'a>(alloc: Global) -> Result<Command<'a>, AllocError>
+    ensures app { IfOk result (λ c. app_of c
+        ≡ with_subcommand (new_app (codes "depot")) check_app.top) }
+    ensures local { IfOk result (λ c. (fields_of c).has_globals ≡ false) }
+{
+    Command::new(alloc, "depot")
+        .about(
+            "Verified mail filters: checks and compiles Sieve scripts, files mail messages as they say, and gives back what was filed.",
+        )
+        .after_help(help::ALL)
+        .subcommand(check_command(alloc)?)
+}
+
+// The command check.
+fn check_command<'a>(alloc: Global) -> Result<Command<'a>, AllocError>
+    ensures app { IfOk result (λ c. app_of c ≡ check_app) }
+    ensures local { IfOk result (λ c. (fields_of c).has_globals ≡ false) }
+{
+    Command::new(alloc, "check")
+        .about("Says whether a Sieve script has a fault, and where")
+        .after_help(help::CHECK)
+        .arg(script_file(alloc))
+}
+
+// The command explain.
+fn explain_command<'a>(alloc: Global) -> Result<Command<'a>, AllocError>
+    ensures app { IfOk result (λ c. app_of c ≡ explain_app) }
+    ensures local { IfOk result (λ c. (fields_of c).has_globals ≡ false) }
+{
+    Command::new(alloc, "explain")
+        .about("Says in words what the fault of a Sieve script is, and shows its line")
+        .after_help(help::EXPLAIN)
+        .arg(script_file(alloc))
+}
+
+// The command compile.
+fn compile_command<'a>(alloc: Global) -> Result<Command<'a>, AllocError>
+    ensures app { IfOk result (λ c. app_of c ≡ compile_app) }
+    ensures local { IfOk result (λ c. (fields_of c).has_globals ≡ false) }
+{
+    Command::new(alloc, "compile")
+        .about("Writes a Sieve script as a filter program (bytecode)")
+        .after_help(help::COMPILE)
+        .arg(script_file(alloc))?
+        .arg(out_file(alloc))
+}
+
+// The command eval.
+fn eval_command<'a>(alloc: Global) -> Result<Command<'a>, AllocError>
+    ensures app { IfOk result (λ c. app_of c ≡ eval_app) }
+    ensures local { IfOk result (λ c. (fields_of c).has_globals ≡ false) }
+{
+    Command::new(alloc, "eval")
+        .about("Runs a Sieve script on a message, and prints what it does with it")
+        .after_help(help::EVAL)
+        .arg(script_file(alloc))?
+        .arg(message_file(alloc))
+}
+
+// The command parts.
+fn parts_command<'a>(alloc: Global) -> Result<Command<'a>, AllocError>
+    ensures app { IfOk result (λ c. app_of c ≡ parts_app) }
+    ensures local { IfOk result (λ c. (fields_of c).has_globals ≡ false) }
+{
+    Command::new(alloc, "parts")
+        .about(
+            "Lists the parts of a message: place, depth, media type, length and digest of the content",
+        )
+        .after_help(help::PARTS)
+        .arg(message_file(alloc))
+}
+
+// The command verify.
+fn verify_command<'a>(alloc: Global) -> Result<Command<'a>, AllocError>
+    ensures app { IfOk result (λ c. app_of c ≡ verify_app) }
+    ensures local { IfOk result (λ c. (fields_of c).has_globals ≡ false) }
+{
+    Command::new(alloc, "verify")
+        .about("Says whether a filter program is safe to run, and what it may charge")
+        .after_help(help::VERIFY)
+        .arg(program_file(alloc))
+}
+
+// The command run.
+fn run_command<'a>(alloc: Global) -> Result<Command<'a>, AllocError>
+    ensures app { IfOk result (λ c. app_of c ≡ run_app) }
+    ensures local { IfOk result (λ c. (fields_of c).has_globals ≡ false) }
+{
+    Command::new(alloc, "run")
+        .about("Runs a filter program on a message, and prints what it does with it")
+        .after_help(help::RUN)
+        .arg(program_file(alloc))?
+        .arg(message_file(alloc))
+}
+
+// The command disassemble.
+fn disassemble_command<'a>(alloc: Global) -> Result<Command<'a>, AllocError>
+    ensures app { IfOk result (λ c. app_of c ≡ disassemble_app) }
+    ensures local { IfOk result (λ c. (fields_of c).has_globals ≡ false) }
+{
+    Command::new(alloc, "disassemble")
+        .about(
+            "Lists a filter program, an instruction a line, and says what the verifier says of it",
+        )
+        .after_help(help::DISASSEMBLE)
+        .arg(program_file(alloc))
+}
+
+// The command assemble.
+fn assemble_command<'a>(alloc: Global) -> Result<Command<'a>, AllocError>
+    ensures app { IfOk result (λ c. app_of c ≡ assemble_app) }
+    ensures local { IfOk result (λ c. (fields_of c).has_globals ≡ false) }
+{
+    Command::new(alloc, "assemble")
+        .about("Writes the filter program (bytecode) that a listing says")
+        .after_help(help::ASSEMBLE)
+        .arg(listing_file(alloc))?
+        .arg(out_file(alloc))
+}
+
+// The command encode.
+fn encode_command<'a>(alloc: Global, names: &'a [&'a str]) -> Result<Command<'a>, AllocError>
+    ensures app { IfOk result (λ c. app_of c ≡ encode_app names.entry) }
+    ensures local { IfOk result (λ c. (fields_of c).has_globals ≡ false) }
+{
+    Command::new(alloc, "encode")
+        .about("Writes the octets of standard input as a text")
+        .after_help(help::ENCODE)
+        .arg(encoding_name(alloc, names))
+}
+
+// The command decode.
+fn decode_command<'a>(alloc: Global, names: &'a [&'a str]) -> Result<Command<'a>, AllocError>
+    ensures app { IfOk result (λ c. app_of c ≡ decode_app names.entry) }
+    ensures local { IfOk result (λ c. (fields_of c).has_globals ≡ false) }
+{
+    Command::new(alloc, "decode")
+        .about("Writes the octets that the text on standard input stands for")
+        .after_help(help::DECODE)
+        .arg(encoding_name(alloc, names))
+}
+
+// A command on the depot of a user, with the end of its help.
+fn user_command<'a>(
+    alloc: Global,
+    name: &'static str,
+    about: &'static str,
+    ending: &'static str,
+) -> Result<Command<'a>, AllocError>
+    ensures app { IfOk result (λ c. app_of c ≡ user_app name.now) }
+    ensures local { IfOk result (λ c. (fields_of c).has_globals ≡ false) }
+{
+    Command::new(alloc, name)
+        .about(about)
+        .after_help(ending)
+        .arg(depot_file(alloc))?
+        .arg(user_name(alloc))
+}
+
+// The command script.
+fn script_command<'a>(alloc: Global) -> Result<Command<'a>, AllocError>
+    ensures app { IfOk result (λ c. app_of c ≡ script_app) }
+    ensures local { IfOk result (λ c. (fields_of c).has_globals ≡ false) }
+{
+    user_command(
+        alloc,
+        "script",
+        "Stores a Sieve script, compiled, as the filter of a user",
+        help::SCRIPT,
+    )?
+    .arg(script_file(alloc))
+}
+
+// The command code.
+fn code_command<'a>(alloc: Global) -> Result<Command<'a>, AllocError>
+    ensures app { IfOk result (λ c. app_of c ≡ code_app) }
+    ensures local { IfOk result (λ c. (fields_of c).has_globals ≡ false) }
+{
+    user_command(
+        alloc,
+        "code",
+        "Stores a filter program (bytecode) as the filter of a user",
+        help::CODE,
+    )?
+    .arg(program_file(alloc))
+}
+
+// The command program.
+fn program_command<'a>(alloc: Global) -> Result<Command<'a>, AllocError>
+    ensures app { IfOk result (λ c. app_of c ≡ program_app) }
+    ensures local { IfOk result (λ c. (fields_of c).has_globals ≡ false) }
+{
+    user_command(
+        alloc,
+        "program",
+        "Writes the filter program (bytecode) of a user to a file",
+        help::PROGRAM,
+    )?
+    .arg(out_file(alloc))
+}
+
+// The command deliver.
+fn deliver_command<'a>(alloc: Global) -> Result<Command<'a>, AllocError>
+    ensures app { IfOk result (λ c. app_of c ≡ deliver_app) }
+    ensures local { IfOk result (λ c. (fields_of c).has_globals ≡ false) }
+{
+    user_command(
+        alloc,
+        "deliver",
+        "Files a message, or parts of it, as the filter of a user says",
+        help::DELIVER,
+    )?
+    .arg(message_file(alloc))
+}
+
+// The command list.
+fn list_command<'a>(alloc: Global) -> Result<Command<'a>, AllocError>
+    ensures app { IfOk result (λ c. app_of c ≡ list_app) }
+    ensures local { IfOk result (λ c. (fields_of c).has_globals ≡ false) }
+{
+    user_command(alloc, "list", "Lists the entries of a user", help::LIST)
+}
+
+// The command export.
+fn export_command<'a>(alloc: Global, names: &'a [&'a str]) -> Result<Command<'a>, AllocError>
+    ensures app { IfOk result (λ c. app_of c ≡ export_app names.entry) }
+    ensures local { IfOk result (λ c. (fields_of c).has_globals ≡ false) }
+{
+    user_command(
+        alloc,
+        "export",
+        "Writes the octets of an entry as a text",
+        help::EXPORT,
+    )?
+    .arg(entry_number(alloc))?
+    .arg(encoding_name(alloc, names))
+}
+
+// The command remove.
+fn remove_command<'a>(alloc: Global) -> Result<Command<'a>, AllocError>
+    ensures app { IfOk result (λ c. app_of c ≡ remove_app) }
+    ensures local { IfOk result (λ c. (fields_of c).has_globals ≡ false) }
+{
+    user_command(alloc, "remove", "Removes an entry", help::REMOVE)?.arg(entry_number(alloc))
+}
+
+// The command migrate.
+fn migrate_command<'a>(alloc: Global) -> Result<Command<'a>, AllocError>
+    ensures app { IfOk result (λ c. app_of c ≡ migrate_app) }
+    ensures local { IfOk result (λ c. (fields_of c).has_globals ≡ false) }
+{
+    Command::new(alloc, "migrate")
+        .about("Gives the filters of all users the latest version of the bytecode")
+        .after_help(help::MIGRATE)
+        .arg(depot_file(alloc))
+}
+
+// The command inspect.
+fn inspect_command<'a>(alloc: Global) -> Result<Command<'a>, AllocError>
+    ensures app { IfOk result (λ c. app_of c ≡ inspect_app) }
+    ensures local { IfOk result (λ c. (fields_of c).has_globals ≡ false) }
+{
+    Command::new(alloc, "inspect")
+        .about("Says what a file is, and what the depot in it holds; changes nothing")
+        .after_help(help::INSPECT)
+        .arg(any_file(alloc))
+}
+
+// The command batch.
+fn batch_command<'a>(alloc: Global) -> Result<Command<'a>, AllocError>
+    ensures app { IfOk result (λ c. app_of c ≡ batch_app) }
+    ensures local { IfOk result (λ c. (fields_of c).has_globals ≡ false) }
+{
+    Command::new(alloc, "batch")
+        .about("Does commands on a depot, one a line of standard input, and answers each")
+        .after_help(help::BATCH)
+        .arg(depot_file(alloc))
+}
