@@ -44,6 +44,9 @@ Only if: command -v dpkg-deb # there is no dpkg-deb
     -rw-r--r-- root/root 2031-05-06 ./usr/share/doc/depot/copyright
     drwxr-xr-x root/root 2031-05-06 ./usr/share/doc/depot/docs/
     drwxr-xr-x root/root 2031-05-06 ./usr/share/doc/depot/examples/
+    drwxr-xr-x root/root 2031-05-06 ./usr/share/lintian/
+    drwxr-xr-x root/root 2031-05-06 ./usr/share/lintian/overrides/
+    -rw-r--r-- root/root 2031-05-06 ./usr/share/lintian/overrides/depot
     drwxr-xr-x root/root 2031-05-06 ./usr/share/man/
     drwxr-xr-x root/root 2031-05-06 ./usr/share/man/man1/
     -rw-r--r-- root/root 2031-05-06 ./usr/share/man/man1/depot.1.gz
