@@ -5,8 +5,8 @@ Only if: command -v dpkg-deb # there is no dpkg-deb
     $ mkdir tree && cp -R "$TOP/README.md" "$TOP/LICENSE" "$TOP/contrib" "$TOP/docs" "$TOP/examples" tree/
     $ mkdir tree/release && cp -R "$TOP/release/make_deb" "$TOP/release/debian" tree/release/
     $ printf '# Changes\n\n## 9.8.7, 2031-05-06\n\n- One change.\n' > tree/CHANGELOG.md
-    $ printf 'version 9.8.7\nprogram none\nprocessor x86-64-v2\nglibc 2.34\n' > tree/release/RELEASE
-    $ printf '#!/bin/sh\necho a program\n' > program
+    $ printf 'program none\n' > tree/release/RELEASE
+    $ printf '#!/bin/sh\n# GLIBC_2.4 GLIBC_2.34 GLIBC_2.17\necho depot 9.8.7, of these cases >&2\n' > program
     $ tree/release/make_deb --program program
     ./depot_9.8.7_amd64.deb
     $ dpkg-deb -f depot_9.8.7_amd64.deb Package Version Architecture Depends Recommends Suggests
@@ -88,7 +88,7 @@ The same octets come from another folder, with other rights and times, under ano
 ## the program of a release is unpacked and compared
 Only if: command -v dpkg-deb && command -v xz # there is no dpkg-deb or no xz
     $ mkdir tree && cp -R "$TOP/README.md" "$TOP/LICENSE" "$TOP/CHANGELOG.md" "$TOP/contrib" "$TOP/docs" "$TOP/examples" tree/
-    $ mkdir tree/release && cp -R "$TOP/release/make_deb" "$TOP/release/debian" tree/release/
+    $ mkdir tree/release && cp -R "$TOP/release/make_deb" "$TOP/release/unpack" "$TOP/release/debian" tree/release/
     $ printf '#!/bin/sh\necho a program\n' > program
     $ xz < program > tree/release/program.xz
     $ version=$(sed -n 's/^## \([0-9.]*\), .*/\1/p' tree/CHANGELOG.md | head -n 1)
@@ -97,16 +97,19 @@ Only if: command -v dpkg-deb && command -v xz # there is no dpkg-deb or no xz
     $ rm -r out depot_*_amd64.deb made
 
     $ echo another | xz > tree/release/program.xz
-    $ tree/release/make_deb 2>&1 | sed 's|/[^ ]*/tree/|/|g'
-    make_deb: the program in /release/program.xz has another SHA-256 than /release/RELEASE names
-    $ sed -i 's/^program .*/program none/' tree/release/RELEASE && tree/release/make_deb
+    $ tree/release/make_deb 2>&1 | sed 's|/[^ ]*/tree/|/|g; s/ [0-9a-f]\{64\}:.*/ ../'
+    depot: /release/program.xz isn't what release/RELEASE says, its SHA-256 is ..
+    $ printf 'program none\n' > tree/release/RELEASE && tree/release/make_deb
     2> make_deb: this tree has no program in release/: name a built one, release/make_deb --program FILE
     [1]
     $ tree/release/make_deb --program none
     2> make_deb: there is no program none
     [1]
-    $ sed -i 's/^version .*/version 9.8.7/' tree/release/RELEASE && tree/release/make_deb --program program
-    2> make_deb: CHANGELOG.md has no day for the version 9.8.7
+    $ tree/release/make_deb --program program
+    2> make_deb: it isn't known which version the program has, or what it asks for
+    [1]
+    $ printf '#!/bin/sh\n# GLIBC_2.34\necho depot 987.6\n' > program && tree/release/make_deb --program program
+    2> make_deb: CHANGELOG.md has no day for the version 987.6
     [1]
     $ tree/release/make_deb --programme program
     2> make_deb: the words are release/make_deb [--program FILE] [FOLDER]
