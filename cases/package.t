@@ -1,0 +1,122 @@
+# release/make_deb, which makes the Debian package, with a small file in the place of the program
+
+## a package, made twice
+Only if: command -v dpkg-deb # there is no dpkg-deb
+    $ mkdir tree && cp -R "$TOP/README.md" "$TOP/LICENSE" "$TOP/contrib" "$TOP/docs" "$TOP/examples" tree/
+    $ mkdir tree/release && cp -R "$TOP/release/make_deb" "$TOP/release/debian" tree/release/
+    $ printf '# Changes\n\n## 9.8.7, 2031-05-06\n\n- One change.\n' > tree/CHANGELOG.md
+    $ printf 'program none\n' > tree/release/RELEASE
+    $ printf '#!/bin/sh\n# GLIBC_2.4 GLIBC_2.34 GLIBC_2.17\necho depot 9.8.7, of these cases >&2\n' > program
+    $ tree/release/make_deb --program program
+    ./depot_9.8.7_amd64.deb
+    $ dpkg-deb -f depot_9.8.7_amd64.deb Package Version Architecture Depends Recommends Suggests
+    Package: depot
+    Version: 9.8.7
+    Architecture: amd64
+    Depends: libc6 (>= 2.34)
+    Recommends: python3
+    Suggests: postfix
+    $ dpkg-deb -c depot_9.8.7_amd64.deb | awk '!/depot\/(docs|examples)\/./ { print $1, $2, $4, $6 }'
+    drwxr-xr-x root/root 2031-05-06 ./
+    drwxr-xr-x root/root 2031-05-06 ./usr/
+    drwxr-xr-x root/root 2031-05-06 ./usr/bin/
+    -rwxr-xr-x root/root 2031-05-06 ./usr/bin/depot
+    drwxr-xr-x root/root 2031-05-06 ./usr/lib/
+    drwxr-xr-x root/root 2031-05-06 ./usr/lib/depot/
+    -rwxr-xr-x root/root 2031-05-06 ./usr/lib/depot/deliver
+    -rwxr-xr-x root/root 2031-05-06 ./usr/lib/depot/hold
+    -rwxr-xr-x root/root 2031-05-06 ./usr/lib/depot/refile
+    -rwxr-xr-x root/root 2031-05-06 ./usr/lib/depot/refilter
+    -rwxr-xr-x root/root 2031-05-06 ./usr/lib/depot/test_deliver
+    -rwxr-xr-x root/root 2031-05-06 ./usr/lib/depot/to_maildir
+    drwxr-xr-x root/root 2031-05-06 ./usr/lib/systemd/
+    drwxr-xr-x root/root 2031-05-06 ./usr/lib/systemd/system/
+    -rw-r--r-- root/root 2031-05-06 ./usr/lib/systemd/system/hold@.service
+    drwxr-xr-x root/root 2031-05-06 ./usr/share/
+    drwxr-xr-x root/root 2031-05-06 ./usr/share/bash-completion/
+    drwxr-xr-x root/root 2031-05-06 ./usr/share/bash-completion/completions/
+    -rw-r--r-- root/root 2031-05-06 ./usr/share/bash-completion/completions/depot
+    drwxr-xr-x root/root 2031-05-06 ./usr/share/doc/
+    drwxr-xr-x root/root 2031-05-06 ./usr/share/doc/depot/
+    -rw-r--r-- root/root 2031-05-06 ./usr/share/doc/depot/README.Debian
+    -rw-r--r-- root/root 2031-05-06 ./usr/share/doc/depot/README.md
+    -rw-r--r-- root/root 2031-05-06 ./usr/share/doc/depot/changelog.gz
+    -rw-r--r-- root/root 2031-05-06 ./usr/share/doc/depot/copyright
+    drwxr-xr-x root/root 2031-05-06 ./usr/share/doc/depot/docs/
+    drwxr-xr-x root/root 2031-05-06 ./usr/share/doc/depot/examples/
+    drwxr-xr-x root/root 2031-05-06 ./usr/share/lintian/
+    drwxr-xr-x root/root 2031-05-06 ./usr/share/lintian/overrides/
+    -rw-r--r-- root/root 2031-05-06 ./usr/share/lintian/overrides/depot
+    drwxr-xr-x root/root 2031-05-06 ./usr/share/man/
+    drwxr-xr-x root/root 2031-05-06 ./usr/share/man/man1/
+    -rw-r--r-- root/root 2031-05-06 ./usr/share/man/man1/depot.1.gz
+    drwxr-xr-x root/root 2031-05-06 ./usr/share/zsh/
+    drwxr-xr-x root/root 2031-05-06 ./usr/share/zsh/vendor-completions/
+    -rw-r--r-- root/root 2031-05-06 ./usr/share/zsh/vendor-completions/_depot
+
+What is packed is what the repository has.
+
+    $ dpkg-deb -x depot_9.8.7_amd64.deb out && mv out/usr/share/doc/depot papers
+    $ cmp program out/usr/bin/depot && gunzip -c out/usr/share/man/man1/depot.1.gz | cmp - "$TOP/docs/depot.1"
+    $ cmp papers/README.md "$TOP/README.md" && diff -r -x depot.1 papers/docs "$TOP/docs"
+    $ diff -r -x make papers/examples "$TOP/examples"
+    $ gunzip -c papers/changelog.gz
+    depot (9.8.7) unstable; urgency=medium
+    
+      * One change.
+    
+     -- Borerrivet maintainers <maintainers@users.noreply.borerrivet.example>  Tue, 06 May 2031 00:00:00 +0000
+    
+    $ for script in out/usr/lib/depot/*; do
+    >     sed 's|/usr/bin/env python3|/usr/bin/python3|; s|/usr/local/bin/depot|/usr/bin/depot|' "$TOP/contrib/${script##*/}" | cmp - "$script"
+    > done
+    $ cmp out/usr/share/bash-completion/completions/depot "$TOP/contrib/depot.bash"
+    $ cmp out/usr/share/zsh/vendor-completions/_depot "$TOP/contrib/_depot"
+    $ grep -h -e 'DEPOT:-' -e '^PROGRAM = ' out/usr/lib/depot/deliver out/usr/lib/depot/hold
+    program=${DEPOT:-/usr/bin/depot}
+    PROGRAM = os.environ.get("DEPOT", "/usr/bin/depot")
+    $ rm -r out papers
+
+The same octets come from another folder, with other rights and times, under another umask and in another time zone.
+
+    $ mkdir -p another/place && mv tree another/place/ && chmod -R go-rwx another && touch another/place/tree/docs/*
+    $ mkdir again && cd again && umask 077 && TZ=Asia/Tokyo GZIP=-1 ../another/place/tree/release/make_deb --program ../program .
+    ./depot_9.8.7_amd64.deb
+    $ cmp depot_9.8.7_amd64.deb again/depot_9.8.7_amd64.deb
+    $ rm -r again another depot_9.8.7_amd64.deb
+
+## the program of a release is unpacked and compared
+Only if: command -v dpkg-deb && command -v xz # there is no dpkg-deb or no xz
+    $ mkdir tree && cp -R "$TOP/README.md" "$TOP/LICENSE" "$TOP/CHANGELOG.md" "$TOP/contrib" "$TOP/docs" "$TOP/examples" tree/
+    $ mkdir tree/release && cp -R "$TOP/release/make_deb" "$TOP/release/unpack" "$TOP/release/debian" tree/release/
+    $ printf '#!/bin/sh\necho a program\n' > program
+    $ xz < program > tree/release/program.xz
+    $ version=$(sed -n 's/^## \([0-9.]*\), .*/\1/p' tree/CHANGELOG.md | head -n 1)
+    > printf 'version %s\nprogram program.xz\nsha256 %s\nprocessor x86-64-v2\nglibc 2.34\n' "$version" "$(sha256sum < program | cut -c 1-64)" > tree/release/RELEASE
+    $ tree/release/make_deb > made && dpkg-deb -x "$(cat made)" out && cmp program out/usr/bin/depot
+    $ rm -r out depot_*_amd64.deb made
+
+    $ echo another | xz > tree/release/program.xz
+    $ tree/release/make_deb 2>&1 | sed 's|/[^ ]*/tree/|/|g; s/ [0-9a-f]\{64\}:.*/ ../'
+    depot: /release/program.xz isn't what release/RELEASE says, its SHA-256 is ..
+    $ printf 'program none\n' > tree/release/RELEASE && tree/release/make_deb
+    2> make_deb: this tree has no program in release/: name a built one, release/make_deb --program FILE
+    [1]
+    $ tree/release/make_deb --program none
+    2> make_deb: there is no program none
+    [1]
+    $ tree/release/make_deb --program program
+    2> make_deb: it isn't known which version the program has, or what it asks for
+    [1]
+    $ printf '#!/bin/sh\n# GLIBC_2.34\necho depot 987.6\n' > program && tree/release/make_deb --program program
+    2> make_deb: CHANGELOG.md has no day for the version 987.6
+    [1]
+    $ tree/release/make_deb --programme program
+    2> make_deb: the words are release/make_deb [--program FILE] [FOLDER]
+    [1]
+    $ ls
+    depot
+    examples
+    program
+    tree
+    $ rm -r tree
