@@ -1,4 +1,4 @@
-# The tools of contrib for what is in a depot: to_maildir and refilter
+# The tools of contrib for what is in a depot: to_maildir, refilter and refile
 
 ## a depot as a Maildir
     $ printf 'require "fileinto"; fileinto "Lists/De.bian"; fileinto "R\303\244ume"; fileinto "inbox"; keep;' > several
@@ -113,30 +113,140 @@ What a reader of mail did stays, and a second run adds what is new.
     $ ls archive/* > list
     $ head -n 1 list | "$TOP/contrib/refile" new.depot ann script journal
     1 mails: 0 filed before, 1 filed now, 0 refused
+
+As after a run that was killed when the next mail was filed, and while it wrote that.
+
+    $ printf 'next\t1\tarchive/th"ree mail\n0\t2\tarch' >> journal
     $ depot deliver new.depot ann archive/'th"ree mail'
     2 message "INBOX"
     $ "$TOP/contrib/refile" new.depot ann script journal < list
-    3 mails: 1 filed before, 2 filed now, 0 refused
+    3 mails: 2 filed before, 1 filed now, 0 refused
     $ "$TOP/contrib/refile" new.depot ann script journal < list
     3 mails: 3 filed before, 0 filed now, 0 refused
     $ depot list new.depot ann
     1 message "INBOX" "" message/rfc822 18
     2 message "INBOX" "" message/rfc822 24
     3 message "Two" "" message/rfc822 18
-    $ cut -f 1,2 journal | tr '\t' ' '
-    0 1
-    0 2
-    0 3
+    $ tr '\t' ' ' < journal
+    begun 0 ann
+    next 0 archive/one mail
+    0 1 archive/one mail
+    next 1 archive/th"ree mail
+    0 2 archive/th"ree mail
+    next 2 archive/two mail
+    0 3 archive/two mail
+
+As after one that was killed before the next mail was filed.
+
+    $ cp archive/one\ mail later && printf 'next\t3\tlater\n' >> journal
+    $ echo later | cat list - | "$TOP/contrib/refile" new.depot ann script journal
+    4 mails: 3 filed before, 1 filed now, 0 refused
+
+A mail that can't be read is refused, and tried again in the next run.
+
     $ echo none | "$TOP/contrib/refile" new.depot ann script journal
     1 mails: 0 filed before, 0 filed now, 1 refused
     [1]
     $ tail -n 1 journal | tr '\t' ' '
-    1 refused 46 Read 3 none
+    1 refused 46 Read 4 none
+    $ cp later none
+    $ echo none | "$TOP/contrib/refile" new.depot ann script journal
+    1 mails: 0 filed before, 1 filed now, 0 refused
     $ echo 'vacation;' > wrong
     $ "$TOP/contrib/refile" new.depot ann wrong journal < list
     2> refile: the script was refused: refused 15 UnknownCommand at 0
     [1]
     $ rm -r archive
+
+## an archive for a user who has mail, with a new journal
+    $ echo 'keep;' > script
+    $ for n in 1 2 3; do printf 'Subject: %s\n\n' $n > m$n; depot deliver mail.depot ann m$n > said; done
+    $ depot deliver mail.depot bob m1
+    1 message "INBOX"
+    $ printf 'm1\nm2\nm3\nm1\n' | "$TOP/contrib/refile" mail.depot ann script journal
+    4 mails: 1 filed before, 3 filed now, 0 refused
+    $ depot inspect mail.depot | grep user
+    user "ann" last 6 entries 6 octets 72 program accepted version 2
+    user "bob" last 1 entries 1 octets 12 program none
+    $ head -n 1 journal | tr '\t' ' '
+    begun 3 ann
+    $ rm m1 m2 m3
+
+## an archive whose names are odd
+    $ echo 'keep;' > script
+    $ for name in -f 'a "b"' "$(printf 'c\rd\te')" 'f\22'; do printf 'Subject: a\n\n' > "$name"; printf '%s\n' "$name" >> list; done
+    $ "$TOP/contrib/refile" ./-x.depot ann script journal < list
+    4 mails: 0 filed before, 4 filed now, 0 refused
+    $ "$TOP/contrib/refile" -x.depot ann script journal < list
+    4 mails: 4 filed before, 0 filed now, 0 refused
+    $ depot list -- -x.depot ann | wc -l
+    4
+    $ rm -- -f 'a "b"' c* 'f\22'
+
+## a disk that is full ends the run, without a line of the mail
+    $ printf 'Subject: a\n\n' > mail
+    $ echo 'keep;' > script
+    $ printf 'mail\nnext\n' > list && cp mail next
+    $ cat > full <<'END'
+    > #!/bin/sh
+    > [ "$1" = batch ] || exec depot "$@"
+    > for line in 1 2; do IFS= read -r line; printf '%s\n' "$line"; done | depot "$@"
+    > printf 'refused 43 Database\n= 1\n'
+    > exit 1
+    > END
+    $ chmod +x full
+    $ DEPOT=./full "$TOP/contrib/refile" mail.depot ann script journal < list
+    2> refile: next: refused 43 Database; run this again once the depot works
+    [1]
+    $ tr '\t' ' ' < journal
+    begun 0 ann
+    next 0 mail
+    0 1 mail
+    next 1 next
+    $ "$TOP/contrib/refile" mail.depot ann script journal < list
+    2 mails: 1 filed before, 1 filed now, 0 refused
+
+## a journal that isn't one of this user, this depot or this version
+    $ printf 'Subject: a\n\n' > mail
+    $ echo 'keep;' > script
+    $ echo mail | "$TOP/contrib/refile" mail.depot ann script journal
+    1 mails: 0 filed before, 1 filed now, 0 refused
+    $ echo mail | "$TOP/contrib/refile" mail.depot bob script journal
+    2> refile: the journal journal is one of the user ann
+    [1]
+    $ echo mail | "$TOP/contrib/refile" other.depot ann script journal
+    2> refile: the depot has given the numbers up to 0 and journal tells 1: it is another one, or an older copy
+    [1]
+    $ printf '0\t1\tmail\n' > old
+    $ echo mail | "$TOP/contrib/refile" mail.depot ann script old
+    2> refile: old is no journal, or one of an earlier version, which may call mails filed that aren't: begin with a new journal, and a depot without what was filed by this one
+    [1]
+    $ echo mail | "$TOP/contrib/refile" mail.depot ann journal script
+    2> refile: script is no journal, or one of an earlier version, which may call mails filed that aren't: begin with a new journal, and a depot without what was filed by this one
+    [1]
+    $ printf 'keep' > cut
+    $ echo mail | "$TOP/contrib/refile" mail.depot ann script cut
+    2> refile: cut is no journal of this program
+    [1]
+    $ printf 'stray\n' >> journal
+    $ echo mail | "$TOP/contrib/refile" mail.depot ann script journal
+    2> refile: line 4 of journal is none of a journal
+    [1]
+    $ cat script cut
+    keep;
+    keep
+    [no line break]
+    $ echo mail | "$TOP/contrib/refile" script ann script new
+    2> refile: the user's last number can't be had: no depot: it is no database, or it is damaged
+    [1]
+    $ depot list mail.depot ann
+    1 message "INBOX" "" message/rfc822 12
+
+## what the scripts stand on fails, a sample
+Only if: command -v flock && command -v timeout && [ -d /proc/self ] # there is no flock, no timeout or no /proc
+    $ "$TOP/bench/failing_commands" depot --sample > report || cat report
+    $ grep -c ' 0 odd$' report
+    1
 
 ## file_all of docs/OPERATING.md, whatever the files are called
 Only if: command -v flock # there is no flock
