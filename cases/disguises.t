@@ -198,6 +198,55 @@ Of others the filter says nothing: a message in a multipart/digest that says not
     $ depot eval examples/gallery/unseen.sieve mail | sed -n 1p
     fileinto "Unseen"
 
+## fields that are compared as they were sent
+    $ cat > try << 'END'
+    > printf "$1" > mail
+    > printf 'require ["fileinto", "mime", "variables"]; if header %s { fileinto "Found"; }' "$2" > filter.sieve
+    > depot eval filter.sieve mail | sed -n 1p
+    > END
+    $ sh try 'Subject: two\n words\n\n' ':contains "Subject" "two words"'
+    fileinto "Found"
+    $ sh try 'Subject: two\n\twords\n\n' ':contains "Subject" "two words"'
+    keep
+    $ sh try 'Subject: two\n\twords\n\n' ':matches "Subject" "*two?words*"'
+    fileinto "Found"
+    $ sh try 'Subject: =?UTF-8?B?R3LDvMOfZQ==?=\n\n' ':contains "Subject" "Grüße"'
+    keep
+    $ sh try 'Subject: =?UTF-8?Q?Gr=C3=BC=C3=9Fe?=\n\n' ':contains "Subject" "Grüße"'
+    keep
+    $ sh try 'Subject: Gr\303\274\303\237e\n\n' ':contains "Subject" "Grüße"'
+    fileinto "Found"
+    $ sh try 'Subject: GR\303\234\303\237E\n\n' ':contains "Subject" "Grüße"'
+    keep
+    $ sh try 'Subject: x\n\n' ':mime :type :contains "Content-Type" ""'
+    keep
+    $ sh try 'Content-Disposition: attachment; filename=my invoice.exe\n\n' ':mime :param "filename" "Content-Disposition" "my"'
+    fileinto "Found"
+    $ sh try 'Content-Disposition: attachment; filename=invoice(1).exe\n\n' ':mime :param "filename" "Content-Disposition" "invoice"'
+    fileinto "Found"
+    $ sh try 'Content-Transfer-Encoding: x-none\nContent-Type: text/plain\n\n' ':mime :contenttype "Content-Type" "text/plain"'
+    fileinto "Found"
+
+## parts that another reader would find
+    $ printf 'Content-Type: multipart/mixed; boundary=b\n\n--b more\nContent-Type: a/b; name=virus.exe\n\nMZ\n--b--\n' > mail
+    $ depot parts mail | cut -d' ' -f1-4
+    0 1 multipart/mixed 53
+    $ depot eval examples/gallery/unseen.sieve mail | sed -n 1p
+    fileinto "Unseen"
+    $ printf 'Content-Type: multipart/mixed; boundary=b\n\n--b\nthe text\n--b--\n' > mail
+    $ depot parts mail | cut -d' ' -f1-4
+    0 1 multipart/mixed 19
+    1 2 text/plain 0
+    $ printf 'Content-Type: multipart/mixed; boundary=b\r\r\n\r\r\n--b\r\r\n\r\r\nA\r\r\n--b--\r\r\n' > mail
+    $ depot parts mail | cut -d' ' -f1-4
+    0 1 multipart/mixed 0
+    $ printf 'Content-Type: multipart/mixed; boundary=b\r\r--b\r\rA\r--b--\r' > mail
+    $ depot parts mail | cut -d' ' -f1-4
+    0 1 multipart/mixed 0
+    $ printf 'Content-Transfer-Encoding: base64\n\nZg==Zg==' > mail
+    $ depot parts mail | cut -d' ' -f1-4
+    0 1 text/plain 1
+
 ## a parameter whose name has an asterisk is found by its whole name
     $ printf 'Content-Disposition: attachment; filename*=x\n\n' > mail
     $ cat > filter.sieve << 'END'
