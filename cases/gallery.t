@@ -318,3 +318,26 @@
     wrote 456 octets
     $ depot verify forms.svbc
     A0=12316 B0=0 A1=69691 B1=104 A2=0 B2=0 A3=0 B3=0 by chains
+
+The names of the gallery's table for those who come from another Sieve: none is a capability here, and what it says in their place is
+accepted.
+
+## coming from another Sieve
+    $ sed -n '/^## Coming from another Sieve/,/^## What/s/^| `\([^`]*\)` .*/\1/p' "$TOP/docs/GALLERY.md" > names
+    $ wc -l < names
+    47
+    $ sort names | uniq -d
+    $ while read -r name; do printf 'require "%s";' "$name" > script; depot check script 2>&1; done < names | uniq -c | sed 's/^ *//'
+    47 refused 17 UnknownCapability at 0
+    $ cat > script << 'END'
+    > require ["fileinto", "foreverypart", "mime", "variables", "vnd.depot"];
+    > if header :matches "From" ["a@b.example", "*<a@b.example>*"] { fileinto "A"; keep; }
+    > if header :matches "From" ["a@*", "*<a@*>*"] { fileinto "A"; }
+    > if header :matches "From" ["*@b.example", "*@b.example>*"] { fileinto "A"; }
+    > if header :is "Delivered-To" "a@b.example" { fileinto "Grüße"; }
+    > foreverypart { if partbody :contains "x" { fileinto "A"; } }
+    > foreverypart { take "text"; }
+    > if header :contains "Date" "Mon," { fileinto "A"; }
+    > END
+    $ depot check script
+    ok
