@@ -1,6 +1,6 @@
-# A mail with a program goes apart, and one with a file whose name hides what it ends in: the ending of a program stands in the field,
-# however it is read; or the name is in pieces, isn't written plainly, ends in a character that a reader of mail may drop, or stands
-# there twice.
+# A mail with a program goes apart, and one with a file whose name hides what it ends in: the ending of a program is in the field,
+# however that is read; or the name is in pieces, isn't written plainly, ends in a character that a reader of mail may drop,
+# or is there twice.
 require ["mime", "fileinto"];
 
 if anyof (
