@@ -93,15 +93,15 @@ What is written is compared with the examples, and verified or run.
 
 ## blocklist
     $ depot compile examples/blocklist.sieve out
-    wrote 297 octets
+    wrote 395 octets
     $ depot verify out
-    A0=2 B0=0 A1=8472 B1=31 A2=0 B2=0 A3=0 B3=0 by chains
+    A0=2 B0=0 A1=8480 B1=75 A2=0 B2=0 A3=0 B3=0 by chains
 
 ## tickets
     $ depot compile examples/tickets.sieve out
-    wrote 284 octets
+    wrote 382 octets
     $ depot verify out
-    A0=4104 B0=15 A1=16418 B1=54 A2=0 B2=0 A3=0 B3=0 by chains
+    A0=4104 B0=15 A1=16426 B1=98 A2=0 B2=0 A3=0 B3=0 by chains
 
 A file that is there already.
 

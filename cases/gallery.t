@@ -1,5 +1,56 @@
 # The gallery's filters, each on a mail that it is about and on one that it isn't; docs/GALLERY.md shows more of them
 
+## sender
+    $ depot eval examples/gallery/sender.sieve examples/gallery/sender.eml
+    fileinto "Chief"
+    charged 1374 of 25499
+
+## sender of a house
+    $ depot eval examples/gallery/sender.sieve examples/gallery/house.eml
+    fileinto "Supplier"
+    charged 2021 of 24149
+
+## sender of another house
+    $ depot eval examples/gallery/sender.sieve examples/gallery/answer.eml
+    keep
+    charged 2511 of 35309
+
+## sender in each form
+    $ cat > try << 'END'
+    > while IFS= read -r from; do
+    >     printf 'From: %s\n\n' "$from" > mail
+    >     depot eval examples/gallery/sender.sieve mail | sed -n 1p
+    > done
+    > END
+    $ sh try << 'END'
+    > chief@example.org
+    > <chief@example.org>
+    > The Chief <chief@example.org>
+    > "Chief, The" <CHIEF@EXAMPLE.ORG> (on the road)
+    > "<chief@example.org>" <eve@evil.example>
+    > chief@example.org (The Chief)
+    > achief@example.org
+    > orders@supplier.example
+    > Orders <orders@supplier.example>
+    > orders@sales.supplier.example
+    > END
+    fileinto "Chief"
+    fileinto "Chief"
+    fileinto "Chief"
+    fileinto "Chief"
+    fileinto "Chief"
+    keep
+    keep
+    fileinto "Supplier"
+    fileinto "Supplier"
+    keep
+
+## budget of sender
+    $ depot compile examples/gallery/sender.sieve out
+    wrote 250 octets
+    $ depot verify out
+    A0=29 B0=90 A1=0 B1=0 A2=0 B2=0 A3=0 B3=0 by chains
+
 ## newsletters
     $ depot eval examples/gallery/newsletters.sieve examples/gallery/newsletters.eml
     fileinto "Lists/guild"
@@ -26,18 +77,18 @@
     fileinto "Bills"
     store "Accounts" 2
     store "Accounts" 3
-    charged 1791 of 1044673
+    charged 2688 of 1559681
 
 ## invoices none
     $ depot eval examples/gallery/invoices.sieve examples/gallery/attachments.eml
     keep
-    charged 629 of 9037546
+    charged 629 of 13493018
 
 ## budget of invoices
     $ depot compile examples/gallery/invoices.sieve out
-    wrote 302 octets
+    wrote 386 octets
     $ depot verify out
-    A0=15 B0=33 A1=19 B1=81 A2=0 B2=0 A3=0 B3=0 by chains
+    A0=15 B0=33 A1=27 B1=125 A2=0 B2=0 A3=0 B3=0 by chains
 
 ## detail
     $ depot eval examples/gallery/detail.sieve examples/gallery/detail.eml
@@ -85,18 +136,18 @@
     $ depot eval examples/gallery/attachments.sieve examples/gallery/attachments.eml
     store "Large/roof.png" 2
     keep
-    charged 482 of 2361846
+    charged 1265 of 6817318
 
 ## attachments none
     $ depot eval examples/gallery/attachments.sieve examples/gallery/invoices.eml
     keep
-    charged 451 of 302058
+    charged 1468 of 817066
 
 ## budget of attachments
     $ depot compile examples/gallery/attachments.sieve out
-    wrote 178 octets
+    wrote 276 octets
     $ depot verify out
-    A0=2 B0=0 A1=8216 B1=23 A2=0 B2=0 A3=0 B3=0 by chains
+    A0=2 B0=0 A1=8224 B1=67 A2=0 B2=0 A3=0 B3=0 by chains
 
 ## junk
     $ depot eval examples/gallery/junk.sieve examples/gallery/junk.eml
@@ -139,18 +190,18 @@
     $ depot eval examples/gallery/invitations.sieve examples/gallery/invitations.eml
     store "Calendar/request" 2
     keep
-    charged 944 of 137201
+    charged 1059 of 209477
 
 ## invitations none
     $ depot eval examples/gallery/invitations.sieve examples/gallery/attachments.eml
     keep
-    charged 900 of 4403470
+    charged 1277 of 7542550
 
 ## budget of invitations
     $ depot compile examples/gallery/invitations.sieve out
-    wrote 211 octets
+    wrote 271 octets
     $ depot verify out
-    A0=2 B0=0 A1=12322 B1=43 A2=0 B2=0 A3=0 B3=0 by chains
+    A0=2 B0=0 A1=12327 B1=74 A2=0 B2=0 A3=0 B3=0 by chains
 
 ## quarantine
     $ depot eval examples/gallery/quarantine.sieve examples/gallery/quarantine.eml
@@ -171,34 +222,47 @@
 ## unseen
     $ depot eval examples/gallery/unseen.sieve examples/gallery/unseen.eml
     fileinto "Unseen"
-    charged 267 of 45214
+    charged 841 of 79584
 
 ## unseen seen
     $ depot eval examples/gallery/unseen.sieve examples/gallery/attachments.eml
     keep
-    charged 559 of 2411070
+    charged 2239 of 5651398
+
+## unseen message
+    $ depot eval examples/gallery/unseen.sieve examples/gallery/sealed.eml
+    fileinto "Unseen"
+    charged 2055 of 249662
 
 ## budget of unseen
     $ depot compile examples/gallery/unseen.sieve out
-    wrote 228 octets
+    wrote 278 octets
     $ depot verify out
-    A0=2 B0=0 A1=20510 B1=23 A2=8 B2=0 A3=0 B3=0 by chains
+    A0=2 B0=0 A1=20512 B1=55 A2=8 B2=0 A3=0 B3=0 by chains
 
 ## disguised
     $ depot eval examples/gallery/disguised.sieve examples/gallery/disguised.eml
     fileinto "Disguised"
-    charged 3868 of 171888
+    charged 7725 of 311265
+
+## disguised behind what is no parameter
+    $ depot eval examples/gallery/disguised.sieve examples/gallery/broken.eml
+    fileinto "Disguised"
+    charged 3071 of 291609
+    $ depot eval examples/attachments.sieve examples/gallery/broken.eml
+    fileinto "Suspicious"
+    charged 3512 of 200298
 
 ## disguised plain
     $ depot eval examples/gallery/disguised.sieve examples/gallery/attachments.eml
     keep
-    charged 7198 of 5088348
+    charged 11338 of 9214705
 
 ## budget of disguised
     $ depot compile examples/gallery/disguised.sieve out
-    wrote 318 octets
+    wrote 464 octets
     $ depot verify out
-    A0=33 B0=201 A1=0 B1=0 A2=0 B2=0 A3=0 B3=0 by chains
+    A0=45 B0=364 A1=0 B1=0 A2=0 B2=0 A3=0 B3=0 by chains
 
 ## guards
     $ depot eval examples/gallery/guards.sieve examples/gallery/guards.eml
@@ -242,15 +306,38 @@
     fileinto "Tickets/4711"
     store "Tickets/4711" 2
     store "Tickets/4711" 3
-    charged 2339 of 481608
+    charged 2743 of 621384
 
 ## forms without a form
     $ depot eval examples/gallery/forms.sieve examples/gallery/tickets.eml
     keep
-    charged 193 of 102759
+    charged 193 of 117991
 
 ## budget of forms
     $ depot compile examples/gallery/forms.sieve forms.svbc
-    wrote 358 octets
+    wrote 456 octets
     $ depot verify forms.svbc
-    A0=12316 B0=0 A1=69683 B1=60 A2=0 B2=0 A3=0 B3=0 by chains
+    A0=12316 B0=0 A1=69691 B1=104 A2=0 B2=0 A3=0 B3=0 by chains
+
+The names of the gallery's table for those who come from another Sieve: none is a capability here, and what it says in their place is
+accepted.
+
+## coming from another Sieve
+    $ sed -n '/^## Coming from another Sieve/,/^## What/s/^| `\([^`]*\)` .*/\1/p' "$TOP/docs/GALLERY.md" > names
+    $ wc -l < names
+    47
+    $ sort names | uniq -d
+    $ while read -r name; do printf 'require "%s";' "$name" > script; depot check script 2>&1; done < names | uniq -c | sed 's/^ *//'
+    47 refused 17 UnknownCapability at 0
+    $ cat > script << 'END'
+    > require ["fileinto", "foreverypart", "mime", "variables", "vnd.depot"];
+    > if header :matches "From" ["a@b.example", "*<a@b.example>*"] { fileinto "A"; keep; }
+    > if header :matches "From" ["a@*", "*<a@*>*"] { fileinto "A"; }
+    > if header :matches "From" ["*@b.example", "*@b.example>*"] { fileinto "A"; }
+    > if header :is "Delivered-To" "a@b.example" { fileinto "Grüße"; }
+    > foreverypart { if partbody :contains "x" { fileinto "A"; } }
+    > foreverypart { take "text"; }
+    > if header :contains "Date" "Mon," { fileinto "A"; }
+    > END
+    $ depot check script
+    ok

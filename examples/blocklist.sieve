@@ -1,9 +1,12 @@
 # Attachments go apart, but not those on a list of digests: here a picture that everybody has by now, and files without content.
+# What is itself made of parts isn't stored whole: each of its parts is looked at in its turn.
 require ["foreverypart", "mime", "vnd.depot"];
 
 foreverypart {
     if allof (
         header :mime :type "Content-Disposition" "attachment",
+        exists :mime "Content-Type",
+        not header :mime :type "Content-Type" ["multipart", "message"],
         not partdigest [
             "bfd42943982d868975538aa75d46a6eefdb36038b2cb9fda604b7904a81629ac",
             "e3b0c44298fc1c149afbf4c8996fb92427ae41e4649b934ca495991b7852b855"

@@ -1,4 +1,5 @@
 # A form that is attached as form.txt names its ticket, as in `Ticket [4711]`; the mail and what is attached go there.
+# What is itself made of parts isn't stored.
 require ["foreverypart", "mime", "variables", "vnd.depot", "fileinto"];
 
 foreverypart {
@@ -12,7 +13,11 @@ foreverypart {
 if not string "${ticket}" "" {
     fileinto "Tickets/${ticket}";
     foreverypart {
-        if header :mime :type "Content-Disposition" "attachment" {
+        if allof (
+            header :mime :type "Content-Disposition" "attachment",
+            exists :mime "Content-Type",
+            not header :mime :type "Content-Type" ["multipart", "message"]
+        ) {
             store "Tickets/${ticket}";
         }
     }

@@ -3,6 +3,7 @@ require ["foreverypart", "mime", "variables", "vnd.depot"];
 
 foreverypart {
     if allof (
+        not header :mime :type "Content-Type" ["multipart", "message"],
         header :mime :contenttype "Content-Type" "text/calendar",
         header :mime :param "method" :matches "Content-Type" "?*"
     ) {

@@ -1,8 +1,8 @@
-# A multipart without a part goes apart: its sender meant parts, but no filter can look at them.
+# A multipart or a message without a part goes apart: its sender meant parts, but no filter can look at them.
 require ["foreverypart", "mime", "variables", "fileinto"];
 
 foreverypart {
-    if header :mime :type "Content-Type" "multipart" {
+    if header :mime :contenttype :matches "Content-Type" ["multipart/*", "message/rfc822", "message/global"] {
         set "parts" "none";
         foreverypart {
             set "parts" "some";

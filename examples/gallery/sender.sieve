@@ -1,0 +1,8 @@
+# One person's mail, and that of one house, each into a folder. An address is in angle brackets, or alone.
+require "fileinto";
+
+if header :matches "From" ["chief@example.org", "*<chief@example.org>*"] {
+    fileinto "Chief";
+} elsif header :matches "From" ["*@supplier.example", "*@supplier.example>*"] {
+    fileinto "Supplier";
+}
