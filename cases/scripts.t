@@ -9,6 +9,9 @@
 ## the edits and docs/PROMISES.md
     $ "$TOP/cases/edits_stand"
 
+## the links, paths and contents of the documents
+    $ "$TOP/cases/links"
+
 ## deliver, behind a mail server
 Only if: command -v flock # there is no flock
     $ "$TOP/contrib/test_deliver" depot > report || cat report
