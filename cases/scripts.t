@@ -13,6 +13,12 @@
 ## the edits and docs/PROMISES.md
     $ "$TOP/cases/edits_stand"
 
+## the links, paths and contents of the documents
+    $ "$TOP/cases/links"
+
+## the pictures of the figures, and the tables that they are drawn from
+    $ "$TOP/bench/pictures" --check
+
 ## deliver, behind a mail server
 Only if: command -v flock # there is no flock
     $ "$TOP/contrib/test_deliver" depot > report || cat report

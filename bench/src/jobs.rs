@@ -246,7 +246,10 @@ fn keys(entries: &mut Entries) {
         let between = [b"*".as_slice(), &b"a".repeat(255), b"b*"].concat();
         add(format!("matches *KEY* with a..ab of 256 in 64 kB of a, {comparator}"), 2, casemap, || b"a".repeat(MIB / 16), between);
         let value = || b"[project-announce] Release 4.3 is out, and so is its manual.".to_vec();
-        add(format!("is of 60, {comparator}"), 0, casemap, value, value());
+        // by octet the compiler makes the comparison once, before the rounds
+        if casemap {
+            add(format!("is of 60, {comparator}"), 0, casemap, value, value());
+        }
         add(format!("contains in 60, {comparator}"), 1, casemap, value, b"its manual".to_vec());
         add(format!("matches of 60, four wildcards, {comparator}"), 2, casemap, value, b"[*] Rel* *".to_vec());
         add(format!("matches of 60, no fit, {comparator}"), 2, casemap, value, b"*so it is*".to_vec());

@@ -157,7 +157,7 @@ fn rate(octets: usize, seconds: f64) -> String {
     if octets < 1024 { String::new() } else { format!("{:.0}", octets as f64 / seconds / 1e6) }
 }
 
-const HEAD: &str = "| job | ours | plain | ours, MB/s | plain, MB/s | ratio | of the best | aim | memory | plain |
+const HEAD: &str = "| job | ours | plain | ours, MB/s | plain, MB/s | ratio | of the best | aim | memory | plain, memory |
 |---|---|---|---|---|---|---|---|---|---|
 ";
 
@@ -189,6 +189,14 @@ fn first_line(program: &str, words: &[&str]) -> String {
     text.lines().next().unwrap_or_default().to_string()
 }
 
+// The version of the program that DEPOT names, with which its help ends.
+fn version() -> String {
+    let output = std::env::var_os("DEPOT").and_then(|depot| Command::new(depot).arg("help").output().ok());
+    let help = output.map(|output| String::from_utf8_lossy(&output.stderr).into_owned()).unwrap_or_default();
+    let ending = help.trim_end().lines().last().unwrap_or_default();
+    ending.split(',').next().unwrap_or_default().trim_start_matches("depot").trim().to_string()
+}
+
 // What it ran on, and with what.
 fn machine() -> String {
     let told = std::fs::read_to_string("/proc/cpuinfo").unwrap_or_default();
@@ -197,8 +205,9 @@ fn machine() -> String {
     let load = load.split(' ').nth(1).unwrap_or("");
     let processors = std::thread::available_parallelism().map_or(1, usize::from);
     format!(
-        "{}: {processors} processors, {model}; a load of {load} over five minutes when it ended; {}; {}.",
+        "{}, version {}: {processors} processors, {model}; a load of {load} over five minutes when it ended; {}; {}.",
         first_line("date", &["+%Y-%m-%d"]),
+        version(),
         first_line("rustc", &["--version"]),
         first_line("rt", &["version"]),
     )
