@@ -1,7 +1,7 @@
 -- The sentences are printable, whatever is filled in.
 use Rattle.std.proofs.Common.{◌≡◌, ℕ, Bool, true, false, List, [], ◌∷◌, length, take, refl, arith}
 use Rattle.std.specs.List.{list_all, list_any}
-use Rattle.std.specs.Prelude.{◌||◌, ◌==◌, if◌then◌else◌, is_some, bytes_eq, codes, slice_index}
+use Rattle.std.specs.Prelude.{◌&&◌, ◌||◌, ◌==◌, if◌then◌else◌, is_some, bytes_eq, codes, slice_index}
 use Rattle.std.specs.Char.{is_ascii_digit}
 use Rattle.sieve_lexer.specs.Classes.{begins_identifier}
 use Rattle.sieve_lexer.specs.declared.token.Token.{Token}
@@ -12,6 +12,7 @@ use Rattle.sieve_check.specs.declared.names.Capability.{Capability}
 use Rattle.sieve_check.specs.declared.names.Tag.{Tag}
 use Rattle.sieve_check.specs.declared.signature.Ending.{Ending}
 use Rattle.sieve_check.specs.declared.signature.Positional.{Positional}
+use Rattle.sieve_check.specs.declared.signature.Positional.TheVariants as positional
 use Rattle.sieve_check.specs.declared.signature.Tests.{Tests}
 use Rattle.sieve_check.specs.declared.signature.Tests.TheVariants as tests
 use Rattle.sieve_check.specs.Causes.{Reason}
@@ -22,7 +23,7 @@ use Rattle.bytecode_listing.specs.declared.error.FaultKind.TheVariants.{Misplace
 use Rattle.sieve_explain.specs.Faults.{Beginning, beginnings, lexical_blanks, listing_blanks, listing_text, misplaced_text, misplaced_token, other_text, text_at, token_blanks}
 use Rattle.sieve_explain.specs.Hints.{Vocabulary, known_capabilities, known_commands, known_tags, known_tests, lacking, lacking_rows, meant, unknown, unknown_capability, unknown_command, unknown_tag, unknown_test, unknown_text, unknown_words}
 use Rattle.sieve_explain.specs.Printable.{are_printable}
-use Rattle.sieve_explain.specs.Reasons.{capability_words, ending_words, kind_blanks, no_test_words, other_blanks, place_text, positional_words, reason_blanks, reason_text, reason_words, tag_words, tests_words}
+use Rattle.sieve_explain.specs.Reasons.{capability_words, ending_words, extra_words, is_variables, kind_blanks, needs_text, no_argument_words, no_test_words, other_blanks, place_text, positional_words, reason_blanks, reason_text, reason_words, tag_words, tests_words}
 use Rattle.sieve_explain.specs.Sentences.{Blanks}
 use Rattle.sieve_explain.specs.Words.{Hint, is_near, nearest, with_words, words_for}
 use Rattle.sieve_explain.proofs.Printing.{Fine, FineBlanks, both, fine_if}
@@ -76,6 +77,20 @@ fine_capability c = grind arith
 fine_positional : (taken : Positional) → Fine (positional_words taken)
 fine_positional taken = grind arith
 
+fine_no_argument : (name : List ℕ) → Fine (no_argument_words name)
+unfolding no_argument_words
+fine_no_argument name =
+    fine_if (list_any (is_word name) (codes "if" ∷ codes "elsif" ∷ codes "not" ∷ [])) _ _ refl
+    (fine_if (list_any (is_word name) (codes "allof" ∷ codes "anyof" ∷ [])) _ _ refl refl)
+
+fine_extra : (taken : Positional) (name : List ℕ) → Fine (extra_words taken name)
+fine_extra positional.Nothing name = fine_no_argument name
+fine_extra taken name = fine_positional taken
+
+fine_needs : (needed : Capability) (name : List ℕ) → Fine (needs_text needed name)
+unfolding needs_text
+fine_needs needed name = fine_if (is_variables needed && is_word name (codes "take")) _ _ refl refl
+
 fine_no_tests : (name : List ℕ) → Fine (no_test_words name)
 unfolding no_test_words
 fine_no_tests name =
@@ -98,13 +113,14 @@ fine_words : (kind : ReasonKind) (name : List ℕ) → Fine (reason_words kind n
 fine_words (reasons.MissingCapability needed) name = fine_capability needed
 fine_words (reasons.TagArgument given) name = fine_tag given
 fine_words (reasons.MissingArgument taken) name = fine_positional taken
-fine_words (reasons.ExtraArgument taken) name = fine_positional taken
+fine_words (reasons.ExtraArgument taken) name = fine_extra taken name
 fine_words (reasons.WrongArgument taken) name = fine_positional taken
 fine_words (reasons.WrongTests taken) name = fine_tests taken name
 fine_words (reasons.WrongEnding taken) name = fine_ending taken
 fine_words _ name = refl
 
 fine_text : (kind : ReasonKind) (name : List ℕ) → Fine (reason_text kind name)
+fine_text (reasons.MissingCapability needed) name = fine_needs needed name
 fine_text reasons.Misplaced name = fine_place name
 fine_text _ name = refl
 

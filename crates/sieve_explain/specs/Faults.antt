@@ -52,7 +52,7 @@ abbrev pub other_text : List ℕ → List ℕ
 other_text rest =
     let octet = slice_index rest 0 in
     if is_ascii_digit octet then codes "a number is above %" else
-    if begins_identifier octet then codes "a multi-line string is never closed: its last line is a dot alone" else
+    if begins_identifier octet then codes "a multi-line string is never closed: it needs a line that is a dot alone, with its line break" else
     codes "@ begins nothing that a script may have here"
 
 -- 11, by the octets from the place on
@@ -101,9 +101,9 @@ too_deep_blanks = record (plain (codes "braces and tests are nested more than % 
 abbrev pub unclosed_blanks : Blanks
 unclosed_blanks = plain (codes "this brace is never closed")
 
--- 18, where the letter of a unit has more letters behind it
+-- 18, where a unit has more letters, or stands apart from its number
 abbrev pub unit_blanks : Blanks
-unit_blanks = plain (codes "the units of a number are K, M and G, with nothing behind the letter, as in 5M")
+unit_blanks = plain (codes "the units of a number are K, M and G, with no blank before the letter and nothing behind it, as in 5M")
 
 -- ---- of a listing
 

@@ -12,19 +12,24 @@ abbrev pub lacking_rows : List Hint
 lacking_rows =
     hint (codes "vacation" ∷ codes "vacation-seconds" ∷ codes "redirect" ∷ codes "reject" ∷ codes "ereject"
     ∷ codes "notify" ∷ codes "enotify" ∷ [])
-    (codes "it sends no mail")
+    (codes "it sends no mail, leave that to the mail server")
     ∷ hint (codes "addflag" ∷ codes "setflag" ∷ codes "removeflag" ∷ codes "hasflag" ∷ codes "flags"
     ∷ codes "imap4flags" ∷ codes "imapflags" ∷ [])
-    (codes "what it files has no flags")
+    (codes "what it files has no flags, a folder can tell the same")
     ∷ hint (codes "addheader" ∷ codes "deleteheader" ∷ codes "editheader" ∷ codes "replace" ∷ codes "enclose" ∷ [])
     (codes "it changes no message")
-    ∷ hint (codes "include" ∷ []) (codes "a script stands alone")
+    ∷ hint (codes "extracttext" ∷ [])
+    (codes "`take` gives the content of a part to a variable, inside of a `foreverypart`")
+    ∷ hint (codes "include" ∷ []) (codes "a script stands alone, put all of it into one file")
     ∷ hint (codes "copy" ∷ []) (codes "`keep` beside `fileinto` files a message twice")
     ∷ hint (codes "address" ∷ codes "subaddress" ∷ codes "localpart" ∷ codes "domain" ∷ codes "detail" ∷ [])
-    (codes "`header` tests the whole value of a field")
+    (codes "`header` tests the whole value of a field, as in `header :matches \"From\" [\"a@b\", \"*<a@b>*\"]`")
     ∷ hint (codes "index" ∷ []) (codes "`header` tests all fields of a name")
-    ∷ hint (codes "envelope" ∷ codes "environment" ∷ []) (codes "it sees the message alone")
-    ∷ hint (codes "body" ∷ []) (codes "`partbody` tests the content of a part, inside of a `foreverypart`")
+    ∷ hint (codes "envelope" ∷ [])
+    (codes "it sees the message alone, `header` tests \"Delivered-To\" where the mail server writes that")
+    ∷ hint (codes "environment" ∷ []) (codes "it sees the message alone")
+    ∷ hint (codes "body" ∷ [])
+    (codes "`partbody` tests the content of a part, inside of a `foreverypart`")
     ∷ hint (codes "date" ∷ codes "currentdate" ∷ []) (codes "it compares no times")
     ∷ hint (codes "relational" ∷ codes "count" ∷ codes "value" ∷ codes "comparator-i;ascii-numeric" ∷ [])
     (codes "`size` and `partsize` alone compare numbers")
@@ -35,7 +40,7 @@ lacking_rows =
     (codes "a folder is there once something is filed into it")
     ∷ hint (codes "duplicate" ∷ []) (codes "a script knows no earlier message")
     ∷ hint (codes "ihave" ∷ []) (codes "what a script requires has to be there")
-    ∷ hint (codes "encoded-character" ∷ []) (codes "a string may hold any character as it is")
+    ∷ hint (codes "encoded-character" ∷ []) (codes "write the character itself, a string may hold any")
     ∷ []
 
 unfoldable pub lacking : List ℕ → List ℕ

@@ -1,11 +1,12 @@
 -- What an explanation looks for among the tokens of a script.
 use Rattle.std.specs.Prelude.{ℕ, ◌-◌, ◌+◌, ◌≤◌, Bool, true, false, not, ◌&&◌, ◌==◌, if◌then◌else◌, List, [], ◌∷◌, length, take, drop, take_while, Option, Some, None, IfSome, bytes_eq, codes, slice_range}
-use Rattle.std.specs.List.{list_any, slice_get}
+use Rattle.std.specs.List.{find, list_any, slice_get}
 use Rattle.std.specs.Option.{option_or}
 use Rattle.octets.specs.Ascii.{is_word}
+use Rattle.sieve_lexer.specs.Values.{string_value}
 use Rattle.sieve_lexer.specs.declared.token.Token.{Token}
 use Rattle.sieve_lexer.specs.declared.token.TokenKind.{TokenKind}
-use Rattle.sieve_lexer.specs.declared.token.TokenKind.TheVariants.{Identifier, Number, QuotedString, Semicolon, OpeningBrace, ClosingBrace}
+use Rattle.sieve_lexer.specs.declared.token.TokenKind.TheVariants.{Identifier, Tag, Number, QuotedString, MultiLineString, Comma, OpeningBrace, ClosingBrace, OpeningBracket, ClosingBracket}
 
 -- the token, where there is one, stands in the script
 abbrev pub Stands : List ℕ → Option Token → Type 0
@@ -16,29 +17,34 @@ text_of script token = slice_range script token.start token.end
 
 -- ---- a string of a command
 
-abbrev pub is_quoted : TokenKind → Bool
-is_quoted QuotedString = true
-is_quoted _ = false
+abbrev pub is_string : TokenKind → Bool
+is_string QuotedString = true
+is_string MultiLineString = true
+is_string _ = false
 
-abbrev pub is_semicolon : TokenKind → Bool
-is_semicolon Semicolon = true
-is_semicolon _ = false
+-- the token is a string with that value
+unfoldable pub has_value : List ℕ → List ℕ → Token → Bool
+has_value script string token =
+    is_string token.kind && bytes_eq (string_value token.kind (text_of script token)) string
 
--- the octets without the first and the last one
-abbrev pub inner : List ℕ → List ℕ
-inner text = take (length text - 2) (drop 1 text)
-
--- the token is the string between quotes, without an escape in it
-unfoldable pub spells : List ℕ → List ℕ → Token → Bool
-spells script string token = is_quoted token.kind && bytes_eq (inner (text_of script token)) string
-
--- the first token up to the end of the command that spells the string, if there is one
+-- the first of the tokens that is such a string, if there is one
 abbrev pub string_among : List ℕ → List ℕ → List Token → Option Token
-string_among script string [] = None
-string_among script string (token ∷ tokens) =
-    if spells script string token then Some token else
-    if is_semicolon token.kind then None else
-    string_among script string tokens
+string_among script string tokens = find (has_value script string) tokens
+
+-- arguments are written with it: strings, numbers, tags, and what stands around and between the strings of a list
+abbrev pub writes_arguments : TokenKind → Bool
+writes_arguments QuotedString = true
+writes_arguments MultiLineString = true
+writes_arguments Number = true
+writes_arguments Tag = true
+writes_arguments Comma = true
+writes_arguments OpeningBracket = true
+writes_arguments ClosingBracket = true
+writes_arguments _ = false
+
+-- the tokens of the arguments of the command or test whose name is the token with that number
+abbrev pub arguments_behind : ℕ → List Token → List Token
+arguments_behind number tokens = take_while (λ token. writes_arguments token.kind) (drop (number + 1) tokens)
 
 -- ---- a unit with more letters
 

@@ -140,7 +140,7 @@ const LACKING: &[Row] = &[
             "notify",
             "enotify",
         ],
-        "it sends no mail",
+        "it sends no mail, leave that to the mail server",
     ),
     (
         &[
@@ -152,7 +152,7 @@ const LACKING: &[Row] = &[
             "imap4flags",
             "imapflags",
         ],
-        "what it files has no flags",
+        "what it files has no flags, a folder can tell the same",
     ),
     (
         &[
@@ -164,14 +164,25 @@ const LACKING: &[Row] = &[
         ],
         "it changes no message",
     ),
-    (&["include"], "a script stands alone"),
+    (
+        &["extracttext"],
+        "`take` gives the content of a part to a variable, inside of a `foreverypart`",
+    ),
+    (
+        &["include"],
+        "a script stands alone, put all of it into one file",
+    ),
     (&["copy"], "`keep` beside `fileinto` files a message twice"),
     (
         &["address", "subaddress", "localpart", "domain", "detail"],
-        "`header` tests the whole value of a field",
+        "`header` tests the whole value of a field, as in `header :matches \"From\" [\"a@b\", \"*<a@b>*\"]`",
     ),
     (&["index"], "`header` tests all fields of a name"),
-    (&["envelope", "environment"], "it sees the message alone"),
+    (
+        &["envelope"],
+        "it sees the message alone, `header` tests \"Delivered-To\" where the mail server writes that",
+    ),
+    (&["environment"], "it sees the message alone"),
     (
         &["body"],
         "`partbody` tests the content of a part, inside of a `foreverypart`",
@@ -194,7 +205,7 @@ const LACKING: &[Row] = &[
     (&["ihave"], "what a script requires has to be there"),
     (
         &["encoded-character"],
-        "a string may hold any character as it is",
+        "write the character itself, a string may hold any",
     ),
 ];
 

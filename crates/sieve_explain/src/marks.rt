@@ -1,13 +1,15 @@
 // What an explanation looks for among the tokens of a script.
-ghost use Rattle.std.specs.Prelude.{◌≡◌, ◌<◌, ◌≤◌, ◌+◌, ◌-◌, ◌^◌, drop, length, take_while};
+ghost use Rattle.std.specs.Prelude.{◌≡◌, ◌<◌, ◌≤◌, ◌+◌, ◌-◌, ◌^◌, IfOk, drop, length, take_while};
 ghost use Rattle.std.specs.List.{slice_get};
 ghost use Rattle.sieve_lexer.specs.Tokens.{AreTokens};
 ghost use Rattle.sieve_explain.specs.Explaining.{start_of};
-ghost use Rattle.sieve_explain.specs.Marks.{Stands, has_unit, if_unclosed, inner, is_no_name, is_number_at, is_unit, is_unit_at, spells, string_among, text_of, unclosed, unopened, unopened_over};
+ghost use Rattle.sieve_explain.specs.Marks.{Stands, has_unit, has_value, if_unclosed, is_no_name, is_number_at, is_string, is_unit, is_unit_at, string_among, text_of, unclosed, unopened, unopened_over};
 
 use crate::places::around;
+use crate::remarks::Source;
 use crate::words::is_any;
-use sieve_lexer::{Token, TokenKind};
+use sieve_lexer::{Token, TokenKind, string_of};
+use std::alloc::AllocError;
 
 // The tokens from that number on.
 #[tactic(auto, using(std::proofs::lemmas::List::drop_min))]
@@ -55,48 +57,55 @@ fn text_of<'a>(script: &'a [u8], token: &Token) -> &'a [u8]
     text
 }
 
-// The octets without the first and the last one.
-fn inner(text: &[u8]) -> &[u8]
-    ensures { result.now ≡ inner text.now }
+// Whether the token is a string.
+fn is_string(kind: TokenKind) -> bool
+    ensures { result ≡ is_string kind }
 {
-    let (_, behind) = around(text, 1);
-    let (inner, _) = around(behind, text.len().saturating_sub(2));
-    inner
+    matches!(kind, TokenKind::QuotedString | TokenKind::MultiLineString)
 }
 
-// Whether the token is the string between quotes, without an escape in it.
-#[tactic(auto, unfolding(crate::specs::Marks::spells))]
-fn spells(script: &[u8], string: &[u8], token: &Token) -> bool
-    ensures { result ≡ spells script.now string.now token.now }
+// Whether the token is a string with that value.
+#[tactic(auto, unfolding(crate::specs::Marks::has_value))]
+fn has_value(source: &Source<'_>, string: &[u8], token: &Token) -> Result<bool, AllocError>
+    ensures { IfOk result (λ has. has ≡ has_value source.now.octets.now string.now token.now) }
 {
-    match token.kind {
-        TokenKind::QuotedString => inner(text_of(script, token)) == string,
-        _ => false,
+    if !is_string(token.kind) {
+        return Ok(false);
     }
+    let value = string_of(source.alloc, token.kind, text_of(source.octets, token))?;
+    Ok(value.as_slice() == string)
 }
 
-// The first token up to the end of the command that spells the string, if there is one.
-fn string_among(script: &[u8], string: &[u8], tokens: &[Token]) -> Option<Token>
-    ensures { result ≡ string_among script.now string.now tokens.now }
+// The first of the tokens that is such a string, if there is one.
+fn string_among(
+    source: &Source<'_>,
+    string: &[u8],
+    tokens: &[Token],
+) -> Result<Option<Token>, AllocError>
+    ensures { IfOk result (λ found.
+        found ≡ string_among source.now.octets.now string.now tokens.now) }
 {
     for token in tokens {
-        if spells(script, string, token) {
-            return Some(*token);
-        }
-        if matches!(token.kind, TokenKind::Semicolon) {
-            return None;
+        if has_value(source, string, token)? {
+            return Ok(Some(*token));
         }
     }
-    None
+    Ok(None)
 }
 
 // The same from the token with that number on.
-pub fn string_behind(script: &[u8], tokens: &[Token], number: usize, string: &[u8]) -> Option<Token>
-    requires { AreTokens script.now tokens.now }
-    ensures token { result ≡ string_among script.now string.now (drop number tokens.now) }
-    ensures within { Stands script.now result }
+pub fn string_behind(
+    source: &Source<'_>,
+    tokens: &[Token],
+    number: usize,
+    string: &[u8],
+) -> Result<Option<Token>, AllocError>
+    requires { AreTokens source.now.octets.now tokens.now }
+    ensures token { IfOk result (λ found.
+        found ≡ string_among source.now.octets.now string.now (drop number tokens.now)) }
+    ensures within { IfOk result (λ found. Stands source.now.octets.now found) }
 {
-    string_among(script, string, tokens_from(tokens, number))
+    string_among(source, string, tokens_from(tokens, number))
 }
 
 // Whether a number stands there.

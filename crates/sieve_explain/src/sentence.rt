@@ -41,9 +41,9 @@ fn push_filled(out: &mut Vec<u8>, sentence: &Sentence<'_>, octet: u8) -> Result<
         ++ filled_octet (blanks_of sentence.now) octet) }
 {
     match octet {
-        b'@' => push_between(out, b"`", sentence.name, b"`"),
-        b'#' => push_between(out, b"`:", sentence.subject, b"`"),
-        b'$' => push_between(out, b"\"", sentence.subject, b"\""),
+        b'@' => push_between(out, b"`", sentence.name, b'`'),
+        b'#' => push_between(out, b"`:", sentence.subject, b'`'),
+        b'$' => push_between(out, b"\"", sentence.subject, b'"'),
         b'&' => out.extend_from_slice(sentence.words.as_bytes()),
         b'%' => out.extend_from_slice(Buffer::new().format(sentence.number).as_bytes()),
         _ => out.extend_from_slice(&[octet]),
