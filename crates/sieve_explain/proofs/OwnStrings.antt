@@ -13,7 +13,7 @@ use Rattle.sieve_parser.specs.Grammar.{Placed, at_depth, lexemes_placed, more_st
 use Rattle.sieve_parser.specs.Lexemes.{Lexeme, identifier, tag, number, string, comma, opening_bracket, closing_bracket, lexeme, lexeme_of, lexemes_from}
 use Rattle.sieve_parser.specs.Tree.{ArgumentTree, text, text_list, amount, label}
 use Rattle.sieve_check.specs.Rules.{strings_in, strings_of}
-use Rattle.sieve_explain.specs.Marks.{arguments_behind, has_value, is_string, text_of, writes_arguments}
+use Rattle.sieve_explain.specs.Marks.{arguments_behind, has_value, is_of_arguments, is_string, text_of, writes_arguments}
 
 -- ---- among lexemes
 
@@ -120,9 +120,6 @@ name_kind : (k : TokenKind) (m : ℕ) (octets : List ℕ) (n : ℕ) (name : List
 name_kind Identifier m octets n name e = (refl, cc, cc)
 name_kind _ m octets n name e = absurd (cc)
 
-abbrev of_arguments : Token → Bool
-of_arguments token = writes_arguments token.kind
-
 valued : (script s : List ℕ) (token : Token) → is_string token.kind ≡ true → string_value token.kind (text_of script token) ≡ s → has_value script s token ≡ true
 unfolding has_value
 valued script s token kind value =
@@ -142,25 +139,25 @@ contains_first x xs = (0, omega arith, refl)
 contains_later : {A : Type 0} (x y : A) (xs : List A) → Contains xs x → Contains (y ∷ xs) x
 contains_later x y xs (k, within, e) = (suc k, omega (arith, within), e)
 
-while_more : (token : Token) (tokens : List Token) → of_arguments token ≡ true → take_while of_arguments (token ∷ tokens) ≡ token ∷ take_while of_arguments tokens
+while_more : (token : Token) (tokens : List Token) → is_of_arguments token ≡ true → take_while is_of_arguments (token ∷ tokens) ≡ token ∷ take_while is_of_arguments tokens
 while_more token tokens e =
-    let more = prefix_len of_arguments tokens in
+    let more = prefix_len is_of_arguments tokens in
     let next : 1 + more ≡ suc more = omega arith in
     rw e (ap (λ (n : ℕ). take n (token ∷ tokens)) next)
 
 -- the first of the tokens that is a string with that value, which nothing but arguments stand before
 abbrev pub Found : List ℕ → List ℕ → List Token → Type 0
 Found script s tokens = (token : Token) × (find (has_value script s) tokens ≡ Some token)
-    × Contains (take_while of_arguments tokens) token × (has_value script s token ≡ true)
+    × Contains (take_while is_of_arguments tokens) token × (has_value script s token ≡ true)
 
 found_here : (script s : List ℕ) (token : Token) (tokens : List Token) → has_value script s token ≡ true → Found script s (token ∷ tokens)
 found_here script s token tokens e =
     let part = string_part token.kind (valued_kind script s token e) in
-    (token, (rw e refl), subst (λ (ts : List Token). Contains ts token) (sym (while_more token tokens part)) (contains_first token (take_while of_arguments tokens)), e)
+    (token, (rw e refl), subst (λ (ts : List Token). Contains ts token) (sym (while_more token tokens part)) (contains_first token (take_while is_of_arguments tokens)), e)
 
-found_later : (script s : List ℕ) (token : Token) (tokens : List Token) → has_value script s token ≡ false → of_arguments token ≡ true → Found script s tokens → Found script s (token ∷ tokens)
+found_later : (script s : List ℕ) (token : Token) (tokens : List Token) → has_value script s token ≡ false → is_of_arguments token ≡ true → Found script s tokens → Found script s (token ∷ tokens)
 found_later script s token tokens other part (it, first, among, value) =
-    (it, (rw other first), subst (λ (ts : List Token). Contains ts it) (sym (while_more token tokens part)) (contains_later it token (take_while of_arguments tokens) among), value)
+    (it, (rw other first), subst (λ (ts : List Token). Contains ts it) (sym (while_more token tokens part)) (contains_later it token (take_while is_of_arguments tokens) among), value)
 
 pub found : (script s : List ℕ) (n : ℕ) (tokens : List Token) → Comes s (lexemes_from script n tokens) → Found script s tokens
 found script s n [] h = absurd h

@@ -7,11 +7,11 @@ use Rattle.octets.specs.Limits.{max_script}
 use Rattle.refusals.specs.declared.refusal.Refusal.{Refusal}
 use Rattle.refusals.specs.declared.refusal.Refusal.TheVariants as refused
 use Rattle.bytecode_listing.specs.declared.error.FaultKind.{FaultKind}
-use Rattle.sieve_explain.specs.Explaining.{Explains, TellsReasons, depth_told, end_told, fault_blanks, heading, is_argument_fault, marked_token, opened, reason_told, remark, start_of, syntax_told, token_told, told, listing_told, numbered}
-use Rattle.sieve_explain.specs.Faults.{end_blanks, lexical_blanks, listing_blanks, token_blanks, too_deep_blanks, too_long_blanks, unclosed_blanks, unit_blanks}
-use Rattle.sieve_explain.specs.Marks.{has_unit, unclosed}
+use Rattle.sieve_explain.specs.Explaining.{Explains, TellsReasons, depth_told, end_told, fault_blanks, heading, is_argument_fault, label_blanks, may_lack_label, marked_token, opened, reason_told, remark, start_of, syntax_told, token_told, told, listing_told, numbered}
+use Rattle.sieve_explain.specs.Faults.{colon_blanks, end_blanks, lexical_blanks, listing_blanks, token_blanks, too_deep_blanks, too_long_blanks, unclosed_blanks, unit_blanks}
+use Rattle.sieve_explain.specs.Marks.{has_unit, label_behind, unclosed}
 use Rattle.sieve_lexer.specs.declared.token.Token.{Token}
-use Rattle.sieve_check.specs.Causes.{Refused, fault_of_kind}
+use Rattle.sieve_check.specs.Causes.{Reason, Refused, fault_of_kind}
 use Rattle.sieve_check.specs.Rules.{max_reasons, reasons_of}
 use Rattle.sieve_explain.specs.Places.{column, line_at, line_number, octets_before}
 use Rattle.sieve_explain.specs.Printable.{are_ascii, have_no_controls, is_no_control, is_printable}
@@ -39,10 +39,15 @@ fine_numbered : (number : ℕ) → Fine (numbered number)
 unfolding numbered
 fine_numbered number = fine_append (codes ":") (decimal number) refl (fine_decimal number)
 
+fine_label : (label : List ℕ) (reason : Reason) → FineBlanks (label_blanks label reason)
+fine_label [] reason = fine_reason reason
+fine_label (c ∷ cs) reason = blanks_if (may_lack_label reason.kind) (colon_blanks (c ∷ cs)) (reason_blanks reason) (refl, refl) (fine_reason reason)
+
 fine_fault : (script : List ℕ) (tokens : List Token) (found : Refused) → FineBlanks (fault_blanks script tokens found)
 unfolding fault_blanks
 fine_fault script tokens found =
-    blanks_if (is_argument_fault (fault_of_kind found.reason.kind) && has_unit script (drop 1 (drop found.token tokens))) unit_blanks (reason_blanks found.reason) (refl, refl) (fine_reason found.reason)
+    let behind = drop 1 (drop found.token tokens) in
+    blanks_if (is_argument_fault (fault_of_kind found.reason.kind) && has_unit script behind) unit_blanks _ (refl, refl) (fine_label (label_behind script behind) found.reason)
 
 -- what is told passes a test that each printable octet passes, where the name does as it is printed
 module _ (test : ℕ → Bool) (admits : Admits test) where

@@ -1,5 +1,5 @@
 -- What is told of a refused script.
-use Rattle.std.specs.Prelude.{◌≡◌, ◌≢◌, ℕ, Bool, true, false, ◌&&◌, IsTrue, List, [], ◌++◌, if◌then◌else◌, flat_map, length, take, drop, min, Option, Some, None, option_map, codes}
+use Rattle.std.specs.Prelude.{◌≡◌, ◌≢◌, ℕ, Bool, true, false, ◌&&◌, IsTrue, List, [], ◌∷◌, ◌++◌, if◌then◌else◌, flat_map, length, take, drop, min, Option, Some, None, option_map, codes}
 use Rattle.std.specs.Fmt.{decimal}
 use Rattle.std.specs.List.{Contains, slice_get}
 use Rattle.octets.specs.Limits.{max_script}
@@ -16,11 +16,12 @@ use Rattle.sieve_parser.specs.Scripts.{IsParsed}
 use Rattle.sieve_parser.specs.Tree.{CommandsTree}
 use Rattle.sieve_check.specs.declared.causes.ReasonKind.{ReasonKind}
 use Rattle.sieve_check.specs.declared.causes.ReasonKind.TheVariants as kind
-use Rattle.sieve_check.specs.Causes.{Refused, fault_of_kind}
+use Rattle.sieve_check.specs.declared.signature.Tests.TheVariants as tests
+use Rattle.sieve_check.specs.Causes.{Reason, Refused, fault_of_kind}
 use Rattle.sieve_check.specs.Rules.{fault_of, max_reasons, reasons_of}
 use Rattle.sieve_explain.specs.declared.explanation.Explanation.{Explanation}
-use Rattle.sieve_explain.specs.Faults.{end_blanks, lexical_blanks, listing_blanks, token_blanks, too_deep_blanks, too_long_blanks, unclosed_blanks, unit_blanks}
-use Rattle.sieve_explain.specs.Marks.{arguments_behind, has_unit, is_string, string_among, text_of, unclosed}
+use Rattle.sieve_explain.specs.Faults.{colon_blanks, end_blanks, lexical_blanks, listing_blanks, token_blanks, too_deep_blanks, too_long_blanks, unclosed_blanks, unit_blanks}
+use Rattle.sieve_explain.specs.Marks.{arguments_behind, has_unit, is_string, label_behind, string_among, text_of, unclosed}
 use Rattle.sieve_explain.specs.Places.{column, line_number}
 use Rattle.sieve_explain.specs.Reasons.{reason_blanks}
 use Rattle.sieve_explain.specs.Sentences.{Blanks, filled}
@@ -104,11 +105,23 @@ abbrev pub is_argument_fault : Fault → Bool
 is_argument_fault BadArguments = true
 is_argument_fault _ = false
 
--- arguments with a wrong unit, or another reason
+-- an argument may be missing, or it has a test that it doesn't take
+abbrev pub may_lack_label : ReasonKind → Bool
+may_lack_label (kind.MissingArgument taken) = true
+may_lack_label (kind.WrongTests tests.Nothing) = true
+may_lack_label _ = false
+
+-- a name that a tag has, or another reason
+abbrev pub label_blanks : List ℕ → Reason → Blanks
+label_blanks [] reason = reason_blanks reason
+label_blanks (c ∷ label) reason = if may_lack_label reason.kind then colon_blanks (c ∷ label) else reason_blanks reason
+
+-- arguments with a wrong unit, a tag without its colon behind them, or another reason
 unfoldable pub fault_blanks : List ℕ → List Token → Refused → Blanks
 fault_blanks script tokens found =
-    if is_argument_fault (fault_of_kind found.reason.kind) && has_unit script (drop 1 (drop found.token tokens)) then unit_blanks
-    else reason_blanks found.reason
+    let behind = drop 1 (drop found.token tokens) in
+    if is_argument_fault (fault_of_kind found.reason.kind) && has_unit script behind then unit_blanks
+    else label_blanks (label_behind script behind) found.reason
 
 -- why a command or test is refused
 unfoldable pub reason_told : List ℕ → List ℕ → List Token → Refused → List ℕ

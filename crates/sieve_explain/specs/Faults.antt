@@ -105,6 +105,10 @@ unclosed_blanks = plain (codes "this brace is never closed")
 abbrev pub unit_blanks : Blanks
 unit_blanks = plain (codes "the units of a number are K, M and G, with no blank before the letter and nothing behind it, as in 5M")
 
+-- 18, of a test that has the name of a tag, behind what takes none
+abbrev pub colon_blanks : List ℕ → Blanks
+colon_blanks label = record (plain (codes "@ is a tag: is a colon missing before it?")) { name = label }
+
 -- ---- of a listing
 
 abbrev pub is_dark : ℕ → Bool

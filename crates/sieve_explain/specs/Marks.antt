@@ -4,6 +4,7 @@ use Rattle.std.specs.List.{find, list_any, slice_get}
 use Rattle.std.specs.Option.{option_or}
 use Rattle.octets.specs.Ascii.{is_word}
 use Rattle.sieve_lexer.specs.Values.{string_value}
+use Rattle.sieve_explain.specs.Hints.{known_tags}
 use Rattle.sieve_lexer.specs.declared.token.Token.{Token}
 use Rattle.sieve_lexer.specs.declared.token.TokenKind.{TokenKind}
 use Rattle.sieve_lexer.specs.declared.token.TokenKind.TheVariants.{Identifier, Tag, Number, QuotedString, MultiLineString, Comma, OpeningBrace, ClosingBrace, OpeningBracket, ClosingBracket}
@@ -42,9 +43,12 @@ writes_arguments OpeningBracket = true
 writes_arguments ClosingBracket = true
 writes_arguments _ = false
 
+abbrev pub is_of_arguments : Token → Bool
+is_of_arguments token = writes_arguments token.kind
+
 -- the tokens of the arguments of the command or test whose name is the token with that number
 abbrev pub arguments_behind : ℕ → List Token → List Token
-arguments_behind number tokens = take_while (λ token. writes_arguments token.kind) (drop (number + 1) tokens)
+arguments_behind number tokens = take_while is_of_arguments (drop (number + 1) tokens)
 
 -- ---- a unit with more letters
 
@@ -79,6 +83,18 @@ abbrev pub has_unit : List ℕ → List Token → Bool
 has_unit script tokens =
     let place = length (take_while is_no_name tokens) in
     is_number_at (slice_get tokens (place - 1)) && is_unit_at script (slice_get tokens place)
+
+-- ---- a tag without its colon
+
+-- the octets of a name that a tag has, or nothing
+abbrev pub label_at : List ℕ → Option Token → List ℕ
+label_at script None = []
+label_at script (Some token) =
+    if is_name token.kind && list_any (is_word (text_of script token)) known_tags.names then text_of script token else []
+
+-- the same of what stands behind the arguments with which the tokens begin
+unfoldable pub label_behind : List ℕ → List Token → List ℕ
+label_behind script tokens = label_at script (slice_get tokens (length (take_while is_of_arguments tokens)))
 
 -- ---- a brace without its partner
 

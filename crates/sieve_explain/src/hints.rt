@@ -1,10 +1,12 @@
 // What is said of a name that isn't known where it stands.
 ghost use Rattle.std.specs.Prelude.{◌≡◌};
-ghost use Rattle.sieve_explain.specs.Hints.{lacking, meant, unknown, unknown_capability, unknown_command, unknown_tag, unknown_test, vocabulary_of};
+ghost use Rattle.std.specs.List.{list_any};
+ghost use Rattle.octets.specs.Ascii.{is_word};
+ghost use Rattle.sieve_explain.specs.Hints.{known_tags, lacking, meant, unknown, unknown_capability, unknown_command, unknown_tag, unknown_test, vocabulary_of};
 ghost use Rattle.sieve_explain.specs.Sentences.{blanks_of};
 
 use crate::sentence::{Sentence, plain};
-use crate::words::{Row, nearest, with_words, words_for};
+use crate::words::{Row, is_any, nearest, with_words, words_for};
 use sieve_check::{command_named, test_named};
 
 /// The names of one kind, and the sentences for a name that is none of them.
@@ -276,6 +278,13 @@ pub fn unknown_tag(tag: &[u8]) -> Sentence<'_>
     ensures { blanks_of result ≡ unknown_tag tag.now }
 {
     unknown(tag, TAGS)
+}
+
+// Whether a tag has that name.
+pub fn is_tag(name: &[u8]) -> bool
+    ensures { result ≡ list_any (is_word name.now) known_tags.names }
+{
+    is_any(name, TAGS.names)
 }
 
 // The sentence for a capability.

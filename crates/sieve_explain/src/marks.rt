@@ -3,8 +3,9 @@ ghost use Rattle.std.specs.Prelude.{◌≡◌, ◌<◌, ◌≤◌, ◌+◌, ◌-
 ghost use Rattle.std.specs.List.{slice_get};
 ghost use Rattle.sieve_lexer.specs.Tokens.{AreTokens};
 ghost use Rattle.sieve_explain.specs.Explaining.{start_of};
-ghost use Rattle.sieve_explain.specs.Marks.{Stands, has_unit, has_value, if_unclosed, is_no_name, is_number_at, is_string, is_unit, is_unit_at, string_among, text_of, unclosed, unopened, unopened_over};
+ghost use Rattle.sieve_explain.specs.Marks.{Stands, has_unit, has_value, if_unclosed, is_name, is_no_name, is_number_at, is_of_arguments, is_string, is_unit, is_unit_at, label_at, label_behind, string_among, text_of, unclosed, unopened, unopened_over};
 
+use crate::hints::is_tag;
 use crate::places::around;
 use crate::remarks::Source;
 use crate::words::is_any;
@@ -163,6 +164,56 @@ pub fn has_unit(script: &[u8], tokens: &[Token]) -> bool
     let place = named_at(tokens);
     let before = token_at(tokens, place.saturating_sub(1));
     is_number_at(before) && is_unit_at(script, token_at(tokens, place))
+}
+
+// Whether arguments are written with the token.
+fn is_of_arguments(token: &&Token) -> bool
+    ensures { result ≡ is_of_arguments token.now.now }
+{
+    matches!(
+        token.kind,
+        TokenKind::QuotedString
+            | TokenKind::MultiLineString
+            | TokenKind::Number
+            | TokenKind::Tag
+            | TokenKind::Comma
+            | TokenKind::OpeningBracket
+            | TokenKind::ClosingBracket
+    )
+}
+
+// How many tokens of arguments stand first.
+fn arguments_length(tokens: &[Token]) -> usize
+    ensures { result ≡ length (take_while is_of_arguments tokens.now) }
+{
+    tokens.iter().take_while(is_of_arguments).count()
+}
+
+// The octets of a name that a tag has, or nothing.
+fn label_at(script: &[u8], token: Option<Token>) -> &[u8]
+    ensures { result.now ≡ label_at script.now token }
+{
+    match token {
+        Some(token) if is_name(token.kind) && is_tag(text_of(script, &token)) => {
+            text_of(script, &token)
+        }
+        _ => &[],
+    }
+}
+
+// The same of what stands behind the arguments with which the tokens begin.
+#[tactic(auto, unfolding(crate::specs::Marks::label_behind))]
+pub fn label_behind<'a>(script: &'a [u8], tokens: &[Token]) -> &'a [u8]
+    ensures { result.now ≡ label_behind script.now tokens.now }
+{
+    label_at(script, token_at(tokens, arguments_length(tokens)))
+}
+
+// Whether the token is an identifier.
+fn is_name(kind: TokenKind) -> bool
+    ensures { result ≡ is_name kind }
+{
+    matches!(kind, TokenKind::Identifier)
 }
 
 // How many closing braces have no partner, with one more token before those that have that many.

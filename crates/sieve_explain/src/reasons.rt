@@ -1,12 +1,12 @@
 // What is said of a command or test that isn't accepted.
 ghost use Rattle.std.specs.Prelude.{◌≡◌};
 ghost use Rattle.sieve_check.specs.ReasonView.{reason_view, refused_view};
-ghost use Rattle.sieve_explain.specs.Explaining.{fault_blanks, is_argument_fault};
+ghost use Rattle.sieve_explain.specs.Explaining.{fault_blanks, is_argument_fault, label_blanks, may_lack_label};
 ghost use Rattle.sieve_explain.specs.Reasons.{capability_words, ending_words, extra_words, needs_text, no_argument_words, no_test_words, other_blanks, place_text, positional_words, reason_blanks, reason_limit, reason_text, reason_words, tag_words, tests_words};
 ghost use Rattle.sieve_explain.specs.Sentences.{blanks_of};
 
 use crate::hints::{unknown_capability, unknown_command, unknown_tag, unknown_test};
-use crate::marks::{has_unit, tokens_from};
+use crate::marks::{has_unit, label_behind, tokens_from};
 use crate::sentence::{Sentence, plain};
 use crate::words::is_any;
 use octets::{MAX_STRING, is_word};
@@ -249,18 +249,40 @@ fn other_sentence(reason: Reason<'_>) -> Sentence<'_>
     }
 }
 
-// The sentence for arguments with a wrong unit, or for another reason.
+// The sentence for arguments with a wrong unit, for a tag without its colon behind them, or for another reason.
 #[tactic(auto, unfolding(crate::specs::Explaining::fault_blanks))]
-pub fn fault_sentence<'a>(script: &[u8], tokens: &[Token], found: Refused<'a>) -> Sentence<'a>
+pub fn fault_sentence<'a>(script: &'a [u8], tokens: &[Token], found: Refused<'a>) -> Sentence<'a>
     ensures { blanks_of result ≡ fault_blanks script.now tokens.now (refused_view found.entry) }
 {
-    let arguments = tokens_from(tokens_from(tokens, found.token), 1);
-    if is_argument_fault(found.reason.kind.fault()) && has_unit(script, arguments) {
-        plain(
+    let behind = tokens_from(tokens_from(tokens, found.token), 1);
+    if is_argument_fault(found.reason.kind.fault()) && has_unit(script, behind) {
+        return plain(
             "the units of a number are K, M and G, with no blank before the letter and nothing behind it, as in 5M",
-        )
-    } else {
-        reason_sentence(found.reason)
+        );
+    }
+    label_sentence(label_behind(script, behind), found.reason)
+}
+
+// The sentence for a name that a tag has, or for another reason.
+fn label_sentence<'a>(label: &'a [u8], reason: Reason<'a>) -> Sentence<'a>
+    ensures { blanks_of result ≡ label_blanks label.now (reason_view reason.entry) }
+{
+    if !label.is_empty() && may_lack_label(reason.kind) {
+        return Sentence {
+            name: label,
+            ..plain("@ is a tag: is a colon missing before it?")
+        };
+    }
+    reason_sentence(reason)
+}
+
+// Whether an argument may be missing, or it has a test that it doesn't take.
+fn may_lack_label(kind: ReasonKind) -> bool
+    ensures { result ≡ may_lack_label kind }
+{
+    match kind {
+        ReasonKind::MissingArgument(_) | ReasonKind::WrongTests(Tests::Nothing) => true,
+        _ => false,
     }
 }
 
