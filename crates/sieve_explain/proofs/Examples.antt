@@ -14,12 +14,12 @@ use Rattle.sieve_lexer.specs.declared.token.Token.{Token}
 use Rattle.sieve_lexer.specs.declared.token.TokenKind.{TokenKind}
 use Rattle.sieve_lexer.specs.declared.token.TokenKind.TheVariants.{ClosingBrace, ClosingBracket, Comma, Identifier, MultiLineString, Number, OpeningBrace, OpeningBracket, QuotedString, Semicolon}
 use Rattle.sieve_check.specs.declared.causes.ReasonKind.{ReasonKind}
-use Rattle.sieve_check.specs.declared.causes.ReasonKind.TheVariants.{ExtraArgument, ForeignTag, LongString, MissingCapability, Misplaced, UnknownCapability, UnknownCommand, UnknownTag, UnknownTest, WrongTests}
-use Rattle.sieve_explain.specs.Explaining.{heading, numbered, remark, told}
+use Rattle.sieve_check.specs.declared.causes.ReasonKind.TheVariants.{ExtraArgument, ForeignTag, LongString, MissingArgument, MissingCapability, Misplaced, UnknownCapability, UnknownCommand, UnknownTag, UnknownTest, WrongTests}
+use Rattle.sieve_explain.specs.Explaining.{heading, label_blanks, numbered, remark, told}
 use Rattle.sieve_explain.specs.Faults.{beginnings, end_blanks, lexical_blanks, misplaced_token, token_blanks}
-use Rattle.sieve_explain.specs.Hints.{known_capabilities, known_commands, known_tags, known_tests, lacking, meant, unknown_capability, unknown_command, unknown_tag, unknown_test}
+use Rattle.sieve_explain.specs.Hints.{known_capabilities, known_commands, known_tags, known_tests, lacking, meant, meant_too, unknown_capability, unknown_command, unknown_tag, unknown_test}
 use Rattle.sieve_explain.specs.Words.{begin_off, differ_at, is_near, nearest}
-use Rattle.sieve_explain.specs.Marks.{has_unit, has_value, is_unit, string_among, unclosed}
+use Rattle.sieve_explain.specs.Marks.{has_unit, has_value, is_unit, label_behind, string_among, unclosed}
 use Rattle.sieve_explain.specs.Places.{column, line_at, line_number, octets_after, octets_before, without_return}
 use Rattle.sieve_explain.specs.Reasons.{capability_words, needs_text, no_argument_words, no_test_words, other_blanks, place_text, reason_blanks}
 use Rattle.sieve_explain.specs.Sentences.{filled, filled_octet}
@@ -77,6 +77,8 @@ said kind name subject = filled (reason_blanks (record { kind = kind; name = nam
 unknown_said :
     (said UnknownCommand (codes "ElseIf") [] ≡ codes "unknown command `ElseIf`, did you mean `elsif`?")
     × (said UnknownCommand (codes "kp") [] ≡ codes "unknown command `kp`")
+    × (said UnknownCommand (codes "Stor") [] ≡ codes "unknown command `Stor`, did you mean `stop` or `store`?")
+    × (said UnknownTag (codes "header") (codes "ower") ≡ codes "depot knows no tag `:ower`, did you mean `:over` or `:lower`?")
     × (said UnknownCapability (codes "require") (codes "FileInto") ≡ codes "depot knows no capability \"FileInto\", did you mean \"fileinto\"?")
     × (said UnknownCapability (codes "require") (codes "vacation") ≡ codes "depot has no \"vacation\": it sends no mail, leave that to the mail server")
     × (said UnknownTag (codes "header") (codes "contain") ≡ codes "depot knows no tag `:contain`, did you mean `:contains`?")
@@ -84,8 +86,8 @@ unknown_said :
     × (said UnknownTest (codes "address") [] ≡ codes "depot has no `address`: `header` tests the whole value of a field, as in `header :matches \"From\" [\"a@b\", \"*<a@b>*\"]`")
     × (said UnknownCommand (codes "header") [] ≡ codes "`header` is a test: is an `if` missing before it?")
     × (said UnknownTest (codes "keep") [] ≡ codes "`keep` is a command, and a test is needed here")
-unfolding unknown_command unknown_test unknown_tag unknown_capability filled_octet shown_octet shown_start is_near differ_at begin_off lacking meant
-unknown_said = (refl, refl, refl, refl, refl, refl, refl, refl, refl)
+unfolding unknown_command unknown_test unknown_tag unknown_capability filled_octet shown_octet shown_start is_near differ_at begin_off lacking meant meant_too
+unknown_said = (refl, refl, refl, refl, refl, refl, refl, refl, refl, refl, refl)
 
 -- other reasons
 reasons_said :
@@ -166,6 +168,15 @@ units :
     × (has_unit (codes "5M true") (token_of Number 0 2 ∷ token_of Identifier 3 7 ∷ []) ≡ false)
 unfolding is_unit
 units = (refl, refl)
+
+-- a test behind the arguments that has the name of a tag, where one may be missing
+labels :
+    (label_behind (codes "\"Subject\" contains \"x\" {") (token_of QuotedString 0 9 ∷ token_of Identifier 10 18 ∷ token_of QuotedString 19 22 ∷ token_of OpeningBrace 23 24 ∷ []) ≡ codes "contains")
+    × (label_behind (codes "\"a\" true") (token_of QuotedString 0 3 ∷ token_of Identifier 4 8 ∷ []) ≡ [])
+    × (label_behind (codes "5; name") (token_of Number 0 1 ∷ token_of Semicolon 1 2 ∷ token_of Identifier 3 7 ∷ []) ≡ [])
+    × (filled (label_blanks (codes "Contains") (record { kind = MissingArgument Text; name = codes "header"; subject = [] })) ≡ codes "`Contains` is a tag: is a colon missing before it?")
+unfolding label_behind filled_octet shown_octet shown_start
+labels = (refl, refl, refl, refl)
 
 -- all of it
 whole : told (codes "my.sieve") (codes "keep;\nstop }\n") 11 (token_blanks (codes "keep;\nstop }\n") (record { kind = ClosingBrace; start = 11; end = 12 }))

@@ -41,13 +41,13 @@ fine_numbered number = fine_append (codes ":") (decimal number) refl (fine_decim
 
 fine_label : (label : List ℕ) (reason : Reason) → FineBlanks (label_blanks label reason)
 fine_label [] reason = fine_reason reason
-fine_label (c ∷ cs) reason = blanks_if (may_lack_label reason.kind) (colon_blanks (c ∷ cs)) (reason_blanks reason) (refl, refl) (fine_reason reason)
+fine_label (c ∷ cs) reason = blanks_if (may_lack_label reason.kind) (colon_blanks (c ∷ cs)) (reason_blanks reason) (refl, refl, refl) (fine_reason reason)
 
 fine_fault : (script : List ℕ) (tokens : List Token) (found : Refused) → FineBlanks (fault_blanks script tokens found)
 unfolding fault_blanks
 fine_fault script tokens found =
     let behind = drop 1 (drop found.token tokens) in
-    blanks_if (is_argument_fault (fault_of_kind found.reason.kind) && has_unit script behind) unit_blanks _ (refl, refl) (fine_label (label_behind script behind) found.reason)
+    blanks_if (is_argument_fault (fault_of_kind found.reason.kind) && has_unit script behind) unit_blanks _ (refl, refl, refl) (fine_label (label_behind script behind) found.reason)
 
 -- what is told passes a test that each printable octet passes, where the name does as it is printed
 module _ (test : ℕ → Bool) (admits : Admits test) where
@@ -79,13 +79,13 @@ module _ (test : ℕ → Bool) (admits : Admits test) where
   pass_opened : (name script : List ℕ) (brace : Option Token) → Passes test (shown Name name) → Passes test (opened name script brace)
   unfolding opened
   pass_opened name script None p = refl
-  pass_opened name script (Some brace) p = pass_remark (codes ": note: ") name script brace.start unclosed_blanks refl p (refl, refl)
+  pass_opened name script (Some brace) p = pass_remark (codes ": note: ") name script brace.start unclosed_blanks refl p (refl, refl, refl)
 
   pass_token_told : (name script : List ℕ) (token : Option Token) (tokens : List Token) → Passes test (shown Name name) → Passes test (token_told name script token tokens)
   unfolding end_told
   pass_token_told name script None tokens p =
       pass_append test (told name script (length script) end_blanks) (opened name script (unclosed tokens))
-      (pass_told name script (length script) end_blanks p (refl, refl)) (pass_opened name script (unclosed tokens) p)
+      (pass_told name script (length script) end_blanks p (refl, refl, refl)) (pass_opened name script (unclosed tokens) p)
   pass_token_told name script (Some token) tokens p = pass_told name script token.start (token_blanks script token) p (fine_misplaced_token script token)
 
   pass_reasons : (name script : List ℕ) (tokens : List Token) (reasons : List Refused) → Passes test (shown Name name) → Passes test (flat_map (reason_told name script tokens) reasons)
@@ -103,10 +103,10 @@ module _ (test : ℕ → Bool) (admits : Admits test) where
   unfolding syntax_told depth_told
   pass_text name script (refused.Lexical place) text p e =
       let at = min place (length script) in ap (list_all test) e ∙ pass_told name script at (lexical_blanks (drop at script)) p (fine_lexical (drop at script))
-  pass_text name script refused.ScriptTooLong text p e = ap (list_all test) e ∙ pass_told name script (min max_script (length script)) too_long_blanks p (refl, refl)
+  pass_text name script refused.ScriptTooLong text p e = ap (list_all test) e ∙ pass_told name script (min max_script (length script)) too_long_blanks p (refl, refl, refl)
   pass_text name script (refused.Syntax number) text p (tokens, are, e) = ap (list_all test) e ∙ pass_token_told name script (slice_get tokens number) tokens p
   pass_text name script (refused.TooDeep number) text p (tokens, are, e) =
-      ap (list_all test) e ∙ pass_told name script (start_of script (slice_get tokens number)) too_deep_blanks p (refl, refl)
+      ap (list_all test) e ∙ pass_told name script (start_of script (slice_get tokens number)) too_deep_blanks p (refl, refl, refl)
   pass_text name script (refused.UnknownCommand number) text p e = pass_reasoned name script text p e
   pass_text name script (refused.MissingCapability number) text p e = pass_reasoned name script text p e
   pass_text name script (refused.UnknownCapability number) text p e = pass_reasoned name script text p e

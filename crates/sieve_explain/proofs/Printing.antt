@@ -116,9 +116,9 @@ fine_between opening text mark p q =
     let inner = shown_start (Between mark) text in
     fine_append (opening ++ inner) (mark ∷ []) (fine_append opening inner p (fine_start (Between mark) (between_plain mark) text)) q
 
--- a sentence whose text and words are printable
+-- a sentence whose text, words and other words are printable
 abbrev pub FineBlanks : Blanks → Type 0
-FineBlanks blanks = Fine blanks.text × Fine blanks.words
+FineBlanks blanks = Fine blanks.text × Fine blanks.words × Fine blanks.others
 
 pub fine_filled : (blanks : Blanks) → FineBlanks blanks → Fine (filled blanks)
 unfolding filled_octet
@@ -127,7 +127,8 @@ fine_filled blanks h = fine_fills (filled_octet blanks) (λ octet e.
     (fine_if (octet == 35) (tagged blanks.subject) _ (fine_between (codes "`:") blanks.subject 96 refl refl)
     (fine_if (octet == 36) (quoted blanks.subject) _ (fine_between (codes "\"") blanks.subject 34 refl refl)
     (fine_if (octet == 38) blanks.words _ h.1
-    (fine_if (octet == 37) (decimal blanks.number) (octet ∷ []) (fine_decimal blanks.number) (fine_one octet e)))))) blanks.text h.0
+    (fine_if (octet == 126) blanks.others _ h.2
+    (fine_if (octet == 37) (decimal blanks.number) (octet ∷ []) (fine_decimal blanks.number) (fine_one octet e))))))) blanks.text h.0
 
 -- ---- the name
 

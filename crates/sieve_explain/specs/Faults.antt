@@ -62,6 +62,7 @@ lexical_blanks rest = let text = text_at rest beginnings in record {
   name = take 1 rest;
   subject = [];
   words = codes "#";
+  others = [];
   number = 2 ^ 64 - 1;
 }
 

@@ -159,6 +159,7 @@ other_blanks found = record {
   name = found.name;
   subject = found.subject;
   words = reason_words found.kind found.name;
+  others = [];
   number = reason_limit found.kind;
 }
 

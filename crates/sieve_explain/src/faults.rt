@@ -99,6 +99,7 @@ pub fn lexical_sentence(rest: &[u8]) -> Sentence<'_>
         name: first,
         subject: &[],
         words: "#",
+        others: "",
         number: u64::MAX,
     }
 }

@@ -2,11 +2,11 @@
 ghost use Rattle.std.specs.Prelude.{◌≡◌};
 ghost use Rattle.std.specs.List.{list_any};
 ghost use Rattle.octets.specs.Ascii.{is_word};
-ghost use Rattle.sieve_explain.specs.Hints.{known_tags, lacking, meant, unknown, unknown_capability, unknown_command, unknown_tag, unknown_test, vocabulary_of};
+ghost use Rattle.sieve_explain.specs.Hints.{known_tags, lacking, meant, meant_too, unknown, unknown_capability, unknown_command, unknown_tag, unknown_test, vocabulary_of};
 ghost use Rattle.sieve_explain.specs.Sentences.{blanks_of};
 
 use crate::sentence::{Sentence, plain};
-use crate::words::{Row, is_any, nearest, with_words, words_for};
+use crate::words::{Row, is_any, nearest, nearest_but, with_words, words_for};
 use sieve_check::{command_named, test_named};
 
 /// The names of one kind, and the sentences for a name that is none of them.
@@ -19,6 +19,8 @@ pub struct Vocabulary {
     pub lacks: &'static str,
     /// For a name by which one of these is meant.
     pub hinting: &'static str,
+    /// For a name by which one of two may be meant.
+    pub hinting_two: &'static str,
     /// For any other name.
     pub alone: &'static str,
 }
@@ -50,6 +52,7 @@ const COMMANDS: &Vocabulary = &Vocabulary {
     ],
     lacks: "depot has no @: &",
     hinting: "unknown command @, did you mean `&`?",
+    hinting_two: "unknown command @, did you mean `&` or `~`?",
     alone: "unknown command @",
 };
 
@@ -80,6 +83,7 @@ const TESTS: &Vocabulary = &Vocabulary {
     ],
     lacks: "depot has no @: &",
     hinting: "unknown test @, did you mean `&`?",
+    hinting_two: "unknown test @, did you mean `&` or `~`?",
     alone: "unknown test @",
 };
 
@@ -110,6 +114,7 @@ const TAGS: &Vocabulary = &Vocabulary {
     ],
     lacks: "depot has no #: &",
     hinting: "depot knows no tag #, did you mean `:&`?",
+    hinting_two: "depot knows no tag #, did you mean `:&` or `:~`?",
     alone: "depot knows no tag #",
 };
 
@@ -127,6 +132,7 @@ const CAPABILITIES: &Vocabulary = &Vocabulary {
     ],
     lacks: "depot has no $: &",
     hinting: "depot knows no capability $, did you mean \"&\"?",
+    hinting_two: "depot knows no capability $, did you mean \"&\" or \"~\"?",
     alone: "depot knows no capability $: there are \"fileinto\", \"variables\", \"mime\", \"foreverypart\", \"vnd.depot\", \"comparator-i;octet\" and \"comparator-i;ascii-casemap\"",
 };
 
@@ -228,18 +234,31 @@ fn meant(name: &[u8], known: &Vocabulary) -> &'static str
     with_words(elsewhere, elsewhere, nearest(name, known.names))
 }
 
+// Another name that may be meant, where one comes as near, or nothing.
+#[tactic(auto, unfolding(crate::specs::Hints::meant_too))]
+fn meant_too(name: &[u8], known: &Vocabulary) -> &'static str
+    ensures { result.now ≡ meant_too name.now (vocabulary_of known.now) }
+{
+    let elsewhere = words_for(name, known.elsewhere);
+    let nearest = nearest(name, known.names);
+    with_words(elsewhere, "", nearest_but(name, nearest, known.names))
+}
+
 // The sentence for a name that nothing has: with why it is lacking, else with what is meant by it, where there is either.
 fn unknown<'a>(name: &'a [u8], known: &Vocabulary) -> Sentence<'a>
     ensures { blanks_of result ≡ unknown name.now (vocabulary_of known.now) }
 {
     let lacking = lacking(name);
     let meant = meant(name, known);
-    let unlisted = with_words(meant, known.hinting, known.alone);
+    let others = meant_too(name, known);
+    let hinting = with_words(others, known.hinting_two, known.hinting);
+    let unlisted = with_words(meant, hinting, known.alone);
     Sentence {
         text: with_words(lacking, known.lacks, unlisted),
         name,
         subject: name,
         words: with_words(lacking, lacking, meant),
+        others,
         number: 0,
     }
 }

@@ -245,6 +245,7 @@ fn other_sentence(reason: Reason<'_>) -> Sentence<'_>
         name: reason.name,
         subject: reason.subject,
         words: reason_words(reason.kind, reason.name),
+        others: "",
         number: reason_limit(reason.kind),
     }
 }
