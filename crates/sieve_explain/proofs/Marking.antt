@@ -1,6 +1,6 @@
 -- The marks stand under what is at fault.
 use Rattle.std.proofs.Common.{◌≡◌, ◌∙◌, ℕ, zero, suc, ◌+◌, Bool, true, false, List, [], ◌∷◌, ◌++◌, All, ap, sym, subst, refl, arith, drop}
-use Rattle.std.specs.Prelude.{Option, Some, ◌&&◌, map, bytes_eq}
+use Rattle.std.specs.Prelude.{Some, ◌&&◌, bytes_eq}
 use Rattle.std.specs.List.{find, slice_get}
 use Rattle.std.proofs.lemmas.List.{map-append}
 use Rattle.std.proofs.lemmas.List.Elements.{All-weaker}
@@ -11,7 +11,6 @@ use Rattle.sieve_lexer.specs.declared.token.Token.{Token}
 use Rattle.sieve_lexer.specs.declared.token.TokenKind.{TokenKind}
 use Rattle.sieve_lexer.specs.declared.token.TokenKind.TheVariants.{Identifier}
 use Rattle.sieve_parser.specs.Grammar.{Placed, arguments_spelled, commands_spelled, lexemes_placed}
-use Rattle.sieve_parser.specs.Lexemes.{identifier}
 use Rattle.sieve_parser.specs.Parsing.{lexemes}
 use Rattle.sieve_parser.specs.Scripts.{IsParsed}
 use Rattle.sieve_parser.specs.Tree.{CommandsTree}
@@ -20,7 +19,7 @@ use Rattle.sieve_check.specs.Rules.{reasons_of}
 use Rattle.sieve_check.specs.declared.causes.ReasonKind.{ReasonKind}
 use Rattle.sieve_check.specs.declared.causes.ReasonKind.TheVariants as reasons
 use Rattle.sieve_explain.specs.Explaining.{IsMarked, MarksFault, marked_by, marked_token}
-use Rattle.sieve_explain.specs.Marks.{arguments_behind, has_value, is_string, string_among, text_of}
+use Rattle.sieve_explain.specs.Marks.{has_value, is_string, string_among, text_of}
 use Rattle.sieve_explain.proofs.OneText.{OneList}
 use Rattle.sieve_explain.proofs.OwnStrings.{Comes, IsName, comes, found, name_at, valued_kind}
 use Rattle.sieve_explain.proofs.Subjects.{IsTold, reasons_told, marks_string}

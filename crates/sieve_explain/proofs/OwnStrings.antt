@@ -1,6 +1,6 @@
 -- A string of the arguments of a command or test, among the tokens of the script.
-use Rattle.std.proofs.Common.{◌≡◌, ◌∙◌, ◌⊎◌, ℕ, zero, suc, ◌+◌, Bool, true, false, List, [], ◌∷◌, ◌++◌, ap, sym, subst, refl, inl, inr, arith, length, drop}
-use Rattle.std.specs.Prelude.{Option, Some, ◌&&◌, if◌then◌else◌, bytes_eq, slice_range, take, take_while}
+use Rattle.std.proofs.Common.{◌≡◌, ◌∙◌, ◌⊎◌, ℕ, suc, ◌+◌, Bool, true, false, List, [], ◌∷◌, ◌++◌, ap, sym, subst, refl, inl, inr, arith, length, drop}
+use Rattle.std.specs.Prelude.{Some, ◌&&◌, bytes_eq, slice_range, take, take_while}
 use Rattle.std.specs.List.{Contains, find, prefix_len, slice_get}
 use Rattle.std.proofs.lemmas.Bool.{cases_Bool}
 use Rattle.std.proofs.lemmas.Cmp.{nat_list_eq_equiv}
@@ -8,12 +8,12 @@ use Rattle.std.proofs.lemmas.List.{append_assoc}
 use Rattle.sieve_lexer.specs.Values.{string_value}
 use Rattle.sieve_lexer.specs.declared.token.Token.{Token}
 use Rattle.sieve_lexer.specs.declared.token.TokenKind.{TokenKind}
-use Rattle.sieve_lexer.specs.declared.token.TokenKind.TheVariants.{Identifier, Tag, Number, QuotedString, MultiLineString, Semicolon, Comma, OpeningBrace, ClosingBrace, OpeningParenthesis, ClosingParenthesis, OpeningBracket, ClosingBracket}
+use Rattle.sieve_lexer.specs.declared.token.TokenKind.TheVariants.{Identifier, Tag, Number, QuotedString, MultiLineString, Comma, OpeningBracket, ClosingBracket}
 use Rattle.sieve_parser.specs.Grammar.{Placed, at_depth, lexemes_placed, more_strings_spelled, argument_spelled, arguments_spelled}
 use Rattle.sieve_parser.specs.Lexemes.{Lexeme, identifier, tag, number, string, comma, opening_bracket, closing_bracket, lexeme, lexeme_of, lexemes_from}
 use Rattle.sieve_parser.specs.Tree.{ArgumentTree, text, text_list, amount, label}
 use Rattle.sieve_check.specs.Rules.{strings_in, strings_of}
-use Rattle.sieve_explain.specs.Marks.{arguments_behind, has_value, is_of_arguments, is_string, text_of, writes_arguments}
+use Rattle.sieve_explain.specs.Marks.{has_value, is_of_arguments, is_string, text_of, writes_arguments}
 
 -- ---- among lexemes
 

@@ -11,10 +11,10 @@ use Rattle.sieve_references.specs.References.{Segment, beyond, foreign, segments
 use Rattle.sieve_parser.specs.Grammar.{Placed, at_depth, arguments_spelled, command_spelled, commands_spelled, invocation_spelled, more_tests_spelled, tests_spelled}
 use Rattle.sieve_parser.specs.Lexemes.{identifier, opening_parenthesis, closing_parenthesis, comma, semicolon, opening_brace, closing_brace}
 use Rattle.sieve_parser.specs.Tree.{ArgumentTree, label, InvocationTree, invocation, TestsTree, no_test, one_test, test_list, MoreTests, last, next, CommandTree, simple, block, CommandsTree, no_command, command}
-use Rattle.sieve_check.specs.Arguments.{Awaiting, arguments_cause, awaiting, first_label, is_second_modifier, label_needing_mime, missing_cause, number_of, positional_cause, rest_cause, untaken_kind}
+use Rattle.sieve_check.specs.Arguments.{Awaiting, arguments_cause, awaiting, first_label, is_second_modifier, missing_cause, number_of, positional_cause, rest_cause}
 use Rattle.sieve_check.specs.Causes.{Cause, Refused, about, or_cause, plain, refused_for}
 use Rattle.sieve_check.specs.Names.{command_named, tag_named, test_named}
-use Rattle.sieve_check.specs.Rules.{Mentions, Visit, cause_by_name, command_needs, command_visit, command_visits, commands_visits, ending_cause, has_many_strings, head_visits, ill_formed_command, ill_formed_test, is_long_name, kind_of, known_command_cause, known_test_cause, lacking, lacking_cause, large_cause, large_mention_cause, lists_read, long_name, long_string_cause, looks_inside, loops_opened, after_invocation, invocation_of, many_loops_cause, many_strings_cause, may_stand, mention_cause, mentions_of, misplaced, more_visits, names_past, names_with, opened_by, oversized_command, oversized_test, expanding, place_cause, read_command_cause, read_test_cause, reasons_of, reference_cause, reference_kind, refused_after, refused_among, same_ending, same_reason, same_tests, string_has, strings_of, test_may_stand, test_needs, test_place_cause, test_visit, test_visits, tests_cause, tests_visits, unknown_cause, visit_cause, where_required}
+use Rattle.sieve_check.specs.Rules.{Mentions, Visit, cause_by_name, command_needs, command_visit, command_visits, commands_visits, ending_cause, has_many_strings, head_visits, ill_formed_command, ill_formed_test, kind_of, known_command_cause, known_test_cause, lacking, lacking_cause, large_cause, large_mention_cause, lists_read, long_name, long_string_cause, looks_inside, loops_opened, after_invocation, invocation_of, many_strings_cause, may_stand, mention_cause, mentions_of, misplaced, more_visits, names_past, names_with, opened_by, expanding, place_cause, read_command_cause, read_test_cause, reasons_of, reference_cause, reference_kind, refused_after, refused_among, same_ending, same_reason, same_tests, string_has, strings_of, test_may_stand, test_needs, test_place_cause, test_visit, test_visits, tests_cause, tests_visits, unknown_cause, visit_cause, where_required}
 use Rattle.sieve_check.specs.Signatures.{Given, Read, add_tag, asks_for_mime, command_signature, ending_of, is_positional, no_tag, nothing_given, reading, takes_tag, test_signature, with_argument}
 use Rattle.sieve_check.specs.Surroundings.{Context, at_start, first_lacking, in_block, opens_many}
 use Rattle.sieve_check.specs.declared.causes.ReasonKind.{ReasonKind}
@@ -22,7 +22,6 @@ use Rattle.sieve_check.specs.declared.causes.ReasonKind.TheVariants as reasons
 use Rattle.sieve_check.specs.declared.names.Capability.{Capability}
 use Rattle.sieve_check.specs.declared.names.CommandName.{CommandName}
 use Rattle.sieve_check.specs.declared.names.CommandName.TheVariants.{Break, Require}
-use Rattle.sieve_check.specs.declared.names.Tag.{Tag}
 use Rattle.sieve_check.specs.declared.names.TestName.{TestName}
 use Rattle.sieve_check.specs.declared.signature.Ending.{Ending}
 use Rattle.sieve_check.specs.declared.signature.Ending.TheVariants as ending
