@@ -456,7 +456,7 @@ Commands, tests and capabilities that other systems have.
     script:1:9: error: depot has no "enotify": it sends no mail, leave that to the mail server
     script:1:9: error: depot has no "reject": it sends no mail, leave that to the mail server
     script:1:9: error: depot has no "ereject": it sends no mail, leave that to the mail server
-    script:1:9: error: depot has no "imap4flags": what it files has no flags, a folder can tell the same
+    script:1:9: error: depot has no "imap4flags": what it files has no flags, file into a folder instead
     script:1:9: error: depot has no "editheader": it changes no message
     script:1:9: error: depot has no "include": a script stands alone, put all of it into one file
     script:1:9: error: depot has no "copy": `keep` beside `fileinto` files a message twice
@@ -475,7 +475,7 @@ Commands, tests and capabilities that other systems have.
 ## no addflag
     $ printf %s 'addflag "\\Seen";' > script
     $ depot explain script
-    script:1:1: error: depot has no `addflag`: what it files has no flags, a folder can tell the same
+    script:1:1: error: depot has no `addflag`: what it files has no flags, file into a folder instead
       addflag "\\Seen";
       ^
     2> refused 15 UnknownCommand at 0
@@ -533,7 +533,7 @@ Commands, tests and capabilities that other systems have.
 ## no hasflag
     $ printf 'if hasflag "x" { keep; }' > script
     $ depot explain script
-    script:1:4: error: depot has no `hasflag`: what it files has no flags, a folder can tell the same
+    script:1:4: error: depot has no `hasflag`: what it files has no flags, file into a folder instead
       if hasflag "x" { keep; }
          ^
     2> refused 15 UnknownCommand at 1

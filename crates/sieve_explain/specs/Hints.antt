@@ -15,7 +15,7 @@ lacking_rows =
     (codes "it sends no mail, leave that to the mail server")
     ∷ hint (codes "addflag" ∷ codes "setflag" ∷ codes "removeflag" ∷ codes "hasflag" ∷ codes "flags"
     ∷ codes "imap4flags" ∷ codes "imapflags" ∷ [])
-    (codes "what it files has no flags, a folder can tell the same")
+    (codes "what it files has no flags, file into a folder instead")
     ∷ hint (codes "addheader" ∷ codes "deleteheader" ∷ codes "editheader" ∷ codes "replace" ∷ codes "enclose" ∷ [])
     (codes "it changes no message")
     ∷ hint (codes "extracttext" ∷ [])

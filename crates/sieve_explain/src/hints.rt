@@ -160,7 +160,7 @@ const LACKING: &[Row] = &[
             "imap4flags",
             "imapflags",
         ],
-        "what it files has no flags, a folder can tell the same",
+        "what it files has no flags, file into a folder instead",
     ),
     (
         &[
