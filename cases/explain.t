@@ -32,8 +32,8 @@ Tokens.
     $ printf '\357\273\277keep;' > script
     $ depot explain script
     script:1:1: error: a byte order mark stands here: save the script as UTF-8 without one
-    \ef\bb\bfkeep;
-    ^
+      \ef\bb\bfkeep;
+      ^
     2> refused 11 Lexical at 0
     [1]
 
@@ -41,8 +41,8 @@ Tokens.
     $ printf 'require \342\200\234fileinto\342\200\235;' > script
     $ depot explain script
     script:1:9: error: a typographic quote stands here: strings stand between straight double quotes, "like this"
-    require \e2\80\9cfileinto\e2\80\9d;
-            ^
+      require \e2\80\9cfileinto\e2\80\9d;
+              ^
     2> refused 11 Lexical at 8
     [1]
 
@@ -50,8 +50,8 @@ Tokens.
     $ printf "require 'fileinto';" > script
     $ depot explain script
     script:1:9: error: a single quote stands here: strings stand between double quotes, "like this"
-    require 'fileinto';
-            ^
+      require 'fileinto';
+              ^
     2> refused 11 Lexical at 8
     [1]
 
@@ -59,8 +59,8 @@ Tokens.
     $ printf '// bills\nkeep;\n' > script
     $ depot explain script
     script:1:1: error: no comment begins so: one begins with `#`, or stands between `/*` and `*/`
-    // bills
-    ^
+      // bills
+      ^
     2> refused 11 Lexical at 0
     [1]
 
@@ -68,8 +68,8 @@ Tokens.
     $ printf 'keep; \303\251;' > script
     $ depot explain script
     script:1:7: error: `\c3` begins nothing that a script may have here
-    keep; \c3\a9;
-          ^
+      keep; \c3\a9;
+            ^
     2> refused 11 Lexical at 6
     [1]
 
@@ -77,8 +77,8 @@ Tokens.
     $ printf 'if header : is "a" "b" { keep; }' > script
     $ depot explain script
     script:1:11: error: a colon stands here without the name of a tag behind it
-    if header : is "a" "b" { keep; }
-              ^
+      if header : is "a" "b" { keep; }
+                ^
     2> refused 11 Lexical at 10
     [1]
 
@@ -86,8 +86,8 @@ Tokens.
     $ printf 'if size :over 99999999999G { discard; }' > script
     $ depot explain script
     script:1:15: error: a number is above 18446744073709551615
-    if size :over 99999999999G { discard; }
-                  ^
+      if size :over 99999999999G { discard; }
+                    ^
     2> refused 11 Lexical at 14
     [1]
 
@@ -95,8 +95,8 @@ Tokens.
     $ echo 'keep; /* and so on' > script
     $ depot explain script
     script:1:7: error: a comment is never closed
-    keep; /* and so on
-          ^
+      keep; /* and so on
+            ^
     2> refused 11 Lexical at 6
     [1]
 
@@ -107,9 +107,18 @@ Tokens.
     > Bills
     > END
     $ depot explain script
-    script:2:10: error: a multi-line string is never closed: its last line is a dot alone
-    fileinto text:
-             ^
+    script:2:10: error: a multi-line string is never closed: it needs a line that is a dot alone, with its line break
+      fileinto text:
+               ^
+    2> refused 11 Lexical at 29
+    [1]
+
+## open lines, whose dot has no line break
+    $ printf 'require "fileinto";\nfileinto text:\nBills\n.' > script
+    $ depot explain script
+    script:2:10: error: a multi-line string is never closed: it needs a line that is a dot alone, with its line break
+      fileinto text:
+               ^
     2> refused 11 Lexical at 29
     [1]
 
@@ -120,8 +129,8 @@ Tokens.
     > END
     $ depot explain script
     script:2:20: error: a string is never closed: this quote, or one before it, has no partner
-    if true { fileinto "Bills; }
-                       ^
+      if true { fileinto "Bills; }
+                         ^
     2> refused 11 Lexical at 39
     [1]
 
@@ -133,8 +142,8 @@ Tokens.
     > END
     $ depot explain script
     script:3:16: error: a string is never closed: this quote, or one before it, has no partner
-    fileinto "Other";
-                   ^
+      fileinto "Other";
+                     ^
     2> refused 11 Lexical at 64
     [1]
 
@@ -144,8 +153,8 @@ The order of tokens.
     $ printf 'keep; }' > script
     $ depot explain script
     script:1:7: error: `}` can't stand here: is a semicolon missing before it, or its opening brace?
-    keep; }
-          ^
+      keep; }
+            ^
     2> refused 13 Syntax at 2
     [1]
 
@@ -153,8 +162,8 @@ The order of tokens.
     $ printf 'if true, false { keep; }' > script
     $ depot explain script
     script:1:8: error: `,` can't stand here: strings of a list stand in square brackets, tests in round ones behind `allof` or `anyof`
-    if true, false { keep; }
-           ^
+      if true, false { keep; }
+             ^
     2> refused 13 Syntax at 2
     [1]
 
@@ -162,9 +171,18 @@ The order of tokens.
     $ printf 'if header :is "a" "b" "c" , "d" { keep; }' > script
     $ depot explain script
     script:1:27: error: `,` can't stand here: strings of a list stand in square brackets, tests in round ones behind `allof` or `anyof`
-    if header :is "a" "b" "c" , "d" { keep; }
-                              ^
+      if header :is "a" "b" "c" , "d" { keep; }
+                                ^
     2> refused 13 Syntax at 6
+    [1]
+
+## string that reads as the end of its sentence
+    $ printf %s 'keep; "a`b\\"; stop;' > script
+    $ depot explain script
+    script:1:7: error: `"a\60b\5c\5c"` can't stand here: is a comma missing before it, or the name that it belongs to?
+      keep; "a`b\\"; stop;
+            ^
+    2> refused 13 Syntax at 2
     [1]
 
 ## end of script
@@ -174,11 +192,11 @@ The order of tokens.
     > END
     $ depot explain script
     script:3:1: error: the script ends before its last command does
-
-    ^
+    1>   
+      ^
     script:1:9: note: this brace is never closed
-    if true {
-            ^
+      if true {
+              ^
     2> refused 13 Syntax at 5
     [1]
 
@@ -186,11 +204,11 @@ The order of tokens.
     $ printf 'if true {\n    keep;\n}\nif true {\n    if false {\n        discard;\n    }\n' > script
     $ depot explain script
     script:8:1: error: the script ends before its last command does
-
-    ^
+    1>   
+      ^
     script:4:9: note: this brace is never closed
-    if true {
-            ^
+      if true {
+              ^
     2> refused 13 Syntax at 15
     [1]
 
@@ -198,8 +216,8 @@ The order of tokens.
     $ printf keep > script
     $ depot explain script
     script:1:5: error: the script ends before its last command does
-    keep
-        ^
+      keep
+          ^
     2> refused 13 Syntax at 1
     [1]
 
@@ -207,8 +225,8 @@ The order of tokens.
     $ echo 'if not not not not not not not not not not not not not not not not not not not not not not not not not not not not not not not not true {}' > script
     $ depot explain script
     script:1:132: error: braces and tests are nested more than 32 deep here
-    ...not not not not not not not not not not not not not not not true {}
-                                                                   ^
+      ...not not not not not not not not not not not not not not not true {}
+                                                                     ^
     2> refused 14 TooDeep at 33
     [1]
 
@@ -218,8 +236,8 @@ Names that there are not.
     $ printf 'keep; hold;' > script
     $ depot explain script
     script:1:7: error: unknown command `hold`
-    keep; hold;
-          ^
+      keep; hold;
+            ^
     2> refused 15 UnknownCommand at 2
     [1]
 
@@ -233,8 +251,8 @@ Names that there are not.
     > END
     $ depot explain script
     script:3:3: error: unknown command `elseif`, did you mean `elsif`?
-    } elseif false {
-      ^
+      } elseif false {
+        ^
     2> refused 15 UnknownCommand at 6
     [1]
 
@@ -242,8 +260,8 @@ Names that there are not.
     $ printf 'if flagged "x" { keep; }' > script
     $ depot explain script
     script:1:4: error: unknown test `flagged`
-    if flagged "x" { keep; }
-       ^
+      if flagged "x" { keep; }
+         ^
     2> refused 15 UnknownCommand at 1
     [1]
 
@@ -255,8 +273,8 @@ Names that there are not.
     > END
     $ depot explain script
     script:1:17: error: unknown test `subject`, did you mean `header`?
-    if anyof (true, subject :is "bill") {
-                    ^
+      if anyof (true, subject :is "bill") {
+                      ^
     2> refused 15 UnknownCommand at 5
     [1]
 
@@ -264,8 +282,8 @@ Names that there are not.
     $ printf 'if not keep { discard; }' > script
     $ depot explain script
     script:1:8: error: `keep` is a command, and a test is needed here
-    if not keep { discard; }
-           ^
+      if not keep { discard; }
+             ^
     2> refused 15 UnknownCommand at 2
     [1]
 
@@ -278,8 +296,8 @@ Names that there are not.
     > END
     $ depot explain script
     script:2:1: error: `header` is a test: is an `if` missing before it?
-    header :contains "Subject" "bill" {
-    ^
+      header :contains "Subject" "bill" {
+      ^
     2> refused 15 UnknownCommand at 3
     [1]
 
@@ -290,8 +308,8 @@ Names that there are not.
     > END
     $ depot explain script
     script:2:3: error: depot knows no capability "foldering": there are "fileinto", "variables", "mime", "foreverypart", "vnd.depot", "comparator-i;octet" and "comparator-i;ascii-casemap"
-      "foldering"];
-      ^
+        "foldering"];
+        ^
     2> refused 17 UnknownCapability at 0
     [1]
 
@@ -299,8 +317,8 @@ Names that there are not.
     $ printf 'require "FileInto";' > script
     $ depot explain script
     script:1:9: error: depot knows no capability "FileInto", did you mean "fileinto"?
-    require "FileInto";
-            ^
+      require "FileInto";
+              ^
     2> refused 17 UnknownCapability at 0
     [1]
 
@@ -308,8 +326,8 @@ Names that there are not.
     $ printf 'require ["mime", "variable"];' > script
     $ depot explain script
     script:1:18: error: depot knows no capability "variable", did you mean "variables"?
-    require ["mime", "variable"];
-                     ^
+      require ["mime", "variable"];
+                       ^
     2> refused 17 UnknownCapability at 0
     [1]
 
@@ -317,35 +335,88 @@ Names that there are not.
     $ printf 'require "vnd.deopt";' > script
     $ depot explain script
     script:1:9: error: depot knows no capability "vnd.deopt", did you mean "vnd.depot"?
-    require "vnd.deopt";
-            ^
+      require "vnd.deopt";
+              ^
     2> refused 17 UnknownCapability at 0
     [1]
 
 ## capability that is written with a backslash
     $ printf %s 'require "fileinto"; require "fo\o";' > script
     $ depot explain script
-    script:1:21: error: depot knows no capability "foo": there are "fileinto", "variables", "mime", "foreverypart", "vnd.depot", "comparator-i;octet" and "comparator-i;ascii-casemap"
-    require "fileinto"; require "fo\o";
-                        ^
+    script:1:29: error: depot knows no capability "foo": there are "fileinto", "variables", "mime", "foreverypart", "vnd.depot", "comparator-i;octet" and "comparator-i;ascii-casemap"
+      require "fileinto"; require "fo\o";
+                                  ^
     2> refused 17 UnknownCapability at 3
+    [1]
+
+## capability that another command has as its folder
+    $ printf %s 'require "fo\o" { fileinto "foo"; }' > script
+    $ depot explain script
+    script:1:9: error: depot knows no capability "foo": there are "fileinto", "variables", "mime", "foreverypart", "vnd.depot", "comparator-i;octet" and "comparator-i;ascii-casemap"
+      require "fo\o" { fileinto "foo"; }
+              ^
+    script:1:18: error: `fileinto` needs `require "fileinto"` before it
+      require "fo\o" { fileinto "foo"; }
+                       ^
+    2> refused 17 UnknownCapability at 0
+    [1]
+
+## capability beside one that is written with a backslash
+    $ printf %s 'require ["file\\into", "file\into"];' > script
+    $ depot explain script
+    script:1:10: error: depot knows no capability "file\5cinto", did you mean "fileinto"?
+      require ["file\\into", "file\into"];
+               ^
+    2> refused 17 UnknownCapability at 0
+    [1]
+
+## capability in lines of its own
+    $ cat > script << 'END'
+    > require ["fileinto", text:
+    > fileinto
+    > .
+    > ];
+    > END
+    $ depot explain script
+    script:1:22: error: depot knows no capability "fileinto\0a", did you mean "fileinto"?
+      require ["fileinto", text:
+                           ^
+    2> refused 17 UnknownCapability at 0
+    [1]
+
+## capability that reads as the end of its sentence
+    $ printf %s 'require "x\", did you mean \"fileinto";' > script
+    $ depot explain script
+    script:1:9: error: depot knows no capability "x\22, did you mean \22fileinto": there are "fileinto", "variables", "mime", "foreverypart", "vnd.depot", "comparator-i;octet" and "comparator-i;ascii-casemap"
+      require "x\", did you mean \"fileinto";
+              ^
+    2> refused 17 UnknownCapability at 0
     [1]
 
 ## command one letter off
     $ printf 'require "fileinto"; filinto "Bills";' > script
     $ depot explain script
     script:1:21: error: unknown command `filinto`, did you mean `fileinto`?
-    require "fileinto"; filinto "Bills";
-                        ^
+      require "fileinto"; filinto "Bills";
+                          ^
     2> refused 15 UnknownCommand at 3
+    [1]
+
+## one letter off two commands
+    $ printf 'stor "x";' > script
+    $ depot explain script
+    script:1:1: error: unknown command `stor`, did you mean `stop` or `store`?
+      stor "x";
+      ^
+    2> refused 15 UnknownCommand at 0
     [1]
 
 ## tag one letter off
     $ printf 'if header :contain "Subject" "bill" { discard; }' > script
     $ depot explain script
     script:1:4: error: depot knows no tag `:contain`, did you mean `:contains`?
-    if header :contain "Subject" "bill" { discard; }
-       ^
+      if header :contain "Subject" "bill" { discard; }
+         ^
     2> refused 18 BadArguments at 1
     [1]
 
@@ -353,12 +424,26 @@ Names that there are not.
     $ printf 'if header :like "Subject" "bill" { discard; }' > script
     $ depot explain script
     script:1:4: error: depot knows no tag `:like`
-    if header :like "Subject" "bill" { discard; }
-       ^
+      if header :like "Subject" "bill" { discard; }
+         ^
     2> refused 18 BadArguments at 1
     [1]
 
 Commands, tests and capabilities that other systems have.
+
+## the names that docs/GALLERY.md lists
+    $ sed -n '/^const LACKING/,/^];/p' "$TOP/crates/sieve_explain/src/hints.rt" | grep -o '"[a-z0-9;-]*"' | tr -d '"' | sort > told
+    $ sed -n '/^#.*Coming from another Sieve/,/^## [^C]/s/^| `:\{0,1\}\([^`]*\)` .*/\1/p' "$TOP/docs/GALLERY.md" | sort > listed
+    $ test -s listed || echo 'docs/GALLERY.md has no table under "Coming from another Sieve"'
+    $ diff told listed
+
+## each of them is told
+    $ sed -n '/^const LACKING/,/^];/p' "$TOP/crates/sieve_explain/src/hints.rt" | grep -o '"[a-z0-9;-]*"' | tr -d '"' > told
+    $ while read -r name; do
+    >     printf 'require "%s";' "$name" > script
+    >     depot explain script 2> refused | grep -c "^script:1:9: error: depot has no \"$name\": "
+    > done < told | sort -u
+    1
 
 ## no capabilities
     $ for name in vacation enotify reject ereject imap4flags editheader include copy subaddress index envelope body date relational regex mailbox duplicate ihave encoded-character
@@ -367,17 +452,17 @@ Commands, tests and capabilities that other systems have.
     >     depot explain script 2> refused | head -n 1
     >     grep -v '^refused 17 UnknownCapability at 0$' refused
     > done; true
-    script:1:9: error: depot has no "vacation": it sends no mail
-    script:1:9: error: depot has no "enotify": it sends no mail
-    script:1:9: error: depot has no "reject": it sends no mail
-    script:1:9: error: depot has no "ereject": it sends no mail
-    script:1:9: error: depot has no "imap4flags": what it files has no flags
+    script:1:9: error: depot has no "vacation": it sends no mail, leave that to the mail server
+    script:1:9: error: depot has no "enotify": it sends no mail, leave that to the mail server
+    script:1:9: error: depot has no "reject": it sends no mail, leave that to the mail server
+    script:1:9: error: depot has no "ereject": it sends no mail, leave that to the mail server
+    script:1:9: error: depot has no "imap4flags": what it files has no flags, file into a folder instead
     script:1:9: error: depot has no "editheader": it changes no message
-    script:1:9: error: depot has no "include": a script stands alone
+    script:1:9: error: depot has no "include": a script stands alone, put all of it into one file
     script:1:9: error: depot has no "copy": `keep` beside `fileinto` files a message twice
-    script:1:9: error: depot has no "subaddress": `header` tests the whole value of a field
+    script:1:9: error: depot has no "subaddress": `header` tests the whole value of a field, as in `header :matches "From" ["a@b", "*<a@b>*"]`
     script:1:9: error: depot has no "index": `header` tests all fields of a name
-    script:1:9: error: depot has no "envelope": it sees the message alone
+    script:1:9: error: depot has no "envelope": it sees the message alone, `header` tests "Delivered-To" where the mail server writes that
     script:1:9: error: depot has no "body": `partbody` tests the content of a part, inside of a `foreverypart`
     script:1:9: error: depot has no "date": it compares no times
     script:1:9: error: depot has no "relational": `size` and `partsize` alone compare numbers
@@ -385,14 +470,14 @@ Commands, tests and capabilities that other systems have.
     script:1:9: error: depot has no "mailbox": a folder is there once something is filed into it
     script:1:9: error: depot has no "duplicate": a script knows no earlier message
     script:1:9: error: depot has no "ihave": what a script requires has to be there
-    script:1:9: error: depot has no "encoded-character": a string may hold any character as it is
+    script:1:9: error: depot has no "encoded-character": write the character itself, a string may hold any
 
 ## no addflag
     $ printf %s 'addflag "\\Seen";' > script
     $ depot explain script
-    script:1:1: error: depot has no `addflag`: what it files has no flags
-    addflag "\\Seen";
-    ^
+    script:1:1: error: depot has no `addflag`: what it files has no flags, file into a folder instead
+      addflag "\\Seen";
+      ^
     2> refused 15 UnknownCommand at 0
     [1]
 
@@ -400,8 +485,8 @@ Commands, tests and capabilities that other systems have.
     $ printf 'AddHeader "X-Seen" "yes"; keep;' > script
     $ depot explain script
     script:1:1: error: depot has no `AddHeader`: it changes no message
-    AddHeader "X-Seen" "yes"; keep;
-    ^
+      AddHeader "X-Seen" "yes"; keep;
+      ^
     2> refused 15 UnknownCommand at 0
     [1]
 
@@ -412,9 +497,9 @@ Commands, tests and capabilities that other systems have.
     > }
     > END
     $ depot explain script
-    script:1:17: error: depot has no `address`: `header` tests the whole value of a field
-    if anyof (true, address :is "From" "a@example.org") {
-                    ^
+    script:1:17: error: depot has no `address`: `header` tests the whole value of a field, as in `header :matches "From" ["a@b", "*<a@b>*"]`
+      if anyof (true, address :is "From" "a@example.org") {
+                      ^
     2> refused 15 UnknownCommand at 5
     [1]
 
@@ -422,8 +507,8 @@ Commands, tests and capabilities that other systems have.
     $ printf 'if body :contains "bill" { discard; }' > script
     $ depot explain script
     script:1:4: error: depot has no `body`: `partbody` tests the content of a part, inside of a `foreverypart`
-    if body :contains "bill" { discard; }
-       ^
+      if body :contains "bill" { discard; }
+         ^
     2> refused 15 UnknownCommand at 1
     [1]
 
@@ -431,35 +516,44 @@ Commands, tests and capabilities that other systems have.
     $ printf 'if currentdate :is "weekday" "0" { discard; }' > script
     $ depot explain script
     script:1:4: error: depot has no `currentdate`: it compares no times
-    if currentdate :is "weekday" "0" { discard; }
-       ^
+      if currentdate :is "weekday" "0" { discard; }
+         ^
     2> refused 15 UnknownCommand at 1
     [1]
 
 ## no envelope
     $ printf 'if envelope :is "from" "a@example.org" { discard; }' > script
     $ depot explain script
-    script:1:4: error: depot has no `envelope`: it sees the message alone
-    if envelope :is "from" "a@example.org" { discard; }
-       ^
+    script:1:4: error: depot has no `envelope`: it sees the message alone, `header` tests "Delivered-To" where the mail server writes that
+      if envelope :is "from" "a@example.org" { discard; }
+         ^
     2> refused 15 UnknownCommand at 1
     [1]
 
 ## no hasflag
     $ printf 'if hasflag "x" { keep; }' > script
     $ depot explain script
-    script:1:4: error: depot has no `hasflag`: what it files has no flags
-    if hasflag "x" { keep; }
-       ^
+    script:1:4: error: depot has no `hasflag`: what it files has no flags, file into a folder instead
+      if hasflag "x" { keep; }
+         ^
     2> refused 15 UnknownCommand at 1
+    [1]
+
+## no extracttext
+    $ printf 'extracttext :first 100 "text";' > script
+    $ depot explain script
+    script:1:1: error: depot has no `extracttext`: `take` gives the content of a part to a variable, inside of a `foreverypart`
+      extracttext :first 100 "text";
+      ^
+    2> refused 15 UnknownCommand at 0
     [1]
 
 ## no include
     $ printf 'include "common";' > script
     $ depot explain script
-    script:1:1: error: depot has no `include`: a script stands alone
-    include "common";
-    ^
+    script:1:1: error: depot has no `include`: a script stands alone, put all of it into one file
+      include "common";
+      ^
     2> refused 15 UnknownCommand at 0
     [1]
 
@@ -467,8 +561,8 @@ Commands, tests and capabilities that other systems have.
     $ printf 'if mailboxexists "Bills" { keep; }' > script
     $ depot explain script
     script:1:4: error: depot has no `mailboxexists`: a folder is there once something is filed into it
-    if mailboxexists "Bills" { keep; }
-       ^
+      if mailboxexists "Bills" { keep; }
+         ^
     2> refused 15 UnknownCommand at 1
     [1]
 
@@ -476,17 +570,17 @@ Commands, tests and capabilities that other systems have.
     $ printf 'if spamtest "10" { discard; }' > script
     $ depot explain script
     script:1:4: error: depot has no `spamtest`: `header` tests what a scanner wrote into a field
-    if spamtest "10" { discard; }
-       ^
+      if spamtest "10" { discard; }
+         ^
     2> refused 15 UnknownCommand at 1
     [1]
 
 ## no vacation
     $ printf 'keep; vacation;' > script
     $ depot explain script
-    script:1:7: error: depot has no `vacation`: it sends no mail
-    keep; vacation;
-          ^
+    script:1:7: error: depot has no `vacation`: it sends no mail, leave that to the mail server
+      keep; vacation;
+            ^
     2> refused 15 UnknownCommand at 2
     [1]
 
@@ -499,8 +593,8 @@ What has to be required.
     > END
     $ depot explain script
     script:2:1: error: `fileinto` needs `require "fileinto"` before it
-    fileinto "Bills";
-    ^
+      fileinto "Bills";
+      ^
     2> refused 16 MissingCapability at 0
     [1]
 
@@ -508,17 +602,26 @@ What has to be required.
     $ echo 'if header :mime :anychild :type "Content-Type" "image" { discard; }' > script
     $ depot explain script
     script:1:4: error: `header` needs `require "mime"` before it
-    if header :mime :anychild :type "Content-Type" "image" { discar...
-       ^
+      if header :mime :anychild :type "Content-Type" "image" { discar...
+         ^
     2> refused 16 MissingCapability at 1
+    [1]
+
+## two capabilities of one command
+    $ printf 'require "foreverypart"; foreverypart { take "a"; }' > script
+    $ depot explain script
+    script:1:40: error: `take` needs `require ["variables", "vnd.depot"]` before it
+      require "foreverypart"; foreverypart { take "a"; }
+                                             ^
+    2> refused 16 MissingCapability at 5
     [1]
 
 ## late require
     $ printf 'keep; require "fileinto";' > script
     $ depot explain script
     script:1:7: error: `require` stands before all other commands, outside of blocks
-    keep; require "fileinto";
-          ^
+      keep; require "fileinto";
+            ^
     2> refused 18 BadArguments at 2
     [1]
 
@@ -531,8 +634,8 @@ Semicolons, braces and tests.
     > END
     $ depot explain script
     script:1:1: error: `keep` takes no test: is a semicolon missing at its end?
-    keep
-    ^
+      keep
+      ^
     2> refused 18 BadArguments at 0
     [1]
 
@@ -540,8 +643,8 @@ Semicolons, braces and tests.
     $ printf 'keep { discard; }' > script
     $ depot explain script
     script:1:1: error: `keep` ends with a semicolon
-    keep { discard; }
-    ^
+      keep { discard; }
+      ^
     2> refused 18 BadArguments at 0
     [1]
 
@@ -549,8 +652,8 @@ Semicolons, braces and tests.
     $ printf 'if true;' > script
     $ depot explain script
     script:1:1: error: `if` needs a block in braces
-    if true;
-    ^
+      if true;
+      ^
     2> refused 18 BadArguments at 0
     [1]
 
@@ -558,8 +661,8 @@ Semicolons, braces and tests.
     $ printf 'if { keep; }' > script
     $ depot explain script
     script:1:1: error: `if` needs one test behind it, without brackets around it
-    if { keep; }
-    ^
+      if { keep; }
+      ^
     2> refused 18 BadArguments at 0
     [1]
 
@@ -567,8 +670,8 @@ Semicolons, braces and tests.
     $ printf 'if (header :is "Subject" "a") { keep; }' > script
     $ depot explain script
     script:1:1: error: `if` needs one test behind it, without brackets around it
-    if (header :is "Subject" "a") { keep; }
-    ^
+      if (header :is "Subject" "a") { keep; }
+      ^
     2> refused 18 BadArguments at 0
     [1]
 
@@ -576,8 +679,8 @@ Semicolons, braces and tests.
     $ printf 'keep true;' > script
     $ depot explain script
     script:1:1: error: `keep` takes no test: is a semicolon missing at its end?
-    keep true;
-    ^
+      keep true;
+      ^
     2> refused 18 BadArguments at 0
     [1]
 
@@ -585,8 +688,8 @@ Semicolons, braces and tests.
     $ printf 'require "foreverypart"; foreverypart discard;' > script
     $ depot explain script
     script:1:25: error: `foreverypart` takes no test: is its opening brace missing?
-    require "foreverypart"; foreverypart discard;
-                            ^
+      require "foreverypart"; foreverypart discard;
+                              ^
     2> refused 18 BadArguments at 3
     [1]
 
@@ -594,8 +697,8 @@ Semicolons, braces and tests.
     $ printf 'if allof true { keep; }' > script
     $ depot explain script
     script:1:4: error: `allof` takes tests in round brackets, with commas between them
-    if allof true { keep; }
-       ^
+      if allof true { keep; }
+         ^
     2> refused 18 BadArguments at 1
     [1]
 
@@ -603,8 +706,8 @@ Semicolons, braces and tests.
     $ printf 'if header :is "Subject" "a" and header :is "From" "b" { keep; }' > script
     $ depot explain script
     script:1:4: error: `header` takes no test: is a comma or a brace missing behind it, or `allof` or `anyof` before it?
-    if header :is "Subject" "a" and header :is "From" "b" { keep; }
-       ^
+      if header :is "Subject" "a" and header :is "From" "b" { keep; }
+         ^
     2> refused 18 BadArguments at 1
     [1]
 
@@ -618,8 +721,8 @@ Semicolons, braces and tests.
     > END
     $ depot explain script
     script:3:3: error: `else` takes no test: is `elsif` meant, or its opening brace missing?
-    } else if false {
-      ^
+      } else if false {
+        ^
     2> refused 18 BadArguments at 6
     [1]
 
@@ -627,8 +730,8 @@ Semicolons, braces and tests.
     $ printf 'keep; else { discard; }' > script
     $ depot explain script
     script:1:7: error: `else` stands directly after an `if` or `elsif`
-    keep; else { discard; }
-          ^
+      keep; else { discard; }
+            ^
     2> refused 18 BadArguments at 2
     [1]
 
@@ -638,8 +741,8 @@ Arguments.
     $ printf 'if header :is "Subject" { keep; }' > script
     $ depot explain script
     script:1:4: error: `header` has too few arguments: it takes two, each a string or a list of strings
-    if header :is "Subject" { keep; }
-       ^
+      if header :is "Subject" { keep; }
+         ^
     2> refused 18 BadArguments at 1
     [1]
 
@@ -647,17 +750,26 @@ Arguments.
     $ printf 'require "fileinto"; fileinto "a" "b";' > script
     $ depot explain script
     script:1:21: error: `fileinto` has too many arguments: it takes one string without brackets
-    require "fileinto"; fileinto "a" "b";
-                        ^
+      require "fileinto"; fileinto "a" "b";
+                          ^
     2> refused 18 BadArguments at 3
+    [1]
+
+## arguments before a test
+    $ printf 'if "x" true { keep; }' > script
+    $ depot explain script
+    script:1:1: error: `if` has too many arguments: it takes none before its test
+      if "x" true { keep; }
+      ^
+    2> refused 18 BadArguments at 0
     [1]
 
 ## argument of another kind
     $ printf 'require "fileinto"; fileinto ["a", "b"];' > script
     $ depot explain script
     script:1:21: error: `fileinto` has an argument of a wrong kind: it takes one string without brackets
-    require "fileinto"; fileinto ["a", "b"];
-                        ^
+      require "fileinto"; fileinto ["a", "b"];
+                          ^
     2> refused 18 BadArguments at 3
     [1]
 
@@ -668,24 +780,24 @@ Arguments.
     >     depot explain script 2> refused | head -n 1
     >     cat refused
     > done
-    script:1:17: error: the units of a number are K, M and G, with nothing behind the letter, as in 5M
+    script:1:17: error: the units of a number are K, M and G, with no blank before the letter and nothing behind it, as in 5M
     refused 18 BadArguments at 5
-    script:1:17: error: the units of a number are K, M and G, with nothing behind the letter, as in 5M
+    script:1:17: error: the units of a number are K, M and G, with no blank before the letter and nothing behind it, as in 5M
     refused 18 BadArguments at 5
-    script:1:17: error: the units of a number are K, M and G, with nothing behind the letter, as in 5M
+    script:1:17: error: the units of a number are K, M and G, with no blank before the letter and nothing behind it, as in 5M
     refused 18 BadArguments at 5
-    script:1:17: error: the units of a number are K, M and G, with nothing behind the letter, as in 5M
+    script:1:17: error: the units of a number are K, M and G, with no blank before the letter and nothing behind it, as in 5M
     refused 18 BadArguments at 5
-    script:1:17: error: the units of a number are K, M and G, with nothing behind the letter, as in 5M
+    script:1:17: error: the units of a number are K, M and G, with no blank before the letter and nothing behind it, as in 5M
     refused 18 BadArguments at 5
     ok
 
 ## unit of a part's octets
     $ printf 'require ["foreverypart", "vnd.depot"];\nforeverypart {\n    if partbody :first 5KB :contains "bill" { discard; }\n}\n' > script
     $ depot explain script
-    script:3:8: error: the units of a number are K, M and G, with nothing behind the letter, as in 5M
-        if partbody :first 5KB :contains "bill" { discard; }
-           ^
+    script:3:8: error: the units of a number are K, M and G, with no blank before the letter and nothing behind it, as in 5M
+          if partbody :first 5KB :contains "bill" { discard; }
+             ^
     2> refused 18 BadArguments at 10
     [1]
 
@@ -693,8 +805,8 @@ Arguments.
     $ printf 'if size 100K { discard; }' > script
     $ depot explain script
     script:1:4: error: `size` needs `:over` or `:under`
-    if size 100K { discard; }
-       ^
+      if size 100K { discard; }
+         ^
     2> refused 18 BadArguments at 1
     [1]
 
@@ -709,17 +821,44 @@ Tags.
     > END
     $ depot explain script
     script:3:5: error: depot has no `:copy`: `keep` beside `fileinto` files a message twice
-        fileinto :copy "Bills";
-        ^
+          fileinto :copy "Bills";
+          ^
     2> refused 18 BadArguments at 9
+    [1]
+
+## tag without its colon
+    $ printf 'if header "Subject" contains "x" { keep; }' > script
+    $ depot explain script
+    script:1:4: error: `contains` is a tag: is a colon missing before it?
+      if header "Subject" contains "x" { keep; }
+         ^
+    2> refused 18 BadArguments at 1
+    [1]
+
+## name of a loop without its colon
+    $ printf 'require "foreverypart"; foreverypart name "x" { keep; }' > script
+    $ depot explain script
+    script:1:25: error: `name` is a tag: is a colon missing before it?
+      require "foreverypart"; foreverypart name "x" { keep; }
+                              ^
+    2> refused 18 BadArguments at 3
+    [1]
+
+## name of a loop in brackets
+    $ printf 'require "foreverypart"; foreverypart :name ["x"] { keep; }' > script
+    $ depot explain script
+    script:1:25: error: `:name` needs the name of a loop, one string without brackets
+      require "foreverypart"; foreverypart :name ["x"] { keep; }
+                              ^
+    2> refused 18 BadArguments at 3
     [1]
 
 ## foreign tag
     $ printf 'require "fileinto"; fileinto :is "a";' > script
     $ depot explain script
     script:1:21: error: `fileinto` takes no tag `:is`
-    require "fileinto"; fileinto :is "a";
-                        ^
+      require "fileinto"; fileinto :is "a";
+                          ^
     2> refused 18 BadArguments at 3
     [1]
 
@@ -727,8 +866,8 @@ Tags.
     $ printf 'if header "Subject" :is "a" { keep; }' > script
     $ depot explain script
     script:1:4: error: the tag `:is` stands after an argument that is no tag
-    if header "Subject" :is "a" { keep; }
-       ^
+      if header "Subject" :is "a" { keep; }
+         ^
     2> refused 18 BadArguments at 1
     [1]
 
@@ -736,8 +875,8 @@ Tags.
     $ printf 'if header :is :is "Subject" "a" { keep; }' > script
     $ depot explain script
     script:1:4: error: `:is` is repeated, or stands beside another of its kind
-    if header :is :is "Subject" "a" { keep; }
-       ^
+      if header :is :is "Subject" "a" { keep; }
+         ^
     2> refused 18 BadArguments at 1
     [1]
 
@@ -745,8 +884,8 @@ Tags.
     $ printf 'if header :is :matches "Subject" "a" { keep; }' > script
     $ depot explain script
     script:1:4: error: `:matches` is repeated, or stands beside another of its kind
-    if header :is :matches "Subject" "a" { keep; }
-       ^
+      if header :is :matches "Subject" "a" { keep; }
+         ^
     2> refused 18 BadArguments at 1
     [1]
 
@@ -754,8 +893,8 @@ Tags.
     $ printf 'require "variables"; set :upper :lower "a" "b";' > script
     $ depot explain script
     script:1:22: error: `:lower` can't stand beside another modifier of its precedence
-    require "variables"; set :upper :lower "a" "b";
-                         ^
+      require "variables"; set :upper :lower "a" "b";
+                           ^
     2> refused 18 BadArguments at 3
     [1]
 
@@ -763,8 +902,8 @@ Tags.
     $ printf 'if header :comparator "i;unicode" :is "Subject" "a" { keep; }' > script
     $ depot explain script
     script:1:4: error: `:comparator` needs the name of a comparator, "i;octet" or "i;ascii-casemap"
-    if header :comparator "i;unicode" :is "Subject" "a" { keep; }
-       ^
+      if header :comparator "i;unicode" :is "Subject" "a" { keep; }
+         ^
     2> refused 18 BadArguments at 1
     [1]
 
@@ -772,8 +911,8 @@ Tags.
     $ printf 'require "mime"; if header :anychild :is "Subject" "a" { keep; }' > script
     $ depot explain script
     script:1:20: error: `:anychild` stands only beside `:mime`, which needs `require "mime"`
-    require "mime"; if header :anychild :is "Subject" "a" { keep; }
-                       ^
+      require "mime"; if header :anychild :is "Subject" "a" { keep; }
+                         ^
     2> refused 18 BadArguments at 4
     [1]
 
@@ -781,8 +920,8 @@ Tags.
     $ printf 'if header :anychild :is "Subject" "a" { keep; }' > script
     $ depot explain script
     script:1:4: error: `:anychild` stands only beside `:mime`, which needs `require "mime"`
-    if header :anychild :is "Subject" "a" { keep; }
-       ^
+      if header :anychild :is "Subject" "a" { keep; }
+         ^
     2> refused 18 BadArguments at 1
     [1]
 
@@ -792,8 +931,8 @@ Variables.
     $ printf 'require "variables"; set "1x" "b";' > script
     $ depot explain script
     script:1:22: error: "1x" is no name of a variable
-    require "variables"; set "1x" "b";
-                         ^
+      require "variables"; set "1x" "b";
+                           ^
     2> refused 18 BadArguments at 3
     [1]
 
@@ -801,8 +940,8 @@ Variables.
     $ printf 'require ["variables", "fileinto"]; fileinto "${a.b}";' > script
     $ depot explain script
     script:1:36: error: "${a.b}" refers into a namespace, and there is none
-    require ["variables", "fileinto"]; fileinto "${a.b}";
-                                       ^
+      require ["variables", "fileinto"]; fileinto "${a.b}";
+                                         ^
     2> refused 18 BadArguments at 7
     [1]
 
@@ -810,8 +949,8 @@ Variables.
     $ printf 'require ["variables", "fileinto"]; fileinto "a${10}";' > script
     $ depot explain script
     script:1:36: error: "a${10}" refers to a capture above 9
-    require ["variables", "fileinto"]; fileinto "a${10}";
-                                       ^
+      require ["variables", "fileinto"]; fileinto "a${10}";
+                                         ^
     2> refused 18 BadArguments at 7
     [1]
 
@@ -819,8 +958,8 @@ Variables.
     $ printf 'require ["fileinto", "foreverypart", "vnd.depot"]; store "${a.b}";' > script
     $ depot explain script
     script:1:52: error: `store` stands only inside of a `foreverypart`
-    require ["fileinto", "foreverypart", "vnd.depot"]; store "${a.b}";
-                                                       ^
+      require ["fileinto", "foreverypart", "vnd.depot"]; store "${a.b}";
+                                                         ^
     2> refused 18 BadArguments at 9
     [1]
 
@@ -830,8 +969,8 @@ Places.
     $ printf 'require "foreverypart"; break;' > script
     $ depot explain script
     script:1:25: error: `break` stands only inside of a `foreverypart`
-    require "foreverypart"; break;
-                            ^
+      require "foreverypart"; break;
+                              ^
     2> refused 18 BadArguments at 3
     [1]
 
@@ -839,8 +978,8 @@ Places.
     $ printf 'require "foreverypart";\nforeverypart :name "parts" {\n\tbreak :name "part";\n}\n' > script
     $ depot explain script
     script:3:2: error: no `foreverypart` around this `break` has the name "part"
-     break :name "part";
-     ^
+       break :name "part";
+       ^
     2> refused 18 BadArguments at 7
     [1]
 
@@ -848,8 +987,8 @@ Places.
     $ printf 'require "vnd.depot"; store "a";' > script
     $ depot explain script
     script:1:22: error: `store` stands only inside of a `foreverypart`
-    require "vnd.depot"; store "a";
-                         ^
+      require "vnd.depot"; store "a";
+                           ^
     2> refused 18 BadArguments at 3
     [1]
 
@@ -857,8 +996,8 @@ Places.
     $ printf 'require "vnd.depot"; if partsize :over 1K { discard; }' > script
     $ depot explain script
     script:1:25: error: `partsize` stands only inside of a `foreverypart`
-    require "vnd.depot"; if partsize :over 1K { discard; }
-                            ^
+      require "vnd.depot"; if partsize :over 1K { discard; }
+                              ^
     2> refused 18 BadArguments at 4
     [1]
 
@@ -868,8 +1007,8 @@ Limits.
     $ printf 'require "foreverypart"; foreverypart { foreverypart { foreverypart {\n foreverypart { } } } }' > script
     $ depot explain script
     script:2:2: error: more than 3 loops stand inside of one another here
-     foreverypart { } } } }
-     ^
+       foreverypart { } } } }
+       ^
     2> refused 19 Limit at 9
     [1]
 
@@ -877,8 +1016,8 @@ Limits.
     $ printf 'require ["variables", "fileinto"]; fileinto "${aaaaaaaaaaaaaaaaaaaaaaaaaaaaaaaaa}";' > script
     $ depot explain script
     script:1:36: error: the name of a variable, "aaaaaaaaaaaaaaaaaaaaaaaaaaaaaaaaa", has more than 32 octets
-    require ["variables", "fileinto"]; fileinto "${aaaaaaaaaaaaaaaaaaaaaaaaaaaaaaaaa}";
-                                       ^
+      require ["variables", "fileinto"]; fileinto "${aaaaaaaaaaaaaaaaaaaaaaaaaaaaaaaaa}";
+                                         ^
     2> refused 19 Limit at 7
     [1]
 
@@ -887,8 +1026,8 @@ Limits.
     > printf 'require ["variables", "fileinto"]; fileinto "%s";' "$segments" > script
     $ depot explain script
     script:1:36: error: the string "${1}a${1}a${1}a${1}a${1}a${1}a${1}a${1}a${1}a${1}a${1}a${1}a..." has more than 256 references and stretches between them
-    require ["variables", "fileinto"]; fileinto "${1}a${1}a${1}a${1}a${1}a${1}a${1}a${1}a${1}a${1}a...
-                                       ^
+      require ["variables", "fileinto"]; fileinto "${1}a${1}a${1}a${1}a${1}a${1}a${1}a${1}a${1}a${1}a...
+                                         ^
     2> refused 19 Limit at 7
     [1]
 
@@ -896,8 +1035,8 @@ Limits.
     $ printf 'require "fileinto"; fileinto "%s";' "$(printf '%16385s' '' | tr ' ' x)" > script
     $ depot explain script
     script:1:21: error: the string "xxxxxxxxxxxxxxxxxxxxxxxxxxxxxxxxxxxxxxxxxxxxxxxxxxxxxxxxxxxx..." has more than 16384 octets
-    require "fileinto"; fileinto "xxxxxxxxxxxxxxxxxxxxxxxxxxxxxxxxxxxxxxxxxxxxxxxxxx...
-                        ^
+      require "fileinto"; fileinto "xxxxxxxxxxxxxxxxxxxxxxxxxxxxxxxxxxxxxxxxxxxxxxxxxx...
+                          ^
     2> refused 19 Limit at 3
     [1]
 
@@ -905,8 +1044,8 @@ Limits.
     $ printf 'if exists [%s"a"] { keep; }' "$(printf '%512s' '' | sed 's/ /"a", /g')" > script
     $ depot explain script
     script:1:4: error: the lists of `exists` have more than 512 strings
-    if exists ["a", "a", "a", "a", "a", "a", "a", "a", "a", "a", "a...
-       ^
+      if exists ["a", "a", "a", "a", "a", "a", "a", "a", "a", "a", "a...
+         ^
     2> refused 19 Limit at 1
     [1]
 
@@ -914,8 +1053,8 @@ Limits.
     $ awk 'BEGIN { print "require \"variables\";"; for (n = 0; n <= 128; n++) printf "set \"v%03d\" \"\";\n", n }' > script
     $ depot explain script
     script:130:1: error: with this `set` the script has more than 128 variables
-    set "v128" "";
-    ^
+      set "v128" "";
+      ^
     2> refused 19 Limit at 515
     [1]
 
@@ -925,8 +1064,8 @@ How the line and the name of the file are printed.
     $ printf 'require "fileinto";\r\nif true {\r\n\tfileinto "a" 1;\r\n}\r\n' > script
     $ depot explain script
     script:3:2: error: `fileinto` has too many arguments: it takes one string without brackets
-     fileinto "a" 1;
-     ^
+       fileinto "a" 1;
+       ^
     2> refused 18 BadArguments at 6
     [1]
 
@@ -937,8 +1076,8 @@ How the line and the name of the file are printed.
     > END
     $ depot explain script
     script:2:146: error: unknown test `exist`, did you mean `exists`?
-    ...exists "X-05", exists "X-06", exists "X-07", exists "X-08", exist "X", exists "Y-00", exists "Y-01", exists "Y-02", exis...
-                                                                   ^
+      ...exists "X-05", exists "X-06", exists "X-07", exists "X-08", exist "X", exists "Y-00", exists "Y-01", exists "Y-02", exis...
+                                                                     ^
     2> refused 15 UnknownCommand at 30
     [1]
 
@@ -946,8 +1085,8 @@ How the line and the name of the file are printed.
     $ printf '%s;' "$(printf '%100s' '' | tr ' ' x)" > script
     $ depot explain script
     script:1:1: error: unknown command `xxxxxxxxxxxxxxxxxxxxxxxxxxxxxxxxxxxxxxxxxxxxxxxxxxxxxxxxxxxx...`
-    xxxxxxxxxxxxxxxxxxxxxxxxxxxxxxxxxxxxxxxxxxxxxxxxxxxxxxxxxxxx...
-    ^
+      xxxxxxxxxxxxxxxxxxxxxxxxxxxxxxxxxxxxxxxxxxxxxxxxxxxxxxxxxxxx...
+      ^
     2> refused 15 UnknownCommand at 0
     [1]
 
@@ -955,8 +1094,8 @@ How the line and the name of the file are printed.
     $ printf '\t\tkeep\t"a\1\177b\\";\342\202\254";' > script
     $ depot explain script
     script:1:3: error: `keep` has too many arguments: it takes none
-      keep "a\01\7fb\";\e2\82\ac";
-      ^
+        keep "a\01\7fb\";\e2\82\ac";
+        ^
     2> refused 18 BadArguments at 0
     [1]
 
@@ -964,16 +1103,34 @@ How the line and the name of the file are printed.
     $ printf 'kep;' > 'a b:1.sieve'
     $ depot explain 'a b:1.sieve'
     a b:1.sieve:1:1: error: unknown command `kep`, did you mean `keep`?
-    kep;
-    ^
+      kep;
+      ^
+    2> refused 15 UnknownCommand at 0
+    [1]
+
+## name with control characters
+    $ name=$(printf 'a\033[2J\177\n\303\251.sieve')
+    > printf 'kep;' > "$name"
+    > depot explain "$name"; rm "$name"
+    a\1b[2J\7f\0aé.sieve:1:1: error: unknown command `kep`, did you mean `keep`?
+      kep;
+      ^
+    2> refused 15 UnknownCommand at 0
+
+## line that reads as a remark
+    $ printf '/*\nscript:9:9: error: all is well */ kep;' > script
+    $ depot explain script
+    script:2:35: error: unknown command `kep`, did you mean `keep`?
+      script:9:9: error: all is well */ kep;
+                                        ^
     2> refused 15 UnknownCommand at 0
     [1]
 
 ## standard input
     $ echo 'kep;' | depot explain /dev/stdin
     /dev/stdin:1:1: error: unknown command `kep`, did you mean `keep`?
-    kep;
-    ^
+      kep;
+      ^
     2> refused 15 UnknownCommand at 0
     [1]
 
@@ -994,20 +1151,20 @@ More than one fault.
     > END
     $ depot explain script
     script:2:5: error: `fileinto` needs `require "fileinto"` before it
-        fileinto "Bills";
-        ^
-    script:4:5: error: depot has no `vacation`: it sends no mail
-        vacation;
-        ^
+          fileinto "Bills";
+          ^
+    script:4:5: error: depot has no `vacation`: it sends no mail, leave that to the mail server
+          vacation;
+          ^
     script:5:3: error: unknown command `elseif`, did you mean `elsif`?
-    } elseif size :over 5M {
-      ^
+      } elseif size :over 5M {
+        ^
     script:6:5: error: `discard` takes no test: is a semicolon missing at its end?
-        discard
-        ^
+          discard
+          ^
     script:9:5: error: `stop` has too many arguments: it takes none
-        stop "now";
-        ^
+          stop "now";
+          ^
     2> refused 16 MissingCapability at 6
     [1]
 
@@ -1021,10 +1178,10 @@ More than one fault.
     $ printf 'require "foreverypart"; foreverypart { foreverypart { foreverypart {\n foreverypart { kep; }\n kep; } } }' > script
     $ depot explain script
     script:2:2: error: more than 3 loops stand inside of one another here
-     foreverypart { kep; }
-     ^
+       foreverypart { kep; }
+       ^
     script:3:2: error: unknown command `kep`, did you mean `keep`?
-     kep; } } }
-     ^
+       kep; } } }
+       ^
     2> refused 19 Limit at 9
     [1]

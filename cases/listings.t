@@ -227,8 +227,8 @@ Faults of listings.
     $ printf 'version 1\nvariables 0\nKEEP\nDISCRAD ; a typing error\nHALT\n' > listing
     $ depot assemble listing out
     listing:4:1: error: `DISCRAD` can't stand here: after version and variables stand numbers, strings, and then instructions with their fields
-    DISCRAD ; a typing error
-    ^
+      DISCRAD ; a typing error
+      ^
     2> refused 28 Listing at 27
     [1]
 
@@ -236,8 +236,8 @@ Faults of listings.
     $ printf 'version 1\nvariables 0\nHEADER a contain b 1 c 1\nHALT\n' > listing
     $ depot assemble listing out
     listing:3:10: error: `contain` can't stand here: after version and variables stand numbers, strings, and then instructions with their fields
-    HEADER a contain b 1 c 1
-             ^
+      HEADER a contain b 1 c 1
+               ^
     2> refused 28 Listing at 31
     [1]
 
@@ -245,8 +245,8 @@ Faults of listings.
     $ printf 'version 1 variables 0\nlabel a KEEP\nlabel a HALT\n' > listing
     $ depot assemble listing out
     listing:3:7: error: the label `a` is there a second time: a label stands once
-    label a HALT
-          ^
+      label a HALT
+            ^
     2> refused 28 Listing at 41
     [1]
 
@@ -254,8 +254,8 @@ Faults of listings.
     $ printf 'version 1 variables 0\nJMP c there\nHALT\n' > listing
     $ depot assemble listing out
     listing:2:7: error: `there` is no number, and no label of this listing
-    JMP c there
-          ^
+      JMP c there
+            ^
     2> refused 28 Listing at 28
     [1]
 
@@ -263,16 +263,16 @@ Faults of listings.
     $ printf 'version 1 variables 0\nstring "a' > listing
     $ depot assemble listing out
     listing:2:8: error: no string can stand here, or this one is never closed, too long, or has a backslash without two hexadecimal digits
-    string "a
-           ^
+      string "a
+             ^
     2> refused 28 Listing at 29
     [1]
 
 ## an empty file
     $ depot assemble /dev/null out
     /dev/null:1:1: error: the listing ends before its program does
-    
-    ^
+    1>   
+      ^
     2> refused 28 Listing at 0
     [1]
 
@@ -309,8 +309,8 @@ Faults of listings.
     $ { echo version 1 variables 0; yes HALT | head -n 65537; } > listing
     $ depot assemble listing out
     listing:65539:1: error: the program exceeds the limits of programs
-    
-    ^
+    1>   
+      ^
     2> refused 28 Listing at 327707
     [1]
 

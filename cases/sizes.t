@@ -33,8 +33,8 @@ Each line has two tokens.
     $ { yes 'keep;' | head -n 10922; printf 'kep;'; } > script
     $ depot explain script
     script:10923:1: error: unknown command `kep`, did you mean `keep`?
-    kep;
-    ^
+      kep;
+      ^
     2> refused 15 UnknownCommand at 21844
     [1]
 

@@ -7,22 +7,24 @@ use Rattle.sieve_check.specs.Names.{capability_named, command_named, tag_named, 
 use Rattle.sieve_check.specs.declared.names.Capability.{Capability}
 use Rattle.sieve_check.specs.declared.names.Capability.TheVariants as capability
 use Rattle.sieve_check.specs.declared.names.Capability.TheVariants.{FileInto}
+use Rattle.sieve_check.specs.declared.signature.Positional.TheVariants as positional
 use Rattle.sieve_check.specs.declared.signature.Positional.TheVariants.{Text}
 use Rattle.sieve_check.specs.declared.signature.Tests.TheVariants.{Nothing}
 use Rattle.sieve_lexer.specs.declared.token.Token.{Token}
 use Rattle.sieve_lexer.specs.declared.token.TokenKind.{TokenKind}
-use Rattle.sieve_lexer.specs.declared.token.TokenKind.TheVariants.{ClosingBrace, ClosingBracket, Comma, Identifier, Number, OpeningBrace, OpeningBracket, QuotedString, Semicolon}
+use Rattle.sieve_lexer.specs.declared.token.TokenKind.TheVariants.{ClosingBrace, ClosingBracket, Comma, Identifier, MultiLineString, Number, OpeningBrace, OpeningBracket, QuotedString, Semicolon}
 use Rattle.sieve_check.specs.declared.causes.ReasonKind.{ReasonKind}
-use Rattle.sieve_check.specs.declared.causes.ReasonKind.TheVariants.{ExtraArgument, ForeignTag, LongString, MissingCapability, Misplaced, UnknownCapability, UnknownCommand, UnknownTag, UnknownTest, WrongTests}
-use Rattle.sieve_explain.specs.Explaining.{heading, numbered, remark, told}
+use Rattle.sieve_check.specs.declared.causes.ReasonKind.TheVariants.{ExtraArgument, ForeignTag, LongString, MissingArgument, MissingCapability, Misplaced, UnknownCapability, UnknownCommand, UnknownTag, UnknownTest, WrongTests}
+use Rattle.sieve_explain.specs.Explaining.{heading, label_blanks, numbered, remark, told}
 use Rattle.sieve_explain.specs.Faults.{beginnings, end_blanks, lexical_blanks, misplaced_token, token_blanks}
-use Rattle.sieve_explain.specs.Hints.{known_capabilities, known_commands, known_tags, known_tests, lacking, meant, unknown_capability, unknown_command, unknown_tag, unknown_test}
+use Rattle.sieve_explain.specs.Hints.{known_capabilities, known_commands, known_tags, known_tests, lacking, meant, meant_too, unknown_capability, unknown_command, unknown_tag, unknown_test}
 use Rattle.sieve_explain.specs.Words.{begin_off, differ_at, is_near, nearest}
-use Rattle.sieve_explain.specs.Marks.{has_unit, is_unit, spells, string_among, unclosed}
+use Rattle.sieve_explain.specs.Marks.{has_unit, has_value, is_unit, label_behind, string_among, unclosed}
 use Rattle.sieve_explain.specs.Places.{column, line_at, line_number, octets_after, octets_before, without_return}
-use Rattle.sieve_explain.specs.Reasons.{capability_words, no_test_words, other_blanks, place_text, reason_blanks}
+use Rattle.sieve_explain.specs.Reasons.{capability_words, needs_text, no_argument_words, no_test_words, other_blanks, place_text, reason_blanks}
 use Rattle.sieve_explain.specs.Sentences.{filled, filled_octet}
-use Rattle.sieve_explain.specs.Shown.{excerpt, line, marked, shown, shown_end, shown_octet, shown_start}
+use Rattle.sieve_explain.specs.Shown.{excerpt, line, marked, named, quoted, shown, shown_end, shown_octet, shown_start}
+use Rattle.sieve_explain.specs.declared.shown.Style.TheVariants.{Line, Name}
 
 -- a line ends with its LF, after the last of which comes one more line, in which nothing stands
 places :
@@ -35,15 +37,25 @@ places :
 unfolding line_number octets_before octets_after without_return
 places = (refl, refl, refl, refl, refl, refl)
 
--- TAB, NUL, the octets of a letter that isn't in ASCII, and a backslash; 60 octets, and one too many on either side; a mark
+-- TAB, NUL, the octets of a letter that isn't in ASCII, and a backslash; 60 octets, and one too many on either side; a line with its
+-- mark, and the empty line at the end
 prints :
-    (shown (97 ∷ 9 ∷ 0 ∷ 195 ∷ 164 ∷ 92 ∷ []) ≡ codes "a \\00\\c3\\a4\\")
-    × (shown_start (replicate 60 97) ≡ replicate 60 97)
-    × (shown_start (replicate 61 97) ≡ replicate 60 97 ++ codes "...")
+    (shown Line (97 ∷ 9 ∷ 0 ∷ 195 ∷ 164 ∷ 92 ∷ []) ≡ codes "a \\00\\c3\\a4\\")
+    × (shown_start Line (replicate 60 97) ≡ replicate 60 97)
+    × (shown_start Line (replicate 61 97) ≡ replicate 60 97 ++ codes "...")
     × (shown_end (98 ∷ replicate 60 97) ≡ codes "..." ++ replicate 60 97)
-    × (excerpt (codes "if true\n\tstop }\n") 14 ≡ line (codes " stop }") ++ line (codes "      ^"))
+    × (excerpt (codes "if true\n\tstop }\n") 14 ≡ line (codes "   stop }") ++ line (codes "        ^"))
+    × (excerpt (codes "if true\n") 8 ≡ line (codes "  ") ++ line (codes "  ^"))
 unfolding excerpt shown_octet shown_start shown_end marked octets_before octets_after without_return
-prints = (refl, refl, refl, refl, refl)
+prints = (refl, refl, refl, refl, refl, refl)
+
+-- what stands between two marks can't end before it does; in the name of a file control characters alone are escaped
+delimits :
+    (quoted (codes "a\" `b\\22") ≡ codes "\"a\\22 `b\\5c22\"")
+    × (named (codes "\"a\"`\t") ≡ codes "`\"a\"\\60\\09`")
+    × (shown Name (97 ∷ 27 ∷ 10 ∷ 127 ∷ 195 ∷ 164 ∷ 92 ∷ 32 ∷ []) ≡ codes "a\\1b\\0a\\7f" ++ 195 ∷ 164 ∷ codes "\\ ")
+unfolding shown_octet shown_start
+delimits = (refl, refl, refl)
 
 -- what can't be a token, or can't stand where it does
 faults_said :
@@ -65,15 +77,17 @@ said kind name subject = filled (reason_blanks (record { kind = kind; name = nam
 unknown_said :
     (said UnknownCommand (codes "ElseIf") [] ≡ codes "unknown command `ElseIf`, did you mean `elsif`?")
     × (said UnknownCommand (codes "kp") [] ≡ codes "unknown command `kp`")
+    × (said UnknownCommand (codes "Stor") [] ≡ codes "unknown command `Stor`, did you mean `stop` or `store`?")
+    × (said UnknownTag (codes "header") (codes "ower") ≡ codes "depot knows no tag `:ower`, did you mean `:over` or `:lower`?")
     × (said UnknownCapability (codes "require") (codes "FileInto") ≡ codes "depot knows no capability \"FileInto\", did you mean \"fileinto\"?")
-    × (said UnknownCapability (codes "require") (codes "vacation") ≡ codes "depot has no \"vacation\": it sends no mail")
+    × (said UnknownCapability (codes "require") (codes "vacation") ≡ codes "depot has no \"vacation\": it sends no mail, leave that to the mail server")
     × (said UnknownTag (codes "header") (codes "contain") ≡ codes "depot knows no tag `:contain`, did you mean `:contains`?")
-    × (said UnknownCommand (codes "Vacation") [] ≡ codes "depot has no `Vacation`: it sends no mail")
-    × (said UnknownTest (codes "address") [] ≡ codes "depot has no `address`: `header` tests the whole value of a field")
+    × (said UnknownCommand (codes "Vacation") [] ≡ codes "depot has no `Vacation`: it sends no mail, leave that to the mail server")
+    × (said UnknownTest (codes "address") [] ≡ codes "depot has no `address`: `header` tests the whole value of a field, as in `header :matches \"From\" [\"a@b\", \"*<a@b>*\"]`")
     × (said UnknownCommand (codes "header") [] ≡ codes "`header` is a test: is an `if` missing before it?")
     × (said UnknownTest (codes "keep") [] ≡ codes "`keep` is a command, and a test is needed here")
-unfolding unknown_command unknown_test unknown_tag unknown_capability filled_octet shown_octet shown_start is_near differ_at begin_off lacking meant
-unknown_said = (refl, refl, refl, refl, refl, refl, refl, refl, refl)
+unfolding unknown_command unknown_test unknown_tag unknown_capability filled_octet shown_octet shown_start is_near differ_at begin_off lacking meant meant_too
+unknown_said = (refl, refl, refl, refl, refl, refl, refl, refl, refl, refl, refl)
 
 -- other reasons
 reasons_said :
@@ -84,9 +98,12 @@ reasons_said :
     × (said ForeignTag (codes "fileinto") (codes "is") ≡ codes "`fileinto` takes no tag `:is`")
     × (said (ExtraArgument Text) (codes "fileinto") [] ≡ codes "`fileinto` has too many arguments: it takes one string without brackets")
     × (said LongString (codes "fileinto") (codes "a@b") ≡ codes "the string \"a@b\" has more than 16384 octets")
+    × (said (MissingCapability capability.Variables) (codes "take") [] ≡ codes "`take` needs `require [\"variables\", \"vnd.depot\"]` before it")
+    × (said (MissingCapability capability.Variables) (codes "set") [] ≡ codes "`set` needs `require \"variables\"` before it")
+    × (said (ExtraArgument positional.Nothing) (codes "if") [] ≡ codes "`if` has too many arguments: it takes none before its test")
     × (said Misplaced (codes "else") [] ≡ codes "`else` stands directly after an `if` or `elsif`")
-unfolding digits other_blanks filled_octet shown_octet shown_start place_text no_test_words
-reasons_said = (refl, refl, refl, refl, refl, refl, refl, refl)
+unfolding digits other_blanks filled_octet shown_octet shown_start place_text no_test_words needs_text no_argument_words
+reasons_said = (refl, refl, refl, refl, refl, refl, refl, refl, refl, refl, refl)
 
 -- a letter that is another, is missing, is one too many, and two that are swapped; and the case of letters
 one_letter_off : list_all (λ name. bytes_eq (meant name known_commands) (codes "keep"))
@@ -136,12 +153,14 @@ braces :
     × (unclosed (token_of OpeningBrace 0 1 ∷ token_of ClosingBrace 1 2 ∷ token_of OpeningBrace 2 3 ∷ token_of ClosingBrace 3 4 ∷ []) ≡ None)
 braces = (refl, refl)
 
--- nothing behind the end of the command counts
+-- the first string with the value, whatever way it is written in: a backslash in it, and a backslash before a letter; lines
 strings :
-    (string_among (codes "[\"a\",\"bc\"];") (codes "bc") (token_of OpeningBracket 0 1 ∷ token_of QuotedString 1 4 ∷ token_of Comma 4 5 ∷ token_of QuotedString 5 9 ∷ token_of ClosingBracket 9 10 ∷ token_of Semicolon 10 11 ∷ []) ≡ Some (token_of QuotedString 5 9))
-    × (string_among (codes ";\"bc\"") (codes "bc") (token_of Semicolon 0 1 ∷ token_of QuotedString 1 5 ∷ []) ≡ None)
-unfolding spells
-strings = (refl, refl)
+    (string_among (codes "[\"a\",\"b\\c\",\"bc\"]") (codes "bc") (token_of OpeningBracket 0 1 ∷ token_of QuotedString 1 4 ∷ token_of Comma 4 5 ∷ token_of QuotedString 5 10 ∷ token_of Comma 10 11 ∷ token_of QuotedString 11 15 ∷ token_of ClosingBracket 15 16 ∷ []) ≡ Some (token_of QuotedString 5 10))
+    × (string_among (codes "\"b\\\\c\" \"bc\"") (codes "b\\c") (token_of QuotedString 0 6 ∷ token_of QuotedString 7 11 ∷ []) ≡ Some (token_of QuotedString 0 6))
+    × (string_among (codes "text:\nbc\n.\n") (codes "bc\n") (token_of MultiLineString 0 11 ∷ []) ≡ Some (token_of MultiLineString 0 11))
+    × (string_among (codes "bc;") (codes "bc") (token_of Identifier 0 2 ∷ token_of Semicolon 2 3 ∷ []) ≡ None)
+unfolding has_value
+strings = (refl, refl, refl, refl)
 
 -- a unit with more letters, and none
 units :
@@ -150,8 +169,17 @@ units :
 unfolding is_unit
 units = (refl, refl)
 
+-- a test behind the arguments that has the name of a tag, where one may be missing
+labels :
+    (label_behind (codes "\"Subject\" contains \"x\" {") (token_of QuotedString 0 9 ∷ token_of Identifier 10 18 ∷ token_of QuotedString 19 22 ∷ token_of OpeningBrace 23 24 ∷ []) ≡ codes "contains")
+    × (label_behind (codes "\"a\" true") (token_of QuotedString 0 3 ∷ token_of Identifier 4 8 ∷ []) ≡ [])
+    × (label_behind (codes "5; name") (token_of Number 0 1 ∷ token_of Semicolon 1 2 ∷ token_of Identifier 3 7 ∷ []) ≡ [])
+    × (filled (label_blanks (codes "Contains") (record { kind = MissingArgument Text; name = codes "header"; subject = [] })) ≡ codes "`Contains` is a tag: is a colon missing before it?")
+unfolding label_behind filled_octet shown_octet shown_start
+labels = (refl, refl, refl, refl)
+
 -- all of it
 whole : told (codes "my.sieve") (codes "keep;\nstop }\n") 11 (token_blanks (codes "keep;\nstop }\n") (record { kind = ClosingBrace; start = 11; end = 12 }))
-    ≡ line (codes "my.sieve:2:6: error: `}` can't stand here: is a semicolon missing before it, or its opening brace?") ++ line (codes "stop }") ++ line (codes "     ^")
+    ≡ line (codes "my.sieve:2:6: error: `}` can't stand here: is a semicolon missing before it, or its opening brace?") ++ line (codes "  stop }") ++ line (codes "       ^")
 unfolding digits remark excerpt misplaced_token marked filled_octet shown_octet shown_start shown_end heading numbered line_number octets_before octets_after without_return
 whole = refl

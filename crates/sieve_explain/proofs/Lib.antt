@@ -1,6 +1,9 @@
 pub mod TokenLemmas
 pub mod TellingLemmas
 pub mod OneText
+pub mod OwnStrings
+pub mod Subjects
+pub mod Marking
 pub mod Printing
 pub mod PrintingTables
 pub mod PrintableText

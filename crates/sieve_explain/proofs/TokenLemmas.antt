@@ -1,12 +1,13 @@
 -- The token of a script with a number, or none.
 use Rattle.std.proofs.Common.{◌≡◌, ◌∙◌, ℕ, zero, suc, ◌-◌, Bool, true, false, List, [], ◌∷◌, length, drop, ap, sym, subst, refl, arith}
-use Rattle.std.specs.Prelude.{◌&&◌, ◌==◌, if◌then◌else◌, Option, Some, None, IfSome, take_while}
+use Rattle.std.specs.Prelude.{◌&&◌, ◌==◌, if◌then◌else◌, Option, Some, None, IfOk, IfSome, Result, Ok, Err, take_while}
 use Rattle.std.specs.List.{slice_get}
 use Rattle.std.specs.Option.{option_or}
+use Rattle.std.specs.declared.alloc.AllocError.{AllocError}
 use Rattle.sieve_lexer.specs.Tokens.{AreTokens, IsToken}
 use Rattle.sieve_lexer.specs.declared.token.Token.{Token}
 use Rattle.sieve_parser.proofs.Here.{token_here}
-use Rattle.sieve_explain.specs.Marks.{Stands, has_unit, if_unclosed, is_no_name, is_number_at, is_opening, is_semicolon, is_unit_at, spells, string_among, unclosed, unopened}
+use Rattle.sieve_explain.specs.Marks.{Stands, has_unit, has_value, if_unclosed, is_no_name, is_number_at, is_opening, is_unit_at, string_among, unclosed, unopened}
 
 -- a token among those of a script stands in it
 pub stands_numbered : (script : List ℕ) (tokens : List Token) → AreTokens script tokens → (number : ℕ) (o : Option Token) → o ≡ slice_get tokens number → Stands script o
@@ -38,19 +39,23 @@ one_if : (tokens : List Token) (b : Bool) (token : Token) → IsOne tokens (Some
 one_if tokens true token one = one
 one_if tokens false token one = tt
 
-one_found : (token : Token) (tokens : List Token) (a b : Bool) (o : Option Token) → IsOne tokens o → IsOne (token ∷ tokens) (if a then Some token else (if b then None else o))
-one_found token tokens true b o one = (0, refl)
-one_found token tokens false true o one = tt
-one_found token tokens false false o one = later token tokens o one
+one_found : (token : Token) (tokens : List Token) (found : Bool) (o : Option Token) → IsOne tokens o → IsOne (token ∷ tokens) (if found then Some token else o)
+one_found token tokens true o one = (0, refl)
+one_found token tokens false o one = later token tokens o one
 
 one_among : (script string : List ℕ) (tokens : List Token) → IsOne tokens (string_among script string tokens)
 one_among script string [] = tt
-one_among script string (token ∷ tokens) = one_found token tokens (spells script string token) (is_semicolon token.kind) (string_among script string tokens) (one_among script string tokens)
+one_among script string (token ∷ tokens) = one_found token tokens (has_value script string token) (string_among script string tokens) (one_among script string tokens)
 
 -- a string behind a command
-pub string_stands : (script string : List ℕ) (tokens : List Token) (number : ℕ) → AreTokens script tokens → (o : Option Token) → o ≡ string_among script string (drop number tokens) → Stands script o
+string_stands : (script string : List ℕ) (tokens : List Token) (number : ℕ) → AreTokens script tokens → (o : Option Token) → o ≡ string_among script string (drop number tokens) → Stands script o
 string_stands script string tokens number has o e =
     stands_one script tokens has o (subst (IsOne tokens) (sym e) (one_dropped number tokens (string_among script string (drop number tokens)) (one_among script string (drop number tokens))))
+
+pub strings_stand : (script string : List ℕ) (tokens : List Token) (number : ℕ) → AreTokens script tokens → (r : Result (Option Token) AllocError)
+    → IfOk r (λ o. o ≡ string_among script string (drop number tokens)) → IfOk r (λ o. Stands script o)
+strings_stand script string tokens number has (Ok o) e = string_stands script string tokens number has o e
+strings_stand script string tokens number has (Err error) e = tt
 
 one_or : (token : Token) (tokens : List Token) (o p : Option Token) → IsOne tokens o → IsOne (token ∷ tokens) p → IsOne (token ∷ tokens) (option_or o p)
 one_or token tokens None p one other = other
@@ -64,11 +69,6 @@ one_unclosed (token ∷ tokens) = one_or token tokens (unclosed tokens) (if_uncl
 -- a brace that is never closed
 pub brace_stands : (script : List ℕ) (tokens : List Token) → AreTokens script tokens → (o : Option Token) → o ≡ unclosed tokens → Stands script o
 brace_stands script tokens has o e = stands_one script tokens has o (subst (IsOne tokens) (sym e) (one_unclosed tokens))
-
--- the first of two that stand
-pub or_stands : (script : List ℕ) (o p : Option Token) → Stands script o → Stands script p → Stands script (option_or o p)
-or_stands script None p one other = other
-or_stands script (Some token) p one other = one
 
 -- a unit behind a number
 pub unit_both : (script : List ℕ) (tokens : List Token) (place : ℕ) (a b : Bool) → place ≡ length (take_while is_no_name tokens)

@@ -1,8 +1,7 @@
 -- What is told of a refused script.
-use Rattle.std.specs.Prelude.{◌≡◌, ◌≢◌, ℕ, Bool, true, false, ◌&&◌, List, [], ◌++◌, if◌then◌else◌, flat_map, length, take, drop, min, Option, Some, None, option_map, codes}
+use Rattle.std.specs.Prelude.{◌≡◌, ◌≢◌, ℕ, Bool, true, false, ◌&&◌, IsTrue, List, [], ◌∷◌, ◌++◌, if◌then◌else◌, flat_map, length, take, drop, min, Option, Some, None, option_map, codes}
 use Rattle.std.specs.Fmt.{decimal}
-use Rattle.std.specs.List.{slice_get}
-use Rattle.std.specs.Option.{option_or}
+use Rattle.std.specs.List.{Contains, slice_get}
 use Rattle.octets.specs.Limits.{max_script}
 use Rattle.bytecode_listing.specs.declared.error.FaultKind.{FaultKind}
 use Rattle.refusals.specs.Scripts.{IsScriptRefusal}
@@ -11,28 +10,31 @@ use Rattle.refusals.specs.declared.refusal.Refusal.TheVariants as refused
 use Rattle.sieve_check.specs.declared.error.Fault.{Fault}
 use Rattle.sieve_check.specs.declared.error.Fault.TheVariants.{BadArguments}
 use Rattle.sieve_lexer.specs.Tokens.{AreTokens}
+use Rattle.sieve_lexer.specs.Values.{string_value}
 use Rattle.sieve_lexer.specs.declared.token.Token.{Token}
 use Rattle.sieve_parser.specs.Scripts.{IsParsed}
 use Rattle.sieve_parser.specs.Tree.{CommandsTree}
 use Rattle.sieve_check.specs.declared.causes.ReasonKind.{ReasonKind}
 use Rattle.sieve_check.specs.declared.causes.ReasonKind.TheVariants as kind
-use Rattle.sieve_check.specs.Causes.{Refused, fault_of_kind}
+use Rattle.sieve_check.specs.declared.signature.Tests.TheVariants as tests
+use Rattle.sieve_check.specs.Causes.{Reason, Refused, fault_of_kind}
 use Rattle.sieve_check.specs.Rules.{fault_of, max_reasons, reasons_of}
 use Rattle.sieve_explain.specs.declared.explanation.Explanation.{Explanation}
-use Rattle.sieve_explain.specs.Faults.{end_blanks, lexical_blanks, listing_blanks, token_blanks, too_deep_blanks, too_long_blanks, unclosed_blanks, unit_blanks}
-use Rattle.sieve_explain.specs.Marks.{has_unit, string_among, unclosed}
+use Rattle.sieve_explain.specs.Faults.{colon_blanks, end_blanks, lexical_blanks, listing_blanks, token_blanks, too_deep_blanks, too_long_blanks, unclosed_blanks, unit_blanks}
+use Rattle.sieve_explain.specs.Marks.{arguments_behind, has_unit, is_string, label_behind, string_among, text_of, unclosed}
 use Rattle.sieve_explain.specs.Places.{column, line_number}
 use Rattle.sieve_explain.specs.Reasons.{reason_blanks}
 use Rattle.sieve_explain.specs.Sentences.{Blanks, filled}
-use Rattle.sieve_explain.specs.Shown.{excerpt, line}
+use Rattle.sieve_explain.specs.Shown.{excerpt, line, shown}
+use Rattle.sieve_explain.specs.declared.shown.Style.TheVariants.{Name}
 
 -- a colon, and the number
 unfoldable pub numbered : ℕ → List ℕ
 numbered number = codes ":" ++ decimal number
 
--- the script, the line and the column of a place in it, and what kind of remark it is
+-- the name of the script as it can be printed, the line and the column of a place in it, and what kind of remark it is
 unfoldable pub heading : List ℕ → List ℕ → List ℕ → ℕ → List ℕ
-heading kind name script place = name ++ numbered (line_number script place) ++ numbered (column script place) ++ kind
+heading kind name script place = shown Name name ++ numbered (line_number script place) ++ numbered (column script place) ++ kind
 
 -- a remark of that kind about a place of the script, with the line of the place and a mark under it
 unfoldable pub remark : List ℕ → List ℕ → List ℕ → ℕ → Blanks → List ℕ
@@ -71,7 +73,7 @@ depth_told name script number tokens = told name script (start_of script (slice_
 
 -- under a string that is no capability, else under the command
 abbrev pub marked_by : ReasonKind → Option Token → Option Token → Option Token
-marked_by kind.UnknownCapability string command = option_or string command
+marked_by kind.UnknownCapability string command = string
 marked_by _ string command = command
 
 -- the token under which the mark stands
@@ -79,16 +81,47 @@ unfoldable pub marked_token : List ℕ → List Token → Refused → Option Tok
 marked_token script tokens found = marked_by found.reason.kind
     (string_among script found.reason.subject (drop found.token tokens)) (slice_get tokens found.token)
 
+-- the mark stands under the name of the command or test that is refused
+abbrev pub MarksName : List ℕ → List Token → Refused → Type 0
+MarksName script tokens found = (token : Token) × (marked_token script tokens found ≡ Some token)
+    × (slice_get tokens found.token ≡ Some token) × (text_of script token ≡ found.reason.name)
+
+-- the mark stands under one of the strings among its own arguments, and that string is what is at fault
+abbrev pub MarksString : List ℕ → List Token → Refused → Type 0
+MarksString script tokens found = (token : Token) × (marked_token script tokens found ≡ Some token)
+    × Contains (arguments_behind found.token tokens) token × IsTrue (is_string token.kind)
+    × (string_value token.kind (text_of script token) ≡ found.reason.subject)
+
+abbrev pub MarksFault : ReasonKind → List ℕ → List Token → Refused → Type 0
+MarksFault kind.UnknownCapability script tokens found = MarksString script tokens found
+MarksFault _ script tokens found = MarksName script tokens found
+
+-- the mark stands under what is at fault
+abbrev pub IsMarked : List ℕ → List Token → Refused → Type 0
+IsMarked script tokens found = MarksFault found.reason.kind script tokens found
+
 -- something is wrong with arguments
 abbrev pub is_argument_fault : Fault → Bool
 is_argument_fault BadArguments = true
 is_argument_fault _ = false
 
--- arguments with a wrong unit, or another reason
+-- an argument may be missing, or it has a test that it doesn't take
+abbrev pub may_lack_label : ReasonKind → Bool
+may_lack_label (kind.MissingArgument taken) = true
+may_lack_label (kind.WrongTests tests.Nothing) = true
+may_lack_label _ = false
+
+-- a name that a tag has, or another reason
+abbrev pub label_blanks : List ℕ → Reason → Blanks
+label_blanks [] reason = reason_blanks reason
+label_blanks (c ∷ label) reason = if may_lack_label reason.kind then colon_blanks (c ∷ label) else reason_blanks reason
+
+-- arguments with a wrong unit, a tag without its colon behind them, or another reason
 unfoldable pub fault_blanks : List ℕ → List Token → Refused → Blanks
 fault_blanks script tokens found =
-    if is_argument_fault (fault_of_kind found.reason.kind) && has_unit script (drop 1 (drop found.token tokens)) then unit_blanks
-    else reason_blanks found.reason
+    let behind = drop 1 (drop found.token tokens) in
+    if is_argument_fault (fault_of_kind found.reason.kind) && has_unit script behind then unit_blanks
+    else label_blanks (label_behind script behind) found.reason
 
 -- why a command or test is refused
 unfoldable pub reason_told : List ℕ → List ℕ → List Token → Refused → List ℕ

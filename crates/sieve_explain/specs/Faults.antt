@@ -52,7 +52,7 @@ abbrev pub other_text : List ℕ → List ℕ
 other_text rest =
     let octet = slice_index rest 0 in
     if is_ascii_digit octet then codes "a number is above %" else
-    if begins_identifier octet then codes "a multi-line string is never closed: its last line is a dot alone" else
+    if begins_identifier octet then codes "a multi-line string is never closed: it needs a line that is a dot alone, with its line break" else
     codes "@ begins nothing that a script may have here"
 
 -- 11, by the octets from the place on
@@ -62,6 +62,7 @@ lexical_blanks rest = let text = text_at rest beginnings in record {
   name = take 1 rest;
   subject = [];
   words = codes "#";
+  others = [];
   number = 2 ^ 64 - 1;
 }
 
@@ -101,9 +102,13 @@ too_deep_blanks = record (plain (codes "braces and tests are nested more than % 
 abbrev pub unclosed_blanks : Blanks
 unclosed_blanks = plain (codes "this brace is never closed")
 
--- 18, where the letter of a unit has more letters behind it
+-- 18, where a unit has more letters, or stands apart from its number
 abbrev pub unit_blanks : Blanks
-unit_blanks = plain (codes "the units of a number are K, M and G, with nothing behind the letter, as in 5M")
+unit_blanks = plain (codes "the units of a number are K, M and G, with no blank before the letter and nothing behind it, as in 5M")
+
+-- 18, of a test that has the name of a tag, behind what takes none
+abbrev pub colon_blanks : List ℕ → Blanks
+colon_blanks label = record (plain (codes "@ is a tag: is a colon missing before it?")) { name = label }
 
 -- ---- of a listing
 

@@ -1,7 +1,7 @@
 -- What is said of a name that isn't known where it stands. ASCII case doesn't count.
 use Rattle.std.specs.Prelude.{ℕ, if◌then◌else◌, List, [], ◌∷◌, is_some, codes, map}
 use Rattle.sieve_check.specs.Names.{command_named, test_named}
-use Rattle.sieve_explain.specs.Words.{Hint, hint, hint_of, nearest, texts_of, with_words, words_for}
+use Rattle.sieve_explain.specs.Words.{Hint, hint, hint_of, nearest, nearest_but, texts_of, with_words, words_for}
 use Rattle.sieve_explain.specs.declared.hints.Vocabulary as code
 use Rattle.sieve_explain.specs.Sentences.{Blanks, plain}
 
@@ -12,19 +12,24 @@ abbrev pub lacking_rows : List Hint
 lacking_rows =
     hint (codes "vacation" ∷ codes "vacation-seconds" ∷ codes "redirect" ∷ codes "reject" ∷ codes "ereject"
     ∷ codes "notify" ∷ codes "enotify" ∷ [])
-    (codes "it sends no mail")
+    (codes "it sends no mail, leave that to the mail server")
     ∷ hint (codes "addflag" ∷ codes "setflag" ∷ codes "removeflag" ∷ codes "hasflag" ∷ codes "flags"
     ∷ codes "imap4flags" ∷ codes "imapflags" ∷ [])
-    (codes "what it files has no flags")
+    (codes "what it files has no flags, file into a folder instead")
     ∷ hint (codes "addheader" ∷ codes "deleteheader" ∷ codes "editheader" ∷ codes "replace" ∷ codes "enclose" ∷ [])
     (codes "it changes no message")
-    ∷ hint (codes "include" ∷ []) (codes "a script stands alone")
+    ∷ hint (codes "extracttext" ∷ [])
+    (codes "`take` gives the content of a part to a variable, inside of a `foreverypart`")
+    ∷ hint (codes "include" ∷ []) (codes "a script stands alone, put all of it into one file")
     ∷ hint (codes "copy" ∷ []) (codes "`keep` beside `fileinto` files a message twice")
     ∷ hint (codes "address" ∷ codes "subaddress" ∷ codes "localpart" ∷ codes "domain" ∷ codes "detail" ∷ [])
-    (codes "`header` tests the whole value of a field")
+    (codes "`header` tests the whole value of a field, as in `header :matches \"From\" [\"a@b\", \"*<a@b>*\"]`")
     ∷ hint (codes "index" ∷ []) (codes "`header` tests all fields of a name")
-    ∷ hint (codes "envelope" ∷ codes "environment" ∷ []) (codes "it sees the message alone")
-    ∷ hint (codes "body" ∷ []) (codes "`partbody` tests the content of a part, inside of a `foreverypart`")
+    ∷ hint (codes "envelope" ∷ [])
+    (codes "it sees the message alone, `header` tests \"Delivered-To\" where the mail server writes that")
+    ∷ hint (codes "environment" ∷ []) (codes "it sees the message alone")
+    ∷ hint (codes "body" ∷ [])
+    (codes "`partbody` tests the content of a part, inside of a `foreverypart`")
     ∷ hint (codes "date" ∷ codes "currentdate" ∷ []) (codes "it compares no times")
     ∷ hint (codes "relational" ∷ codes "count" ∷ codes "value" ∷ codes "comparator-i;ascii-numeric" ∷ [])
     (codes "`size` and `partsize` alone compare numbers")
@@ -35,7 +40,7 @@ lacking_rows =
     (codes "a folder is there once something is filed into it")
     ∷ hint (codes "duplicate" ∷ []) (codes "a script knows no earlier message")
     ∷ hint (codes "ihave" ∷ []) (codes "what a script requires has to be there")
-    ∷ hint (codes "encoded-character" ∷ []) (codes "a string may hold any character as it is")
+    ∷ hint (codes "encoded-character" ∷ []) (codes "write the character itself, a string may hold any")
     ∷ []
 
 unfoldable pub lacking : List ℕ → List ℕ
@@ -44,12 +49,13 @@ lacking name = words_for name lacking_rows
 -- ---- what there is
 
 -- the names of one kind, and what stands elsewhere for some of them; then the sentences for a name that is none of them:
--- for one that depot lacks, for one by which one of them is meant, and for any other
+-- for one that depot lacks, for one by which one of them is meant, or one of two, and for any other
 pub record Vocabulary : Type 0 where
   pub elsewhere : List Hint
   pub names : List (List ℕ)
   pub lacks : List ℕ
   pub hinting : List ℕ
+  pub hinting_two : List ℕ
   pub alone : List ℕ
 
 abbrev pub vocabulary_of : code.Vocabulary → Vocabulary
@@ -58,6 +64,7 @@ vocabulary_of known = record {
   names = texts_of known.names.now;
   lacks = known.lacks.now;
   hinting = known.hinting.now;
+  hinting_two = known.hinting_two.now;
   alone = known.alone.now;
 }
 
@@ -76,6 +83,7 @@ known_commands = record {
       ∷ codes "set" ∷ codes "foreverypart" ∷ codes "break" ∷ codes "store" ∷ codes "take" ∷ [];
   lacks = codes "depot has no @: &";
   hinting = codes "unknown command @, did you mean `&`?";
+  hinting_two = codes "unknown command @, did you mean `&` or `~`?";
   alone = codes "unknown command @";
 }
 
@@ -93,6 +101,7 @@ known_tests = record {
       ∷ codes "string" ∷ codes "partsize" ∷ codes "partbody" ∷ codes "partdigest" ∷ [];
   lacks = codes "depot has no @: &";
   hinting = codes "unknown test @, did you mean `&`?";
+  hinting_two = codes "unknown test @, did you mean `&` or `~`?";
   alone = codes "unknown test @";
 }
 
@@ -105,6 +114,7 @@ known_tags = record {
       ∷ codes "anychild" ∷ codes "type" ∷ codes "subtype" ∷ codes "contenttype" ∷ codes "param" ∷ codes "name" ∷ codes "first" ∷ [];
   lacks = codes "depot has no #: &";
   hinting = codes "depot knows no tag #, did you mean `:&`?";
+  hinting_two = codes "depot knows no tag #, did you mean `:&` or `:~`?";
   alone = codes "depot knows no tag #";
 }
 
@@ -117,6 +127,7 @@ known_capabilities = record {
       ∷ codes "comparator-i;ascii-casemap" ∷ [];
   lacks = codes "depot has no $: &";
   hinting = codes "depot knows no capability $, did you mean \"&\"?";
+  hinting_two = codes "depot knows no capability $, did you mean \"&\" or \"~\"?";
   alone = codes "depot knows no capability $: there are \"fileinto\", \"variables\", \"mime\", \"foreverypart\", \"vnd.depot\", \"comparator-i;octet\" and \"comparator-i;ascii-casemap\"";
 }
 
@@ -126,9 +137,17 @@ known_capabilities = record {
 unfoldable pub meant : List ℕ → Vocabulary → List ℕ
 meant name known = let elsewhere = words_for name known.elsewhere in with_words elsewhere elsewhere (nearest name known.names)
 
+-- another name that may be meant, where one comes as near
+unfoldable pub meant_too : List ℕ → Vocabulary → List ℕ
+meant_too name known = let elsewhere = words_for name known.elsewhere in
+    with_words elsewhere [] (nearest_but name (nearest name known.names) known.names)
+
 -- a name that nothing has: with why it is lacking, else with what is meant by it, where there is either
+abbrev pub hinting_text : List ℕ → Vocabulary → List ℕ
+hinting_text name known = with_words (meant_too name known) known.hinting_two known.hinting
+
 abbrev pub unknown_text : List ℕ → Vocabulary → List ℕ
-unknown_text name known = with_words (lacking name) known.lacks (with_words (meant name known) known.hinting known.alone)
+unknown_text name known = with_words (lacking name) known.lacks (with_words (meant name known) (hinting_text name known) known.alone)
 
 abbrev pub unknown_words : List ℕ → Vocabulary → List ℕ
 unknown_words name known = with_words (lacking name) (lacking name) (meant name known)
@@ -139,6 +158,7 @@ unknown name known = record {
   name = name;
   subject = name;
   words = unknown_words name known;
+  others = meant_too name known;
   number = 0;
 }
 

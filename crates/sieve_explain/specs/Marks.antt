@@ -1,11 +1,13 @@
 -- What an explanation looks for among the tokens of a script.
-use Rattle.std.specs.Prelude.{ℕ, ◌-◌, ◌+◌, ◌≤◌, Bool, true, false, not, ◌&&◌, ◌==◌, if◌then◌else◌, List, [], ◌∷◌, length, take, drop, take_while, Option, Some, None, IfSome, bytes_eq, codes, slice_range}
-use Rattle.std.specs.List.{list_any, slice_get}
+use Rattle.std.specs.Prelude.{ℕ, ◌-◌, ◌+◌, ◌≤◌, Bool, true, false, not, ◌&&◌, ◌==◌, if◌then◌else◌, List, [], ◌∷◌, length, drop, take_while, Option, Some, None, IfSome, bytes_eq, codes, slice_range}
+use Rattle.std.specs.List.{find, list_any, slice_get}
 use Rattle.std.specs.Option.{option_or}
 use Rattle.octets.specs.Ascii.{is_word}
+use Rattle.sieve_lexer.specs.Values.{string_value}
+use Rattle.sieve_explain.specs.Hints.{known_tags}
 use Rattle.sieve_lexer.specs.declared.token.Token.{Token}
 use Rattle.sieve_lexer.specs.declared.token.TokenKind.{TokenKind}
-use Rattle.sieve_lexer.specs.declared.token.TokenKind.TheVariants.{Identifier, Number, QuotedString, Semicolon, OpeningBrace, ClosingBrace}
+use Rattle.sieve_lexer.specs.declared.token.TokenKind.TheVariants.{Identifier, Tag, Number, QuotedString, MultiLineString, Comma, OpeningBrace, ClosingBrace, OpeningBracket, ClosingBracket}
 
 -- the token, where there is one, stands in the script
 abbrev pub Stands : List ℕ → Option Token → Type 0
@@ -16,29 +18,37 @@ text_of script token = slice_range script token.start token.end
 
 -- ---- a string of a command
 
-abbrev pub is_quoted : TokenKind → Bool
-is_quoted QuotedString = true
-is_quoted _ = false
+abbrev pub is_string : TokenKind → Bool
+is_string QuotedString = true
+is_string MultiLineString = true
+is_string _ = false
 
-abbrev pub is_semicolon : TokenKind → Bool
-is_semicolon Semicolon = true
-is_semicolon _ = false
+-- the token is a string with that value
+unfoldable pub has_value : List ℕ → List ℕ → Token → Bool
+has_value script string token =
+    is_string token.kind && bytes_eq (string_value token.kind (text_of script token)) string
 
--- the octets without the first and the last one
-abbrev pub inner : List ℕ → List ℕ
-inner text = take (length text - 2) (drop 1 text)
-
--- the token is the string between quotes, without an escape in it
-unfoldable pub spells : List ℕ → List ℕ → Token → Bool
-spells script string token = is_quoted token.kind && bytes_eq (inner (text_of script token)) string
-
--- the first token up to the end of the command that spells the string, if there is one
+-- the first of the tokens that is such a string, if there is one
 abbrev pub string_among : List ℕ → List ℕ → List Token → Option Token
-string_among script string [] = None
-string_among script string (token ∷ tokens) =
-    if spells script string token then Some token else
-    if is_semicolon token.kind then None else
-    string_among script string tokens
+string_among script string tokens = find (has_value script string) tokens
+
+-- arguments are written with it: strings, numbers, tags, and what stands around and between the strings of a list
+abbrev pub writes_arguments : TokenKind → Bool
+writes_arguments QuotedString = true
+writes_arguments MultiLineString = true
+writes_arguments Number = true
+writes_arguments Tag = true
+writes_arguments Comma = true
+writes_arguments OpeningBracket = true
+writes_arguments ClosingBracket = true
+writes_arguments _ = false
+
+abbrev pub is_of_arguments : Token → Bool
+is_of_arguments token = writes_arguments token.kind
+
+-- the tokens of the arguments of the command or test whose name is the token with that number
+abbrev pub arguments_behind : ℕ → List Token → List Token
+arguments_behind number tokens = take_while is_of_arguments (drop (number + 1) tokens)
 
 -- ---- a unit with more letters
 
@@ -73,6 +83,18 @@ abbrev pub has_unit : List ℕ → List Token → Bool
 has_unit script tokens =
     let place = length (take_while is_no_name tokens) in
     is_number_at (slice_get tokens (place - 1)) && is_unit_at script (slice_get tokens place)
+
+-- ---- a tag without its colon
+
+-- the octets of a name that a tag has, or nothing
+abbrev pub label_at : List ℕ → Option Token → List ℕ
+label_at script None = []
+label_at script (Some token) =
+    if is_name token.kind && list_any (is_word (text_of script token)) known_tags.names then text_of script token else []
+
+-- the same of what stands behind the arguments with which the tokens begin
+unfoldable pub label_behind : List ℕ → List Token → List ℕ
+label_behind script tokens = label_at script (slice_get tokens (length (take_while is_of_arguments tokens)))
 
 -- ---- a brace without its partner
 

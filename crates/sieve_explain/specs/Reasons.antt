@@ -1,5 +1,6 @@
 -- What is said of a command or test that isn't accepted: a sentence for each reason.
-use Rattle.std.specs.Prelude.{ℕ, List, [], ◌||◌, if◌then◌else◌, is_some, codes}
+use Rattle.std.specs.List.{list_any}
+use Rattle.std.specs.Prelude.{ℕ, Bool, true, false, List, [], ◌∷◌, ◌&&◌, ◌||◌, if◌then◌else◌, is_some, codes}
 use Rattle.octets.specs.Limits.{max_loops, max_name, max_segments, max_string, max_test_strings, max_variables}
 use Rattle.octets.specs.Ascii.{is_word}
 use Rattle.sieve_check.specs.Names.{command_named}
@@ -38,6 +39,18 @@ positional_words positional.TwoTexts = codes "two strings, each without brackets
 positional_words positional.OneList = codes "one string or list of strings"
 positional_words positional.TwoLists = codes "two, each a string or a list of strings"
 
+-- one that takes no argument, by its name
+unfoldable pub no_argument_words : List ℕ → List ℕ
+no_argument_words name =
+    if list_any (is_word name) (codes "if" ∷ codes "elsif" ∷ codes "not" ∷ []) then codes "none before its test" else
+    if list_any (is_word name) (codes "allof" ∷ codes "anyof" ∷ []) then codes "none before its tests" else
+    codes "none"
+
+-- the same of what was given too many arguments, by its name: they may stand before its test
+abbrev pub extra_words : Positional → List ℕ → List ℕ
+extra_words positional.Nothing name = no_argument_words name
+extra_words taken name = positional_words taken
+
 -- what takes no test, by its name: what may be missing before the test behind it
 unfoldable pub no_test_words : List ℕ → List ℕ
 no_test_words name =
@@ -61,7 +74,7 @@ ending_words ending.Block = codes "needs a block in braces"
 abbrev pub tag_words : Tag → List ℕ
 tag_words tag.Comparator = codes "the name of a comparator, \"i;octet\" or \"i;ascii-casemap\""
 tag_words (tag.Select piece) = codes "the names of parameters, a string or list of strings"
-tag_words tag.Name = codes "the name of a loop, a string"
+tag_words tag.Name = codes "the name of a loop, one string without brackets"
 tag_words tag.First = codes "a number of octets, 1 or more"
 tag_words (tag.Order order) = codes "its argument"
 tag_words (tag.Kind kind) = codes "its argument"
@@ -89,9 +102,20 @@ place_text name =
     if is_word name (codes "elsif") || is_word name (codes "else") then codes "@ stands directly after an `if` or `elsif`" else
     codes "@ stands only inside of a `foreverypart`"
 
+abbrev pub is_variables : Capability → Bool
+is_variables capability.Variables = true
+is_variables _ = false
+
+-- the text for a capability that wasn't required, by the name of what needs it; a `take` needs two
+unfoldable pub needs_text : Capability → List ℕ → List ℕ
+needs_text needed name =
+    if is_variables needed && is_word name (codes "take")
+    then codes "@ needs `require [\"variables\", \"vnd.depot\"]` before it"
+    else codes "@ needs `require \"&\"` before it"
+
 -- the text for a reason, by the name of the command or test; none for a name that isn't known
 abbrev pub reason_text : ReasonKind → List ℕ → List ℕ
-reason_text (MissingCapability needed) name = codes "@ needs `require \"&\"` before it"
+reason_text (MissingCapability needed) name = needs_text needed name
 reason_text ForeignTag name = codes "@ takes no tag #"
 reason_text RepeatedTag name = codes "# is repeated, or stands beside another of its kind"
 reason_text TwoModifiers name = codes "# can't stand beside another modifier of its precedence"
@@ -122,7 +146,7 @@ abbrev pub reason_words : ReasonKind → List ℕ → List ℕ
 reason_words (MissingCapability needed) name = capability_words needed
 reason_words (TagArgument given) name = tag_words given
 reason_words (MissingArgument taken) name = positional_words taken
-reason_words (ExtraArgument taken) name = positional_words taken
+reason_words (ExtraArgument taken) name = extra_words taken name
 reason_words (WrongArgument taken) name = positional_words taken
 reason_words (WrongTests taken) name = tests_words taken name
 reason_words (WrongEnding taken) name = ending_words taken
@@ -135,6 +159,7 @@ other_blanks found = record {
   name = found.name;
   subject = found.subject;
   words = reason_words found.kind found.name;
+  others = [];
   number = reason_limit found.kind;
 }
 

@@ -1,5 +1,5 @@
 -- Tables of words, and words that are one letter off.
-use Rattle.std.specs.Prelude.{ℕ, zero, suc, ◌+◌, Bool, false, ◌&&◌, ◌||◌, if◌then◌else◌, List, [], ◌∷◌, length, map, take, drop}
+use Rattle.std.specs.Prelude.{ℕ, zero, suc, ◌+◌, Bool, false, not, ◌&&◌, ◌||◌, if◌then◌else◌, List, [], ◌∷◌, length, map, take, drop}
 use Rattle.std.specs.Borrow.{Bor}
 use Rattle.std.specs.List.{list_any}
 use Rattle.octets.specs.Ascii.{is_word}
@@ -54,7 +54,12 @@ differ_below a b (suc place) = differ_below a b place || differ_at a b place
 unfoldable pub is_near : List ℕ → List ℕ → Bool
 is_near name word = differ_below name word (length word + 1)
 
+-- the first of the words that is near and isn't a word that was found before, or nothing
+abbrev pub nearest_but : List ℕ → List ℕ → List (List ℕ) → List ℕ
+nearest_but name found [] = []
+nearest_but name found (word ∷ words) =
+    if is_near name word && not (is_word word found) then word else nearest_but name found words
+
 -- the first of the words that is near, or nothing
 abbrev pub nearest : List ℕ → List (List ℕ) → List ℕ
-nearest name [] = []
-nearest name (word ∷ words) = if is_near name word then word else nearest name words
+nearest name words = nearest_but name [] words

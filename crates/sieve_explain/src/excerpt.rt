@@ -3,8 +3,11 @@ ghost use Rattle.std.specs.Prelude.{◌≡◌, ◌≤◌, ◌++◌, IfOk, OnOk, 
 ghost use Rattle.sieve_explain.specs.Shown.{excerpt, marked, shown_end};
 
 use crate::places::{around, line_at, octets_before};
-use crate::shown::{push_end, push_start};
+use crate::shown::{Style, push_end, push_start};
 use std::alloc::AllocError;
+
+// Stands before each line of a script, so that no such line begins as a remark does.
+const MARGIN: &[u8] = b"  ";
 
 // Appends that many spaces.
 fn push_spaces(out: &mut Vec<u8>, n: usize) -> Result<(), AllocError>
@@ -32,9 +35,11 @@ fn push_marked(out: &mut Vec<u8>, line: &[u8], place: usize) -> Result<(), Alloc
     ensures { OnOk result (out.new.items ≡ out.old.items ++ marked line.now place) }
 {
     let (before, after) = around(line, place);
+    out.extend_from_slice(MARGIN)?;
     let width = push_measured(out, before)?;
-    push_start(out, after)?;
+    push_start(out, Style::Line, after)?;
     out.extend_from_slice(b"\n")?;
+    out.extend_from_slice(MARGIN)?;
     push_spaces(out, width)?;
     out.extend_from_slice(b"^\n")
 }

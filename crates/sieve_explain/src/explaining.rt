@@ -213,7 +213,7 @@ fn push_reason(
         ++ reason_told source.now.name.now source.now.octets.now tokens.now
         (refused_view found.entry)) }
 {
-    let token = marked_token(source.octets, tokens, found);
+    let token = marked_token(source, tokens, found)?;
     let sentence = fault_sentence(source.octets, tokens, found);
     push_remark(
         out,
@@ -226,17 +226,21 @@ fn push_reason(
 
 // The token under which the mark stands.
 #[tactic(auto, unfolding(crate::specs::Explaining::marked_token))]
-fn marked_token(script: &[u8], tokens: &[Token], found: Refused<'_>) -> Option<Token>
-    requires { AreTokens script.now tokens.now }
-    ensures token { result ≡ marked_token script.now tokens.now (refused_view found.entry) }
-    ensures within { Stands script.now result }
+fn marked_token(
+    source: &Source<'_>,
+    tokens: &[Token],
+    found: Refused<'_>,
+) -> Result<Option<Token>, AllocError>
+    requires { AreTokens source.now.octets.now tokens.now }
+    ensures token { IfOk result (λ token.
+        token ≡ marked_token source.now.octets.now tokens.now (refused_view found.entry)) }
+    ensures within { IfOk result (λ token. Stands source.now.octets.now token) }
 {
-    let command = token_numbered(script, tokens, found.token);
     match found.reason.kind {
         ReasonKind::UnknownCapability => {
-            string_behind(script, tokens, found.token, found.reason.subject).or(command)
+            string_behind(source, tokens, found.token, found.reason.subject)
         }
-        _ => command,
+        _ => Ok(token_numbered(source.octets, tokens, found.token)),
     }
 }
 

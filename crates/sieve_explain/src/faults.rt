@@ -81,7 +81,7 @@ fn other_text(rest: &[u8]) -> &'static str
     match rest {
         [octet, ..] if octet.is_ascii_digit() => "a number is above %",
         [octet, ..] if octet.is_ascii_alphabetic() || *octet == b'_' => {
-            "a multi-line string is never closed: its last line is a dot alone"
+            "a multi-line string is never closed: it needs a line that is a dot alone, with its line break"
         }
         _ => "@ begins nothing that a script may have here",
     }
@@ -99,6 +99,7 @@ pub fn lexical_sentence(rest: &[u8]) -> Sentence<'_>
         name: first,
         subject: &[],
         words: "#",
+        others: "",
         number: u64::MAX,
     }
 }

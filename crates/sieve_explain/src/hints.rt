@@ -1,10 +1,12 @@
 // What is said of a name that isn't known where it stands.
 ghost use Rattle.std.specs.Prelude.{◌≡◌};
-ghost use Rattle.sieve_explain.specs.Hints.{lacking, meant, unknown, unknown_capability, unknown_command, unknown_tag, unknown_test, vocabulary_of};
+ghost use Rattle.std.specs.List.{list_any};
+ghost use Rattle.octets.specs.Ascii.{is_word};
+ghost use Rattle.sieve_explain.specs.Hints.{known_tags, lacking, meant, meant_too, unknown, unknown_capability, unknown_command, unknown_tag, unknown_test, vocabulary_of};
 ghost use Rattle.sieve_explain.specs.Sentences.{blanks_of};
 
 use crate::sentence::{Sentence, plain};
-use crate::words::{Row, nearest, with_words, words_for};
+use crate::words::{Row, is_any, nearest, nearest_but, with_words, words_for};
 use sieve_check::{command_named, test_named};
 
 /// The names of one kind, and the sentences for a name that is none of them.
@@ -17,6 +19,8 @@ pub struct Vocabulary {
     pub lacks: &'static str,
     /// For a name by which one of these is meant.
     pub hinting: &'static str,
+    /// For a name by which one of two may be meant.
+    pub hinting_two: &'static str,
     /// For any other name.
     pub alone: &'static str,
 }
@@ -48,6 +52,7 @@ const COMMANDS: &Vocabulary = &Vocabulary {
     ],
     lacks: "depot has no @: &",
     hinting: "unknown command @, did you mean `&`?",
+    hinting_two: "unknown command @, did you mean `&` or `~`?",
     alone: "unknown command @",
 };
 
@@ -78,6 +83,7 @@ const TESTS: &Vocabulary = &Vocabulary {
     ],
     lacks: "depot has no @: &",
     hinting: "unknown test @, did you mean `&`?",
+    hinting_two: "unknown test @, did you mean `&` or `~`?",
     alone: "unknown test @",
 };
 
@@ -108,6 +114,7 @@ const TAGS: &Vocabulary = &Vocabulary {
     ],
     lacks: "depot has no #: &",
     hinting: "depot knows no tag #, did you mean `:&`?",
+    hinting_two: "depot knows no tag #, did you mean `:&` or `:~`?",
     alone: "depot knows no tag #",
 };
 
@@ -125,6 +132,7 @@ const CAPABILITIES: &Vocabulary = &Vocabulary {
     ],
     lacks: "depot has no $: &",
     hinting: "depot knows no capability $, did you mean \"&\"?",
+    hinting_two: "depot knows no capability $, did you mean \"&\" or \"~\"?",
     alone: "depot knows no capability $: there are \"fileinto\", \"variables\", \"mime\", \"foreverypart\", \"vnd.depot\", \"comparator-i;octet\" and \"comparator-i;ascii-casemap\"",
 };
 
@@ -140,7 +148,7 @@ const LACKING: &[Row] = &[
             "notify",
             "enotify",
         ],
-        "it sends no mail",
+        "it sends no mail, leave that to the mail server",
     ),
     (
         &[
@@ -152,7 +160,7 @@ const LACKING: &[Row] = &[
             "imap4flags",
             "imapflags",
         ],
-        "what it files has no flags",
+        "what it files has no flags, file into a folder instead",
     ),
     (
         &[
@@ -164,14 +172,25 @@ const LACKING: &[Row] = &[
         ],
         "it changes no message",
     ),
-    (&["include"], "a script stands alone"),
+    (
+        &["extracttext"],
+        "`take` gives the content of a part to a variable, inside of a `foreverypart`",
+    ),
+    (
+        &["include"],
+        "a script stands alone, put all of it into one file",
+    ),
     (&["copy"], "`keep` beside `fileinto` files a message twice"),
     (
         &["address", "subaddress", "localpart", "domain", "detail"],
-        "`header` tests the whole value of a field",
+        "`header` tests the whole value of a field, as in `header :matches \"From\" [\"a@b\", \"*<a@b>*\"]`",
     ),
     (&["index"], "`header` tests all fields of a name"),
-    (&["envelope", "environment"], "it sees the message alone"),
+    (
+        &["envelope"],
+        "it sees the message alone, `header` tests \"Delivered-To\" where the mail server writes that",
+    ),
+    (&["environment"], "it sees the message alone"),
     (
         &["body"],
         "`partbody` tests the content of a part, inside of a `foreverypart`",
@@ -194,7 +213,7 @@ const LACKING: &[Row] = &[
     (&["ihave"], "what a script requires has to be there"),
     (
         &["encoded-character"],
-        "a string may hold any character as it is",
+        "write the character itself, a string may hold any",
     ),
 ];
 
@@ -215,18 +234,31 @@ fn meant(name: &[u8], known: &Vocabulary) -> &'static str
     with_words(elsewhere, elsewhere, nearest(name, known.names))
 }
 
+// Another name that may be meant, where one comes as near, or nothing.
+#[tactic(auto, unfolding(crate::specs::Hints::meant_too))]
+fn meant_too(name: &[u8], known: &Vocabulary) -> &'static str
+    ensures { result.now ≡ meant_too name.now (vocabulary_of known.now) }
+{
+    let elsewhere = words_for(name, known.elsewhere);
+    let nearest = nearest(name, known.names);
+    with_words(elsewhere, "", nearest_but(name, nearest, known.names))
+}
+
 // The sentence for a name that nothing has: with why it is lacking, else with what is meant by it, where there is either.
 fn unknown<'a>(name: &'a [u8], known: &Vocabulary) -> Sentence<'a>
     ensures { blanks_of result ≡ unknown name.now (vocabulary_of known.now) }
 {
     let lacking = lacking(name);
     let meant = meant(name, known);
-    let unlisted = with_words(meant, known.hinting, known.alone);
+    let others = meant_too(name, known);
+    let hinting = with_words(others, known.hinting_two, known.hinting);
+    let unlisted = with_words(meant, hinting, known.alone);
     Sentence {
         text: with_words(lacking, known.lacks, unlisted),
         name,
         subject: name,
         words: with_words(lacking, lacking, meant),
+        others,
         number: 0,
     }
 }
@@ -265,6 +297,13 @@ pub fn unknown_tag(tag: &[u8]) -> Sentence<'_>
     ensures { blanks_of result ≡ unknown_tag tag.now }
 {
     unknown(tag, TAGS)
+}
+
+// Whether a tag has that name.
+pub fn is_tag(name: &[u8]) -> bool
+    ensures { result ≡ list_any (is_word name.now) known_tags.names }
+{
+    is_any(name, TAGS.names)
 }
 
 // The sentence for a capability.

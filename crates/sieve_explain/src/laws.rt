@@ -1,9 +1,16 @@
-//! The laws of explanations: a script has one, which can be printed anywhere, and so can that of a listing.
+//! The laws of explanations: a script has one, whose marks stand under what is at fault, and which can be printed anywhere, as that of
+//! a listing can.
 ghost use Rattle.std.specs.Prelude.{◌≡◌, ℕ, IsTrue, List, Option};
+ghost use Rattle.std.specs.List.{All};
 ghost use Rattle.bytecode_listing.specs.declared.error.FaultKind.{FaultKind};
 ghost use Rattle.refusals.specs.declared.refusal.Refusal.{Refusal};
-ghost use Rattle.sieve_explain.specs.Explaining.{Explains, IsExplained, answer_of, listing_told};
-ghost use Rattle.sieve_explain.specs.Printable.{are_printable};
+ghost use Rattle.sieve_check.specs.Rules.{reasons_of};
+ghost use Rattle.sieve_lexer.specs.Tokens.{AreTokens};
+ghost use Rattle.sieve_lexer.specs.declared.token.Token.{Token};
+ghost use Rattle.sieve_parser.specs.Scripts.{IsParsed};
+ghost use Rattle.sieve_parser.specs.Tree.{CommandsTree};
+ghost use Rattle.sieve_explain.specs.Explaining.{Explains, IsExplained, IsMarked, answer_of, listing_told};
+ghost use Rattle.sieve_explain.specs.Printable.{are_ascii, are_printable, have_no_controls};
 ghost use Rattle.sieve_explain.specs.declared.explanation.Explanation.{Explanation};
 
 use sieve_lexer::laws::tokens_are_unique;
@@ -26,15 +33,29 @@ pub fn explanations_are_unique()
     parsed_scripts_have_no_fault();
 }
 
-/// What is told of a refusal is printable characters of ASCII and ends of lines, whoever wrote the script, where the script's name is.
+/// Each mark of what a script is refused for stands under the name of the command or test, or under that string of its own arguments
+/// which is no capability.
+pub fn marks_stand_under_faults()
+    ensures { (script : List ℕ) (tokens : List Token) (commands : CommandsTree)
+        → AreTokens script tokens → IsParsed script commands
+        → All (IsMarked script tokens) (reasons_of commands) }
+{
+    tokens_are_unique();
+}
+
+/// What is told of a refusal has no control characters of ASCII but ends of lines, whoever wrote the script and named its file. It is
+/// printable characters of ASCII and ends of lines where the name is ASCII.
 pub fn explanations_are_printable()
-    ensures { (name script : List ℕ) (refusal : Refusal) (text : List ℕ)
-        → IsTrue (are_printable name) → Explains name script refusal text
-        → IsTrue (are_printable text) }
+    ensures whole { (name script : List ℕ) (refusal : Refusal) (text : List ℕ)
+        → Explains name script refusal text → IsTrue (have_no_controls text) }
+    ensures ascii { (name script : List ℕ) (refusal : Refusal) (text : List ℕ)
+        → IsTrue (are_ascii name) → Explains name script refusal text → IsTrue (are_printable text) }
 {}
 
 /// So is what is told of a listing.
 pub fn listing_explanations_are_printable()
-    ensures { (name listing : List ℕ) (place : ℕ) (kind : FaultKind) → IsTrue (are_printable name)
-        → IsTrue (are_printable (listing_told name listing place kind)) }
+    ensures whole { (name listing : List ℕ) (place : ℕ) (kind : FaultKind)
+        → IsTrue (have_no_controls (listing_told name listing place kind)) }
+    ensures ascii { (name listing : List ℕ) (place : ℕ) (kind : FaultKind)
+        → IsTrue (are_ascii name) → IsTrue (are_printable (listing_told name listing place kind)) }
 {}

@@ -1,13 +1,16 @@
 // What an explanation looks for among the tokens of a script.
-ghost use Rattle.std.specs.Prelude.{◌≡◌, ◌<◌, ◌≤◌, ◌+◌, ◌-◌, ◌^◌, drop, length, take_while};
+ghost use Rattle.std.specs.Prelude.{◌≡◌, ◌<◌, ◌≤◌, ◌+◌, ◌-◌, ◌^◌, IfOk, drop, length, take_while};
 ghost use Rattle.std.specs.List.{slice_get};
 ghost use Rattle.sieve_lexer.specs.Tokens.{AreTokens};
 ghost use Rattle.sieve_explain.specs.Explaining.{start_of};
-ghost use Rattle.sieve_explain.specs.Marks.{Stands, has_unit, if_unclosed, inner, is_no_name, is_number_at, is_unit, is_unit_at, spells, string_among, text_of, unclosed, unopened, unopened_over};
+ghost use Rattle.sieve_explain.specs.Marks.{Stands, has_unit, has_value, if_unclosed, is_name, is_no_name, is_number_at, is_of_arguments, is_string, is_unit, is_unit_at, label_at, label_behind, string_among, text_of, unclosed, unopened, unopened_over};
 
+use crate::hints::is_tag;
 use crate::places::around;
+use crate::remarks::Source;
 use crate::words::is_any;
-use sieve_lexer::{Token, TokenKind};
+use sieve_lexer::{Token, TokenKind, string_of};
+use std::alloc::AllocError;
 
 // The tokens from that number on.
 #[tactic(auto, using(std::proofs::lemmas::List::drop_min))]
@@ -55,48 +58,55 @@ fn text_of<'a>(script: &'a [u8], token: &Token) -> &'a [u8]
     text
 }
 
-// The octets without the first and the last one.
-fn inner(text: &[u8]) -> &[u8]
-    ensures { result.now ≡ inner text.now }
+// Whether the token is a string.
+fn is_string(kind: TokenKind) -> bool
+    ensures { result ≡ is_string kind }
 {
-    let (_, behind) = around(text, 1);
-    let (inner, _) = around(behind, text.len().saturating_sub(2));
-    inner
+    matches!(kind, TokenKind::QuotedString | TokenKind::MultiLineString)
 }
 
-// Whether the token is the string between quotes, without an escape in it.
-#[tactic(auto, unfolding(crate::specs::Marks::spells))]
-fn spells(script: &[u8], string: &[u8], token: &Token) -> bool
-    ensures { result ≡ spells script.now string.now token.now }
+// Whether the token is a string with that value.
+#[tactic(auto, unfolding(crate::specs::Marks::has_value))]
+fn has_value(source: &Source<'_>, string: &[u8], token: &Token) -> Result<bool, AllocError>
+    ensures { IfOk result (λ has. has ≡ has_value source.now.octets.now string.now token.now) }
 {
-    match token.kind {
-        TokenKind::QuotedString => inner(text_of(script, token)) == string,
-        _ => false,
+    if !is_string(token.kind) {
+        return Ok(false);
     }
+    let value = string_of(source.alloc, token.kind, text_of(source.octets, token))?;
+    Ok(value.as_slice() == string)
 }
 
-// The first token up to the end of the command that spells the string, if there is one.
-fn string_among(script: &[u8], string: &[u8], tokens: &[Token]) -> Option<Token>
-    ensures { result ≡ string_among script.now string.now tokens.now }
+// The first of the tokens that is such a string, if there is one.
+fn string_among(
+    source: &Source<'_>,
+    string: &[u8],
+    tokens: &[Token],
+) -> Result<Option<Token>, AllocError>
+    ensures { IfOk result (λ found.
+        found ≡ string_among source.now.octets.now string.now tokens.now) }
 {
     for token in tokens {
-        if spells(script, string, token) {
-            return Some(*token);
-        }
-        if matches!(token.kind, TokenKind::Semicolon) {
-            return None;
+        if has_value(source, string, token)? {
+            return Ok(Some(*token));
         }
     }
-    None
+    Ok(None)
 }
 
 // The same from the token with that number on.
-pub fn string_behind(script: &[u8], tokens: &[Token], number: usize, string: &[u8]) -> Option<Token>
-    requires { AreTokens script.now tokens.now }
-    ensures token { result ≡ string_among script.now string.now (drop number tokens.now) }
-    ensures within { Stands script.now result }
+pub fn string_behind(
+    source: &Source<'_>,
+    tokens: &[Token],
+    number: usize,
+    string: &[u8],
+) -> Result<Option<Token>, AllocError>
+    requires { AreTokens source.now.octets.now tokens.now }
+    ensures token { IfOk result (λ found.
+        found ≡ string_among source.now.octets.now string.now (drop number tokens.now)) }
+    ensures within { IfOk result (λ found. Stands source.now.octets.now found) }
 {
-    string_among(script, string, tokens_from(tokens, number))
+    string_among(source, string, tokens_from(tokens, number))
 }
 
 // Whether a number stands there.
@@ -154,6 +164,56 @@ pub fn has_unit(script: &[u8], tokens: &[Token]) -> bool
     let place = named_at(tokens);
     let before = token_at(tokens, place.saturating_sub(1));
     is_number_at(before) && is_unit_at(script, token_at(tokens, place))
+}
+
+// Whether arguments are written with the token.
+fn is_of_arguments(token: &&Token) -> bool
+    ensures { result ≡ is_of_arguments token.now.now }
+{
+    matches!(
+        token.kind,
+        TokenKind::QuotedString
+            | TokenKind::MultiLineString
+            | TokenKind::Number
+            | TokenKind::Tag
+            | TokenKind::Comma
+            | TokenKind::OpeningBracket
+            | TokenKind::ClosingBracket
+    )
+}
+
+// How many tokens of arguments stand first.
+fn arguments_length(tokens: &[Token]) -> usize
+    ensures { result ≡ length (take_while is_of_arguments tokens.now) }
+{
+    tokens.iter().take_while(is_of_arguments).count()
+}
+
+// The octets of a name that a tag has, or nothing.
+fn label_at(script: &[u8], token: Option<Token>) -> &[u8]
+    ensures { result.now ≡ label_at script.now token }
+{
+    match token {
+        Some(token) if is_name(token.kind) && is_tag(text_of(script, &token)) => {
+            text_of(script, &token)
+        }
+        _ => &[],
+    }
+}
+
+// The same of what stands behind the arguments with which the tokens begin.
+#[tactic(auto, unfolding(crate::specs::Marks::label_behind))]
+pub fn label_behind<'a>(script: &'a [u8], tokens: &[Token]) -> &'a [u8]
+    ensures { result.now ≡ label_behind script.now tokens.now }
+{
+    label_at(script, token_at(tokens, arguments_length(tokens)))
+}
+
+// Whether the token is an identifier.
+fn is_name(kind: TokenKind) -> bool
+    ensures { result ≡ is_name kind }
+{
+    matches!(kind, TokenKind::Identifier)
 }
 
 // How many closing braces have no partner, with one more token before those that have that many.

@@ -1,13 +1,14 @@
 // What is said of a command or test that isn't accepted.
 ghost use Rattle.std.specs.Prelude.{◌≡◌};
 ghost use Rattle.sieve_check.specs.ReasonView.{reason_view, refused_view};
-ghost use Rattle.sieve_explain.specs.Explaining.{fault_blanks, is_argument_fault};
-ghost use Rattle.sieve_explain.specs.Reasons.{capability_words, ending_words, no_test_words, other_blanks, place_text, positional_words, reason_blanks, reason_limit, reason_text, reason_words, tag_words, tests_words};
+ghost use Rattle.sieve_explain.specs.Explaining.{fault_blanks, is_argument_fault, label_blanks, may_lack_label};
+ghost use Rattle.sieve_explain.specs.Reasons.{capability_words, ending_words, extra_words, needs_text, no_argument_words, no_test_words, other_blanks, place_text, positional_words, reason_blanks, reason_limit, reason_text, reason_words, tag_words, tests_words};
 ghost use Rattle.sieve_explain.specs.Sentences.{blanks_of};
 
 use crate::hints::{unknown_capability, unknown_command, unknown_tag, unknown_test};
-use crate::marks::{has_unit, tokens_from};
+use crate::marks::{has_unit, label_behind, tokens_from};
 use crate::sentence::{Sentence, plain};
+use crate::words::is_any;
 use octets::{MAX_STRING, is_word};
 use sieve_check::{
     Capability, Ending, Fault, MAX_LOOPS, MAX_NAME, MAX_SEGMENTS, MAX_TEST_STRINGS, MAX_VARIABLES,
@@ -41,6 +42,30 @@ fn positional_words(taken: Positional) -> &'static str
         Positional::TwoTexts => "two strings, each without brackets",
         Positional::OneList => "one string or list of strings",
         Positional::TwoLists => "two, each a string or a list of strings",
+    }
+}
+
+// The same of what was given too many arguments, by its name: they may stand before its test.
+fn extra_words(taken: Positional, name: &[u8]) -> &'static str
+    ensures { result.now ≡ extra_words taken name.now }
+{
+    match taken {
+        Positional::Nothing => no_argument_words(name),
+        _ => positional_words(taken),
+    }
+}
+
+// Of one that takes none.
+#[tactic(auto, unfolding(crate::specs::Reasons::no_argument_words))]
+fn no_argument_words(name: &[u8]) -> &'static str
+    ensures { result.now ≡ no_argument_words name.now }
+{
+    if is_any(name, &["if", "elsif", "not"]) {
+        "none before its test"
+    } else if is_any(name, &["allof", "anyof"]) {
+        "none before its tests"
+    } else {
+        "none"
     }
 }
 
@@ -88,7 +113,7 @@ fn tag_words(tag: Tag) -> &'static str
     match tag {
         Tag::Comparator => "the name of a comparator, \"i;octet\" or \"i;ascii-casemap\"",
         Tag::Select(_) => "the names of parameters, a string or list of strings",
-        Tag::Name => "the name of a loop, a string",
+        Tag::Name => "the name of a loop, one string without brackets",
         Tag::First => "a number of octets, 1 or more",
         Tag::Order(_)
         | Tag::Kind(_)
@@ -130,6 +155,19 @@ fn place_text(name: &[u8]) -> &'static str
     }
 }
 
+// The text for a capability that wasn't required, by the name of what needs it; a `take` needs two.
+#[tactic(auto, unfolding(crate::specs::Reasons::needs_text))]
+fn needs_text(capability: Capability, name: &[u8]) -> &'static str
+    ensures { result.now ≡ needs_text capability name.now }
+{
+    match capability {
+        Capability::Variables if is_word(name, b"take") => {
+            "@ needs `require [\"variables\", \"vnd.depot\"]` before it"
+        }
+        _ => "@ needs `require \"&\"` before it",
+    }
+}
+
 // The text for a reason, by the name of the command or test; none for a name that isn't known.
 fn reason_text(kind: ReasonKind, name: &[u8]) -> &'static str
     ensures { result.now ≡ reason_text kind name.now }
@@ -139,7 +177,7 @@ fn reason_text(kind: ReasonKind, name: &[u8]) -> &'static str
         | ReasonKind::UnknownTest
         | ReasonKind::UnknownCapability
         | ReasonKind::UnknownTag => "",
-        ReasonKind::MissingCapability(_) => "@ needs `require \"&\"` before it",
+        ReasonKind::MissingCapability(capability) => needs_text(capability, name),
         ReasonKind::ForeignTag => "@ takes no tag #",
         ReasonKind::RepeatedTag => "# is repeated, or stands beside another of its kind",
         ReasonKind::TwoModifiers => "# can't stand beside another modifier of its precedence",
@@ -174,9 +212,10 @@ fn reason_words(kind: ReasonKind, name: &[u8]) -> &'static str
     match kind {
         ReasonKind::MissingCapability(capability) => capability_words(capability),
         ReasonKind::TagArgument(tag) => tag_words(tag),
-        ReasonKind::MissingArgument(taken)
-        | ReasonKind::ExtraArgument(taken)
-        | ReasonKind::WrongArgument(taken) => positional_words(taken),
+        ReasonKind::MissingArgument(taken) | ReasonKind::WrongArgument(taken) => {
+            positional_words(taken)
+        }
+        ReasonKind::ExtraArgument(taken) => extra_words(taken, name),
         ReasonKind::WrongTests(taken) => tests_words(taken, name),
         ReasonKind::WrongEnding(ending) => ending_words(ending),
         _ => "",
@@ -206,20 +245,45 @@ fn other_sentence(reason: Reason<'_>) -> Sentence<'_>
         name: reason.name,
         subject: reason.subject,
         words: reason_words(reason.kind, reason.name),
+        others: "",
         number: reason_limit(reason.kind),
     }
 }
 
-// The sentence for arguments with a wrong unit, or for another reason.
+// The sentence for arguments with a wrong unit, for a tag without its colon behind them, or for another reason.
 #[tactic(auto, unfolding(crate::specs::Explaining::fault_blanks))]
-pub fn fault_sentence<'a>(script: &[u8], tokens: &[Token], found: Refused<'a>) -> Sentence<'a>
+pub fn fault_sentence<'a>(script: &'a [u8], tokens: &[Token], found: Refused<'a>) -> Sentence<'a>
     ensures { blanks_of result ≡ fault_blanks script.now tokens.now (refused_view found.entry) }
 {
-    let arguments = tokens_from(tokens_from(tokens, found.token), 1);
-    if is_argument_fault(found.reason.kind.fault()) && has_unit(script, arguments) {
-        plain("the units of a number are K, M and G, with nothing behind the letter, as in 5M")
-    } else {
-        reason_sentence(found.reason)
+    let behind = tokens_from(tokens_from(tokens, found.token), 1);
+    if is_argument_fault(found.reason.kind.fault()) && has_unit(script, behind) {
+        return plain(
+            "the units of a number are K, M and G, with no blank before the letter and nothing behind it, as in 5M",
+        );
+    }
+    label_sentence(label_behind(script, behind), found.reason)
+}
+
+// The sentence for a name that a tag has, or for another reason.
+fn label_sentence<'a>(label: &'a [u8], reason: Reason<'a>) -> Sentence<'a>
+    ensures { blanks_of result ≡ label_blanks label.now (reason_view reason.entry) }
+{
+    if !label.is_empty() && may_lack_label(reason.kind) {
+        return Sentence {
+            name: label,
+            ..plain("@ is a tag: is a colon missing before it?")
+        };
+    }
+    reason_sentence(reason)
+}
+
+// Whether an argument may be missing, or it has a test that it doesn't take.
+fn may_lack_label(kind: ReasonKind) -> bool
+    ensures { result ≡ may_lack_label kind }
+{
+    match kind {
+        ReasonKind::MissingArgument(_) | ReasonKind::WrongTests(Tests::Nothing) => true,
+        _ => false,
     }
 }
 

@@ -6,6 +6,7 @@ ghost use Rattle.sieve_explain.specs.Sentences.{blanks_of};
 use crate::excerpt::push_excerpt;
 use crate::places::{line_number, octets_before};
 use crate::sentence::{Sentence, push_sentence};
+use crate::shown::{Style, push_shown};
 use itoa::Buffer;
 use std::alloc::{AllocError, Global};
 
@@ -37,7 +38,7 @@ fn push_heading(
     ensures { OnOk result (out.new.items ≡ out.old.items
         ++ heading kind.now source.now.name.now source.now.octets.now place) }
 {
-    out.extend_from_slice(source.name.as_bytes())?;
+    push_shown(out, Style::Name, source.name.as_bytes())?;
     push_number(out, line_number(source.octets, place))?;
     let column = octets_before(source.octets, place) as u128 + 1;
     push_number(out, column)?;

@@ -9,7 +9,7 @@ use std::alloc::AllocError;
 /// A sentence: its text, in which some octets are blanks, and what goes into them.
 #[derive(Clone, Copy)]
 pub struct Sentence<'a> {
-    /// The text with its blanks, as `specs/Sentences` has them: `@`, `#`, `$`, `&` and `%`.
+    /// The text with its blanks, as `specs/Sentences` has them: `@`, `#`, `$`, `&`, `~` and `%`.
     pub text: &'static str,
     /// The name of a command or test, or the text of a token: for `@`.
     pub name: &'a [u8],
@@ -17,6 +17,8 @@ pub struct Sentence<'a> {
     pub subject: &'a [u8],
     /// Words of our own: for `&`.
     pub words: &'static str,
+    /// Other such words beside them: for `~`.
+    pub others: &'static str,
     /// A number: for `%`.
     pub number: u64,
 }
@@ -30,6 +32,7 @@ pub fn plain(text: &'static str) -> Sentence<'static>
         name: &[],
         subject: &[],
         words: "",
+        others: "",
         number: 0,
     }
 }
@@ -41,10 +44,11 @@ fn push_filled(out: &mut Vec<u8>, sentence: &Sentence<'_>, octet: u8) -> Result<
         ++ filled_octet (blanks_of sentence.now) octet) }
 {
     match octet {
-        b'@' => push_between(out, b"`", sentence.name, b"`"),
-        b'#' => push_between(out, b"`:", sentence.subject, b"`"),
-        b'$' => push_between(out, b"\"", sentence.subject, b"\""),
+        b'@' => push_between(out, b"`", sentence.name, b'`'),
+        b'#' => push_between(out, b"`:", sentence.subject, b'`'),
+        b'$' => push_between(out, b"\"", sentence.subject, b'"'),
         b'&' => out.extend_from_slice(sentence.words.as_bytes()),
+        b'~' => out.extend_from_slice(sentence.others.as_bytes()),
         b'%' => out.extend_from_slice(Buffer::new().format(sentence.number).as_bytes()),
         _ => out.extend_from_slice(&[octet]),
     }

@@ -2,7 +2,7 @@
 ghost use Rattle.std.specs.Prelude.{◌≡◌, map};
 ghost use Rattle.std.specs.List.{list_any};
 ghost use Rattle.octets.specs.Ascii.{is_word};
-ghost use Rattle.sieve_explain.specs.Words.{begin_off, begin_swapped, differ_at, hint_of, is_near, nearest, texts_of, with_words, words_for};
+ghost use Rattle.sieve_explain.specs.Words.{begin_off, begin_swapped, differ_at, hint_of, is_near, nearest, nearest_but, texts_of, with_words, words_for};
 
 use crate::places::around;
 use octets::is_word;
@@ -89,14 +89,21 @@ fn is_near(name: &[u8], word: &[u8]) -> bool
     near
 }
 
-// The first of the words that is near, or nothing.
-pub fn nearest(name: &[u8], words: &[&'static str]) -> &'static str
-    ensures { result.now ≡ nearest name.now (texts_of words.now) }
+// The first of the words that is near and isn't a word that was found before, or nothing.
+pub fn nearest_but(name: &[u8], found: &str, words: &[&'static str]) -> &'static str
+    ensures { result.now ≡ nearest_but name.now found.now (texts_of words.now) }
 {
     for word in words {
-        if is_near(name, word.as_bytes()) {
+        if is_near(name, word.as_bytes()) && !is_word(word.as_bytes(), found.as_bytes()) {
             return word;
         }
     }
     ""
+}
+
+// The first of the words that is near, or nothing.
+pub fn nearest(name: &[u8], words: &[&'static str]) -> &'static str
+    ensures { result.now ≡ nearest name.now (texts_of words.now) }
+{
+    nearest_but(name, "", words)
 }

@@ -1,0 +1,322 @@
+-- What is refused of a script stands where its token does, and a string that is no capability among its own arguments.
+use Rattle.std.proofs.Common.{◌≡◌, ◌∙◌, ℕ, suc, Bool, true, false, if◌then◌else◌, List, [], ◌∷◌, ◌++◌, All, ap, sym, refl}
+use Rattle.std.specs.Prelude.{Option, Some, None, IfSome, not, ◌&&◌, length, nat_lt, is_some, option_map}
+use Rattle.std.specs.List.{find}
+use Rattle.std.specs.Option.{option_and_then, option_map_or, option_or, option_to_list}
+use Rattle.std.proofs.lemmas.List.{append-nil, append_assoc}
+use Rattle.std.proofs.lemmas.List.Elements.{All-append, All-cons, All-head, All-nil, All-tail}
+use Rattle.octets.specs.Limits.{max_variables}
+use Rattle.octets.specs.Once.{is_listed, with_more, with_one}
+use Rattle.sieve_references.specs.References.{Segment, beyond, foreign, segments}
+use Rattle.sieve_parser.specs.Grammar.{Placed, at_depth, arguments_spelled, command_spelled, commands_spelled, invocation_spelled, more_tests_spelled, tests_spelled}
+use Rattle.sieve_parser.specs.Lexemes.{identifier, opening_parenthesis, closing_parenthesis, comma, semicolon, opening_brace, closing_brace}
+use Rattle.sieve_parser.specs.Tree.{ArgumentTree, label, InvocationTree, invocation, TestsTree, no_test, one_test, test_list, MoreTests, last, next, CommandTree, simple, block, CommandsTree, no_command, command}
+use Rattle.sieve_check.specs.Arguments.{Awaiting, arguments_cause, awaiting, first_label, is_second_modifier, missing_cause, number_of, positional_cause, rest_cause}
+use Rattle.sieve_check.specs.Causes.{Cause, Refused, about, or_cause, plain, refused_for}
+use Rattle.sieve_check.specs.Names.{command_named, tag_named, test_named}
+use Rattle.sieve_check.specs.Rules.{Mentions, Visit, cause_by_name, command_needs, command_visit, command_visits, commands_visits, ending_cause, has_many_strings, head_visits, ill_formed_command, ill_formed_test, kind_of, known_command_cause, known_test_cause, lacking, lacking_cause, large_cause, large_mention_cause, lists_read, long_name, long_string_cause, looks_inside, loops_opened, after_invocation, invocation_of, many_strings_cause, may_stand, mention_cause, mentions_of, misplaced, more_visits, names_past, names_with, opened_by, expanding, place_cause, read_command_cause, read_test_cause, reasons_of, reference_cause, reference_kind, refused_after, refused_among, same_ending, same_reason, same_tests, string_has, strings_of, test_may_stand, test_needs, test_place_cause, test_visit, test_visits, tests_cause, tests_visits, unknown_cause, visit_cause, where_required}
+use Rattle.sieve_check.specs.Signatures.{Given, Read, add_tag, asks_for_mime, command_signature, ending_of, is_positional, no_tag, nothing_given, reading, takes_tag, test_signature, with_argument}
+use Rattle.sieve_check.specs.Surroundings.{Context, at_start, first_lacking, in_block, opens_many}
+use Rattle.sieve_check.specs.declared.causes.ReasonKind.{ReasonKind}
+use Rattle.sieve_check.specs.declared.causes.ReasonKind.TheVariants as reasons
+use Rattle.sieve_check.specs.declared.names.Capability.{Capability}
+use Rattle.sieve_check.specs.declared.names.CommandName.{CommandName}
+use Rattle.sieve_check.specs.declared.names.CommandName.TheVariants.{Break, Require}
+use Rattle.sieve_check.specs.declared.names.TestName.{TestName}
+use Rattle.sieve_check.specs.declared.signature.Ending.{Ending}
+use Rattle.sieve_check.specs.declared.signature.Ending.TheVariants as ending
+use Rattle.sieve_check.specs.declared.signature.Positional.{Positional}
+use Rattle.sieve_check.specs.declared.signature.Signature.{Signature}
+use Rattle.sieve_check.specs.declared.signature.Tags.{Tags}
+use Rattle.sieve_check.specs.declared.signature.Tests.{Tests}
+use Rattle.sieve_check.specs.declared.string_faults.StringFault.TheVariants.{Unknown}
+use Rattle.sieve_check.specs.declared.surroundings.Capabilities.{Capabilities}
+use Rattle.sieve_explain.proofs.OwnStrings.{IsAmong, found_among}
+
+-- ---- causes
+
+-- the kind of reason whose mark stands under a string
+abbrev pub marks_string : ReasonKind → Bool
+marks_string reasons.UnknownCapability = true
+marks_string _ = false
+
+-- a cause of another kind, if there is one
+abbrev Other : Option Cause → Type 0
+Other o = IfSome o (λ c. marks_string c.kind ≡ false)
+
+other_or : (o p : Option Cause) → Other o → Other p → Other (option_or o p)
+other_or None p a b = b
+other_or (Some c) p a b = a
+
+other_if : (x : Bool) (o p : Option Cause) → Other o → Other p → Other (if x then o else p)
+other_if true o p a b = a
+other_if false o p a b = b
+
+other_map : {A : Type 0} (f : A → Cause) (o : Option A) → ((x : A) → marks_string (f x).kind ≡ false) → Other (option_map f o)
+other_map f None h = tt
+other_map f (Some x) h = h x
+
+other_then : {A : Type 0} (f : A → Option Cause) (o : Option A) → ((x : A) → Other (f x)) → Other (option_and_then f o)
+other_then f None h = tt
+other_then f (Some x) h = h x
+
+other_than : {A : Type 0} (o : Option A) (c : Cause) (f : A → Option Cause) → marks_string c.kind ≡ false → ((x : A) → Other (f x)) → Other (or_cause o c f)
+other_than None c f e h = e
+other_than (Some x) c f e h = h x
+
+untaken : (foreign second : Bool) → marks_string (if foreign then reasons.ForeignTag else (if second then reasons.TwoModifiers else reasons.RepeatedTag)) ≡ false
+untaken true second = refl
+untaken false true = refl
+untaken false false = refl
+
+other_positional : (positional : Positional) (args : List ArgumentTree) → Other (positional_cause positional args)
+other_positional positional args =
+    other_or (option_map (about reasons.LateTag) (first_label args)) _ (other_map (about reasons.LateTag) (first_label args) (λ name. refl))
+    (other_if (nat_lt (length args) (number_of positional)) _ _ refl
+    (other_if (nat_lt (number_of positional) (length args)) _ _ refl
+    (other_if (not (is_positional positional args)) _ _ refl tt)))
+
+other_missing : (signature : Signature) (tags : Tags) (args : List ArgumentTree) → Other (missing_cause signature tags args)
+other_missing signature tags args =
+    other_if (signature.order && not (is_some tags.order)) _ _ refl
+    (other_if (asks_for_mime tags && not tags.mime) _ _ refl tt)
+
+other_rest : (signature : Signature) (all : List ArgumentTree) (given : Given) (awaited : Option Awaiting) (args : List ArgumentTree) → Other (rest_cause signature all given awaited args)
+other_rest signature all given None (label name ∷ args) =
+    other_than (tag_named name) _ _ refl (λ tag.
+    other_than (add_tag signature tag given) _ _ (untaken (not (takes_tag signature tag no_tag)) (is_second_modifier tag given.tags))
+    (λ more. other_rest signature all more (awaiting name tag) args))
+other_rest signature all given None args =
+    other_or (positional_cause signature.positional args) (missing_cause signature given.tags all)
+    (other_positional signature.positional args) (other_missing signature given.tags all)
+other_rest signature all given (Some awaited) (a ∷ args) =
+    other_than (with_argument awaited.tag a given) _ _ refl (λ more. other_rest signature all more None args)
+other_rest signature all given (Some awaited) [] = refl
+
+other_lacking : (required : Capabilities) (needed : List Capability) → Other (lacking_cause required needed)
+other_lacking required needed = other_map lacking (first_lacking needed required) (λ capability. refl)
+
+other_reference : (found : List Segment) → marks_string (reference_kind found) ≡ false
+other_reference [] = refl
+other_reference (foreign ∷ others) = refl
+other_reference (beyond ∷ others) = refl
+other_reference (_ ∷ others) = other_reference others
+
+other_mention : (mentions : Mentions) → Other (mention_cause mentions)
+other_mention mentions =
+    other_or (option_map reference_cause _) (option_map (about reasons.VariableName) _)
+    (other_map reference_cause _ (λ string. other_reference (segments string)))
+    (other_map (about reasons.VariableName) _ (λ name. refl))
+
+other_large : (string : List ℕ) (o : Option (List ℕ)) → marks_string (option_map_or (about reasons.LongName) o (about reasons.ManySegments string)).kind ≡ false
+other_large string None = refl
+other_large string (Some name) = refl
+
+other_large_mention : (mentions : Mentions) → Other (large_mention_cause mentions)
+other_large_mention mentions =
+    other_or (option_map large_cause _) (option_map (about reasons.LongName) _)
+    (other_map large_cause _ (λ string. other_large string (long_name (segments string))))
+    (other_map (about reasons.LongName) _ (λ name. refl))
+
+other_long_string : (args : List ArgumentTree) → Other (long_string_cause args)
+other_long_string args = other_map (about reasons.LongString) _ (λ string. refl)
+
+other_tests : (signature : Signature) (tests : Tests) → Other (tests_cause signature tests)
+other_tests signature tests = other_if (same_tests signature.tests tests) None _ tt refl
+
+unnamed : (o : Option (List ℕ)) → marks_string (option_map_or (about reasons.NoSuchLoop) o (plain reasons.Misplaced)).kind ≡ false
+unnamed None = refl
+unnamed (Some name) = refl
+
+other_misplaced : (name : CommandName) (read : Read) → marks_string (misplaced name read).kind ≡ false
+other_misplaced Break read = unnamed read.name
+other_misplaced _ read = refl
+
+other_read_command : (s : Context) (name : CommandName) (args : List ArgumentTree) (tests : Tests) (end : Ending) (read : Read) → Other (read_command_cause s name args tests end read)
+other_read_command s name args tests end read =
+    let mentions = where_required s.required (mentions_of name (strings_of (lists_read read))) in
+    other_or (ill_formed_command name tests end mentions) _
+    (other_or (tests_cause (command_signature name) tests) _ (other_tests (command_signature name) tests)
+    (other_or (ending_cause name end) _ (other_if (same_ending (ending_of name) end) None _ tt refl) (other_mention mentions)))
+    (other_or (place_cause s name read) _ (other_if (may_stand s name read) None _ tt (other_misplaced name read))
+    (other_or (long_string_cause args) _ (other_long_string args)
+    (other_or (large_mention_cause mentions) _ (other_large_mention mentions)
+    (other_if (opens_many (opened_by name args) s) _ None refl tt))))
+
+other_read_test : (s : Context) (name : TestName) (args : List ArgumentTree) (tests : Tests) (read : Read) → Other (read_test_cause s name args tests read)
+other_read_test s name args tests read =
+    let mentions = where_required s.required (expanding (strings_of (lists_read read))) in
+    other_or (ill_formed_test name tests mentions) _
+    (other_or (tests_cause (test_signature name) tests) _ (other_tests (test_signature name) tests) (other_mention mentions))
+    (other_or (test_place_cause s name) _ (other_if (test_may_stand s name) None _ tt refl)
+    (other_or (long_string_cause args) _ (other_long_string args)
+    (other_or (many_strings_cause read) _ (other_if (has_many_strings read) _ None refl tt) (other_large_mention mentions))))
+
+-- a string that is no capability is among the arguments
+abbrev Good : List ArgumentTree → Option Cause → Type 0
+Good args o = IfSome o (λ c. marks_string c.kind ≡ true → IsAmong c.subject (strings_of args))
+
+good_other : (args : List ArgumentTree) (o : Option Cause) → Other o → Good args o
+good_other args None h = tt
+good_other args (Some c) h = λ e. absurd (cc)
+
+good_or : (args : List ArgumentTree) (o p : Option Cause) → Good args o → Good args p → Good args (option_or o p)
+good_or args None p a b = b
+good_or args (Some c) p a b = a
+
+good_found : (args : List ArgumentTree) (o : Option (List ℕ)) → ((s : List ℕ) → o ≡ Some s → IsAmong s (strings_of args)) → Good args (option_map (about reasons.UnknownCapability) o)
+good_found args None h = tt
+good_found args (Some s) h = λ e. h s refl
+
+good_unknown : (name : CommandName) (args : List ArgumentTree) → Good args (unknown_cause name args)
+good_unknown Require args = good_found args (find (string_has Unknown) (strings_of args)) (λ s e. found_among (string_has Unknown) (strings_of args) s e)
+good_unknown _ args = tt
+
+good_command : (s : Context) (name : CommandName) (args : List ArgumentTree) (tests : Tests) (end : Ending) → Good args (known_command_cause s name args tests end)
+good_command s name args tests end =
+    let read = reading (command_signature name) args in
+    let rest = option_and_then (read_command_cause s name args tests end) read in
+    let behind = other_or (arguments_cause (command_signature name) args) rest (other_rest (command_signature name) args nothing_given None args)
+    (other_then (read_command_cause s name args tests end) read (λ r. other_read_command s name args tests end r)) in
+    good_or args (lacking_cause s.required (command_needs name)) _ (good_other args _ (other_lacking s.required (command_needs name)))
+    (good_or args (unknown_cause name args) _ (good_unknown name args)
+    (good_other args (option_or (arguments_cause (command_signature name) args) rest) behind))
+
+other_test : (s : Context) (name : TestName) (args : List ArgumentTree) (tests : Tests) → Other (known_test_cause s name args tests)
+other_test s name args tests =
+    other_or (lacking_cause s.required (test_needs name args)) _ (other_lacking s.required (test_needs name args))
+    (other_or (arguments_cause (test_signature name) args) _ (other_rest (test_signature name) args nothing_given None args)
+    (other_then (read_test_cause s name args tests) (reading (test_signature name) args) (λ r. other_read_test s name args tests r)))
+
+good_command_visit : (s : Context) (token : ℕ) (name : List ℕ) (args : List ArgumentTree) (tests : Tests) (end : Ending) → Good args (command_visit s token name args tests end).cause
+good_command_visit s token name args tests end = step (command_named name) where
+  step : (o : Option CommandName) → Good args (cause_by_name reasons.UnknownCommand (λ known. known_command_cause s known args tests end) o)
+  step None = λ e. absurd (cc)
+  step (Some known) = good_command s known args tests end
+
+good_test_visit : (s : Context) (token : ℕ) (name : List ℕ) (args : List ArgumentTree) (tests : Tests) → Good args (test_visit s token name args tests).cause
+good_test_visit s token name args tests = step (test_named name) where
+  step : (o : Option TestName) → Good args (cause_by_name reasons.UnknownTest (λ known. known_test_cause s known args tests) o)
+  step None = λ e. absurd (cc)
+  step (Some known) = good_other args (known_test_cause s known args tests) (other_test s known args tests)
+
+-- ---- places
+
+-- the lexemes stand among all
+abbrev Inside : List Placed → List Placed → Type 0
+Inside all xs = (before : List Placed) × ((after : List Placed) × (all ≡ before ++ (xs ++ after)))
+
+inside_left : (all xs ys : List Placed) → Inside all (xs ++ ys) → Inside all xs
+inside_left all xs ys (before, (after, e)) = (before, (ys ++ after, e ∙ ap (λ (l : List Placed). before ++ l) (append_assoc xs ys after)))
+
+inside_right : (all xs ys : List Placed) → Inside all (xs ++ ys) → Inside all ys
+inside_right all xs ys (before, (after, e)) =
+    (before ++ xs, (after, e ∙ ap (λ (l : List Placed). before ++ l) (append_assoc xs ys after) ∙ sym (append_assoc before xs (ys ++ after))))
+
+inside_next : (all : List Placed) (x : Placed) (xs : List Placed) → Inside all (x ∷ xs) → Inside all xs
+inside_next all x xs w = inside_right all (x ∷ []) xs w
+
+-- a visit's name and arguments stand among all
+abbrev Stands : List Placed → Visit → Type 0
+Stands all v = (d : ℕ) × ((args : List ArgumentTree) × (Inside all (at_depth d (identifier v.token v.name) ∷ arguments_spelled d args) × Good args v.cause))
+
+all_if : (P : Visit → Type 0) (b : Bool) (xs ys : List Visit) → All P xs → All P ys → All P (if b then xs else ys)
+all_if P true xs ys p q = p
+all_if P false xs ys p q = q
+
+mutual
+  test_stands : (t : InvocationTree) (s : Context) (d : ℕ) (all : List Placed) → Inside all (invocation_spelled d t) → All (Stands all) (test_visits s t)
+  test_stands (invocation token name args tests) s d all w =
+      let own = at_depth d (identifier token name) ∷ arguments_spelled d args in
+      All-cons (Stands all) (test_visit s token name args (kind_of tests)) _
+      (d, (args, (inside_left all own (tests_spelled d tests) w, good_test_visit s token name args (kind_of tests))))
+      (all_if (Stands all) (looks_inside test_signature (test_named name)) (tests_visits s tests) []
+      (tests_stand tests s d all (inside_right all own (tests_spelled d tests) w)) (All-nil (Stands all)))
+
+  tests_stand : (ts : TestsTree) (s : Context) (d : ℕ) (all : List Placed) → Inside all (tests_spelled d ts) → All (Stands all) (tests_visits s ts)
+  tests_stand no_test s d all w = All-nil (Stands all)
+  tests_stand (one_test t) s d all w = test_stands t s (suc d) all w
+  tests_stand (test_list t ts) s d all w =
+      let first = invocation_spelled (suc d) t in
+      let more = more_tests_spelled d ts in
+      let end = at_depth d closing_parenthesis ∷ [] in
+      let inner = inside_next all (at_depth d opening_parenthesis) (first ++ (more ++ end)) w in
+      All-append (Stands all) (test_visits s t) (more_visits s ts)
+      (test_stands t s (suc d) all (inside_left all first (more ++ end) inner))
+      (more_stand ts s d all (inside_left all more end (inside_right all first (more ++ end) inner)))
+
+  more_stand : (ts : MoreTests) (s : Context) (d : ℕ) (all : List Placed) → Inside all (more_tests_spelled d ts) → All (Stands all) (more_visits s ts)
+  more_stand last s d all w = All-nil (Stands all)
+  more_stand (next t ts) s d all w =
+      let first = invocation_spelled (suc d) t in
+      let inner = inside_next all (at_depth d comma) (first ++ more_tests_spelled d ts) w in
+      All-append (Stands all) (test_visits s t) (more_visits s ts)
+      (test_stands t s (suc d) all (inside_left all first (more_tests_spelled d ts) inner))
+      (more_stand ts s d all (inside_right all first (more_tests_spelled d ts) inner))
+
+head_stands : (i : InvocationTree) (s : Context) (d : ℕ) (end : Ending) (all : List Placed) → Inside all (invocation_spelled d i) → All (Stands all) (head_visits s i end)
+head_stands (invocation token name args tests) s d end all w =
+    let own = at_depth d (identifier token name) ∷ arguments_spelled d args in
+    All-cons (Stands all) (command_visit s token name args (kind_of tests) end) _
+    (d, (args, (inside_left all own (tests_spelled d tests) w, good_command_visit s token name args (kind_of tests) end)))
+    (all_if (Stands all) (looks_inside command_signature (command_named name)) (tests_visits s tests) []
+    (tests_stand tests s d all (inside_right all own (tests_spelled d tests) w)) (All-nil (Stands all)))
+
+mutual
+  command_stands : (c : CommandTree) (s : Context) (d : ℕ) (all : List Placed) → Inside all (command_spelled d c) → All (Stands all) (command_visits s c)
+  command_stands (simple i) s d all w = head_stands i s d ending.Semicolon all (inside_left all (invocation_spelled d i) (at_depth d semicolon ∷ []) w)
+  command_stands (block i cs) s d all w =
+      let head = invocation_spelled d i in
+      let word = commands_spelled (suc d) cs in
+      let end = at_depth (suc d) closing_brace ∷ [] in
+      let open_brace = at_depth (suc d) opening_brace in
+      All-append (Stands all) (head_visits s i ending.Block) _
+      (head_stands i s d ending.Block all (inside_left all head (open_brace ∷ (word ++ end)) w))
+      (all_if (Stands all) (opens_many (loops_opened i) s) [] (commands_visits (in_block (loops_opened i) s) cs) (All-nil (Stands all))
+      (commands_stand cs (in_block (loops_opened i) s) (suc d) all
+      (inside_left all word end (inside_next all open_brace (word ++ end) (inside_right all head (open_brace ∷ (word ++ end)) w)))))
+
+  commands_stand : (cs : CommandsTree) (s : Context) (d : ℕ) (all : List Placed) → Inside all (commands_spelled d cs) → All (Stands all) (commands_visits s cs)
+  commands_stand no_command s d all w = All-nil (Stands all)
+  commands_stand (command c cs) s d all w =
+      All-append (Stands all) (command_visits s c) (commands_visits (after_invocation s (invocation_of c)) cs)
+      (command_stands c s d all (inside_left all (command_spelled d c) (commands_spelled d cs) w))
+      (commands_stand cs (after_invocation s (invocation_of c)) d all (inside_right all (command_spelled d c) (commands_spelled d cs) w))
+
+-- ---- what is told
+
+-- the name and arguments of what is refused stand among all, and its string among the arguments
+abbrev pub IsTold : List Placed → Refused → Type 0
+IsTold all found = (d : ℕ) × ((args : List ArgumentTree) × (Inside all (at_depth d (identifier found.token found.reason.name) ∷ arguments_spelled d args)
+    × (marks_string found.reason.kind ≡ true → IsAmong found.reason.subject (strings_of args))))
+
+told_one : (all : List Placed) (token : ℕ) (name : List ℕ) (d : ℕ) (args : List ArgumentTree) (o : Option Cause) → Inside all (at_depth d (identifier token name) ∷ arguments_spelled d args)
+    → Good args o → All (IsTold all) (option_to_list (option_map (refused_for token name) o))
+told_one all token name d args None w good = All-nil (IsTold all)
+told_one all token name d args (Some c) w good = All-cons (IsTold all) (refused_for token name c) [] (d, (args, (w, good))) (All-nil (IsTold all))
+
+told_after : (all : List Placed) (names : List (List ℕ)) (v : Visit) → Stands all v → All (IsTold all) (option_to_list (refused_after names v))
+told_after all names v (d, (args, (w, good))) =
+    told_one all v.token v.name d args (visit_cause names v) w
+    (good_or args v.cause _ good (good_other args _ (other_if (nat_lt max_variables (length (names_with names v))) _ None refl tt)))
+
+told_among : (all : List Placed) (names : List (List ℕ)) (vs : List Visit) → All (Stands all) vs → All (IsTold all) (refused_among names vs)
+told_among all names [] h = All-nil (IsTold all)
+told_among all names (v ∷ vs) h =
+    All-append (IsTold all) (option_to_list (refused_after names v)) (refused_among (names_past names v) vs)
+    (told_after all names v (All-head (Stands all) v vs h)) (told_among all (names_past names v) vs (All-tail (Stands all) v vs h))
+
+all_one : {A : Type 0} (P : A → Type 0) (b : Bool) (listed : List A) (x : A) → All P listed → P x → All P (if b then listed else listed ++ x ∷ [])
+all_one P true listed x h p = h
+all_one P false listed x h p = All-append P listed (x ∷ []) h (All-cons P x [] p (All-nil P))
+
+all_more : {A : Type 0} (P : A → Type 0) (same : A → A → Bool) (listed more : List A) → All P listed → All P more → All P (with_more same listed more)
+all_more P same listed [] h more = h
+all_more P same listed (x ∷ xs) h more =
+    all_more P same (with_one same listed x) xs (all_one P (is_listed same x listed) listed x h (All-head P x xs more)) (All-tail P x xs more)
+
+pub reasons_told : (script : CommandsTree) → All (IsTold (commands_spelled 0 script)) (reasons_of script)
+reasons_told script =
+    let all = commands_spelled 0 script in
+    all_more (IsTold all) same_reason [] (refused_among [] (commands_visits at_start script)) (All-nil (IsTold all))
+    (told_among all [] (commands_visits at_start script) (commands_stand script at_start 0 all ([], ([], sym (append-nil all)))))
