@@ -11,6 +11,7 @@ use Rattle.sqlite.specs.Held.{Held}
 use Rattle.sqlite.specs.Recovery.{Image}
 use Rattle.sqlite.specs.State.{HasCleanDisk, Survives}
 use Rattle.sqlite.proofs.Theorems.{opens_again}
+use Rattle.sqlite_store.specs.Laws.{settled_at}
 use Rattle.part_store.specs.Tables.{store_schema}
 use Rattle.part_store.specs.Entries.{Entries}
 use Rattle.part_store.specs.Standing.{IsStored, MayMake}
@@ -35,6 +36,10 @@ module _ {D : Type 0} {g : Ghosts D} where
   holds_one c numbered stores image may =
       ∥∥₁_map (opens_again c.store numbered (λ trees left. (store_schema, (stores trees left).1.listed)) image may)
       (λ found. record { trees = found.0; may = found.1; holds = λ e. holds_stored image found.0 e found.2 })
+
+  -- while a store is open a crash leaves what is committed, and nothing else
+  pub files_leave_committed : (c : Held (FileStore D g)) → ((file : D) → g.may_leave file (g.seen file)) → (trees : Trees) → IsTrue (file_state c).is_open → (file_state c).may_leave trees → trees ≡ (file_state c).committed.trees
+  files_leave_committed c stays trees is_open left = settled_at c.store stays trees is_open left
 
   -- a crash leaves what was committed, or what the call may commit
   pub was_or_is : (change : Entries → Entries) (before : Entries) (old new : Held (FileStore D g))

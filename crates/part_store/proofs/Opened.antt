@@ -1,5 +1,5 @@
 -- What is opened stands for what the files held.
-use Rattle.std.proofs.Common.{◌≡◌, ◌⊎◌, ℕ, Bool, ◌∷◌, Option, None, Some, IfSome, Result, Ok, Err, IfOk, IsTrue, inl, inr, List, [], length, refl, sym, ap, subst, ◌∙◌, arith, true}
+use Rattle.std.proofs.Common.{◌≡◌, ◌⊎◌, ℕ, Bool, ◌∷◌, Option, None, Some, IfSome, Result, Ok, Err, IfOk, IfErr, OnErr, IsTrue, false, inl, inr, List, [], length, refl, sym, ap, subst, ◌∙◌, arith, true}
 use Rattle.std.proofs.Math.Logic.{∥∥₁_elim}
 use Rattle.std.proofs.lemmas.Bool.{true≢false}
 use Rattle.sqlite_disk.specs.declared.Disk.{Ghosts}
@@ -10,7 +10,7 @@ use Rattle.sqlite.specs.declared.error.Error.TheVariants.{SqliteFailure}
 use Rattle.sqlite.specs.declared.error.ErrorCode.TheVariants.{CannotOpen, OutOfMemory, DatabaseBusy}
 use Rattle.sqlite.specs.declared.FileStore.{FileStore}
 use Rattle.sqlite.specs.Effect.{Database, IsDatabase}
-use Rattle.sqlite.specs.State.{State, HasCleanDisk, IsLive, Opens}
+use Rattle.sqlite.specs.State.{State, HasCleanDisk, IsLive, Opens, Survives}
 use Rattle.sqlite.specs.Held.{Held}
 use Rattle.sqlite.specs.Files.{file_state, image_of, FailsToOpenFiles, HoldsDatabase, IsCleanLeft, LeavesFiles}
 use Rattle.sqlite.specs.Recovery.{Image}
@@ -30,9 +30,11 @@ use Rattle.sqlite_value.specs.Order.{Row}
 use Rattle.part_store.specs.Tables.{no_schema, store_schema}
 use Rattle.part_store.specs.Entries.{Entries, no_entries}
 use Rattle.part_store.specs.Standing.{Stands}
-use Rattle.part_store.specs.Opening.{HasCause, HasOtherTables, Holds, HoldsNoTables, HoldsStore, IsAt, IsBare, IsFoundIn, IsReady, IsReadyFrom, IsUnopened, KeepsStore}
+use Rattle.part_store.specs.Opening.{HasCause, HasOtherTables, Holds, HoldsNoTables, HoldsStore, IsAt, IsBare, IsEmptied, IsFoundIn, IsReady, IsReadyFrom, IsUnopened, KeepsStore, MakesEmpty, TellsWhy}
 use Rattle.part_store.specs.Looking.{are_tables}
 use Rattle.part_store.specs.declared.error.StoreError.{StoreError}
+use Rattle.part_store.specs.declared.looking.Unopened.{Unopened}
+use Rattle.part_store.specs.declared.looking.Unopened.TheVariants.{OtherTables}
 use Rattle.part_store.proofs.Looks.{stores_pass}
 
 -- a database is its trees, which list one schema
@@ -112,11 +114,39 @@ pub left_alone : (mixes : Bool) (start : List ℕ) (history : List Event) (key :
 left_alone mixes start history key is c may =
     elim (subst (λ h. MayLeave mixes (replay start h).seen (replay start h).synced (replay start h).steps c) is may) [ inl same ↦ same | inr same ↦ same ]
 
--- a refusal of files that had no tables
-pub unmade : {D : Type 0} {g : Ghosts D} (image : Image) (result : Result (Held (FileStore D g)) StoreError) (found : Held (FileStore D g)) → IsFoundIn image found
-    → IsBare (file_state found) → HasCause image result
-unmade image (Ok s) found finds bare = tt
-unmade image (Err e) found finds bare = λ _. inr (found, finds, bare)
+-- Of a store on what the database's open found, made or refused: it is ready, shows what the files
+-- held, and is refused where they had no tables.
+pub ready_from : {D : Type 0} {g : Ghosts D} (image : Image) (found : Held (FileStore D g)) (result : Result (Held (FileStore D g)) StoreError) → IsFoundIn image found
+    → IfOk result (λ s. HasCleanDisk (file_state s) → IsBare (file_state found) → IsEmptied (file_state s)) → IfOk result (λ s. (IsBare (file_state found) → ⊥) → s ≡ found)
+    → IfOk result (λ s. (file_state s).in_transaction ≡ false) → IfOk result (λ s. Survives (file_state found) (file_state s) (MakesEmpty (file_state found))) → IfOk result (IsReadyFrom image)
+ready_from image found (Ok s) finds made same settled survives =
+    record { ready = record { found = found; opened = finds.opened; made = made; same = same; settled = settled; survives = survives }; finds = finds.finds }
+ready_from image found (Err e) finds made same settled survives = tt
+
+pub shows : {D : Type 0} {g : Ghosts D} (image : Image) (result : Result (Held (FileStore D g)) StoreError) → IfOk result (IsReadyFrom image)
+    → IfOk result (λ s. HasCleanDisk (file_state s) → (e : Entries) → HoldsStore image e → IsAt e (file_state s))
+shows image (Ok s) from = λ clean e held. opens_held image s from clean e held
+shows image (Err e) from = tt
+
+pub shows_none : {D : Type 0} {g : Ghosts D} (image : Image) (result : Result (Held (FileStore D g)) StoreError) → IfOk result (IsReadyFrom image)
+    → IfOk result (λ s. HasCleanDisk (file_state s) → HoldsNoTables image → IsAt no_entries (file_state s))
+shows_none image (Ok s) from = λ clean none. opens_none image s from clean none
+shows_none image (Err e) from = tt
+
+pub unmade : {D : Type 0} {g : Ghosts D} (image : Image) (found : Held (FileStore D g)) (result : Result (Held (FileStore D g)) StoreError) → IsFoundIn image found
+    → (file_state found).in_transaction ≡ false → OnErr result ((file_state found).in_transaction ≡ false → IsBare (file_state found)) → HasCause image result
+unmade image found (Ok s) finds fresh bare = tt
+unmade image found (Err e) finds fresh bare = λ _. inr (found, finds, bare fresh)
+
+-- of a store on what the open found, as it is
+pub unseen : {D : Type 0} {g : Ghosts D} (image : Image) (found : Held (FileStore D g)) (result : Result (Held (FileStore D g)) Unopened) → IsFoundIn image found
+    → (file_state found).in_transaction ≡ false → IfErr result (λ why. why ≡ OtherTables) → OnErr result ((file_state found).in_transaction ≡ false → HasOtherTables (file_state found)) → TellsWhy image result
+unseen image found (Ok s) finds fresh others apart = tt
+unseen image found (Err why) finds fresh others apart = inr (others, found, finds, apart fresh)
+
+pub same_ok : {A E : Type 0} (result : Result A E) (x : A) (P : A → Type 0) → IfOk result (λ s. s ≡ x) → P x → IfOk result P
+same_ok (Ok s) x P same holds = subst P (sym same) holds
+same_ok (Err e) x P same holds = tt
 
 pub ready_of : {D : Type 0} {g : Ghosts D} (image : Image) (result : Result (Held (FileStore D g)) StoreError) → IfOk result (IsReadyFrom image) → IfOk result IsReady
 ready_of image (Ok s) from = from.ready

@@ -11,7 +11,6 @@ ghost use Rattle.sqlite.specs.FileStore.{view};
 ghost use Rattle.sqlite.specs.Held.{Held, state};
 ghost use Rattle.sqlite.specs.Recovery.{Image};
 ghost use Rattle.sqlite.specs.State.{HasCleanDisk, Survives};
-ghost use Rattle.sqlite_trees.specs.Tree.{Trees};
 ghost use Rattle.sqlite_trees.specs.View.{IsClean};
 ghost use Rattle.part_store.specs.Crashes.{HasNumberedTrees, HoldsOneLeft, LeavesStores, MayLeaveFiles, MayLeaveRefused, TakesSize};
 ghost use Rattle.part_store.specs.Entries.{Entries};
@@ -22,12 +21,6 @@ ghost use Rattle.part_store.specs.Tables.{store_schema};
 use crate::store::PartStore;
 use sqlite::{Alter, Connection, FileStore};
 use sqlite_disk::Disk;
-
-/// While a store is open a crash leaves what is committed, and nothing else.
-pub(crate) fn open_stores_leave_what_is_committed<S: Alter>()
-    ensures { (c : Held S) (trees : Trees) → IsTrue (state S.Store c).is_open
-        → (state S.Store c).may_leave trees → trees ≡ (state S.Store c).committed.trees }
-{}
 
 /// An open store lists its tables. So where it has the three tables, it holds each state that they
 /// stand for. Gives its connection.
@@ -58,9 +51,7 @@ pub fn calls_leave_what_was_or_is<D: Disk + Drop>()
         → Survives (file_state old) (file_state new) (MayMake change (file_state old))
         → (image : Image) → MayLeaveFiles new image
         → ∥ HoldsStore image before ⊎ HoldsStore image (change before) ∥₁ }
-{
-    open_stores_leave_what_is_committed::<FileStore<D>>();
-}
+{}
 
 /// Files that hold a store aren't told to have other tables (`look_from`), where their disk is
 /// clean.
@@ -70,12 +61,20 @@ pub fn stores_are_not_told_as_others<D: Disk + Drop>()
         → HasOtherTables (file_state found) → ⊥ }
 {}
 
+/// What a store stands on, with what isn't committed rolled back. Where its disk is clean the trees
+/// are numbered.
+fn stood_on<S: Alter + Drop>(store: PartStore<S>) -> S
+    ensures { IsClean (S.Store.view result) → IsTrue (S.Store.view store.store).is_numbered }
+{
+    store.release().into_store()
+}
+
 /// A store over files whose disk is clean has numbered trees. Gives what the store stands on, with
 /// what isn't committed rolled back.
 pub fn trees_are_numbered<D: Disk + Drop>(store: PartStore<FileStore<D>>) -> FileStore<D>
     ensures { IsClean (view result) → HasNumberedTrees store }
 {
-    store.release().into_store()
+    stood_on(store)
 }
 
 /// A database's open that is refused leaves files that held a store with the same store, however far

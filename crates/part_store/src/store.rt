@@ -20,17 +20,19 @@ ghost use Rattle.part_store.specs.Opening.{HasCause, HasOtherTables, HoldsNoTabl
 ghost use Rattle.sqlite.specs.WalFiles.{image_at};
 ghost use Rattle.part_store.specs.Calls.{Always, AsRefusal, AsRefusalInside, CommitsNothing, DoneWhere, IfDone, IfRefused, IsInside, KeepsStored, MayCommit, OnDone, OnRefused, RefusedWhere, Settles, StaysInside, StaysShut, Tells, WasOpen};
 
+mod connections;
+
 use crate::adding::{Adding, put_entries};
 use crate::all_users::list_users;
 use crate::entry::{EntryRow, NewEntry};
 use crate::error::StoreError;
-use crate::laws::open_stores_leave_what_is_committed;
 use crate::listing::list_all;
 use crate::looking::{Unopened, has_tables};
 use crate::stored_programs::{list_programs, put_program, read_program, replace_all};
 use crate::totals::{ContentTotal, count_contents};
 use crate::user_row::UserRow;
 use crate::{contents, entries, tables};
+use connections::{found_store, known_connection, made_store};
 use sqlite::{
     Alter, Connection, Error, File, FileFrom, FileStore, Files, MemStore, Start, Transaction,
     Unknown,
@@ -533,11 +535,7 @@ impl<D: Disk + Drop> PartStore<FileStore<D>> {
             → KeepsState e.1 held) }
         ensures refused { IfErr result (λ e. (e.0 ≡ Memory) ⊎ (e.0 ≡ Database)) }
     {
-        open_stores_leave_what_is_committed::<FileStore<D>>();
-        let PartStore { conn } = self;
-        // What holds of every connection is known where it is asked.
-        let _settled = conn.is_autocommit();
-        let _live = conn.schema();
+        let conn = known_connection(self);
         match conn.close_files() {
             Ok(files) => Ok(files),
             Err((error, store)) => Err((StoreError::from(error), store)),
@@ -580,9 +578,8 @@ impl<B: Start> PartStore<FileStore<FileFrom<B>>> {
         ensures refused { IfErr result (λ e. (e ≡ Memory) ⊎ (e ≡ Database)) }
         ensures cause { HasCause (image_at B.Start) result }
     {
-        let mut conn = connect(rt, path, start)?;
-        ready_tables(&mut conn)?;
-        Ok(PartStore { conn })
+        let conn = connect(rt, path, start)?;
+        made_store(conn)
     }
 
     /// The same as `look`, where `B` stands for what the file and its log held. No clause ties `B`
@@ -600,11 +597,8 @@ impl<B: Start> PartStore<FileStore<FileFrom<B>>> {
         ensures settled { IfOk result (λ s. (file_state s).in_transaction ≡ false) }
         ensures cause { TellsWhy (image_at B.Start) result }
     {
-        let conn = connect(rt, path, start)?;
-        match PartStore::adopt_as_is(conn) {
-            Ok(store) => Ok(store),
-            Err(_others) => Err(Unopened::OtherTables),
-        }
+        let found = connect(rt, path, start)?;
+        found_store(found)
     }
 }
 

@@ -1,23 +1,35 @@
-use Rattle.std.proofs.Common.{IsTrue, subst, sym, rules}
-use Rattle.sqlite.specs.Files.{file_state}
-use Rattle.part_store.specs.Standing.{Stands}
-use Rattle.part_store.specs.Opening.{KeepsStore}
-use Rattle.part_store.proofs.Crashed.{keeps_state}
+use Rattle.std.proofs.Common.{◌≡◌, ◌⊎◌, IsTrue, inl, inr, subst, sym}
+use Rattle.sqlite.specs.Closing.{IsCopied}
+use Rattle.sqlite.specs.Files.{file_state, IsClosed}
+use Rattle.sqlite.specs.declared.error.Error.{Error}
+use Rattle.sqlite.specs.declared.error.Error.TheVariants.{SqliteFailure}
+use Rattle.sqlite.specs.declared.error.ErrorCode.TheVariants.{OutOfMemory}
+use Rattle.part_store.specs.Refusals.{refusal_of}
+use Rattle.part_store.specs.declared.error.StoreError.{StoreError}
+use Rattle.part_store.specs.declared.error.StoreError.TheVariants.{Memory, Database}
+use Rattle.part_store.proofs.Crashed.{files_leave_committed, keeps_state}
 use Rattle.part_store.proofs.Opened.{keeps}
 use Rattle.part_store.proofs.store.PartStore+FileStore+D.close_files.Goals as goal
 
+told : (error : Error) (e : StoreError) → e ≡ refusal_of error → (e ≡ Memory) ⊎ (e ≡ Database)
+told (SqliteFailure OutOfMemory) e is = inl is
+told _ e is = inr is
+
 pub returns-in-Ok-clause-holds : goal.returns-in-Ok-clause-holds
 returns-in-Ok-clause-holds g c clean held =
-    let free : IsTrue c.is_autocommit-settled.result = search rules in
-    subst (λ h. Stands (file_state h).now held → KeepsStore g.D.Disk c.in-Ok.files held) c.self.view_is
-    (keeps c.self.inside.conn c.in-Ok.files (c.in-Ok.ensures.copied clean) c.schema-live.ensures.live (c.is_autocommit-settled.ensures.settled free) held)
+    let copied = subst (λ h. IsCopied h c.in-Ok.files) c.known_connection-conn.ensures.same (c.in-Ok.ensures.copied clean) in
+    keeps c.args.self c.in-Ok.files copied c.known_connection-conn.ensures.live c.known_connection-conn.ensures.settled held
 
 pub returns-in-Ok-clause-open : goal.returns-in-Ok-clause-open
-returns-in-Ok-clause-open g c clean = subst (λ h. IsTrue (file_state h).is_open) c.self.view_is (c.in-Ok.ensures.copied clean).was_open
+returns-in-Ok-clause-open g c clean = subst (λ h. IsTrue (file_state h).is_open) c.known_connection-conn.ensures.same (c.in-Ok.ensures.copied clean).was_open
+
+pub returns-in-Err-clause-closed : goal.returns-in-Err-clause-closed
+returns-in-Err-clause-closed g c = subst (λ h. IsClosed h c.in-Err.store) c.known_connection-conn.ensures.same c.in-Err.ensures.err.0
 
 pub returns-in-Err-clause-survives : goal.returns-in-Err-clause-survives
 returns-in-Err-clause-survives g c is_open held stands =
-    let free : IsTrue c.is_autocommit-settled.result = search rules in
-    let at = subst (λ h. IsTrue (file_state h).is_open × Stands (file_state h).now held) (sym c.self.view_is) (is_open, stands) in
-    keeps_state c.self.inside.conn c.in-Err.store (c.open_stores_leave_what_is_committed.ensures c.self.inside.conn) c.in-Err.ensures.err.0 held
-    (at.1, sym (c.is_autocommit-settled.ensures.settled free at.0), at.0)
+    keeps_state c.args.self c.in-Err.store (files_leave_committed c.args.self g.met.D.Disk.seen_may_stay) (returns-in-Err-clause-closed g c) held
+    (stands, sym (c.known_connection-conn.ensures.settled is_open), is_open)
+
+pub returns-in-Err-clause-refused : goal.returns-in-Err-clause-refused
+returns-in-Err-clause-refused g c = told c.in-Err.error c.from.result c.from.ensures

@@ -1,26 +1,19 @@
-use Rattle.part_store.proofs.Opened.{opens_held, opens_none, unmade}
+use Rattle.sqlite.specs.WalFiles.{image_at}
+use Rattle.part_store.proofs.Opened.{ready_from, shows, shows_none, unmade}
 use Rattle.part_store.proofs.store.PartStore+FileStore+FileFrom+B.open_from.Goals as goal
 
 pub returns-clause-ready : goal.returns-clause-ready
 returns-clause-ready g c =
-    record {
-      ready = record {
-        found = c.in_ok-conn.conn;
-        opened = c.in_ok-conn.ensures.opened;
-        made = c.in_ok-ready_tables.ensures.made;
-        same = c.in_ok-ready_tables.ensures.same;
-        settled = c.in_ok-ready_tables.ensures.settled;
-        survives = c.ready_tables.ensures.survives;
-      };
-      finds = c.in_ok-conn.ensures.found;
-    }
+    ready_from (image_at g.B.Start) c.in_ok-conn.conn c.made_store.result (record { opened = c.in_ok-conn.ensures.opened; finds = c.in_ok-conn.ensures.found })
+    c.made_store.ensures.made c.made_store.ensures.same c.made_store.ensures.settled c.made_store.ensures.survives
 
 pub returns-clause-found : goal.returns-clause-found
-returns-clause-found g c clean = opens_held _ _ (returns-clause-ready g c) clean
+returns-clause-found g c = shows (image_at g.B.Start) c.made_store.result (returns-clause-ready g c)
 
 pub returns-clause-empty : goal.returns-clause-empty
-returns-clause-empty g c clean = opens_none _ _ (returns-clause-ready g c) clean
+returns-clause-empty g c = shows_none (image_at g.B.Start) c.made_store.result (returns-clause-ready g c)
 
-pub returns-in_err-ready_tables-clause-cause : goal.returns-in_err-ready_tables-clause-cause
-returns-in_err-ready_tables-clause-cause g c =
-    unmade _ _ c.in_ok-conn.conn (record { opened = c.in_ok-conn.ensures.opened; finds = c.in_ok-conn.ensures.found }) (c.in_err-ready_tables.ensures.bare c.in_ok-conn.ensures.fresh)
+pub returns-clause-cause : goal.returns-clause-cause
+returns-clause-cause g c =
+    unmade (image_at g.B.Start) c.in_ok-conn.conn c.made_store.result (record { opened = c.in_ok-conn.ensures.opened; finds = c.in_ok-conn.ensures.found })
+    c.in_ok-conn.ensures.fresh c.made_store.ensures.bare

@@ -1,0 +1,63 @@
+//! What a store over files, or in memory, asks of its connection.
+//!
+//! A function over one kind of database proves anew, at each call that takes any kind, all that holds
+//! of its own. That is dear. So here is in one call what it asks, and these functions take any kind.
+ghost use Rattle.std.specs.Prelude.{◌≡◌, ◌⊎◌, false, true, IsTrue, IfOk, IfErr, OnErr};
+ghost use Rattle.sqlite.specs.Held.{state};
+ghost use Rattle.sqlite.specs.State.{IsLive};
+ghost use Rattle.part_store.specs.Calls.{Always, MayCommit};
+ghost use Rattle.part_store.specs.Looking.{are_tables};
+ghost use Rattle.part_store.specs.Opening.{HasOtherTables, IsBare, IsEmptied, MakesEmpty};
+ghost use Rattle.part_store.specs.declared.error.StoreError.TheVariants.{Memory, Database};
+ghost use Rattle.part_store.specs.declared.looking.Unopened.TheVariants.{OtherTables};
+
+use crate::error::StoreError;
+use crate::looking::Unopened;
+use crate::store::{PartStore, ready_tables};
+use sqlite::{Alter, Connection};
+
+/// The store on a connection, with its tables made where it had none. A connection that gets no
+/// tables is let go.
+pub(crate) fn made_store<S: Alter + Drop>(conn: Connection<S>) -> Result<PartStore<S>, StoreError>
+    ensures made { IfOk result
+        (λ s. Always S.Store conn s (λ old new. IsBare old → IsEmptied new)) }
+    ensures same { IfOk result (λ s. (IsBare (state S.Store conn) → ⊥) → s ≡ conn) }
+    ensures settled { IfOk result (λ s. (state S.Store s).in_transaction ≡ false) }
+    ensures bare { OnErr result ((state S.Store conn).in_transaction ≡ false
+        → IsBare (state S.Store conn)) }
+    ensures refused { IfErr result (λ e. (e ≡ Memory) ⊎ (e ≡ Database)) }
+    ensures survives { IfOk result (λ s. MayCommit S.Store conn s MakesEmpty) }
+{
+    let mut conn = conn;
+    ready_tables(&mut conn)?;
+    Ok(PartStore { conn })
+}
+
+/// The store on a connection as it is (`adopt_as_is`). A connection with other tables is let go.
+pub(crate) fn found_store<S: Alter + Drop>(conn: Connection<S>) -> Result<PartStore<S>, Unopened>
+    ensures same { IfOk result (λ s. s ≡ conn) }
+    ensures tables { IfOk result (λ s. are_tables (state S.Store s).now.schema.tables ≡ true) }
+    ensures settled { IfOk result (λ s. (state S.Store s).in_transaction ≡ false) }
+    ensures others { IfErr result (λ e. e ≡ OtherTables) }
+    ensures apart { OnErr result ((state S.Store conn).in_transaction ≡ false
+        → HasOtherTables (state S.Store conn)) }
+{
+    match PartStore::adopt_as_is(conn) {
+        Ok(store) => Ok(store),
+        Err(_others) => Err(Unopened::OtherTables),
+    }
+}
+
+/// A store's connection, and what holds of every connection that is in no transaction.
+pub(crate) fn known_connection<S: Alter>(store: PartStore<S>) -> Connection<S>
+    ensures same { result ≡ store }
+    ensures settled { IsTrue (state S.Store store).is_open
+        → (state S.Store store).now ≡ (state S.Store store).committed }
+    ensures live { IsLive (state S.Store store) }
+{
+    let conn = store.release();
+    // What holds of every connection is known where it is asked.
+    let _settled = conn.is_autocommit();
+    let _live = conn.schema();
+    conn
+}
