@@ -19,6 +19,10 @@
 ## the pictures of the figures, and the tables that they are drawn from
     $ "$TOP/bench/pictures" --check
 
+## refusals of memory, and the reasons of each
+    $ "$TOP/cases/memory_refusals"
+    60 places, each with its reason
+
 ## deliver, behind a mail server
 Only if: command -v flock # there is no flock
     $ "$TOP/contrib/test_deliver" depot > report || cat report
