@@ -13,6 +13,10 @@
 ## the edits and docs/PROMISES.md
     $ "$TOP/cases/edits_stand"
 
+## refusals of memory, and the reasons of each
+    $ "$TOP/cases/memory_refusals"
+    60 places, each with its reason
+
 ## deliver, behind a mail server
 Only if: command -v flock # there is no flock
     $ "$TOP/contrib/test_deliver" depot > report || cat report

@@ -83,6 +83,68 @@ impl<W: Write> Write for Interrupted<W> {
     }
 }
 
+/// Fails the first time that it is asked, and notes how often it was.
+#[derive(Drop)]
+struct FailsFirst<T> {
+    inner: T,
+    kind: ErrorKind,
+    calls: u32,
+}
+
+impl<T> FailsFirst<T> {
+    fn new(inner: T, kind: ErrorKind) -> FailsFirst<T> {
+        FailsFirst {
+            inner,
+            kind,
+            calls: 0,
+        }
+    }
+
+    // Whether this call fails.
+    fn fails(&mut self) -> bool {
+        self.calls = self.calls.saturating_add(1);
+        self.calls == 1
+    }
+}
+
+impl<R: Read> Read for FailsFirst<R> {
+    fn read(&mut self, room: &mut [u8]) -> io::Result<usize> {
+        if self.fails() {
+            return Err(Error::from(self.kind));
+        }
+        self.inner.read(room)
+    }
+}
+
+impl<W: Write> Write for FailsFirst<W> {
+    fn write(&mut self, octets: &[u8]) -> io::Result<usize> {
+        if self.fails() {
+            return Err(Error::from(self.kind));
+        }
+        self.inner.write(octets)
+    }
+
+    fn flush(&mut self) -> io::Result<()> {
+        Ok(())
+    }
+}
+
+#[test]
+fn calls_that_fail_otherwise_are_not_made_again(rt: HostRuntime) {
+    for kind in [ErrorKind::Other, ErrorKind::WouldBlock, ErrorKind::TimedOut] {
+        let mut source = OfRead::new(FailsFirst::new(b"abc".as_slice(), kind));
+        let mut room = [0; 8];
+        assert!(rt; matches!(source.read(&mut room), Err(DeviceFailed)));
+        assert_eq!(rt; source.faults, 1);
+        assert_eq!(rt; source.inner.calls, 1);
+        let mut sink = OfWrite::new(FailsFirst::new(Vec::new(rt.alloc()), kind));
+        assert!(rt; matches!(sink.write(b"abc"), Err(DeviceFailed)));
+        assert_eq!(rt; sink.faults, 1);
+        assert_eq!(rt; sink.inner.calls, 1);
+        assert!(rt; sink.inner.inner.is_empty());
+    }
+}
+
 #[test]
 fn interrupted_calls_are_made_again(rt: HostRuntime) {
     for (left, works) in [(0, true), (1, true), (15, true), (16, false)] {

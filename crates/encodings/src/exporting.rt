@@ -2,7 +2,8 @@
 ghost use Rattle.std.specs.Prelude.{◌≡◌, ◌≢◌, ◌<◌, ◌++◌, length, IfErr, IfOk, OnErr, OnOk};
 ghost use Rattle.encodings.specs.Device.{HasBroken, HasStopped, HasTaken};
 ghost use Rattle.encodings.specs.Texts.{text_of};
-ghost use Rattle.encodings.specs.declared.encoding.Encoding.TheVariants.{Qp};
+ghost use Rattle.encodings.specs.declared.encoding.Encoding.TheVariants.{Qp, Raw};
+ghost use Rattle.refusals.specs.declared.refusal.Refusal.TheVariants.{Write};
 
 use crate::encoding::{Encoding, encode};
 use crate::sink::{DeviceFailed, Sink};
@@ -37,7 +38,8 @@ pub fn put<W: Sink>(writer: &mut W, octets: &[u8]) -> Result<(), DeviceFailed>
 ///
 /// # Errors
 ///
-/// `Write` where a call of the sink failed, and `Memory` where an allocation was refused; the first of the text was written.
+/// `Write` where a call of the sink failed, and `Memory` where an allocation was refused, which raw octets need none of; the first of the text
+/// was written.
 pub fn put_text<W: Sink>(
     alloc: Global,
     encoding: Encoding,
@@ -48,6 +50,7 @@ pub fn put_text<W: Sink>(
         (W.output writer.new)) }
     ensures err { IfErr result (λ e. HasStopped e (text_of encoding octets.now)
         (W.output writer.old) (W.output writer.new)) }
+    ensures raw { encoding ≡ Raw → IfErr result (λ e. e ≡ Write) }
 {
     match encoding {
         Encoding::Raw => Ok(put_pieces(octets, writer)?),

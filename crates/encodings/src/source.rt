@@ -1,5 +1,5 @@
 // Sources, and a reader as one.
-ghost use Rattle.std.specs.Prelude.{◌≡◌, ◌<◌, ◌≤◌, false, length, take, IfOk, OnErr};
+ghost use Rattle.std.specs.Prelude.{◌≡◌, ◌<◌, ◌≤◌, false, length, take, IfOk, OnErr, OnOk};
 ghost use Rattle.std.specs.Io.KnownBytes.{Consumes, IsAtEnd, Keeps};
 ghost use Rattle.encodings.specs.Supply.{HasEnded, HasFailedToGive, HasGiven, Supply};
 
@@ -14,7 +14,7 @@ pub trait Source {
     ghost supply: { Self → Supply };
 
     /// Gives the next octets into the start of the room, and answers how many: none only at the
-    /// end, or where there is no room.
+    /// end, or where there is no room. Where there is none, the end isn't met.
     ///
     /// # Errors
     ///
@@ -26,6 +26,8 @@ pub trait Source {
         ensures goes_on { IfOk result (λ n. 0 < n → (supply self.new).has_ended ≡ false) }
         ensures ended { IfOk result (λ n. n ≡ 0 → 0 < length room.new
             → HasEnded (supply self.new)) }
+        ensures roomless { OnOk result (length room.new ≡ 0
+            → (supply self.new).has_ended ≡ false) }
         ensures err { OnErr result (HasFailedToGive (supply self.old) (supply self.new)) };
 }
 
