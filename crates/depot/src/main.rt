@@ -12,7 +12,7 @@ use depot_cli::{
     Errand, Host, Next, Refusal, Saving, System, carry, inspect_opened, run, save, tell,
     tell_no_depot, tell_no_words, texts, words,
 };
-use encodings::{OfWrite, Sink};
+use encodings::{OfRead, OfWrite, Sink};
 use sqlite::{File, FileStore};
 use std::io::{BufReader, BufWriter};
 use std::process::ExitCode;
@@ -85,12 +85,13 @@ fn save_program<H: Host, O: Sink, E: Sink>(
 
 // Opens the depot of a batch, and has the lines of standard input done on it.
 fn take_batch<H: Host, E: Sink>(rt: &HostRuntime, name: &str, host: &mut H, err: &mut E) -> u8 {
-    let Ok(mut input) = BufReader::with_capacity(rt.alloc(), PIECE, rt.reader()) else {
+    let Ok(reader) = BufReader::with_capacity(rt.alloc(), PIECE, rt.reader()) else {
         return tell(err, &Refusal::Memory);
     };
     let Ok(writer) = BufWriter::with_capacity(rt.alloc(), PIECE, rt.stdout()) else {
         return tell(err, &Refusal::Memory);
     };
+    let mut input = OfRead::new(reader);
     let mut out = OfWrite::new(writer);
     let mut opened = Depot::open(rt, name);
     let status = batch(

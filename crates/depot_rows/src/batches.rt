@@ -3,7 +3,7 @@ use crate::devices::Calls;
 use crate::shelf::{Known, Shelf};
 use depot_actions::{Depot, Refusal};
 use depot_batch::batch;
-use encodings::OfWrite;
+use encodings::{OfRead, OfWrite};
 use sqlite::MemStore;
 use std::alloc::Global;
 use std::io;
@@ -46,6 +46,8 @@ const ANSWERS: &[u8] =
 #[derive(Drop)]
 struct Seen<W> {
     status: u8,
+    faults: u64,
+    has_ended: bool,
     out: W,
     err: Vec<u8>,
 }
@@ -69,6 +71,29 @@ impl Read for Failing<'_> {
     }
 }
 
+/// Gives the first of its octets, then meets an end once, and then gives the others.
+#[derive(Drop)]
+struct Pausing<'a> {
+    first: &'a [u8],
+    others: &'a [u8],
+    pauses: bool,
+}
+
+impl Read for Pausing<'_> {
+    fn read(&mut self, room: &mut [u8]) -> io::Result<usize> {
+        if self.first.is_empty() && self.pauses {
+            self.pauses = false;
+            self.first = self.others;
+            return Ok(0);
+        }
+        let n = self.first.len().min(room.len());
+        let (given, left) = self.first.split_at(n);
+        room[..n].copy_from_slice(given);
+        self.first = left;
+        Ok(n)
+    }
+}
+
 // Serves the lines of a reader to a depot, with two files, and answers them to a writer.
 fn served<R: Read + Drop, W: Write + Drop>(
     alloc: Global,
@@ -79,12 +104,14 @@ fn served<R: Read + Drop, W: Write + Drop>(
 ) -> Result<Seen<W>, Fail> {
     let [first, second] = files;
     let mut host = Shelf::new(alloc, first, second, b"", 1_000);
-    let mut input = BufReader::with_capacity(alloc, 64, lines)?;
+    let mut input = OfRead::new(BufReader::with_capacity(alloc, 64, lines)?);
     let mut out = OfWrite::new(out);
     let mut err = OfWrite::new(Vec::new(alloc));
     let status = batch(alloc, "d", depot, &mut host, &mut input, &mut out, &mut err);
     Ok(Seen {
         status,
+        faults: input.faults,
+        has_ended: input.has_ended,
         out: out.inner,
         err: err.inner,
     })
@@ -99,7 +126,8 @@ fn answers(
     answer: &[u8],
 ) -> Result<bool, Fail> {
     let seen = served(alloc, depot, files, lines, Vec::new(alloc))?;
-    Ok(seen.status == 0 && seen.out.as_slice() == answer && seen.err.is_empty())
+    let ended = seen.status == 0 && seen.faults == 0 && seen.has_ended;
+    Ok(ended && seen.out.as_slice() == answer && seen.err.is_empty())
 }
 
 // How many entries ann has.
@@ -202,8 +230,27 @@ fn lines_that_break_off(rt: HostRuntime) -> Result<(), Fail> {
             seen.err.as_slice() == b"refused 46 Read\n".as_slice(),
             "{len}"
         );
+        assert_eq!(rt; seen.faults, 1, "{len}");
         assert_eq!(rt; entries(&mut depot)?, whole, "{len}");
     }
+    Ok(())
+}
+
+#[test]
+fn an_input_that_goes_on_after_its_end(rt: HostRuntime) -> Result<(), Fail> {
+    let alloc = rt.alloc();
+    let mut depot = Depot::in_memory(alloc);
+    let lines = Pausing {
+        first: b"deliver ann mail\nlist ",
+        others: b"deliver ann mail\n",
+        pauses: true,
+    };
+    let seen = served(alloc, &mut depot, [EMPTY, MAIL], lines, Vec::new(alloc))?;
+    let answer = b"1 message \"INBOX\"\n= 0\n? the input ended within this line\n= 2\n".as_slice();
+    assert_eq!(rt; seen.status, 0);
+    assert!(rt; seen.has_ended && seen.faults == 0);
+    assert!(rt; seen.out.as_slice() == answer);
+    assert_eq!(rt; entries(&mut depot)?, 1);
     Ok(())
 }
 
