@@ -10,7 +10,7 @@ use depot_actions::Depot;
 use depot_batch::batch;
 use depot_cli::{Errand, Next, Saving, carry, inspect_opened, run, save, tell_no_depot};
 use depot_jobs::{Host, System, tell, tell_no_words, texts, words};
-use encodings::{OfWrite, Sink};
+use encodings::{OfRead, OfWrite, Sink};
 use refusals::Refusal;
 use sqlite::{File, FileStore};
 use std::io::{BufReader, BufWriter};
@@ -84,12 +84,13 @@ fn save_program<H: Host, O: Sink, E: Sink>(
 
 // Opens the depot of a batch, and has the lines of standard input done on it.
 fn take_batch<H: Host, E: Sink>(rt: &HostRuntime, name: &str, host: &mut H, err: &mut E) -> u8 {
-    let Ok(mut input) = BufReader::with_capacity(rt.alloc(), PIECE, rt.reader()) else {
+    let Ok(reader) = BufReader::with_capacity(rt.alloc(), PIECE, rt.reader()) else {
         return tell(err, &Refusal::Memory);
     };
     let Ok(writer) = BufWriter::with_capacity(rt.alloc(), PIECE, rt.stdout()) else {
         return tell(err, &Refusal::Memory);
     };
+    let mut input = OfRead::new(reader);
     let mut out = OfWrite::new(writer);
     let mut opened = Depot::open(rt, name);
     let status = batch(

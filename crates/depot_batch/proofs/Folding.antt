@@ -88,6 +88,7 @@ module _ {S : Type 0} (g : Ghosts S) where
             answered = refl;
             asked = made.0;
             is_asked = made.1;
+            host = mid.host;
             made = made.2;
           })
         ]
@@ -100,6 +101,7 @@ module _ {S : Type 0} (g : Ghosts S) where
           answered = (are.0, are.1, mid, are.3, are.4, one.answered);
           asked = one.asked;
           is_asked = one.is_asked;
+          host = one.host;
           made = one.made;
         })
       ]

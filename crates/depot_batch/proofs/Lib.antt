@@ -3,3 +3,5 @@ mod Spoken
 mod Folding
 mod Writing
 mod LineLemmas
+mod LineReading
+mod Batches

@@ -1,8 +1,6 @@
 -- What a batch does, line by line.
-use Rattle.std.specs.Prelude.{◌≡◌, ◌≢◌, ◌⊎◌, ℕ, ◌-◌, ◌^◌, List, [], ◌∷◌, ◌++◌, Option, None, Some, Result, Ok, Err, codes, length}
+use Rattle.std.specs.Prelude.{◌≡◌, ◌≢◌, ◌⊎◌, ℕ, ◌-◌, ◌^◌, List, [], ◌∷◌, ◌++◌, None, Some, Result, Ok, Err, codes, length}
 use Rattle.std.specs.Fmt.{decimal}
-use Rattle.std.specs.Io.{StopsAt}
-use Rattle.std.specs.Io.KnownBytes.{Consumes, IsAtEnd}
 use Rattle.std.specs.List.{All, concat}
 use Rattle.std.specs.Str.{IsUtf8}
 use Rattle.sqlite_trees.specs.declared.store.Store.{Ghosts}
@@ -13,6 +11,7 @@ use Rattle.part_store.specs.Standing.{Spares}
 use Rattle.depot_actions.specs.Causes.{HasCause}
 use Rattle.depot_actions.specs.DepotState.{Export as Exports, Text as Written}
 use Rattle.encodings.specs.Device.{HasBroken, HasTaken, Output}
+use Rattle.encodings.specs.Supply.{HasGiven, Supply}
 use Rattle.depot_jobs.specs.Host.{HasMade, HasNotMade, HostState, makes, with_call}
 use Rattle.depot_jobs.specs.Jobs.{HasTold}
 use Rattle.depot_jobs.specs.Printed.{line, refusal_line}
@@ -22,8 +21,9 @@ use Rattle.depot_jobs.specs.Inputs.{HasNotReadFile, HasReadFile}
 use Rattle.depot_cli.specs.Tasks.{HasAnswered, HasDone, HasRefused, MayAdd}
 use Rattle.depot_jobs.specs.declared.request.Request.{Request}
 use Rattle.refusals.specs.declared.refusal.Refusal.{Refusal}
-use Rattle.refusals.specs.declared.refusal.Refusal.TheVariants.{Database, Memory, Read, Write}
+use Rattle.refusals.specs.declared.refusal.Refusal.TheVariants.{Database, Memory, Write}
 use Rattle.depot_batch.specs.Asked.{AskNothing, Asks, Text}
+use Rattle.depot_batch.specs.Lines.{HasNotTaken, HasTakenAll, IsLine, IsUnfinished}
 use Rattle.depot_batch.specs.Sentences.{wrong_line}
 use Rattle.depot_batch.specs.Words.{words_of}
 use Rattle.depot_batch.specs.declared.asked.Asked.{Asked}
@@ -64,10 +64,12 @@ abbrev pub exported_text : ℕ → List ℕ
 exported_text number = line (codes "exported " ++ decimal number)
 
 -- What a crash may leave of what is asked that it couldn't leave before: what a request's command
--- makes, with some octets. An export only looks.
-abbrev pub MayMake : Asked → State → Trees → Type 0
-MayMake (Reply request) old trees = (octets : List ℕ) × MayAdd (request_command request octets) old trees
-MayMake (IntoFile export) old trees = ⊥
+-- makes with the octets that were read of its file. An export only looks.
+abbrev pub MayMake : Asked → State → HostState → HostState → Trees → Type 0
+MayMake (Reply request) old host host2 trees =
+    (octets : List ℕ) × HasReadFile (file_of request) octets host host2
+    × MayAdd (request_command request octets) old trees
+MayMake (IntoFile export) old host host2 trees = ⊥
 
 module _ {S : Type 0} (g : Ghosts S) where
   -- the file of a request was read, and the depot did what is asked, with this text as the answer
@@ -89,11 +91,12 @@ module _ {S : Type 0} (g : Ghosts S) where
       (text : List ℕ) × HasMade export.file.now name text host host2
       × HasDone (Exports export.user.now export.number export.encoding) (Written text) (state g old) (state g new)
 
-  -- It was not: the file could not be made, or the depot refused. No file was kept, and the depot is as it was.
+  -- It was not: the file could not be made or written, or the depot refused for a cause of its own. No file was
+  -- kept, and the depot is as it was.
   abbrev pub HasNotExported : Text → Export → Refusal → Held S → Held S → HostState → HostState → Type 0
   HasNotExported name export refusal old new host host2 =
       (HasNotMade refusal export.file.now name host host2
-      ⊎ ((host2 ≡ with_call (makes export.file.now name) host)
+      ⊎ ((refusal ≢ Write) × (host2 ≡ with_call (makes export.file.now name) host)
       × (HasCleanDisk (state g new) → HasCause refusal (Exports export.user.now export.number export.encoding)
       (state g old))))
       × (HasCleanDisk (state g new) → Spares (state g old) (state g new))
@@ -140,7 +143,7 @@ module _ {S : Type 0} (g : Ghosts S) where
   abbrev pub Outlasts : List ℕ → Office S → Office S → Type 0
   Outlasts octets old new =
       Survives (state g old.depot) (state g new.depot)
-      (λ trees. (asked : Asked) × IsAsked octets asked × MayMake asked (state g old.depot) trees)
+      (λ trees. (asked : Asked) × IsAsked octets asked × MayMake asked (state g old.depot) old.host new.host trees)
 
   -- a line was answered: its text and what ends that were written
   pub record IsAnswered (name octets : List ℕ) (outcome : Outcome) (old new : Office S) : Type 0 where
@@ -157,11 +160,11 @@ module _ {S : Type 0} (g : Ghosts S) where
     pub broken : HasBroken (text ++ closing outcome) old.out new.out
     pub outlasts : Outlasts octets old new
 
-  -- the lines of a batch were answered, one after another; none was refused `Database`
+  -- lines of a batch were answered, one after another; none was refused `Database`
   abbrev pub AreAnswered : Text → List (List ℕ) → Office S → Office S → Type 0
   AreAnswered name [] old new = new ≡ old
   AreAnswered name (octets ∷ lines) old new =
-      StopsAt octets 10 × (outcome : Outcome) × (mid : Office S) × IsAnswered name octets outcome old mid
+      IsLine octets × (outcome : Outcome) × (mid : Office S) × IsAnswered name octets outcome old mid
       × (outcome ≢ Refused Database)
       × AreAnswered name lines mid new
 
@@ -175,37 +178,48 @@ module _ {S : Type 0} (g : Ghosts S) where
     pub answered : AreAnswered name before old mid
     pub asked : Asked
     pub is_asked : IsAsked octets asked
-    pub made : MayMake asked (state g mid.depot) trees
+    pub host : HostState
+    pub made : MayMake asked (state g mid.depot) mid.host host trees
 
-  -- Why a batch ends, with this status, after these octets: none, at the end of the input; a line
-  -- that is refused `Database`; one whose answer broke off, which is told on standard error; or
-  -- what came of a line before reading failed, which is told there.
-  abbrev pub Ends : Text → ℕ → Option (List ℕ) → List ℕ → ℕ → Office S → Office S → Output → Output → Type 0
-  Ends name status rest last lines old new err err2 =
-      ((status ≡ 0) × (last ≡ []) × (IsAtEnd rest ⊎ (lines ≡ 2 ^ 64 - 1)) × (new ≡ old) × (err2 ≡ err))
-      ⊎ ((status ≡ 1) × StopsAt last 10 × IsAnswered name last (Refused Database) old new × (err2 ≡ err))
-      ⊎ ((status ≡ 1) × StopsAt last 10 × IsBrokenOff name last old new × HasTold Write err err2)
-      ⊎ ((status ≡ 1) × (new ≡ old) × (refusal : Refusal) × ((refusal ≡ Memory) ⊎ (refusal ≡ Read))
-      × HasTold refusal err err2)
+  -- the last octets of the input were answered, in which no line break is; or the answer broke off
+  abbrev pub HasServedLast : Text → ℕ → List ℕ → Office S → Office S → Output → Output → Type 0
+  HasServedLast name status octets old new err err2 =
+      ((status ≡ 0) × (outcome : Outcome) × IsAnswered name octets outcome old new × (err2 ≡ err))
+      ⊎ ((status ≡ 1) × IsBrokenOff name octets old new × HasTold Write err err2)
+
+  -- Why a batch ends, with this status, after so many lines and these last octets, of an input that
+  -- had so much left and has this left now: at the end of the input, or of counting; at the end of
+  -- the input within a line, which is answered as what it is; after a line that is refused
+  -- `Database`; after one whose answer broke off, which is told on standard error; or since no line
+  -- could be read, which is told there.
+  abbrev pub Ends : Text → ℕ → ℕ → List ℕ → Supply → Supply → Office S → Office S → Output → Output → Type 0
+  Ends name status lines last rest left old new err err2 =
+      ((status ≡ 0) × (last ≡ []) × (HasTakenAll [] rest left ⊎ ((lines ≡ 2 ^ 64 - 1) × (left ≡ rest)))
+      × (new ≡ old) × (err2 ≡ err))
+      ⊎ (IsUnfinished last × HasTakenAll last rest left × HasServedLast name status last old new err err2)
+      ⊎ ((status ≡ 1) × IsLine last × HasGiven last rest left × IsAnswered name last (Refused Database) old new
+      × (err2 ≡ err))
+      ⊎ ((status ≡ 1) × IsLine last × HasGiven last rest left × IsBrokenOff name last old new × HasTold Write err err2)
+      ⊎ ((status ≡ 1) × (refusal : Refusal) × HasNotTaken refusal last rest left × HasTold refusal err err2
+      × (new ≡ old))
 
   -- a batch was served, with this status: lines were read and answered one after another, until it ended
-  pub record HasServed (name : Text) (status : ℕ) (given left : Option (List ℕ)) (old new : Office S) (err err2 : Output) : Type 0 where
+  pub record HasServed (name : Text) (status : ℕ) (input input2 : Supply) (old new : Office S) (err err2 : Output) : Type 0 where
     pub lines : List (List ℕ)
-    pub last : List ℕ
-    pub rest : Option (List ℕ)
-    pub read : Consumes given rest (concat lines)
-    pub read_last : Consumes rest left last
+    pub rest : Supply
+    pub read : HasGiven (concat lines) input rest
     pub mid : Office S
     pub answered : AreAnswered name lines old mid
-    pub ended : Ends name status rest last (length lines) mid new err err2
+    pub last : List ℕ
+    pub ended : Ends name status (length lines) last rest input2 mid new err err2
 
   -- What opening a depot gave was served a batch, with this status, and it is open still; or the
   -- refusal of opening was told, with status 1, and nothing else happened.
   abbrev pub IsServed :
-      Text → ℕ → Option (List ℕ) → Option (List ℕ) → Result (Held S) Refusal → Result (Held S) Refusal
+      Text → ℕ → Supply → Supply → Result (Held S) Refusal → Result (Held S) Refusal
       → HostState → HostState → Output → Output → Output → Output → Type 0
-  IsServed name status given left (Ok old) (Ok new) host host2 out out2 err err2 =
-      HasServed name status given left (office old host out) (office new host2 out2) err err2
-  IsServed name status given left (Err refusal) (Err same) host host2 out out2 err err2 =
-      (same ≡ refusal) × (status ≡ 1) × HasTold refusal err err2 × (left ≡ given) × (host2 ≡ host) × (out2 ≡ out)
-  IsServed name status given left opened now host host2 out out2 err err2 = ⊥
+  IsServed name status input input2 (Ok old) (Ok new) host host2 out out2 err err2 =
+      HasServed name status input input2 (office old host out) (office new host2 out2) err err2
+  IsServed name status input input2 (Err refusal) (Err same) host host2 out out2 err err2 =
+      (same ≡ refusal) × (status ≡ 1) × HasTold refusal err err2 × (input2 ≡ input) × (host2 ≡ host) × (out2 ≡ out)
+  IsServed name status input input2 opened now host host2 out out2 err err2 = ⊥

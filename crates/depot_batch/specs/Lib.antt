@@ -1,5 +1,6 @@
 pub mod Words
 pub mod Asked
+pub mod Lines
 pub mod Sentences
 pub mod Batch
 -- how a line's answer is put together; nothing public rests on this

@@ -46,7 +46,7 @@ pub fn answer_to<S: Alter, H: Host>(
     ensures refused { IfErr result (λ e. IsRefused S.Store name.now asked.entry e
         depot.old depot.new (H.state host.old) (H.state host.new)) }
     ensures survives { Survives (state S.Store depot.old) (state S.Store depot.new)
-        (MayMake asked.entry (state S.Store depot.old)) }
+        (MayMake asked.entry (state S.Store depot.old) (H.state host.old) (H.state host.new)) }
 {
     match asked {
         Asked::Reply(request) => match reply(alloc, request, depot, host) {
@@ -76,7 +76,8 @@ fn reply<S: Alter, H: Host>(
     ensures refused { IfErr result (λ e. HasNotReplied S.Store request.entry e
         depot.old depot.new (H.state host.old) (H.state host.new)) }
     ensures survives { Survives (state S.Store depot.old) (state S.Store depot.new)
-        (MayMake (Asked.Reply request.entry) (state S.Store depot.old)) }
+        (MayMake (Asked.Reply request.entry) (state S.Store depot.old) (H.state host.old)
+        (H.state host.new)) }
 {
     match read_file_of(alloc, request, host) {
         Ok(octets) => {

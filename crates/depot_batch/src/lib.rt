@@ -12,6 +12,7 @@ mod fault;
 pub mod laws;
 mod line;
 mod outcome;
+mod reading;
 mod serving;
 mod words;
 

@@ -122,7 +122,7 @@ fn answer<S: Alter, H: Host, W: Write + Drop>(
         × HasNotWritten outcome text (⟦<OfWrite<W> as Sink>⟧.output out.old)
         (⟦<OfWrite<W> as Sink>⟧.output out.new)) }
     ensures survives { Survives (state S.Store depot.old) (state S.Store depot.new)
-        (MayMake asked.entry (state S.Store depot.old)) }
+        (MayMake asked.entry (state S.Store depot.old) (H.state host.old) (H.state host.new)) }
 {
     match answer_to(alloc, name, asked, depot, host) {
         Ok(answer) => {

@@ -246,8 +246,7 @@ fn an_input_that_goes_on_after_its_end(rt: HostRuntime) -> Result<(), Fail> {
         pauses: true,
     };
     let seen = served(alloc, &mut depot, [EMPTY, MAIL], lines, Vec::new(alloc))?;
-    let answer =
-        b"1 message \"INBOX\"\n= 0\n? the input ended within this line\n= 2\n".as_slice();
+    let answer = b"1 message \"INBOX\"\n= 0\n? the input ended within this line\n= 2\n".as_slice();
     assert_eq!(rt; seen.status, 0);
     assert!(rt; seen.has_ended && seen.faults == 0);
     assert!(rt; seen.out.as_slice() == answer);
