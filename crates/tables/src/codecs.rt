@@ -15,12 +15,16 @@ enum Encoding {
 }
 
 fn encoding_of(word: &[u8]) -> Option<Encoding> {
-    match word {
-        b"base32" => Some(Encoding::Base32),
-        b"base32hex" => Some(Encoding::Base32Hex),
-        b"base64-mime" => Some(Encoding::Base64Mime),
-        b"qp" => Some(Encoding::Qp),
-        _ => None,
+    if word == b"base32".as_slice() {
+        Some(Encoding::Base32)
+    } else if word == b"base32hex".as_slice() {
+        Some(Encoding::Base32Hex)
+    } else if word == b"base64-mime".as_slice() {
+        Some(Encoding::Base64Mime)
+    } else if word == b"qp".as_slice() {
+        Some(Encoding::Qp)
+    } else {
+        None
     }
 }
 
@@ -188,31 +192,52 @@ fn read_by(alloc: Global, text: &[u8], size: usize) -> Result<Vec<u8>, AllocErro
 fn print_qp_lines(alloc: Global, octets: &[u8], answer: &mut Printed) -> Result<(), AllocError> {
     let whole = encode_qp(alloc, octets)?;
     let mut text = Vec::new(alloc);
+    let lines = add_qp_lines(octets, &mut text, answer)?;
+    print_size(lines, answer)?;
+    print_size(whole.len(), answer)?;
+    if encode_qp_line(b"", &mut text)? != 0 {
+        answer.word("more")?;
+    }
+    print_unless("other", text.as_slice() == whole.as_slice(), answer)?;
+    print_unless("misread", is_read_as(alloc, &whole, octets)?, answer)
+}
+
+fn print_unless(word: &str, holds: bool, answer: &mut Printed) -> Result<(), AllocError> {
+    if holds { Ok(()) } else { answer.word(word) }
+}
+
+fn is_read_as(alloc: Global, text: &[u8], octets: &[u8]) -> Result<bool, AllocError> {
+    Ok(decode_qp(alloc, text)?.as_slice() == octets)
+}
+
+// Adds the lines of octets to a text one by one, and answers how many there are.
+fn add_qp_lines(
+    octets: &[u8],
+    text: &mut Vec<u8>,
+    answer: &mut Printed,
+) -> Result<usize, AllocError> {
     let mut lines = 0usize;
     let mut rest = octets;
     for _ in 0..octets.len() {
         if rest.is_empty() {
             break;
         }
-        let start = text.len();
-        let taken = encode_qp_line(rest, &mut text)?;
-        if text.len() > start.saturating_add(78) {
-            answer.word("long")?;
-        }
+        let taken = add_qp_line(rest, text, answer)?;
         lines = lines.saturating_add(1);
         let (_, after) = rest.split_at(taken.min(rest.len()));
         rest = after;
     }
-    print_size(lines, answer)?;
-    print_size(whole.len(), answer)?;
-    if encode_qp_line(b"", &mut text)? != 0 {
-        answer.word("more")?;
-    }
-    if text.as_slice() != whole.as_slice() {
-        answer.word("other")?;
-    }
-    if decode_qp(alloc, &whole)?.as_slice() != octets {
-        answer.word("misread")?;
-    }
-    Ok(())
+    Ok(lines)
+}
+
+// Adds the first line of octets, and answers how many of them are in it.
+fn add_qp_line(
+    octets: &[u8],
+    text: &mut Vec<u8>,
+    answer: &mut Printed,
+) -> Result<usize, AllocError> {
+    let start = text.len();
+    let taken = encode_qp_line(octets, text)?;
+    print_unless("long", text.len() <= start.saturating_add(78), answer)?;
+    Ok(taken)
 }

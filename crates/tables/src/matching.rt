@@ -35,19 +35,24 @@ pub fn answer(
 }
 
 fn comparator_of(word: &[u8]) -> Option<Comparator> {
-    match word {
-        b"octet" => Some(Comparator::Octet),
-        b"casemap" => Some(Comparator::Casemap),
-        _ => None,
+    if word == b"octet".as_slice() {
+        Some(Comparator::Octet)
+    } else if word == b"casemap".as_slice() {
+        Some(Comparator::Casemap)
+    } else {
+        None
     }
 }
 
 fn kind_of(word: &[u8]) -> Option<MatchType> {
-    match word {
-        b"is" => Some(MatchType::Is),
-        b"contains" => Some(MatchType::Contains),
-        b"matches" => Some(MatchType::Matches),
-        _ => None,
+    if word == b"is".as_slice() {
+        Some(MatchType::Is)
+    } else if word == b"contains".as_slice() {
+        Some(MatchType::Contains)
+    } else if word == b"matches".as_slice() {
+        Some(MatchType::Matches)
+    } else {
+        None
     }
 }
 
@@ -236,13 +241,18 @@ fn reach_of(word: &[u8]) -> Option<Reach> {
 }
 
 fn selector_of(word: &[u8]) -> Option<Selector> {
-    match word {
-        b"value" => Some(Selector::Value),
-        b"main" => Some(Selector::Main),
-        b"sub" => Some(Selector::Sub),
-        b"type" => Some(Selector::ContentType),
-        b"param" => Some(Selector::Param),
-        _ => None,
+    if word == b"value".as_slice() {
+        Some(Selector::Value)
+    } else if word == b"main".as_slice() {
+        Some(Selector::Main)
+    } else if word == b"sub".as_slice() {
+        Some(Selector::Sub)
+    } else if word == b"type".as_slice() {
+        Some(Selector::ContentType)
+    } else if word == b"param".as_slice() {
+        Some(Selector::Param)
+    } else {
+        None
     }
 }
 

@@ -1,9 +1,11 @@
 // What scripts do, by three ways: by their evaluation, by the octets of their programs, and by their meaning.
 use crate::actions::{put_action, put_actions, put_charge};
 use crate::printed::Printed;
+use bytecode_format::Action;
 use bytecode_verifier::verify;
 use mime_decode::{MAX_MESSAGE, MAX_PARTS, Message};
 use refusals::Refusal;
+use sieve_check::Checked;
 use sieve_engine::{Report, check_script, compile_script, evaluate, execute};
 use sieve_lexer::number_of;
 use sieve_meaning::plain_eval;
@@ -56,26 +58,79 @@ fn agreed(
     answer: &mut Printed,
 ) -> Result<Report, Refusal> {
     let report = evaluate(alloc, script, message)?;
-    let program = compile_script(alloc, script)?.write(alloc)?;
-    let run = execute(alloc, &program, message)?;
-    let same_charge = run.outcome.charged == report.outcome.charged && run.limit == report.limit;
-    if !same_charge || run.outcome.actions != report.outcome.actions {
-        answer.word("by its program")?;
-        put_actions(&run.outcome.actions, answer)?;
-        put_charge(&run, answer)?;
-        answer.word("else")?;
-    }
-    let checked = check_script(alloc, script)?;
-    let meant = plain_eval(alloc, &checked, &Message::read(alloc, message)?)?;
-    if meant != report.outcome.actions {
-        answer.word("by its meaning")?;
-        put_actions(&meant, answer)?;
-        answer.word("else")?;
-    }
+    put_unlike_run(alloc, script, message, &report, answer)?;
+    put_unlike_meaning(alloc, script, message, &report.outcome.actions, answer)?;
     if report.outcome.charged > report.limit {
         answer.word("above its limit")?;
     }
     Ok(report)
+}
+
+// Adds what the script's program does, where it isn't this.
+fn put_unlike_run(
+    alloc: Global,
+    script: &[u8],
+    message: &[u8],
+    report: &Report,
+    answer: &mut Printed,
+) -> Result<(), Refusal> {
+    let run = run_of(alloc, script, message)?;
+    if are_same(&run, report) {
+        return Ok(());
+    }
+    Ok(put_other_run(&run, answer)?)
+}
+
+// What the script's program does, as it is read from its octets.
+fn run_of(alloc: Global, script: &[u8], message: &[u8]) -> Result<Report, Refusal> {
+    let program = compile_script(alloc, script)?.write(alloc)?;
+    execute(alloc, &program, message)
+}
+
+/// Whether two runs came to the same.
+pub fn are_same(one: &Report, other: &Report) -> bool {
+    one.outcome.charged == other.outcome.charged
+        && one.limit == other.limit
+        && one.outcome.actions == other.outcome.actions
+}
+
+fn put_other_run(run: &Report, answer: &mut Printed) -> Result<(), AllocError> {
+    answer.word("by its program")?;
+    put_actions(&run.outcome.actions, answer)?;
+    put_charge(run, answer)?;
+    answer.word("else")
+}
+
+// Adds the actions that the script means, where they aren't these.
+fn put_unlike_meaning(
+    alloc: Global,
+    script: &[u8],
+    message: &[u8],
+    actions: &[Action],
+    answer: &mut Printed,
+) -> Result<(), Refusal> {
+    let checked = check_script(alloc, script)?;
+    let meant = meaning_of(alloc, &checked, message)?;
+    if meant.as_slice() == actions {
+        return Ok(());
+    }
+    Ok(put_other_meaning(&meant, answer)?)
+}
+
+/// The actions that a checked script means on a message.
+pub fn meaning_of(
+    alloc: Global,
+    checked: &Checked,
+    message: &[u8],
+) -> Result<Vec<Action>, Refusal> {
+    let message = Message::read(alloc, message)?;
+    Ok(plain_eval(alloc, checked, &message)?)
+}
+
+fn put_other_meaning(meant: &[Action], answer: &mut Printed) -> Result<(), AllocError> {
+    answer.word("by its meaning")?;
+    put_actions(meant, answer)?;
+    answer.word("else")
 }
 
 /// Adds what the script's program may charge at most, on a message of so many octets and parts.

@@ -1,12 +1,11 @@
 // Scripts that are made by a rule: thousands of them, or thousands of pieces in one.
 use crate::printed::Printed;
-use crate::script_runs::put_run;
+use crate::script_runs::{meaning_of, put_run};
 use itoa::Buffer;
-use mime_decode::Message;
 use refusals::Refusal;
+use sieve_check::Checked;
 use sieve_engine::{check_script, compile_script, execute};
 use sieve_lexer::number_of;
-use sieve_meaning::plain_eval;
 use std::alloc::{AllocError, Global};
 
 /// Adds how many tests there are of up to two levels over some, and how many of those mean what their programs do.
@@ -53,12 +52,23 @@ fn means_what_it_does(alloc: Global, script: &[u8]) -> Result<bool, Refusal> {
     let checked = check_script(alloc, script)?;
     let program = compile_script(alloc, script)?.write(alloc)?;
     for message in [b"".as_slice(), b"abc", b"abcd"] {
-        let meant = plain_eval(alloc, &checked, &Message::read(alloc, message)?)?;
-        if meant != execute(alloc, &program, message)?.outcome.actions {
+        if !does_as_meant(alloc, &checked, &program, message)? {
             return Ok(false);
         }
     }
     Ok(true)
+}
+
+// Whether a program does on a message what a script means.
+fn does_as_meant(
+    alloc: Global,
+    checked: &Checked,
+    program: &[u8],
+    message: &[u8],
+) -> Result<bool, Refusal> {
+    let meant = meaning_of(alloc, checked, message)?;
+    let report = execute(alloc, program, message)?;
+    Ok(meant == report.outcome.actions)
 }
 
 /// Adds how many octets a script has of so many tests with so many keys, all of them different, and what it does.
