@@ -8,7 +8,7 @@
 
 ## the start of the program, with stand-ins for it and for the toolchain
     $ "$TOP/cases/starts"
-    29 tried, 0 wrong
+    30 tried, 0 wrong
 
 ## the edits and docs/PROMISES.md
     $ "$TOP/cases/edits_stand"
