@@ -26,6 +26,7 @@ pub(crate) enum Compared {
 /// What comparing a value with each key in order comes to, up to the first that it matches.
 ///
 /// An error comes only where memory was refused: where the value is owned and sets captures, these are copied.
+#[inline(always)]
 pub(crate) fn first_key<'a, K: Texts>(
     alloc: Global,
     value: &CowSlice<'a, u8>,
@@ -52,6 +53,7 @@ pub(crate) fn first_key<'a, K: Texts>(
 /// The same of a value that is lent for now: what is captured of it is copied.
 ///
 /// An error comes only where memory was refused.
+#[inline(always)]
 pub(crate) fn first_key_of_lent<'a, K: Texts>(
     alloc: Global,
     value: &[u8],
@@ -75,6 +77,7 @@ pub(crate) fn first_key_of_lent<'a, K: Texts>(
 }
 
 /// How a value compares with the first of the keys that it matches.
+#[inline(always)]
 pub(crate) fn first_comparison<K: Texts>(value: &[u8], keys: &K, how: Match) -> Compared
     requires value { length value.now ≤ max_message }
     requires keys { AreTexts (K.texts keys.now) }
@@ -103,6 +106,7 @@ fn matched(value_is_key: bool) -> Compared
 }
 
 // Whether the value matches the key, and with which captures.
+#[inline(always)]
 fn compare(value: &[u8], key: &[u8], how: Match) -> Compared
     requires value { length value.now ≤ max_message }
     requires key { length key.now ≤ max_string }

@@ -232,6 +232,7 @@ impl<'m> Progress<'m> {
     }
 
     // Goes on with a value.
+    #[inline(always)]
     fn take<K: Texts>(
         &mut self,
         alloc: Global,
@@ -254,6 +255,7 @@ impl<'m> Progress<'m> {
     }
 
     // Goes on with a value that is lent for now: what is captured of it is copied.
+    #[inline(always)]
     fn take_lent<K: Texts>(
         &mut self,
         alloc: Global,

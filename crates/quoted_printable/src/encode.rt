@@ -1,7 +1,8 @@
 // Texts written.
-ghost use Rattle.std.specs.Prelude.{◌≡◌, ◌++◌, ◌+◌, ◌-◌, ◌*◌, ◌^◌, ◌≤◌, ◌<◌, false, true, ℕ, IfOk, OnErr, OnOk, length, min, not, slice_index, take};
+ghost use Rattle.std.specs.Prelude.{◌≡◌, ◌++◌, ◌∷◌, [], ◌+◌, ◌/◌, ◌%◌, ◌-◌, ◌*◌, ◌^◌, ◌≤◌, ◌<◌, false, true, ℕ, IfOk, OnErr, OnOk, length, min, not, slice_index, take};
 ghost use Rattle.std.specs.List.{filter};
-ghost use Rattle.quoted_printable.specs.QuotedPrintable.{encoding_of, escape_of, first_line, tokens_of, tokens_of_line, token_of, joined, run_of, is_literal, soft_break, stands};
+ghost use Rattle.quoted_printable.specs.Written.{first_of, length_of};
+ghost use Rattle.quoted_printable.specs.QuotedPrintable.{hex_of, encoding_of, escape_of, first_line, tokens_of, tokens_of_line, token_of, joined, run_of, is_literal, soft_break, stands};
 
 use crate::lanes::standing_len;
 use std::alloc::{AllocError, Global};
@@ -16,6 +17,50 @@ const LANES: usize = 32;
 const LINE_ROOM: usize = 112;
 
 const DIGITS: &[u8; 16] = b"0123456789ABCDEF";
+
+// What each octet is written as first, where another follows it: itself, or `=` where it is written with digits.
+static FIRSTS: [u8; 256] = *b"\
+    \x3d\x3d\x3d\x3d\x3d\x3d\x3d\x3d\x3d\x09\x3d\x3d\x3d\x3d\x3d\x3d\
+    \x3d\x3d\x3d\x3d\x3d\x3d\x3d\x3d\x3d\x3d\x3d\x3d\x3d\x3d\x3d\x3d\
+    \x20\x21\x22\x23\x24\x25\x26\x27\x28\x29\x2a\x2b\x2c\x2d\x2e\x2f\
+    \x30\x31\x32\x33\x34\x35\x36\x37\x38\x39\x3a\x3b\x3c\x3d\x3e\x3f\
+    \x40\x41\x42\x43\x44\x45\x46\x47\x48\x49\x4a\x4b\x4c\x4d\x4e\x4f\
+    \x50\x51\x52\x53\x54\x55\x56\x57\x58\x59\x5a\x5b\x5c\x5d\x5e\x5f\
+    \x60\x61\x62\x63\x64\x65\x66\x67\x68\x69\x6a\x6b\x6c\x6d\x6e\x6f\
+    \x70\x71\x72\x73\x74\x75\x76\x77\x78\x79\x7a\x7b\x7c\x7d\x7e\x3d\
+    \x3d\x3d\x3d\x3d\x3d\x3d\x3d\x3d\x3d\x3d\x3d\x3d\x3d\x3d\x3d\x3d\
+    \x3d\x3d\x3d\x3d\x3d\x3d\x3d\x3d\x3d\x3d\x3d\x3d\x3d\x3d\x3d\x3d\
+    \x3d\x3d\x3d\x3d\x3d\x3d\x3d\x3d\x3d\x3d\x3d\x3d\x3d\x3d\x3d\x3d\
+    \x3d\x3d\x3d\x3d\x3d\x3d\x3d\x3d\x3d\x3d\x3d\x3d\x3d\x3d\x3d\x3d\
+    \x3d\x3d\x3d\x3d\x3d\x3d\x3d\x3d\x3d\x3d\x3d\x3d\x3d\x3d\x3d\x3d\
+    \x3d\x3d\x3d\x3d\x3d\x3d\x3d\x3d\x3d\x3d\x3d\x3d\x3d\x3d\x3d\x3d\
+    \x3d\x3d\x3d\x3d\x3d\x3d\x3d\x3d\x3d\x3d\x3d\x3d\x3d\x3d\x3d\x3d\
+    \x3d\x3d\x3d\x3d\x3d\x3d\x3d\x3d\x3d\x3d\x3d\x3d\x3d\x3d\x3d\x3d";
+
+// How many octets each octet is written as, where another follows it.
+static LENGTHS: [u8; 256] = *b"\
+    \x03\x03\x03\x03\x03\x03\x03\x03\x03\x01\x03\x03\x03\x03\x03\x03\
+    \x03\x03\x03\x03\x03\x03\x03\x03\x03\x03\x03\x03\x03\x03\x03\x03\
+    \x01\x01\x01\x01\x01\x01\x01\x01\x01\x01\x01\x01\x01\x01\x01\x01\
+    \x01\x01\x01\x01\x01\x01\x01\x01\x01\x01\x01\x01\x01\x03\x01\x01\
+    \x01\x01\x01\x01\x01\x01\x01\x01\x01\x01\x01\x01\x01\x01\x01\x01\
+    \x01\x01\x01\x01\x01\x01\x01\x01\x01\x01\x01\x01\x01\x01\x01\x01\
+    \x01\x01\x01\x01\x01\x01\x01\x01\x01\x01\x01\x01\x01\x01\x01\x01\
+    \x01\x01\x01\x01\x01\x01\x01\x01\x01\x01\x01\x01\x01\x01\x01\x03\
+    \x03\x03\x03\x03\x03\x03\x03\x03\x03\x03\x03\x03\x03\x03\x03\x03\
+    \x03\x03\x03\x03\x03\x03\x03\x03\x03\x03\x03\x03\x03\x03\x03\x03\
+    \x03\x03\x03\x03\x03\x03\x03\x03\x03\x03\x03\x03\x03\x03\x03\x03\
+    \x03\x03\x03\x03\x03\x03\x03\x03\x03\x03\x03\x03\x03\x03\x03\x03\
+    \x03\x03\x03\x03\x03\x03\x03\x03\x03\x03\x03\x03\x03\x03\x03\x03\
+    \x03\x03\x03\x03\x03\x03\x03\x03\x03\x03\x03\x03\x03\x03\x03\x03\
+    \x03\x03\x03\x03\x03\x03\x03\x03\x03\x03\x03\x03\x03\x03\x03\x03\
+    \x03\x03\x03\x03\x03\x03\x03\x03\x03\x03\x03\x03\x03\x03\x03\x03";
+
+// How many octets a run has at least after which another is looked for at once.
+const LONG_RUN: usize = 16;
+
+// How many octets are written one by one after a shorter run, before another is looked for.
+const FEW: usize = 8;
 
 /// The quoted-printable text of octets.
 ///
@@ -81,21 +126,13 @@ fn fill(line: &mut [u8; LINE_ROOM], octets: &[u8], room: usize) -> (usize, usize
 {
     let mut taken = 0;
     let mut len = 0;
+    let mut few = 0;
     'tokens: while taken < octets.len() {
-        let octet = octets[taken];
-        if !stands(octet, false) {
-            let end = put_escape(line, len, octet);
-            if end > room {
-                break;
-            }
-            len = end;
-            taken += 1;
-            continue;
-        }
         let (_, rest) = octets.split_at(taken);
-        let run = put_run(line, len, rest, room);
+        let run = put_run(line, len, rest, room, few == 0);
         len += run;
         taken += run;
+        few = left_after(few, run);
         let end = put_token(line, len, octets[taken], taken + 1 == octets.len());
         if end > room {
             break;
@@ -107,23 +144,91 @@ fn fill(line: &mut [u8; LINE_ROOM], octets: &[u8], room: usize) -> (usize, usize
 }
 
 // Writes the octets from the first on that stand as they are at a place of the line, at most 32 and as many as there is
-// room for, and gives how many they are; none of the last 32 of all.
+// room for, and gives how many they are; none of the last 32 of all, and none where a run isn't tried.
 #[inline(always)]
-fn put_run(line: &mut [u8; LINE_ROOM], at: usize, octets: &[u8], room: usize) -> usize
+fn put_run(
+    line: &mut [u8; LINE_ROOM],
+    at: usize,
+    octets: &[u8],
+    room: usize,
+    is_tried: bool,
+) -> usize
     requires { (at ≤ room) × (room ≤ 76) }
     ensures within { at + result ≤ room }
     ensures fewer { 0 < length octets.now → result < length octets.now }
     ensures stand { (i : ℕ) → i < result → stands (slice_index octets.now i) false ≡ true }
     ensures copied { take (at + result) line.new ≡ take at line.old ++ take result octets.now }
 {
+    if !is_tried {
+        return 0;
+    }
     let Some((block, after)) = octets.split_first_chunk::<LANES>() else {
         return 0;
     };
-    if after.is_empty() || !stands(block[1], false) {
+    if after.is_empty() {
         return 0;
     }
     line[at..at + LANES].copy_from_slice(block);
     standing_len(block).min(room - at)
+}
+
+// How many octets are still written one by one, after a run of so many.
+#[inline(always)]
+fn left_after(few: usize, run: usize) -> usize {
+    if few > 0 {
+        few - 1
+    } else if run < LONG_RUN {
+        FEW
+    } else {
+        0
+    }
+}
+
+// What an octet is written as first, where another follows it.
+#[inline(always)]
+fn first_of(octet: u8) -> u8
+    ensures { result ≡ first_of octet }
+{
+    FIRSTS[octet as usize]
+}
+
+// How many octets an octet is written as, where another follows it.
+#[inline(always)]
+fn length_of(octet: u8) -> usize
+    ensures { result ≡ length_of octet }
+{
+    LENGTHS[octet as usize] as usize
+}
+
+// Whether an octet is written with digits, also where another follows it.
+#[inline(always)]
+fn is_escaped(octet: u8) -> bool
+    ensures { result ≡ not (stands octet false) }
+{
+    LENGTHS[octet as usize] == 3
+}
+
+// Writes an octet, and two digits after it, at a place of the line.
+#[inline(always)]
+fn put_three(line: &mut [u8; LINE_ROOM], at: usize, first: u8, octet: u8)
+    requires { at ≤ 76 }
+    ensures { take (at + 3) line.new ≡ take at line.old
+        ++ first ∷ hex_of (octet / 16) ∷ hex_of (octet % 16) ∷ [] }
+{
+    line[at] = first;
+    line[at + 1] = DIGITS[(octet / 16) as usize];
+    line[at + 2] = DIGITS[(octet % 16) as usize];
+}
+
+// Writes the token of an octet that another follows at a place of the line, and gives where it ends.
+#[inline(always)]
+fn put_inner(line: &mut [u8; LINE_ROOM], at: usize, octet: u8) -> usize
+    requires { at ≤ 76 }
+    ensures end { result ≡ at + length (token_of octet false) }
+    ensures token { take result line.new ≡ take at line.old ++ token_of octet false }
+{
+    put_three(line, at, first_of(octet), octet);
+    at + length_of(octet)
 }
 
 // Writes a token at a place of the line, and gives where it ends.
@@ -133,7 +238,10 @@ fn put_token(line: &mut [u8; LINE_ROOM], at: usize, octet: u8, is_last: bool) ->
     ensures end { result ≡ at + length (token_of octet is_last) }
     ensures token { take result line.new ≡ take at line.old ++ token_of octet is_last }
 {
-    if stands(octet, is_last) {
+    if !is_last {
+        return put_inner(line, at, octet);
+    }
+    if stands(octet, true) {
         line[at] = octet;
         return at + 1;
     }
@@ -197,8 +305,9 @@ fn escaped_count(octets: &[u8]) -> usize
     ensures number { result ≡ length (filter (λ octet. not (stands octet false)) octets.now) }
     ensures few { result ≤ length octets.now }
 {
-    octets
-        .iter()
-        .filter(|octet| !stands(**octet, false))
-        .count()
+    let mut number = 0;
+    'octets: for octet in octets {
+        number += usize::from(is_escaped(*octet));
+    }
+    number
 }

@@ -29,7 +29,9 @@ impl<'m> Frame<'m> {
             return false;
         }
         self.part += 1;
-        self.content = None;
+        if self.content.is_some() {
+            self.content = None;
+        }
         true
     }
 }

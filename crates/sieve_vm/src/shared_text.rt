@@ -77,10 +77,21 @@ fn cut_shared<'p>(alloc: Global, octets: Rc<Vec<u8>>) -> Result<SharedText<'p>, 
     if is_short(octets.as_ref()) {
         return Ok(SharedText::Shared(octets));
     }
-    SharedText::new(
-        alloc,
-        Vec::from_slice(alloc, first(octets.as_ref().as_slice()))?,
-    )
+    match Rc::try_unwrap(octets) {
+        Ok(octets) => SharedText::new(alloc, shortened(octets)),
+        Err(shared) => SharedText::new(
+            alloc,
+            Vec::from_slice(alloc, first(shared.as_ref().as_slice()))?,
+        ),
+    }
+}
+
+// The first of the octets, where they stand.
+fn shortened(mut octets: Vec<u8>) -> Vec<u8>
+    ensures { result.items ≡ take max_value octets.items }
+{
+    octets.truncate(MAX_VALUE);
+    octets
 }
 
 // Whether all of the octets are the first ones.

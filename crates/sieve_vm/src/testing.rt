@@ -229,6 +229,7 @@ impl<'p, 's, 'm> Machine<'p, 's, 'm> {
     }
 
     /// Keeps the captures that a test has set, and pushes whether it has matched.
+    #[inline(always)]
     pub fn settle(&mut self, answer: Answer<'m>) -> Result<Done, AllocError>
         ensures done { IfOk result (λ done.
             (done ≡ record { flow = Flow.On; cost = answer.entry.cost })

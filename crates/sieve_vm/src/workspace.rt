@@ -301,6 +301,7 @@ impl<'p, 'm> Workspace<'p, 'm> {
     }
 
     /// Keeps the captures that a test has set, and says whether it has matched.
+    #[inline(always)]
     pub fn settle(&mut self, outcome: Outcome<'m>) -> bool
         ensures matched { result ≡ is_some (after outcome.entry (held_of self.old).captures) }
         ensures kept { held_of self.new

@@ -18,66 +18,39 @@ tokens-preserved c =
     (λ i lt. ap (λ l. stands (get_or l i 0) false) (sym back) ∙ c.put_run-run.ensures.stand i lt)
     (c.put_run-run.ensures.copied ∙ ap (λ l. take c.tokens.len c.tokens.line ++ take run l) back) in
     filled_token octets c.args.room c.put_run-run.new.line c.put_token-end.new.line (c.tokens.taken + run) (c.tokens.len + run) c.put_token-end.result
-    filled (omega (arith, fewer, left)) c.put_token-end.array_long c.put_token-end.ensures.end c.put_token-end.ensures.token c.if-end-room-2.false
+    filled (omega (arith, fewer, left)) c.put_token-end.array_long c.put_token-end.ensures.end c.put_token-end.ensures.token c.if-end-room.false
 
 pub returns-after-tokens-clause-tokens : goal.returns-after-tokens-clause-tokens
 returns-after-tokens-clause-tokens c = filled_ended c.args.octets.now c.args.room c.tokens.line c.tokens.taken c.tokens.len c.tokens.invariant (omega arith)
 
-pub returns-then-end-room-2-clause-tokens : goal.returns-then-end-room-2-clause-tokens
-returns-then-end-room-2-clause-tokens c =
-    let octets = c.args.octets.now in
-    let back = c.split_at.ensures.back in
-    let run = c.put_run-run.result in
-    let left = c.split_at.ensures.back_len in
-    let fewer = c.put_run-run.ensures.fewer (omega (arith, left)) in
-    let same = ap length back in
-    let filled : IsFilled octets c.args.room c.put_run-run.new.line (c.tokens.taken + run) (c.tokens.len + run) =
-    filled_run octets c.args.room c.tokens.line c.put_run-run.new.line c.tokens.taken c.tokens.len run c.tokens.invariant c.put_run-run.array_long
-    (omega (arith, fewer, same)) c.put_run-run.ensures.within
-    (λ i lt. ap (λ l. stands (get_or l i 0) false) (sym back) ∙ c.put_run-run.ensures.stand i lt)
-    (c.put_run-run.ensures.copied ∙ ap (λ l. take c.tokens.len c.tokens.line ++ take run l) back) in
-    (filled_stops octets c.args.room c.put_run-run.new.line c.put_token-end.new.line (c.tokens.taken + run) (c.tokens.len + run) c.put_token-end.result
-    filled c.requires (omega (arith, fewer, left)) c.put_token-end.ensures.end c.put_token-end.ensures.token c.if-end-room-2.true).0
-
-pub returns-then-end-room-2-clause-octets : goal.returns-then-end-room-2-clause-octets
-returns-then-end-room-2-clause-octets c =
-    let octets = c.args.octets.now in
-    let back = c.split_at.ensures.back in
-    let run = c.put_run-run.result in
-    let left = c.split_at.ensures.back_len in
-    let fewer = c.put_run-run.ensures.fewer (omega (arith, left)) in
-    let same = ap length back in
-    let filled : IsFilled octets c.args.room c.put_run-run.new.line (c.tokens.taken + run) (c.tokens.len + run) =
-    filled_run octets c.args.room c.tokens.line c.put_run-run.new.line c.tokens.taken c.tokens.len run c.tokens.invariant c.put_run-run.array_long
-    (omega (arith, fewer, same)) c.put_run-run.ensures.within
-    (λ i lt. ap (λ l. stands (get_or l i 0) false) (sym back) ∙ c.put_run-run.ensures.stand i lt)
-    (c.put_run-run.ensures.copied ∙ ap (λ l. take c.tokens.len c.tokens.line ++ take run l) back) in
-    (filled_stops octets c.args.room c.put_run-run.new.line c.put_token-end.new.line (c.tokens.taken + run) (c.tokens.len + run) c.put_token-end.result
-    filled c.requires (omega (arith, fewer, left)) c.put_token-end.ensures.end c.put_token-end.ensures.token c.if-end-room-2.true).1
-
-pub tokens-preserved-then-not-stands : goal.tokens-preserved-then-not-stands
-tokens-preserved-then-not-stands c =
-    let octets = c.args.octets.now in
-    let octet = get_or octets c.tokens.taken 0 in
-    let token = written_here octet (c.tokens.taken + 1 == length octets) (sym c.if-not-stands.ensures) in
-    filled_token octets c.args.room c.tokens.line c.put_escape-end.new.line c.tokens.taken c.tokens.len c.put_escape-end.result c.tokens.invariant (omega arith) c.put_escape-end.array_long
-    (c.put_escape-end.ensures.end ∙ ap (λ l. c.tokens.len + length l) (sym token))
-    (c.put_escape-end.ensures.digits ∙ ap (λ l. take c.tokens.len c.tokens.line ++ l) (sym token)) c.if-end-room.false
-
 pub returns-then-end-room-clause-tokens : goal.returns-then-end-room-clause-tokens
 returns-then-end-room-clause-tokens c =
     let octets = c.args.octets.now in
-    let octet = get_or octets c.tokens.taken 0 in
-    let token = written_here octet (c.tokens.taken + 1 == length octets) (sym c.if-not-stands.ensures) in
-    (filled_stops octets c.args.room c.tokens.line c.put_escape-end.new.line c.tokens.taken c.tokens.len c.put_escape-end.result c.tokens.invariant c.requires (omega arith)
-    (c.put_escape-end.ensures.end ∙ ap (λ l. c.tokens.len + length l) (sym token))
-    (c.put_escape-end.ensures.digits ∙ ap (λ l. take c.tokens.len c.tokens.line ++ l) (sym token)) c.if-end-room.true).0
+    let back = c.split_at.ensures.back in
+    let run = c.put_run-run.result in
+    let left = c.split_at.ensures.back_len in
+    let fewer = c.put_run-run.ensures.fewer (omega (arith, left)) in
+    let same = ap length back in
+    let filled : IsFilled octets c.args.room c.put_run-run.new.line (c.tokens.taken + run) (c.tokens.len + run) =
+    filled_run octets c.args.room c.tokens.line c.put_run-run.new.line c.tokens.taken c.tokens.len run c.tokens.invariant c.put_run-run.array_long
+    (omega (arith, fewer, same)) c.put_run-run.ensures.within
+    (λ i lt. ap (λ l. stands (get_or l i 0) false) (sym back) ∙ c.put_run-run.ensures.stand i lt)
+    (c.put_run-run.ensures.copied ∙ ap (λ l. take c.tokens.len c.tokens.line ++ take run l) back) in
+    (filled_stops octets c.args.room c.put_run-run.new.line c.put_token-end.new.line (c.tokens.taken + run) (c.tokens.len + run) c.put_token-end.result
+    filled c.requires (omega (arith, fewer, left)) c.put_token-end.ensures.end c.put_token-end.ensures.token c.if-end-room.true).0
 
 pub returns-then-end-room-clause-octets : goal.returns-then-end-room-clause-octets
 returns-then-end-room-clause-octets c =
     let octets = c.args.octets.now in
-    let octet = get_or octets c.tokens.taken 0 in
-    let token = written_here octet (c.tokens.taken + 1 == length octets) (sym c.if-not-stands.ensures) in
-    (filled_stops octets c.args.room c.tokens.line c.put_escape-end.new.line c.tokens.taken c.tokens.len c.put_escape-end.result c.tokens.invariant c.requires (omega arith)
-    (c.put_escape-end.ensures.end ∙ ap (λ l. c.tokens.len + length l) (sym token))
-    (c.put_escape-end.ensures.digits ∙ ap (λ l. take c.tokens.len c.tokens.line ++ l) (sym token)) c.if-end-room.true).1
+    let back = c.split_at.ensures.back in
+    let run = c.put_run-run.result in
+    let left = c.split_at.ensures.back_len in
+    let fewer = c.put_run-run.ensures.fewer (omega (arith, left)) in
+    let same = ap length back in
+    let filled : IsFilled octets c.args.room c.put_run-run.new.line (c.tokens.taken + run) (c.tokens.len + run) =
+    filled_run octets c.args.room c.tokens.line c.put_run-run.new.line c.tokens.taken c.tokens.len run c.tokens.invariant c.put_run-run.array_long
+    (omega (arith, fewer, same)) c.put_run-run.ensures.within
+    (λ i lt. ap (λ l. stands (get_or l i 0) false) (sym back) ∙ c.put_run-run.ensures.stand i lt)
+    (c.put_run-run.ensures.copied ∙ ap (λ l. take c.tokens.len c.tokens.line ++ take run l) back) in
+    (filled_stops octets c.args.room c.put_run-run.new.line c.put_token-end.new.line (c.tokens.taken + run) (c.tokens.len + run) c.put_token-end.result
+    filled c.requires (omega (arith, fewer, left)) c.put_token-end.ensures.end c.put_token-end.ensures.token c.if-end-room.true).1
