@@ -10,8 +10,22 @@
     $ "$TOP/cases/starts"
     30 tried, 0 wrong
 
-## the edits and docs/PROMISES.md
+## the edits and docs/EDITS.md
     $ "$TOP/cases/edits_stand"
+
+## the pages of laws and of edits, and docs/PROMISES.md
+    $ "$TOP/cases/pages"
+
+## the lines of docs/AUDIT.md, and the definitions
+    $ "$TOP/cases/rings"
+
+## a definition that no contract names doesn't go unseen
+    $ mkdir copy && cd "$TOP" && tar c docs/AUDIT.md cases/rings crates/*/specs crates/*/src | tar x -C "$OLDPWD/copy"
+    $ copy/cases/rings
+    $ printf 'abbrev pub stray : Bool\nstray = true\n' >> copy/crates/mime_tree/specs/Order.antt
+    $ copy/cases/rings | grep -c '^+.*Order 2'
+    1
+    $ rm -r copy
 
 ## the links, paths and contents of the documents
     $ "$TOP/cases/links"
