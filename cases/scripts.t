@@ -16,11 +16,11 @@
 ## the pages of laws and of edits, and docs/PROMISES.md
     $ "$TOP/cases/pages"
 
-## the lines of docs/AUDIT.md, and the definitions
+## the lines of docs/AUDIT.md and README.md, and the definitions
     $ "$TOP/cases/rings"
 
 ## a definition that no contract names doesn't go unseen
-    $ mkdir copy && cd "$TOP" && tar c docs/AUDIT.md cases/rings crates/*/specs crates/*/src | tar x -C "$OLDPWD/copy"
+    $ mkdir copy && cd "$TOP" && tar c README.md docs/AUDIT.md cases crates/*/specs crates/*/src | tar x -C "$OLDPWD/copy"
     $ copy/cases/rings
     $ printf 'abbrev pub stray : Bool\nstray = true\n' >> copy/crates/mime_tree/specs/Order.antt
     $ copy/cases/rings | grep -c '^+.*Order 2'
