@@ -12,10 +12,10 @@ TOP = os.path.dirname(os.path.dirname(os.path.realpath(__file__)))
 # Crates that test or measure promise nothing, and the functions of the program itself have no contract.
 NO_LIBRARY = re.compile(r"altered|bench|depot|tables|\w+_rows")
 
-HEAD = re.compile(r"(?:abbrev|unfoldable|pub)(?: pub| record| data)* (\S+)")
-MEMBER = re.compile(r"  (?:pub )?(?:record |data )?([^-( :][^:]*?) :")
+HEAD = re.compile(r"(?:(?:abbrev|unfoldable|pub)(?: pub| record| data)* |(?=mutual))(\S+)")
+MEMBER = re.compile(r"(?:  ){1,2}(?:pub )?(?:record |data )?([^-( :→][^:(]*?) :")
 WORD = re.compile(r"(?<![.\w'])[A-Za-z_][\w']*(?:\.[A-Za-z_][\w']*)?|>>=")
-IMPORT = re.compile(r"\s*(?:ghost )?use Rattle\.(\w+)\.specs\.(declared\.)?([\w.]+?)(?:\.\{(.*)\}| as (\w+));?$")
+IMPORT = re.compile(r"\s*(?:ghost )?use Rattle\.(\w+)\.specs\.(declared\.)?([\w.]+?)(?:\.\{(.*)\}| as (\w+))?;?$")
 USE = re.compile(r"\b(pub )?use (\w+)(?:::\w+)*::(?:\{([^}]*)\}|(\w+));")
 BLOCK = re.compile(r"^(?:pub )?(?:impl\b(?:<.*?>(?= ))? ?(?:(\w+)(?:<[^{]*>)? for )?|trait )(\w+)[^{;]*\{", re.MULTILINE)
 FUNCTION = re.compile(r"^ *(pub |pub\([^)]*\) )?(?:const |unsafe )*fn (\w+)", re.MULTILINE)
@@ -40,7 +40,8 @@ class Contract:
 
 
 def definitions():
-    """Reads the definitions: units by the place of each name; and each module with the lines of its first comment."""
+    """Reads the definitions: units by the place of each name; each module with the lines of its first comment; and the
+    places of imported names that no definition has, which says that something isn't read as it is meant."""
     units, modules, imports = {}, {}, {}
     for path in sorted(glob.glob(f"{TOP}/crates/*/specs/*.antt")):
         home = path.split("/")[-3], os.path.basename(path)[:-5]
@@ -54,7 +55,8 @@ def definitions():
                 units.setdefault((*home, name.strip("◌")), set()).add(unit)
     for unit in set().union(*units.values()):
         unit.words = {(*unit.home, it) for it in unit.words} | places(unit.words, imports[unit.home])
-    return units, modules
+    named = {place for names in imports.values() for found in names.values() for place in found if len(place) == 3}
+    return units, modules, {it for it in named if it[:2] in modules and it not in units}
 
 
 def units_of(lines, home, head):
@@ -94,9 +96,9 @@ def imported(lines):
             crate, is_type, path, listed, alias = found.groups()
             parts = path.split(".")
             home = (crate, "declared", parts[min(1, len(parts) - 1)]) if is_type else (crate, parts[0])
-            if alias:
-                names.setdefault(f"{alias}.", set()).add(home)
-            for item in (listed or "").split(", "):
+            if not listed:
+                names.setdefault(f"{alias or parts[-1]}.", set()).add(home)
+            for item in listed.split(", ") if listed else []:
                 name, _, other = item.partition(" as ")
                 names.setdefault((other or name).strip("◌"), set()).add(home if is_type else (*home, name.strip("◌")))
     return names
