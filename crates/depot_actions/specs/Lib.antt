@@ -9,3 +9,4 @@ pub mod Overviews
 pub mod Renewing
 -- how what actions ask for is filed; nothing public rests on this
 pub mod Filing
+pub mod Sources

@@ -3,6 +3,7 @@ ghost use Rattle.std.specs.Prelude.{◌≡◌, ◌<◌, ◌⊎◌, [], ◌∷◌
 ghost use Rattle.bytecode_format.specs.declared.action.Action.TheVariants.{Keep};
 ghost use Rattle.sieve_vm.specs.Stores.{NamesPart};
 ghost use Rattle.part_store.specs.Entries.{Entries};
+ghost use Rattle.part_store.specs.Sharing.{SharesContents, first_of};
 ghost use Rattle.part_store.specs.Standing.{Spares, Stands, draft_of, listed};
 ghost use Rattle.refusals.specs.declared.refusal.Refusal.TheVariants.{Memory, Database};
 ghost use Rattle.depot_actions.specs.Causes.{IsSpoilt, IsStoreFault, LackRoom};
@@ -12,13 +13,14 @@ ghost use Rattle.depot_actions.specs.Filing.{Adds, IsUnfiled, MayFile, MayUnfile
 ghost use Rattle.part_store.specs.Calls.{Always, IfDone, IfRefused, MayCommit, OnRefused, StaysShut};
 
 use crate::checking::check_stored;
+use crate::contents::shared_contents;
 use crate::entries::new_entries;
 use crate::kept_parts::kept_parts;
 use crate::refusing::refused;
 use crate::rows::{set_numbers, unnumbered_rows};
 use bytecode_format::Action;
 use mime_decode::Message;
-use part_store::{EntryRow, NewEntry, PartStore};
+use part_store::{EntryRow, NewEntry, PartStore, Shared};
 use refusals::Refusal;
 use sieve_vm::run;
 use sqlite::Alter;
@@ -91,17 +93,20 @@ pub(crate) fn file_all<S: Alter>(
 {
     let kept = kept_parts(alloc, message, actions)?;
     let entries = new_entries(alloc, octets, &kept, actions)?;
-    add_all(store, alloc, user, &entries)
+    let mut shared = shared_contents(alloc, message, actions)?;
+    add_all(store, alloc, user, &entries, &mut shared)
 }
 
-// Adds entries, of which there is at least one. Their rows are made before, so that nothing is added where memory is refused.
+// Adds entries, of which there is at least one and some may have the same content. Their rows are made before, so that nothing is added where memory is refused.
 fn add_all<S: Alter>(
     store: &mut PartStore<S>,
     alloc: Global,
     user: &str,
     entries: &[NewEntry<'_>],
+    shared: &mut [Shared],
 ) -> Result<Vec<EntryRow>, Refusal>
     requires some { 0 < length entries.now }
+    requires shared { SharesContents (map draft_of entries.now) (map first_of shared.old) }
     ensures added { IfDone S.Store store.old store.new result (λ rows old new. IsTrue old.is_open
         × ((before : Entries) → Stands old.now before → Adds user.now (map draft_of entries.now)
         (map listed rows.items) old new before)) }
@@ -116,7 +121,9 @@ fn add_all<S: Alter>(
         (MayFile user.now (map draft_of entries.now)) }
 {
     let mut rows = unnumbered_rows(alloc, entries)?;
-    let first = store.add_entries(user, entries).map_err(refused)?;
+    let first = store
+        .add_sharing_entries(user, entries, shared)
+        .map_err(refused)?;
     set_numbers(&mut rows, first);
     Ok(rows)
 }

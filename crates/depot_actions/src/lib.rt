@@ -9,6 +9,7 @@
 #![tactic(auto)]
 
 mod checking;
+mod contents;
 mod delivery;
 mod depot;
 mod entries;

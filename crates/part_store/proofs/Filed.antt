@@ -212,6 +212,15 @@ stocked_found old new digest octets row there reads shown same before stands =
       tables = subst (λ t. IsStocked old.now.trees t digest octets) (sym step.change.0) (stocked_already old.now.trees before digest octets stands.tables held);
     }
 
+-- where they are known to be there, nothing was looked up
+pub stocked_there : (now : State) (digest octets : List ℕ) (before : Entries) → Stands now.now before → HasContent (now.now.trees contents_tree) digest octets → Stocks digest octets now now
+stocked_there now digest octets before stands held = record {
+  schema = stands.schema;
+  listed = stands.listed;
+  committed = refl;
+  tables = stocked_already now.now.trees before digest octets stands.tables held;
+}
+
 pub other_found : (old new : State) (digest octets : List ℕ) (row : Row) (there : List ℕ) → Steps (Reads (λ db. IsFound contents_tree (equals 1 (Blob digest)) (columns (2 ∷ [])) db (Some row))) old new
     → column row 0 ≡ Blob there → there ≢ octets → (before : Entries) → Stands old.now before → IsOther old.now.trees digest octets
 other_found old new digest octets row there reads shown apart before stands = (there, content_there old new digest row there reads shown before stands, apart)

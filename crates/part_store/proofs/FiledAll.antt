@@ -1,5 +1,5 @@
 -- Entries that are filed one after another.
-use Rattle.std.proofs.Common.{◌≡◌, ◌⊎◌, inl, inr, ℕ, ◌+◌, ◌<◌, List, [], ◌∷◌, ◌++◌, length, map, take, drop, get_or, IsTrue, refl, sym, ap, subst, ◌∙◌, append-nil, append_assoc, arith, add-zero, length-append, ℤ, ◌+ℤ◌, pos}
+use Rattle.std.proofs.Common.{◌≡◌, ◌⊎◌, inl, inr, Bool, true, ℕ, ◌+◌, ◌<◌, List, [], ◌∷◌, ◌++◌, length, map, take, drop, get_or, IsTrue, refl, sym, ap, subst, ◌∙◌, append-nil, append_assoc, arith, add-zero, length-append, ℤ, ◌+ℤ◌, pos, zero, suc}
 use Rattle.std.proofs.lemmas.List.{drop_more, take-append-drop, map-append, map_more}
 use Rattle.sha2.specs.Sha256.{sha256}
 use Rattle.std.proofs.lemmas.Int.{ints}
@@ -11,7 +11,8 @@ use Rattle.sqlite.proofs.StateLemmas.{survives_then}
 use Rattle.part_store.specs.Tables.{store_schema}
 use Rattle.part_store.specs.Changes.{contents_tree, entries_tree}
 use Rattle.part_store.specs.Entries.{Draft, Entry, Entries, entry_of, numbered}
-use Rattle.part_store.specs.Filing.{CanFile, Collides, Files, FilesAll, IsNext, IsOther, RisesBy}
+use Rattle.part_store.specs.Filing.{CanFile, Collides, Files, FilesAll, HasDraft, IsNext, IsOther, RisesBy}
+use Rattle.part_store.specs.Sharing.{octets_at}
 use Rattle.part_store.specs.Standing.{HasContent, Stands, draft_of}
 use Rattle.part_store.proofs.Filed.{same_rowids}
 use Rattle.part_store.specs.declared.entry.Kind.TheVariants.{Message}
@@ -128,21 +129,27 @@ filed_more old mid new before user last drafts d so_far one =
           (rises_then (length drafts) 1 (old.now.trees entries_tree) (mid.now.trees entries_tree) (new.now.trees entries_tree) so_far.entry_rowids one.entry_rowids);
     }
 
-pub one_more : (user : List ℕ) (last count number : ℕ) (drafts more : List Draft) (d : Draft) (old mid new : State) → length drafts < count → number ≡ last + 1 + length drafts → more ≡ drafts ++ d ∷ [] → Filing user last count drafts old mid
+-- what an earlier draft has in common with the next one is under its digest
+pub there_already : (user : List ℕ) (last : ℕ) (drafts : List Draft) (d : Draft) (before : Entries) (old mid : State) → FilesAll user last drafts before old mid
+    → ((x : Draft) × Has drafts x × (x.octets ≡ d.octets)) → HasDraft mid.now.trees d
+there_already user last drafts d before old mid was x = subst (λ o. HasContent (mid.now.trees contents_tree) (sha256 o) o) x.2 (was.has x.0 x.1)
+
+pub one_more : (user : List ℕ) (last count number : ℕ) (drafts more : List Draft) (d : Draft) (is_there : Bool) (old mid new : State) → (is_there ≡ true → (x : Draft) × Has drafts x × (x.octets ≡ d.octets)) → length drafts < count → number ≡ last + 1 + length drafts → more ≡ drafts ++ d ∷ [] → Filing user last count drafts old mid
     → Survives mid new (λ _. ⊥)
-    → (HasCleanDisk new → (before : Entries) → Stands mid.now before → IsNext before (entry_of user number d) → Files (entry_of user number d) (sha256 d.octets) before mid new)
+    → (HasCleanDisk new → (before : Entries) → Stands mid.now before → IsNext before (entry_of user number d) → (is_there ≡ true → HasDraft mid.now.trees d) → Files (entry_of user number d) (sha256 d.octets) before mid new)
     → (HasCleanDisk new → IsTrue new.in_transaction) → (HasCleanDisk new → mid.now.schema ≡ store_schema → new.now.schema ≡ store_schema)
     → (HasCleanDisk new → mid.now.schema ≡ store_schema → KeepsCommit mid new) → Filing user last count more old new
-one_more user last count number drafts more d old mid new within is all so_far survives files inside schema kept =
+one_more user last count number drafts more d is_there old mid new earlier within is all so_far survives files inside schema kept =
     let early = λ (clean : HasCleanDisk new). let e : HasCleanDisk mid = omega (arith, survives.clean) in e in
     let far = survives_then old mid new (λ _. ⊥) (λ _. ⊥) (λ _. ⊥) (λ _ _ h. h) (λ _ _ h. h) so_far.survives survives in
     subst (λ ds. Filing user last count ds old new) (sym all) (record {
       survives = far;
       filed = λ clean before stands can.
           let was = so_far.filed (early clean) before stands can in
+          let there = λ (is : is_there ≡ true). there_already user last drafts d before old mid was (earlier is) in
           let one = subst (λ n. IsNext (record before { entries = before.entries ++ numbered user (last + 1) drafts }) (entry_of user n d)
-          → Files (entry_of user n d) (sha256 d.octets) (record before { entries = before.entries ++ numbered user (last + 1) drafts }) mid new) is (files clean _ was.stands) in
-          filed_more old mid new before user last drafts d was (one (next_one before user last count drafts d can within));
+          → (is_there ≡ true → HasDraft mid.now.trees d) → Files (entry_of user n d) (sha256 d.octets) (record before { entries = before.entries ++ numbered user (last + 1) drafts }) mid new) is (files clean _ was.stands) in
+          filed_more old mid new before user last drafts d was (one (next_one before user last count drafts d can within) there);
       inside = λ clean _. inside clean;
       still = λ clean _. inside clean;
       schema = λ clean has. schema clean (so_far.schema (early clean) has);
@@ -188,3 +195,22 @@ pub drafts_split : (entries : List NewEntry) (place : ℕ) → place < length en
 drafts_split entries place lt =
     ap (map draft_of) (sym (take-append-drop place entries) ∙ ap (λ rest. take place entries ++ rest) (drop_more entries place no_entry lt))
     ∙ map-append draft_of (take place entries) (entry_at entries place ∷ drop (place + 1) entries)
+
+-- the octets of the draft at a place are those of the entry there
+pub octets_here : (entries : List NewEntry) (place : ℕ) → octets_at (map draft_of entries) place ≡ (draft_of (entry_at entries place)).octets
+octets_here [] place = refl
+octets_here (e ∷ entries) zero = refl
+octets_here (e ∷ entries) (suc place) = octets_here entries place
+
+taken_has : (entries : List NewEntry) (place first : ℕ) → first < place → first < length entries → Has (map draft_of (take place entries)) (draft_of (entry_at entries first))
+taken_has [] place first lt long = absurd (omega (arith, long))
+taken_has (e ∷ entries) zero first lt long = absurd (omega (arith, lt))
+taken_has (e ∷ entries) (suc place) zero lt long = inl refl
+taken_has (e ∷ entries) (suc place) (suc first) lt long = inr (taken_has entries place first (omega (arith, lt)) (omega (arith, long)))
+
+-- octets that an earlier entry has are those of a draft before this place
+pub earlier_draft : (entries : List NewEntry) (place : ℕ) → place < length entries
+    → ((first : ℕ) × (first < place) × (octets_at (map draft_of entries) first ≡ (draft_of (entry_at entries place)).octets))
+    → (x : Draft) × Has (map draft_of (take place entries)) x × (x.octets ≡ (draft_of (entry_at entries place)).octets)
+earlier_draft entries place lt (first, before, same) =
+    (draft_of (entry_at entries first), taken_has entries place first before (omega (arith, lt, before)), sym (octets_here entries first) ∙ same)

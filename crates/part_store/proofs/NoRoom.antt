@@ -1,5 +1,5 @@
 -- Where entries have no room.
-use Rattle.std.proofs.Common.{◌≡◌, ◌⊎◌, inl, inr, ℕ, ◌+ℤ◌, ◌+◌, ◌<◌, pos, false, List, [], ◌∷◌, ◌++◌, length, None, refl, sym, ap, subst, ◌∙◌, IsTrue, arith}
+use Rattle.std.proofs.Common.{◌≡◌, ◌⊎◌, inl, inr, ℕ, ◌+ℤ◌, ◌+◌, ◌<◌, pos, Bool, true, false, List, [], ◌∷◌, ◌++◌, length, None, refl, sym, ap, subst, ◌∙◌, IsTrue, arith}
 use Rattle.std.proofs.lemmas.Bool.{and_parts, eqb-true, false_from_ne_true}
 use Rattle.sha2.specs.Sha256.{sha256}
 use Rattle.sqlite_value.specs.declared.value.Value.TheVariants.{Blob}
@@ -15,7 +15,7 @@ use Rattle.sqlite.specs.declared.error.Error.{Error}
 use Rattle.part_store.specs.Tables.{store_schema, contents_table, entries_table}
 use Rattle.part_store.specs.Changes.{contents_tree, entries_tree, columns, equals, new_row, IsFound, Reads, Steps}
 use Rattle.part_store.specs.Entries.{Draft, Entries, Entry, entry_of, numbered, with_entries, with_last}
-use Rattle.part_store.specs.Filing.{entry_values, CanFile, Claims, IsNext, RisesWithin, Stocks}
+use Rattle.part_store.specs.Filing.{entry_values, CanFile, Claims, HasDraft, IsNext, RisesWithin, Stocks}
 use Rattle.part_store.specs.Refusals.{content_values, refusal_of, AddFaults, Blames, BlamesEntries, HasFailed, HasNoContent, HasNoRoom, HasNoUserRoom, HasSome, HaveNoRoom, IsFree, IsTableIn, LacksRoom, RunsOut}
 use Rattle.part_store.specs.Standing.{IsEntryRow, Stands, StandsFor, Stays}
 use Rattle.part_store.specs.declared.error.StoreError.TheVariants.{Database}
@@ -24,7 +24,7 @@ use Rattle.part_store.proofs.Causes.{contents_table_in, stands_writable, writabl
 use Rattle.part_store.proofs.Entering.{stands_still}
 use Rattle.part_store.proofs.Failing.{later_failed}
 use Rattle.part_store.proofs.Filed.{entry_keys}
-use Rattle.part_store.proofs.FiledAll.{has_right, next_one, Filing, more_rowids}
+use Rattle.part_store.proofs.FiledAll.{has_right, next_one, Filing, more_rowids, there_already}
 use Rattle.part_store.proofs.Finding.{row_test, zip_found}
 use Rattle.part_store.proofs.Room.{next_follows}
 
@@ -71,19 +71,20 @@ entry_unplaced old mid new x digest e before stands next stocks inside one two c
     ]
 
 -- the next draft of several
-pub filing_refused : (user : List ℕ) (last count number : ℕ) (drafts later whole : List Draft) (d : Draft) (old mid new : State) (e : Error) → length drafts < count → number ≡ last + 1 + length drafts
+pub filing_refused : (user : List ℕ) (last count number : ℕ) (drafts later whole : List Draft) (d : Draft) (is_there : Bool) (old mid new : State) (e : Error)
+    → (is_there ≡ true → (x : Draft) × Has drafts x × (x.octets ≡ d.octets)) → length drafts < count → number ≡ last + 1 + length drafts
     → whole ≡ drafts ++ d ∷ later → count ≡ length whole → Filing user last count drafts old mid → Survives mid new (λ _. ⊥) → HasCleanDisk new
     → (refusal_of e ≡ Database → IsTrue mid.in_transaction → (before : Entries) → Stands mid.now before → IsNext before (entry_of user number d)
-    → HasFailed mid new ⊎ LacksRoom (entry_of user number d) (sha256 d.octets) mid.now.trees)
+    → (is_there ≡ true → HasDraft mid.now.trees d) → HasFailed mid new ⊎ LacksRoom (entry_of user number d) (sha256 d.octets) mid.now.trees)
     → refusal_of e ≡ Database → IsTrue old.in_transaction → (before : Entries) → Stands old.now before → CanFile before user last count → HasFailed old new ⊎ HaveNoRoom user whole old.now.trees
-filing_refused user last count number drafts later whole d old mid new e within counted place long so_far survives clean cause is inside before stands can =
+filing_refused user last count number drafts later whole d is_there old mid new e earlier within counted place long so_far survives clean cause is inside before stands can =
     let early : HasCleanDisk mid = omega (arith, clean, survives.clean) in
     let was = so_far.filed early before stands can in
     let there : Has whole d = subst (λ ds. Has ds d) (sym place) (has_right drafts (d ∷ later) d (inl refl)) in
     let lt : length drafts < length whole = omega (arith, within, long) in
     let entry_rises : RisesWithin (length drafts) (old.now.trees entries_tree) (mid.now.trees entries_tree) = (length drafts, omega arith, was.entry_rowids) in
     let next = subst (λ n. IsNext (record before { entries = before.entries ++ numbered user (last + 1) drafts }) (entry_of user n d)) (sym counted) (next_one before user last count drafts d can within) in
-    elim (cause is (so_far.still early inside) _ was.stands next) [
+    elim (cause is (so_far.still early inside) _ was.stands next (λ known. there_already user last drafts d before old mid was (earlier known))) [
       | inl failed ↦ inl (later_failed old mid new so_far.survives survives clean failed)
       | inr (inl (inl full)) ↦ inr (inl (spent (old.now.trees contents_tree) (mid.now.trees contents_tree) (length drafts) (length whole) was.content_rowids lt full))
       | inr (inl (inr big)) ↦ inr (inr (inr (d, there, inl (next_rowid (mid.now.trees contents_tree), big))))

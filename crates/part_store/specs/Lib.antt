@@ -5,6 +5,7 @@ pub mod Changes
 pub mod Entries
 pub mod Standing
 pub mod Refusals
+pub mod Sharing
 pub mod Calls
 pub mod Opening
 pub mod Crashes

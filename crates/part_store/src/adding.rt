@@ -6,10 +6,12 @@ ghost use Rattle.part_store.specs.Entries.{with_last};
 ghost use Rattle.part_store.specs.Refusals.{refusal_of, Blames, BlamesEntries, HasFailed, HasNoUserRoom, HaveNoRoom};
 ghost use Rattle.part_store.specs.declared.error.StoreError.TheVariants.{Database};
 ghost use Rattle.part_store.specs.Filing.{Adds, CanFile, Claims, Collides, Enters, FilesAll, IsFrom};
+ghost use Rattle.part_store.specs.Sharing.{SharesContents, first_of};
 ghost use Rattle.part_store.specs.Calls.{Always, AsRefusal, AsRefusalInside, CommitsNothing, IfDone, IfRefused, IsInside, KeepsStored, KeepsTables, OnDone, StaysInside, StaysShut, Tells, WasOpen};
 
 use crate::entry::NewEntry;
 use crate::filing::file_entry;
+use crate::shared::{Shared, digest_at};
 use crate::users;
 use sqlite::{Alter, Error, Transaction};
 
@@ -29,8 +31,10 @@ pub(crate) fn put_entries<S: Alter>(
     tx: &mut Transaction<'_, S>,
     user: &str,
     entries: &[NewEntry<'_>],
+    shared: &mut [Shared],
 ) -> Result<Adding, Error>
-    requires { 0 < length entries.now }
+    requires some { 0 < length entries.now }
+    requires shared { SharesContents (map draft_of entries.now) (map first_of shared.old) }
     ensures same_reference { tx.new.conn.ghost_name ≡ tx.old.conn.ghost_name }
     ensures adds { IfDone S.Store tx.old.conn.now tx.new.conn.now result
         (λ answer old new. Adds user.now (map draft_of entries.now) old new answer) }
@@ -47,7 +51,7 @@ pub(crate) fn put_entries<S: Alter>(
     if entries.len() > (u32::MAX - last) as usize {
         return Ok(Adding::NumberFull);
     }
-    if claim_and_file(tx, user, last, program, entries)? {
+    if claim_and_file(tx, user, last, program, entries, shared)? {
         Ok(Adding::From(last + 1))
     } else {
         Ok(Adding::Collision)
@@ -62,8 +66,10 @@ fn claim_and_file<S: Alter>(
     last: u32,
     program: Option<Vec<u8>>,
     entries: &[NewEntry<'_>],
+    shared: &mut [Shared],
 ) -> Result<bool, Error>
     requires some { 0 < length entries.now }
+    requires shared { SharesContents (map draft_of entries.now) (map first_of shared.old) }
     requires room { last + length entries.now ≤ max_entry_number }
     ensures same_reference { tx.new.conn.ghost_name ≡ tx.old.conn.ghost_name }
     ensures filed { IfDone S.Store tx.old.conn.now tx.new.conn.now result
@@ -88,7 +94,7 @@ fn claim_and_file<S: Alter>(
     ensures survives { CommitsNothing S.Store tx.old.conn.now tx.new.conn.now }
 {
     claim(tx, user, last + entries.len() as u32, lent(&program))?;
-    file_all(tx, user, last, entries)
+    file_all(tx, user, last, entries, shared)
 }
 
 fn lent(program: &Option<Vec<u8>>) -> Option<&[u8]>
@@ -150,14 +156,17 @@ fn claim<S: Alter>(
     Ok(())
 }
 
-/// Files the entries under the numbers after a user's last one. Answers false where other octets are under the digest of one.
+/// Files the entries under the numbers after a user's last one. Answers false where other octets are under the digest of one. A
+/// content that an earlier entry shares is neither hashed nor looked up again.
 fn file_all<S: Alter>(
     tx: &mut Transaction<'_, S>,
     user: &str,
     last: u32,
     entries: &[NewEntry<'_>],
+    shared: &mut [Shared],
 ) -> Result<bool, Error>
     requires some { 0 < length entries.now }
+    requires shared { SharesContents (map draft_of entries.now) (map first_of shared.old) }
     requires room { last + length entries.now ≤ max_entry_number }
     ensures same_reference { tx.new.conn.ghost_name ≡ tx.old.conn.ghost_name }
     ensures filed { IfDone S.Store tx.old.conn.now tx.new.conn.now result
@@ -180,8 +189,10 @@ fn file_all<S: Alter>(
 {
     let mut number = last;
     for entry in entries {
+        let place = (number - last) as usize;
         number += 1;
-        if !file_entry(tx, user, number, entry)? {
+        let (digest, is_there) = digest_at(shared, place, entry.octets);
+        if !file_entry(tx, user, number, entry, &digest, is_there)? {
             return Ok(false);
         }
     }

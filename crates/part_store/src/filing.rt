@@ -5,15 +5,15 @@ ghost use Rattle.sqlite_value.specs.Order.{column};
 ghost use Rattle.sha2.specs.Sha256.{sha256};
 ghost use Rattle.part_store.specs.Tables.{contents_table};
 ghost use Rattle.part_store.specs.Entries.{entry_of};
-ghost use Rattle.part_store.specs.Standing.{Stands, kind_number, draft_of};
+ghost use Rattle.part_store.specs.Changes.{contents_tree};
+ghost use Rattle.part_store.specs.Standing.{HasContent, Stands, kind_number, draft_of};
 ghost use Rattle.part_store.specs.Refusals.{content_values, refusal_of, HasFailed, HasNoRoom, LacksRoom};
 ghost use Rattle.part_store.specs.declared.error.StoreError.TheVariants.{Database};
-ghost use Rattle.part_store.specs.Filing.{Stocks, IsOther, IsNext, Files};
+ghost use Rattle.part_store.specs.Filing.{HasDraft, Stocks, IsOther, IsNext, Files};
 ghost use Rattle.part_store.specs.Calls.{Always, CommitsNothing, IfDone, IfRefused, KeepsStored, KeepsTables, OnDone, StaysInside};
 
 use crate::entry::{Kind, NewEntry};
 use crate::{contents, entries};
-use sha2::{Digest, Sha256};
 use sqlite::{Alter, Error, Row, Transaction};
 use sqlite_value::value::ValueRef;
 
@@ -31,11 +31,18 @@ fn are_these(row: &Row, octets: &[u8]) -> Result<bool, Error>
     }
 }
 
-/// Puts octets under their digest where nothing is under it yet. Answers whether they are what is under it now.
-fn stock<S: Alter>(tx: &mut Transaction<'_, S>, digest: &[u8], octets: &[u8]) -> Result<bool, Error>
+/// Puts octets under their digest where nothing is under it yet. Answers whether they are what is under it now. Nothing is looked
+/// up where they are known to be there.
+fn stock<S: Alter>(
+    tx: &mut Transaction<'_, S>,
+    digest: &[u8],
+    octets: &[u8],
+    is_there: bool,
+) -> Result<bool, Error>
     ensures same_reference { tx.new.conn.ghost_name ≡ tx.old.conn.ghost_name }
     ensures stocked { IfDone S.Store tx.old.conn.now tx.new.conn.now result
         (λ done old new. done ≡ true → (before : _) → Stands old.now before
+        → (is_there ≡ true → HasContent (old.now.trees contents_tree) digest.now octets.now)
         → Stocks digest.now octets.now old new) }
     ensures other { IfDone S.Store tx.old.conn.now tx.new.conn.now result
         (λ done old _. done ≡ false → (before : _) → Stands old.now before
@@ -50,6 +57,9 @@ fn stock<S: Alter>(tx: &mut Transaction<'_, S>, digest: &[u8], octets: &[u8]) ->
         ⊎ HasNoRoom contents_table (content_values digest.now octets.now) old.now.trees) }
     ensures survives { CommitsNothing S.Store tx.old.conn.now tx.new.conn.now }
 {
+    if is_there {
+        return Ok(true);
+    }
     match contents::find(tx, digest)? {
         Some(row) => are_these(&row, octets),
         None => {
@@ -68,17 +78,22 @@ fn kind_number(kind: Kind) -> u32
     }
 }
 
-/// Files one entry under a number. Answers false where other octets are under its digest.
+/// Files one entry, whose octets have this digest, under a number. Answers false where other octets are under the digest. Its octets
+/// aren't looked up where they are known to be there.
 pub(crate) fn file_entry<S: Alter>(
     tx: &mut Transaction<'_, S>,
     user: &str,
     number: u32,
     entry: &NewEntry<'_>,
+    digest: &[u8],
+    is_there: bool,
 ) -> Result<bool, Error>
+    requires { digest.now ≡ sha256 entry.now.octets.now }
     ensures same_reference { tx.new.conn.ghost_name ≡ tx.old.conn.ghost_name }
     ensures filed { IfDone S.Store tx.old.conn.now tx.new.conn.now result
         (λ done old new. done ≡ true → (before : _) → Stands old.now before
         → IsNext before (entry_of user.now number (draft_of entry.now))
+        → (is_there ≡ true → HasDraft old.now.trees (draft_of entry.now))
         → Files (entry_of user.now number (draft_of entry.now))
         (sha256 entry.now.octets.now) before old new) }
     ensures other { IfDone S.Store tx.old.conn.now tx.new.conn.now result
@@ -91,13 +106,13 @@ pub(crate) fn file_entry<S: Alter>(
     ensures cause { IfRefused S.Store tx.old.conn.now tx.new.conn.now result
         (λ old new e. refusal_of e ≡ Database → IsTrue old.in_transaction → (before : _)
         → Stands old.now before → IsNext before (entry_of user.now number (draft_of entry.now))
+        → (is_there ≡ true → HasDraft old.now.trees (draft_of entry.now))
         → HasFailed old new
         ⊎ LacksRoom (entry_of user.now number (draft_of entry.now))
         (sha256 entry.now.octets.now) old.now.trees) }
     ensures survives { CommitsNothing S.Store tx.old.conn.now tx.new.conn.now }
 {
-    let digest = Sha256::digest(entry.octets);
-    if !stock(tx, &digest, entry.octets)? {
+    if !stock(tx, digest, entry.octets, is_there)? {
         return Ok(false);
     }
     entries::add(
@@ -108,7 +123,7 @@ pub(crate) fn file_entry<S: Alter>(
         kind_number(entry.kind),
         entry.name,
         entry.media,
-        &digest,
+        digest,
     )?;
     Ok(true)
 }

@@ -18,6 +18,7 @@ ghost use Rattle.part_store.specs.Filing.{Collides, HasRoom};
 ghost use Rattle.sqlite.specs.Steps.{over_memory};
 ghost use Rattle.part_store.specs.Opening.{HasCause, HasOtherTables, HoldsNoTables, HoldsStore, IsAt, IsBare, IsEmptied, IsKept, IsReady, IsReadyFrom, KeepsStore, MakesEmpty, OpensOrTells, TellsWhy};
 ghost use Rattle.sqlite.specs.WalFiles.{image_at};
+ghost use Rattle.part_store.specs.Sharing.{SharesContents, first_of};
 ghost use Rattle.part_store.specs.Calls.{Always, AsRefusal, AsRefusalInside, CommitsNothing, DoneWhere, IfDone, IfRefused, IsInside, KeepsStored, MayCommit, OnDone, OnRefused, RefusedWhere, Settles, StaysInside, StaysShut, Tells, WasOpen};
 
 mod connections;
@@ -28,6 +29,7 @@ use crate::entry::{EntryRow, NewEntry};
 use crate::error::StoreError;
 use crate::listing::list_all;
 use crate::looking::{Unopened, has_tables};
+use crate::shared::Shared;
 use crate::stored_programs::{list_programs, put_program, read_program, replace_all};
 use crate::totals::{ContentTotal, count_contents};
 use crate::user_row::UserRow;
@@ -425,8 +427,50 @@ impl<S: Alter> PartStore<S> {
             (λ old trees. IsTrue old.is_open
             × MayMake (with_entries user.now (map draft_of entries.now)) old trees) }
     {
+        self.add_sharing_entries(user, entries, &mut [])
+    }
+
+    /// The same of entries of which some have the same content: what one says of an entry is known of its content. A content is hashed,
+    /// looked up and compared once, however many entries of the list have it. `shared` tells of each entry at which place of the list
+    /// its content comes first; of those past its end it tells nothing.
+    pub fn add_sharing_entries(
+        &mut self,
+        user: &str,
+        entries: &[NewEntry<'_>],
+        shared: &mut [Shared],
+    ) -> Result<u32, StoreError>
+        requires some { 0 < length entries.now }
+        requires shared { SharesContents (map draft_of entries.now) (map first_of shared.old) }
+        ensures made { OnDone S.Store self.old self.new result
+            (Makes (with_entries user.now (map draft_of entries.now))) }
+        ensures first { Tells S.Store self.old self.new result
+            (λ before first. first ≡ before.lasts user.now + 1) }
+        ensures room { DoneWhere S.Store self.old self.new result
+            (λ before. HasRoom before user.now (length entries.now)) }
+        ensures apart { OnDone S.Store self.old self.new result
+            (λ old _. (before : _) → Stands old.now before
+            → Collides old.now.trees (map draft_of entries.now) → ⊥) }
+        ensures full { RefusedWhere S.Store self.old self.new result NumberFull
+            (λ before. HasRoom before user.now (length entries.now) → ⊥) }
+        ensures collision { IfRefused S.Store self.old self.new result
+            (λ old _ e. e ≡ Collision → (before : _) → Stands old.now before
+            → HasRoom before user.now (length entries.now)
+            × Collides old.now.trees (map draft_of entries.now)) }
+        ensures open { OnDone S.Store self.old self.new result WasOpen }
+        ensures begun { IfRefused S.Store self.old self.new result
+            (λ old _ e. (e ≡ NumberFull) ⊎ (e ≡ Collision) → IsTrue old.is_open) }
+        ensures shut { Always S.Store self.old self.new StaysShut }
+        ensures spared { OnRefused S.Store self.old self.new result Spares }
+        ensures refused { IfErr result
+            (λ e. (e ≡ Memory) ⊎ ((e ≡ NumberFull) ⊎ ((e ≡ Collision) ⊎ (e ≡ Database)))) }
+        ensures cause { IfRefused S.Store self.old self.new result
+            (BlamesEntries user.now (map draft_of entries.now)) }
+        ensures survives { MayCommit S.Store self.old self.new
+            (λ old trees. IsTrue old.is_open
+            × MayMake (with_entries user.now (map draft_of entries.now)) old trees) }
+    {
         let mut tx = begin(&mut self.conn);
-        match put_entries(&mut tx, user, entries)? {
+        match put_entries(&mut tx, user, entries, shared)? {
             Adding::From(first) => {
                 tx.commit()?;
                 Ok(first)

@@ -13,7 +13,7 @@ returns-in_err-rows-clause-spared g c clean = on_err c.from_residual.result (spa
 pub returns-in_err-first-clause-cause : goal.returns-in_err-first-clause-cause
 returns-in_err-first-clause-cause g c clean =
     let old = state g.S.Store c.args.store.now in
-    let new = state g.S.Store c.add_entries.new.self in
+    let new = state g.S.Store c.add_sharing_entries.new.self in
     let lack = LackRoom c.args.user.now (map draft_of c.args.entries.now) in
     passed_on c.from_residual-in_err-first.result _ _ c.from_residual-in_err-first.ensures.1
-    (of_refusal c.map_err.result _ _ c.in_err-first.was (fault_told lack old new c.add_entries.result c.map_err.result c.map_err.ensures.cases (c.add_entries.ensures.cause clean)))
+    (of_refusal c.map_err.result _ _ c.in_err-first.was (fault_told lack old new c.add_sharing_entries.result c.map_err.result c.map_err.ensures.cases (c.add_sharing_entries.ensures.cause clean)))

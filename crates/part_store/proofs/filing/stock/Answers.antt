@@ -4,14 +4,18 @@ use Rattle.sqlite.specs.State.{HasCleanDisk}
 use Rattle.part_store.proofs.NoRoom.{content_unplaced}
 use Rattle.part_store.proofs.Readable.{octets_readable}
 use Rattle.part_store.proofs.Runs.{err_then, if_ok, passed}
-use Rattle.part_store.proofs.Filed.{stocked_found, other_found, stocked_none}
+use Rattle.part_store.proofs.Filed.{stocked_found, other_found, stocked_none, stocked_there}
 use Rattle.part_store.proofs.filing.stock.Goals as goal
+
+pub returns-then-is_there-clause-stocked : goal.returns-then-is_there-clause-stocked
+returns-then-is_there-clause-stocked g c clean is before stands known =
+    stocked_there (state g.S.Store c.args.tx.now.conn.now) c.args.digest.now c.args.octets.now before stands (known c.if-is_there.true)
 
 pub returns-in-Some-clause-stocked : goal.returns-in-Some-clause-stocked
 returns-in-Some-clause-stocked g c clean =
-    if_ok c.are_these.result _ _ (λ done same is.
+    if_ok c.are_these.result _ _ (λ done same is before stands _.
     stocked_found (state g.S.Store c.args.tx.now.conn.now) (state g.S.Store c.find.new.tx.conn.now) c.args.digest.now c.args.octets.now c.in-Some.row c.args.octets.now
-    (rw c.in-Some.is at (c.in_ok-row.ensures.step clean)) (same is) refl) c.are_these.ensures.same
+    (rw c.in-Some.is at (c.in_ok-row.ensures.step clean)) (same is) refl before stands) c.are_these.ensures.same
 
 pub returns-in-Some-clause-other : goal.returns-in-Some-clause-other
 returns-in-Some-clause-other g c clean =
@@ -20,9 +24,9 @@ returns-in-Some-clause-other g c clean =
     (rw c.in-Some.is at (c.in_ok-row.ensures.step clean)) (other is).1 (other is).2) c.are_these.ensures.other
 
 pub returns-in_ok-add-in-None-clause-stocked : goal.returns-in_ok-add-in-None-clause-stocked
-returns-in_ok-add-in-None-clause-stocked g c clean is =
+returns-in_ok-add-in-None-clause-stocked g c clean is before stands _ =
     stocked_none (state g.S.Store c.args.tx.now.conn.now) (state g.S.Store c.find.new.tx.conn.now) (state g.S.Store c.add.new.tx.conn.now) c.args.digest.now c.args.octets.now
-    (rw c.in-None.is at (c.in_ok-row.ensures.step (search rules))) (c.in_ok-add-in-None.ensures.step clean)
+    (rw c.in-None.is at (c.in_ok-row.ensures.step (search rules))) (c.in_ok-add-in-None.ensures.step clean) before stands
 
 pub returns-in_err-row-clause-cause : goal.returns-in_err-row-clause-cause
 returns-in_err-row-clause-cause g c clean =

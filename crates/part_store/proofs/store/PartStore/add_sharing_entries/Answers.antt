@@ -10,8 +10,8 @@ use Rattle.part_store.specs.declared.adding.Adding.TheVariants.{Collision, From,
 use Rattle.part_store.proofs.Failing.{dropped}
 use Rattle.part_store.proofs.Runs.{passed}
 use Rattle.part_store.proofs.Stored.{committed_entries}
-use Rattle.part_store.proofs.store.PartStore.add_entries.Goals as goal
-use Rattle.part_store.proofs.store.PartStore.add_entries.Goals.{in-From+in_ok-commit-in-From, in-NumberFull, in-Collision}
+use Rattle.part_store.proofs.store.PartStore.add_sharing_entries.Goals as goal
+use Rattle.part_store.proofs.store.PartStore.add_sharing_entries.Goals.{in-From+in_ok-commit-in-From, in-NumberFull, in-Collision}
 
 pub returns-in_err-commit-in-From-clause-survives : goal.returns-in_err-commit-in-From-clause-survives
 returns-in_err-commit-in-From-clause-survives g c =

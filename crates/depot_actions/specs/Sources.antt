@@ -1,0 +1,20 @@
+-- Where the contents of actions come from.
+use Rattle.std.specs.Prelude.{◌≡◌, ℕ, ◌<◌, List, Option, None, IfSome, length, slice_index_or}
+use Rattle.bytecode_format.specs.declared.action.Action.{Action}
+use Rattle.bytecode_format.specs.declared.action.Action.TheVariants.{Keep, File, Store}
+
+-- a part by its number, and after all parts the message
+abbrev pub source_of : ℕ → Action → ℕ
+source_of parts Keep = parts
+source_of parts (File folder) = parts
+source_of parts (Store folder part) = part
+
+-- what is known of a source is a place before this one that has it
+abbrev pub AreFirsts : List ℕ → ℕ → List (Option ℕ) → Type 0
+AreFirsts sources place firsts =
+    (source : ℕ) → IfSome (slice_index_or firsts source None) (λ first. (first < place) × (slice_index_or sources first 0 ≡ source))
+
+-- each place names one that has its source
+abbrev pub HaveFirsts : List ℕ → List ℕ → Type 0
+HaveFirsts sources firsts =
+    (place : ℕ) → place < length firsts → slice_index_or sources (slice_index_or firsts place 0) 0 ≡ slice_index_or sources place 0

@@ -1,0 +1,60 @@
+// Which actions file the same content.
+ghost use Rattle.std.specs.Prelude.{◌≡◌, ◌+◌, ◌<◌, All, IfOk, List, ℕ, length, map, slice_index_or};
+ghost use Rattle.sieve_vm.specs.Stores.{NamesPart};
+ghost use Rattle.part_store.specs.Sharing.{SharesContents, first_of};
+ghost use Rattle.depot_actions.specs.Drafts.{drafts_of};
+ghost use Rattle.depot_actions.specs.Sources.{AreFirsts, source_of};
+
+use bytecode_format::Action;
+use mime_decode::Message;
+use part_store::Shared;
+use std::alloc::{AllocError, Global};
+
+/// Of each action the first that files the same content: the message's, or that of one of its parts.
+///
+/// An error comes only where an allocation was refused.
+pub(crate) fn shared_contents(
+    alloc: Global,
+    message: &Message,
+    actions: &[Action],
+) -> Result<Vec<Shared>, AllocError>
+    requires { All (NamesPart message.now) actions.now }
+    ensures { IfOk result (λ shared. SharesContents (drafts_of message.now actions.now)
+        (map first_of shared.items)) }
+{
+    let parts = message.parts();
+    let mut firsts = vec![in alloc; None; parts + 1]?;
+    let mut shared = Vec::with_capacity(alloc, actions.len())?;
+    for action in actions {
+        let place = shared.len();
+        let first = first_place(&mut firsts, source_of(parts, action), place);
+        shared.push(Shared::with(first))?;
+    }
+    Ok(shared)
+}
+
+// Where the content of an action comes from: the number of its part, or that after all parts for the message.
+fn source_of(parts: usize, action: &Action) -> usize
+    ensures { result ≡ source_of parts action.now }
+{
+    match action {
+        Action::Keep | Action::File(_) => parts,
+        Action::Store(_, part) => *part,
+    }
+}
+
+// The first place of a source. It is this one where none was known.
+fn first_place(firsts: &mut Vec<Option<usize>>, source: usize, place: usize) -> usize
+    requires { source < length firsts.old.items }
+    ensures long { length firsts.new.items ≡ length firsts.old.items }
+    ensures first { (sources : List ℕ) → AreFirsts sources place firsts.old.items
+        → slice_index_or sources place 0 ≡ source → slice_index_or sources result 0 ≡ source }
+    ensures firsts { (sources : List ℕ) → AreFirsts sources place firsts.old.items
+        → slice_index_or sources place 0 ≡ source → AreFirsts sources (place + 1) firsts.new.items }
+{
+    if let Some(first) = firsts[source] {
+        return first;
+    }
+    firsts[source] = Some(place);
+    place
+}
