@@ -1,20 +1,21 @@
 -- What a crash leaves of a store over files, for the next open.
-use Rattle.std.specs.Prelude.{◌≡◌, IsTrue, ⊤}
+use Rattle.std.specs.Prelude.{◌≡◌, ◌⊎◌, IsTrue, Some, ⊤}
 use Rattle.sqlite_disk.specs.declared.Disk.{Ghosts}
 use Rattle.sqlite_trees.specs.Tree.{Trees}
 use Rattle.sqlite_trees.specs.View.{IsClean}
 use Rattle.sqlite.specs.declared.FileStore.{FileStore}
 use Rattle.sqlite.specs.FileStore as store
-use Rattle.sqlite.specs.Files.{file_state, HoldsDatabase}
+use Rattle.sqlite.specs.Files.{file_state, HoldsDatabase, IsCleanLeft, IsClosed}
 use Rattle.sqlite.specs.Held.{Held}
 use Rattle.sqlite.specs.Recovery.{Image}
-use Rattle.sqlite.specs.State.{State}
+use Rattle.sqlite.specs.State.{State, HasCleanDisk, Survives}
 use Rattle.sqlite.specs.WalFiles.{outcomes}
+use Rattle.sqlite.specs.declared.error.Error.{Error}
 use Rattle.sqlite.specs.declared.file.Leftover.{Leftover}
 use Rattle.sqlite.specs.declared.file.Leftover.TheVariants as left
 use Rattle.sqlite_store.specs.Unopened.{state_of}
 use Rattle.part_store.specs.Entries.{Entries}
-use Rattle.part_store.specs.Opening.{HoldsStore}
+use Rattle.part_store.specs.Opening.{HoldsStore, IsFoundIn, IsUnopened, MakesEmpty}
 use Rattle.part_store.specs.Standing.{IsStored}
 
 -- all that a crash may leave are stores of states
@@ -29,6 +30,15 @@ module _ {D : Type 0} {g : Ghosts D} where
   -- the trees have the numbers that the list of tables gives them, as those of each store have whose disk is clean
   abbrev pub HasNumberedTrees : Held (FileStore D g) → Type 0
   HasNumberedTrees c = IsTrue (store.view c.store).is_numbered
+
+  -- A close that failed, or that a crash cut off, may leave this of the files, also where a failure
+  -- had shut the store before. It is known where the trees of what is left are numbered.
+  pub record MayLeaveClosing (c : Held (FileStore D g)) (image : Image) : Type 0 where
+    pub last : FileStore D g
+    pub closed : IsClosed c last
+    pub clean : IsClean (store.view last)
+    pub numbered : IsTrue (store.view last).is_numbered
+    pub may : (store.state last).may_leave image
 
   -- the two files hold one of the stores that a crash may leave
   pub record HoldsOneLeft (c : Held (FileStore D g)) (image : Image) : Type 0 where
@@ -56,3 +66,25 @@ module _ {D : Type 0} {g : Ghosts D} where
   TakesSize image (left.Unopened files) = (db : Trees) (held : HoldsDatabase image db)
       → held.0 ≡ (state_of files).page_size
   TakesSize image _ = ⊤
+
+-- Files that held the image were opened, and a crash cut the run off before its first command, also
+-- while the tables were made; or none could be made. Then they may read as the other. What `adopt`
+-- says of it is known.
+pub record IsCutOff {D : Type 0} (g : Ghosts D) (image other : Image) : Type 0 where
+  pub found : Held (FileStore D g)
+  pub now : Held (FileStore D g)
+  pub there : IsFoundIn image found
+  pub survives : Survives (file_state found) (file_state now) (MakesEmpty (file_state found))
+  pub clean : HasCleanDisk (file_state now)
+  pub numbered : HasNumberedTrees now
+  pub left : MayLeaveFiles now other ⊎ MayLeaveClosing now other
+
+-- An open of files that held the image was refused, or a crash cut it off, and they hold the other
+-- then. What the database's open left is known, and its page size is that of the files.
+pub record IsRefusedOpen {D : Type 0} (g : Ghosts D) (image other : Image) : Type 0 where
+  pub leftover : Leftover D g
+  pub error : Error
+  pub unopened : IsUnopened image (Some leftover) error
+  pub clean : IsCleanLeft leftover
+  pub size : TakesSize image leftover
+  pub may : MayLeaveRefused leftover other
