@@ -1,5 +1,5 @@
 -- What a crash leaves of a store over files, for the next open.
-use Rattle.std.specs.Prelude.{◌≡◌, ◌⊎◌, IsTrue, Some, ⊤}
+use Rattle.std.specs.Prelude.{◌≡◌, ◌⊎◌, false, IsTrue, Some}
 use Rattle.sqlite_disk.specs.declared.Disk.{Ghosts}
 use Rattle.sqlite_trees.specs.Tree.{Trees}
 use Rattle.sqlite_trees.specs.View.{IsClean}
@@ -13,6 +13,7 @@ use Rattle.sqlite.specs.WalFiles.{outcomes}
 use Rattle.sqlite.specs.declared.error.Error.{Error}
 use Rattle.sqlite.specs.declared.file.Leftover.{Leftover}
 use Rattle.sqlite.specs.declared.file.Leftover.TheVariants as left
+use Rattle.sqlite_pool.specs.Stored.{is_summed}
 use Rattle.sqlite_store.specs.Unopened.{state_of}
 use Rattle.part_store.specs.Entries.{Entries}
 use Rattle.part_store.specs.Opening.{HoldsStore, IsFoundIn, IsUnopened, MakesEmpty}
@@ -61,11 +62,9 @@ module _ {D : Type 0} {g : Ghosts D} where
   MayLeaveRefused (left.Unopened files) image = (state_of files).may_leave image
   MayLeaveRefused (left.Store it) image = IsTrue (store.view it).is_numbered × (store.state it).may_leave image
 
-  -- the open took the page size of the database that the files hold
-  abbrev pub TakesSize : Image → Leftover D g → Type 0
-  TakesSize image (left.Unopened files) = (db : Trees) (held : HoldsDatabase image db)
-      → held.0 ≡ (state_of files).page_size
-  TakesSize image _ = ⊤
+-- a database that the files hold has no sums at the ends of its pages, as none has that was made here
+abbrev pub HasNoSums : Image → Type 0
+HasNoSums image = (db : Trees) (held : HoldsDatabase image db) → is_summed held.0 ≡ false
 
 -- Files that held the image were opened, and a crash cut the run off before its first command, also
 -- while the tables were made; or none could be made. Then they may read as the other. What `adopt`
@@ -80,11 +79,11 @@ pub record IsCutOff {D : Type 0} (g : Ghosts D) (image other : Image) : Type 0 w
   pub left : MayLeaveFiles now other ⊎ MayLeaveClosing now other
 
 -- An open of files that held the image was refused, or a crash cut it off, and they hold the other
--- then. What the database's open left is known, and its page size is that of the files.
+-- then. What the database's open left is known, and what they held has no sums.
 pub record IsRefusedOpen {D : Type 0} (g : Ghosts D) (image other : Image) : Type 0 where
   pub leftover : Leftover D g
   pub error : Error
   pub unopened : IsUnopened image (Some leftover) error
   pub clean : IsCleanLeft leftover
-  pub size : TakesSize image leftover
+  pub plain : HasNoSums image
   pub may : MayLeaveRefused leftover other

@@ -81,8 +81,8 @@ pub fn trees_are_numbered<D: Disk + Drop>(store: PartStore<FileStore<D>>) -> Fil
 
 /// An open that comes to nothing leaves files that stand for the same state, where they held its
 /// store and where they held no tables yet: one that the database refused, however far it got and
-/// also after a crash, where it took the page size of what they hold; and one that a crash cut off
-/// before the first command, also while the tables were made.
+/// also after a crash, where what they hold has no sums; and one that a crash cut off before the
+/// first command, also while the tables were made.
 pub fn refused_opens_leave_the_state<D: Disk + Drop>()
     ensures refused { (image other : Image) → IsRefusedOpen D.Disk image other
         → (held : Entries) → HoldsState image held → ∥ HoldsState other held ∥₁ }
