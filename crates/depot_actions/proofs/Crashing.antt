@@ -10,11 +10,10 @@ use Rattle.sqlite.specs.Files.{file_state}
 use Rattle.sqlite.specs.Held.{Held}
 use Rattle.sqlite.specs.Recovery.{Image}
 use Rattle.sqlite.specs.State.{State, HasCleanDisk}
-use Rattle.part_store.specs.Crashes.{HasNumberedTrees, HoldsOneLeft, LeavesStores, MayLeaveClosing, MayLeaveFiles}
 use Rattle.part_store.specs.Entries.{Entries}
 use Rattle.part_store.specs.Opening.{HoldsState, IsAt}
 use Rattle.part_store.specs.Standing.{IsStored, Stands}
-use Rattle.part_store.proofs.Crashed.{closing_holds_one, files_leave_committed, holds_one}
+use Rattle.part_store.proofs.Crashed.{files_leave_committed, left_holds_one}
 use Rattle.part_store.proofs.Stored.{stored_as}
 use Rattle.depot_actions.specs.DepotState.{Accepts, Command, Reply}
 use Rattle.depot_actions.specs.History.{Answers, IsStep}
@@ -50,11 +49,6 @@ module _ {D : Type 0} {g : Ghosts D} (stays : (file : D) → g.may_leave file (g
       → (trees : Trees) → (file_state c).may_leave trees → IsStored trees e
   trees_of c e is_open same stands trees may = stored_as trees (file_state c).now e (files_leave_committed c stays trees is_open may ∙ ap (λ (d : Database). d.trees) same) stands
 
-  -- what is left of files, by a crash or by a close that failed, where all of it is stores
-  one_left : (c : Held (FileStore D g)) → HasNumberedTrees c → LeavesStores (file_state c) → (image : Image) → MayLeaveFiles c image ⊎ MayLeaveClosing c image → ∥ HoldsOneLeft c image ∥₁
-  one_left c numbered stores image (inl may) = holds_one c numbered stores image may
-  one_left c numbered stores image (inr closing) = closing_holds_one c image closing
-
   module _ (image : Image) (run : Run g) (it : IsRun image run) (before : Entries) (at : IsAt before (file_state run.opened)) where
     abbrev Step : Entries → Type 0
     Step = IsRunStep run.command run.reply (file_state run.ended).is_open before
@@ -67,12 +61,11 @@ module _ {D : Type 0} {g : Ghosts D} (stays : (file : D) → g.may_leave file (g
         let made = left_open run.command run.reply (file_state run.opened) (file_state run.ended) before at it.answers is_open in
         let step : Step made.after = record { either = either_way run.command run.reply before made.after made.step; told = λ _. made.step } in
         let stored = trees_of run.ended made.after is_open made.committed made.stands in
-        let crashed = λ (may : MayLeaveFiles run.ended run.left ⊎ MayLeaveClosing run.ended run.left). let r : ∥ Made ∥₁ =
-        ∥∥₁_map (one_left run.ended it.numbered (λ trees left. (made.after, stored trees left)) run.left may)
-        (λ one. let r : Made = (made.after, step, inl (one.holds made.after (stored one.trees one.may))) in r) in r in
         elim it.left [
-          | inl may ↦ crashed (inl may)
-          | inr ended ↦ elim ended [ inl closed ↦ ∣ (made.after, step, inl (closed.1 made.after made.stands)) ∣₁ | inr closing ↦ crashed (inr closing) ]
+          | inl left ↦
+              ∥∥₁_map (left_holds_one run.ended (λ trees may. (made.after, stored trees may)) run.left left)
+              (λ one. let r : Made = (made.after, step, inl (one.holds made.after (stored one.trees one.may))) in r)
+          | inr closed ↦ ∣ (made.after, step, inl (closed.1 made.after made.stands)) ∣₁
         ]
 
     comes : (trees : Trees) → (file_state run.ended).may_leave trees → Comes run.command before trees
@@ -82,16 +75,13 @@ module _ {D : Type 0} {g : Ghosts D} (stays : (file : D) → g.may_leave file (g
     ]
 
     ended_shut : (file_state run.ended).is_open ≡ false → ∥ Made ∥₁
-    ended_shut shut =
-        let crashed = λ (may : MayLeaveFiles run.ended run.left ⊎ MayLeaveClosing run.ended run.left). let r : ∥ Made ∥₁ =
-        ∥∥₁_map (one_left run.ended it.numbered (λ trees left. let c = comes trees left in (c.after, c.stored)) run.left may) (λ one.
-        let c = comes one.trees one.may in
-        let step : Step c.after = record { either = c.either; told = λ is_open. absurd (true≢false (sym is_open ∙ shut)) } in
-        let r : Made = (c.after, step, inl (one.holds c.after c.stored)) in r) in r in
-        elim it.left [
-          | inl may ↦ crashed (inl may)
-          | inr ended ↦ elim ended [ inl closed ↦ absurd (true≢false (sym closed.0 ∙ shut)) | inr closing ↦ crashed (inr closing) ]
-        ]
+    ended_shut shut = elim it.left [
+      | inl left ↦ ∥∥₁_map (left_holds_one run.ended (λ trees may. let c = comes trees may in (c.after, c.stored)) run.left left) (λ one.
+          let c = comes one.trees one.may in
+          let step : Step c.after = record { either = c.either; told = λ is_open. absurd (true≢false (sym is_open ∙ shut)) } in
+          let r : Made = (c.after, step, inl (one.holds c.after c.stored)) in r)
+      | inr closed ↦ absurd (true≢false (sym closed.0 ∙ shut))
+    ]
 
     one_run : ∥ Made ∥₁
     one_run = elim (cases_Bool (file_state run.ended).is_open) [ inl is_open ↦ ended_open is_open | inr shut ↦ ended_shut shut ]

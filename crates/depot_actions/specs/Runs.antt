@@ -7,7 +7,7 @@ use Rattle.sqlite.specs.Files.{file_state}
 use Rattle.sqlite.specs.Held.{Held}
 use Rattle.sqlite.specs.Recovery.{Image}
 use Rattle.sqlite.specs.State.{HasCleanDisk, Survives}
-use Rattle.part_store.specs.Crashes.{HasNumberedTrees, MayLeaveClosing, MayLeaveFiles}
+use Rattle.part_store.specs.Crashes.{AreLeft}
 use Rattle.part_store.specs.Entries.{Entries, no_entries}
 use Rattle.part_store.specs.Opening.{HoldsNoTables, HoldsState, HoldsStore, IsAt}
 use Rattle.part_store.specs.Standing.{Stands}
@@ -82,10 +82,10 @@ module _ {D : Type 0} {g : Ghosts D} where
   IsClosedAs depot image = IsTrue (file_state depot).is_open
       × ((held : Entries) → Stands (file_state depot).now held → HoldsStore image held)
 
-  -- what the files may hold after a run that left the depot so: a crash ended it; the depot was
-  -- closed; or its close failed, or a crash cut that off, also where a failure had shut it
+  -- what the files hold after a run that left the depot so: a crash ended it, its close failed or was
+  -- cut off, also where a failure had shut it; or it was closed
   abbrev pub MayEnd : Held (FileStore D g) → Image → Type 0
-  MayEnd depot image = MayLeaveFiles depot image ⊎ (IsClosedAs depot image ⊎ MayLeaveClosing depot image)
+  MayEnd depot image = AreLeft depot image ⊎ IsClosedAs depot image
 
   -- A run over files that held the image. The depot is what `open_from` found in them; its command
   -- was answered, and left what its call says, also if the disk failed from some moment on; and
@@ -95,7 +95,6 @@ module _ {D : Type 0} {g : Ghosts D} where
         → IsAt held (file_state run.opened)
     pub empty : HasCleanDisk (file_state run.opened) → HoldsNoTables image → IsAt no_entries (file_state run.opened)
     pub clean : HasCleanDisk (file_state run.ended)
-    pub numbered : HasNumberedTrees run.ended
     pub answers : Answers run.command run.reply (file_state run.opened) (file_state run.ended)
     pub survives : Survives (file_state run.opened) (file_state run.ended)
         (MayLeave run.command (file_state run.opened))

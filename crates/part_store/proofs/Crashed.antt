@@ -18,7 +18,7 @@ use Rattle.part_store.specs.Tables.{store_schema}
 use Rattle.part_store.specs.Entries.{Entries, no_entries}
 use Rattle.part_store.specs.Standing.{IsStored, MayMake}
 use Rattle.part_store.specs.Opening.{HoldsNoTables, HoldsState, HoldsStore, IsAt}
-use Rattle.part_store.specs.Crashes.{HasNumberedTrees, HoldsOneLeft, IsCutOff, KeepsState, LeavesStores, MayLeaveClosing, MayLeaveFiles}
+use Rattle.part_store.specs.Crashes.{AreLeft, HasNumberedTrees, HoldsOneLeft, IsCutOff, KeepsState, LeavesStores, MayLeaveClosing, MayLeaveFiles}
 use Rattle.part_store.proofs.Opened.{finds_none, has_tables, shows_held}
 use Rattle.part_store.proofs.Stored.{stored_as}
 
@@ -45,6 +45,11 @@ module _ {D : Type 0} {g : Ghosts D} where
   closing_holds_one c image it =
       ∥∥₁_map (opens_again it.last it.numbered (it.closed.sound it.clean) image it.may)
       (λ found. record { trees = found.0; may = it.closed.quiet.outcomes found.0 found.1; holds = λ e. holds_stored image found.0 e found.2 })
+
+  -- and of either
+  pub left_holds_one : (c : Held (FileStore D g)) → LeavesStores (file_state c) → (image : Image) → AreLeft c image → ∥ HoldsOneLeft c image ∥₁
+  left_holds_one c stores image (inl (numbered, may)) = holds_one c numbered stores image may
+  left_holds_one c stores image (inr closing) = closing_holds_one c image closing
 
   -- while a store is open a crash leaves what is committed, and nothing else
   pub files_leave_committed : (c : Held (FileStore D g)) → ((file : D) → g.may_leave file (g.seen file)) → (trees : Trees) → IsTrue (file_state c).is_open → (file_state c).may_leave trees → trees ≡ (file_state c).committed.trees
@@ -82,9 +87,9 @@ module _ {D : Type 0} {g : Ghosts D} where
   abbrev OneDatabase : Held (FileStore D g) → Image → Type 0
   OneDatabase c image = (trees : Trees) × recovers c.store trees × HoldsDatabase image trees
 
-  one_database : (c : Held (FileStore D g)) (image : Image) → HasNumberedTrees c → AreDatabases (recovers c.store) → MayLeaveFiles c image ⊎ MayLeaveClosing c image → ∥ OneDatabase c image ∥₁
-  one_database c image numbered sound (inl may) = opens_again c.store numbered sound image may
-  one_database c image numbered sound (inr it) =
+  one_database : (c : Held (FileStore D g)) (image : Image) → AreDatabases (recovers c.store) → AreLeft c image → ∥ OneDatabase c image ∥₁
+  one_database c image sound (inl (numbered, may)) = opens_again c.store numbered sound image may
+  one_database c image sound (inr it) =
       ∥∥₁_map (opens_again it.last it.numbered (it.closed.sound it.clean) image it.may)
       (λ found. let r : OneDatabase c image = (found.0, it.closed.quiet.outcomes found.0 found.1, found.2) in r)
 
@@ -109,7 +114,7 @@ module _ {D : Type 0} {g : Ghosts D} where
           | inl was ↦ stored_as trees (file_state it.found).now held (found_only trees was) at.0
           | inr made ↦ absurd (has_tables (file_state it.found) at.0.schema made.1)
         ] in r in
-        ∥∥₁_map (one_database it.now other it.numbered (λ trees may. (store_schema, (stored trees may).listed)) it.left)
+        ∥∥₁_map (one_database it.now other (λ trees may. (store_schema, (stored trees may).listed)) it.left)
         (λ found. let r : Still = inl (holds_stored other found.0 held found.2 (stored found.0 found.1)) in r)
 
     -- trees that were left where there were no tables: those that were found, or the empty store's
@@ -129,7 +134,7 @@ module _ {D : Type 0} {g : Ghosts D} where
           | inl same ↦ ((file_state it.found).now.schema, subst (IsSound (file_state it.found).now.schema) (sym same) listed)
           | inr stored ↦ (store_schema, stored.listed)
         ] in r in
-        ∥∥₁_map (one_database it.now other it.numbered sound it.left) (λ found. let r : Still = elim (begun found.0 found.1) [
+        ∥∥₁_map (one_database it.now other sound it.left) (λ found. let r : Still = elim (begun found.0 found.1) [
           | inl same ↦ inr (inr ((file_state it.found).now, record { trees = ∣ subst (HoldsDatabase other) same found.2 ∣₁; listed = listed }, bare), is)
           | inr stored ↦ inl (subst (HoldsStore other) (sym is) (holds_stored other found.0 no_entries found.2 stored))
         ] in r)

@@ -41,6 +41,11 @@ module _ {D : Type 0} {g : Ghosts D} where
     pub numbered : IsTrue (store.view last).is_numbered
     pub may : (store.state last).may_leave image
 
+  -- The files read so after a crash, or after a close that failed or was cut off. What a crash leaves
+  -- is known where the trees of the store are numbered.
+  abbrev pub AreLeft : Held (FileStore D g) → Image → Type 0
+  AreLeft c image = (HasNumberedTrees c × MayLeaveFiles c image) ⊎ MayLeaveClosing c image
+
   -- the two files hold one of the stores that a crash may leave
   pub record HoldsOneLeft (c : Held (FileStore D g)) (image : Image) : Type 0 where
     pub trees : Trees
@@ -75,8 +80,7 @@ pub record IsCutOff {D : Type 0} (g : Ghosts D) (image other : Image) : Type 0 w
   pub there : IsFoundIn image found
   pub survives : Survives (file_state found) (file_state now) (MakesEmpty (file_state found))
   pub clean : HasCleanDisk (file_state now)
-  pub numbered : HasNumberedTrees now
-  pub left : MayLeaveFiles now other ⊎ MayLeaveClosing now other
+  pub left : AreLeft now other
 
 -- An open of files that held the image was refused, or a crash cut it off, and they hold the other
 -- then. What the database's open left is known, and what they held has no sums.
