@@ -4,7 +4,6 @@ pub mod Steps
 pub mod Taking
 pub mod Short
 pub mod Ends
-pub mod Jumping
 pub mod Marks
 pub mod Accepted
 pub mod Consequences

@@ -88,6 +88,7 @@ impl Shape {
 
     /// Takes the entries over an instruction: what it may charge, or None where they aren't what it
     /// needs.
+    #[inline(always)]
     pub fn advance(
         &mut self,
         program: &Program,
