@@ -190,7 +190,7 @@ taken_fits mail most (Some current) = go (slice_get mail.parts current)
 
 -- the charge of an instruction that the shape goes over
 pub charge_fits : (code : Code) (mail : Mail) → IsMail mail → (o : Operation) (i : Instruction) (s : State) (entries : Entries) → Describes entries s.stack → (after : Entries) → left_by code (Some o) i entries ≡ Some after
-    → IsWithinCap mail (charge_of code mail o i s) (cap_of (Some o) i entries)
+    → IsWithinCap mail (charge_of mail o i s) (cap_of (Some o) i entries)
 charge_fits code mail known Header i s entries d after e = header_fits code mail known i s entries d (field_test_numbered i.a) after e
 charge_fits code mail known Exists i s entries d after e = exists_fits code mail known i s entries d (scope_numbered i.a) after e
 charge_fits code mail known File i s entries d after e = file_fits code mail known i s entries d after e
