@@ -2,6 +2,7 @@ pub mod Tests
 pub mod Least
 pub mod Steps
 pub mod Taking
+pub mod Again
 pub mod Short
 pub mod Ends
 pub mod Marks

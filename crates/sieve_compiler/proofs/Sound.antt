@@ -23,7 +23,7 @@ string_at tables place = unwrap_or (slice_get tables.strings place) []
 
 -- texts as one
 abbrev pub joined_text : Texts → Entries
-joined_text parts = Text (min (sum parts.bounds) max_string) ∷ parts.rest
+joined_text parts = Text (min (sum parts.texts) max_string) ∷ parts.below
 
 -- the entries that an operation of a script's code leaves: a text goes on those that are there, a test leaves its truth value alone
 abbrev pub leaves : Tables → Option Operation → Instruction → Entries → Entries

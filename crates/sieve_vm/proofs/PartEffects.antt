@@ -78,17 +78,17 @@ module _ (code : Code) (mail : Mail) (is : IsAccepted code) (known : IsMail mail
 
     -- a test of the current part with keys
     leads_keys : (operation : Operation) (how : Match) (value : List ℕ) → operation_of i.op ≡ Some operation → is_plain (Some operation) ≡ true
-        → ((es : Entries) → left_by code (Some operation) i es ≡ option_and_then (λ (keys : Texts). with_entry Truth keys.rest) (take_texts i.c es))
+        → ((es : Entries) → left_by code (Some operation) i es ≡ option_and_then (λ (keys : Texts). with_entry Truth keys.below) (take_texts i.c es))
         → Leads code mail s (with_texts (λ keys t. tested t (first_match how (value ∷ []) keys t.captures)) s (texts_on_top i.c s.stack))
     leads_keys operation how value e goes_on takes = let a = after_of code mail is known s i here from (Some operation) e in go a.0 a.1 (take_texts i.c entries) refl (sym (takes entries) ∙ a.1)
       where
-        go : (after : Entries) → LeavesBy operation after → (o : Option Texts) → take_texts i.c entries ≡ o → option_and_then (λ (keys : Texts). with_entry Truth keys.rest) o ≡ Some after
+        go : (after : Entries) → LeavesBy operation after → (o : Option Texts) → take_texts i.c entries ≡ o → option_and_then (λ (keys : Texts). with_entry Truth keys.below) o ≡ Some after
             → Leads code mail s (with_texts (λ keys t. tested t (first_match how (value ∷ []) keys t.captures)) s (texts_on_top i.c s.stack))
         go after leaves None h f = absurd cc
         go after leaves (Some bounds) h f =
             let keys = on_top i.c entries bounds s.stack h d in
             subst (λ (o : Option OnTop). Leads code mail s (with_texts (λ keys t. tested t (first_match how (value ∷ []) keys t.captures)) s o)) (sym keys.is)
-            (leads_tested code mail is known s i here from operation (record s { stack = keys.top.below }) bounds.rest after how (value ∷ []) keys.top.texts e goes_on leaves f refl refl refl held from.stores keys.below)
+            (leads_tested code mail is known s i here from operation (record s { stack = keys.top.below }) bounds.below after how (value ∷ []) keys.top.texts e goes_on leaves f refl refl refl held from.stores keys.below)
 
     pub leads_part_body : operation_of i.op ≡ Some PartBody → Leads code mail s (effect (referred_in code) mail PartBody i s)
     leads_part_body e =
@@ -108,7 +108,7 @@ module _ (code : Code) (mail : Mail) (is : IsAccepted code) (known : IsMail mail
         let p = has_part Store e refl in
         in_part store_part p (go p.frame.part (slice_get_within mail.parts p.frame.part p.part p.there) entries s.stack a.0 d (left code mail is known s i here from Store a.0 e a.1) a.1)
       where
-        go : (number : ℕ) → number < length mail.parts → (es : Entries) (stack : List Value) (after : Entries) → Describes es stack → left_by code (operation_of i.op) i entries ≡ Some after → option_map (λ (folder : Texts). folder.rest) (take_texts 1 es) ≡ Some after
+        go : (number : ℕ) → number < length mail.parts → (es : Entries) (stack : List Value) (after : Entries) → Describes es stack → left_by code (operation_of i.op) i entries ≡ Some after → option_map (λ (folder : Texts). folder.below) (take_texts 1 es) ≡ Some after
             → Leads code mail s (with_text (machine.store number) s stack)
         go number there [] stack after h leaves f = absurd cc
         go number there (Truth ∷ es) stack after h leaves f = absurd cc

@@ -89,15 +89,15 @@ module _ (code : Code) (mail : Mail) (is : IsAccepted code) (known : IsMail mail
       cost_is cost top = ap (λ x. cost_with_part cost mail x top) current_is ∙ ap (λ (x : Option Part). option_map_or (λ part. cost part top.texts) x 0) part_here.there
 
       -- keys are on top
-      keys_top : ((es : Entries) → left_by code (Some o) i es ≡ option_and_then (λ (keys : Texts). with_entry Truth keys.rest) (take_texts i.c es)) → (top : OnTop) × (texts_on_top i.c s.stack ≡ Some top)
+      keys_top : ((es : Entries) → left_by code (Some o) i es ≡ option_and_then (λ (keys : Texts). with_entry Truth keys.below) (take_texts i.c es)) → (top : OnTop) × (texts_on_top i.c s.stack ≡ Some top)
       keys_top takes = let a = after code mail is known m s at i here o e in names_there i.c there.entries a.0 s.stack (sym (takes there.entries) ∙ a.1) there.describes
 
-      pub keys_some : ((es : Entries) → left_by code (Some o) i es ≡ option_and_then (λ (keys : Texts). with_entry Truth keys.rest) (take_texts i.c es)) → IsProgram code
+      pub keys_some : ((es : Entries) → left_by code (Some o) i es ≡ option_and_then (λ (keys : Texts). with_entry Truth keys.below) (take_texts i.c es)) → IsProgram code
           → (w : Mail) × ((t : State) × ((top : OnTop) × (Represents w t m × (texts_on_top i.c t.stack ≡ Some top) × AreTexts top.texts)))
       keys_some takes fits = let n = keys_top takes in (mail, (s, (n.0, (at.stands, n.1, texts_are i.c s.stack n.0 (few code mail is known m s at i here fits) (short code mail is known m s at i here fits) n.1))))
 
       -- a test of the current part with keys
-      had_keys : (takes : (es : Entries) → left_by code (Some o) i es ≡ option_and_then (λ (keys : Texts). with_entry Truth keys.rest) (take_texts i.c es)) (how : Match) (value : Part → List ℕ) (cost : Part → List (List ℕ) → ℕ)
+      had_keys : (takes : (es : Entries) → left_by code (Some o) i es ≡ option_and_then (λ (keys : Texts). with_entry Truth keys.below) (take_texts i.c es)) (how : Match) (value : Part → List ℕ) (cost : Part → List (List ℕ) → ℕ)
           → effect (referred_in code) mail o i s ≡ with_part (λ number part t. with_texts (λ keys u. tested u (first_match how (value part ∷ []) keys u.captures)) t (texts_on_top i.c t.stack)) mail s s.frames
           → charge_of mail o i s ≡ 1 + option_map_or (cost_with_part cost mail (current_part s.frames)) (texts_on_top i.c s.stack) 0
           → (done : Done) (m' : Machine)

@@ -135,13 +135,13 @@ module _ (code : Code) (mail : Mail) (is : IsAccepted code) (known : IsMail mail
           (stays_on (record to { stack = text t ∷ to.stack }) es cost left (subst (λ x. Fills x (text t ∷ to.stack)) (with_entry-some (Text bound) below es with_one).1 (long, fills)) frames charge place most)
 
       -- a text is taken
-      stays_taking : (does : List ℕ → State → Effect) (es : Entries) → option_map (λ (v : Texts). v.rest) (take_texts 1 entries) ≡ Some es
+      stays_taking : (does : List ℕ → State → Effect) (es : Entries) → option_map (λ (v : Texts). v.below) (take_texts 1 entries) ≡ Some es
           → cap_value mail (cap_of (Some o) i entries) ≡ cap_value mail (option_map_or cap_of_octets (take_texts 1 entries) one_charge)
           → ((t : List ℕ) (vs : List Value) → Fills es vs → cap_value mail (cap_of (Some o) i entries) ≤ 1 + length t → Stays s (1 + length t) (does t (record s { stack = vs })))
           → Stays s (1 + length_on_top s.stack) (with_text does s s.stack)
       stays_taking does es taken priced each = go entries s.stack full.fills taken priced
         where
-          go : (before : Entries) (stack : List Value) → Fills before stack → option_map (λ (v : Texts). v.rest) (take_texts 1 before) ≡ Some es
+          go : (before : Entries) (stack : List Value) → Fills before stack → option_map (λ (v : Texts). v.below) (take_texts 1 before) ≡ Some es
               → cap_value mail (cap_of (Some o) i entries) ≡ cap_value mail (option_map_or cap_of_octets (take_texts 1 before) one_charge) → Stays s (1 + length_on_top stack) (with_text does s stack)
           go [] stack d f price = absurd cc
           go (Truth ∷ before) stack d f price = absurd cc
@@ -172,7 +172,7 @@ module _ (code : Code) (mail : Mail) (is : IsAccepted code) (known : IsMail mail
             let all : length (concat top.top.texts) ≡ sum_by length top.top.texts = ap length (concat_is top.top.texts) ∙ length-flat_map (λ t. t) top.top.texts in
             let price : cap_value mail (cap_of (Some Join) i entries) ≡ cap_value mail (cap_of_octets bounds) = ap (λ (x : Option Texts). cap_value mail (option_map_or cap_of_octets x one_charge)) h in
             subst (λ (x : Option OnTop). Stays s (1 + option_map_or octets_on_top x 0) (with_texts join s x)) (sym top.is)
-            (stays_pushed Join e joined (min (sum bounds.bounds) max_string) (record s { stack = top.top.below }) es bounds.rest (1 + sum_by length top.top.texts) left f
+            (stays_pushed Join e joined (min (sum bounds.texts) max_string) (record s { stack = top.top.below }) es bounds.below (1 + sum_by length top.top.texts) left f
             (omega (arith, length-take max_string (concat top.top.texts), all, long)) top.below refl refl refl (omega (arith, price, long)))
 
     stays_set : operation_of i.op ≡ Some Set → Stays s (charge_of mail Set i s) (effect (referred_in code) mail Set i s)

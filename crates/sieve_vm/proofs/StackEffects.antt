@@ -82,12 +82,12 @@ module _ (code : Code) (mail : Mail) (is : IsAccepted code) (known : IsMail mail
         subst (λ (o : Option Scope). Leads code mail s (with_meant (λ scope. with_texts (test_names mail scope) s (texts_on_top i.b s.stack)) o)) (sym says.1.0)
         (go says.0 a.0 a.1 (take_texts i.b entries) refl a.1)
       where
-        go : (scope : Scope) (after : Entries) → LeavesBy Exists after → (o : Option Texts) → take_texts i.b entries ≡ o → option_and_then (λ (names : Texts). with_entry Truth names.rest) o ≡ Some after → Leads code mail s (with_texts (test_names mail scope) s (texts_on_top i.b s.stack))
+        go : (scope : Scope) (after : Entries) → LeavesBy Exists after → (o : Option Texts) → take_texts i.b entries ≡ o → option_and_then (λ (names : Texts). with_entry Truth names.below) o ≡ Some after → Leads code mail s (with_texts (test_names mail scope) s (texts_on_top i.b s.stack))
         go scope after leaves None h f = absurd cc
         go scope after leaves (Some bounds) h f =
             let names = on_top i.b entries bounds s.stack h d in
             subst (λ (o : Option OnTop). Leads code mail s (with_texts (test_names mail scope) s o)) (sym names.is)
-            (pushes code mail is known s i here from Exists (record s { stack = names.top.below }) (truth (exists_in (scope_of scope) (current_part s.frames) names.top.texts mail)) Truth bounds.rest after e refl leaves f refl refl refl held from.stores names.below names.below)
+            (pushes code mail is known s i here from Exists (record s { stack = names.top.below }) (truth (exists_in (scope_of scope) (current_part s.frames) names.top.texts mail)) Truth bounds.below after e refl leaves f refl refl refl held from.stores names.below names.below)
 
     pub leads_header : operation_of i.op ≡ Some Header → Leads code mail s (effect (referred_in code) mail Header i s)
     leads_header e =
@@ -96,12 +96,12 @@ module _ (code : Code) (mail : Mail) (is : IsAccepted code) (known : IsMail mail
         subst (λ (o : Option FieldTest). Leads code mail s (with_meant (λ test. with_lists (test_values mail test) s (lists_on_top i.b (params_in i.c) (keys_in i.c) s.stack)) o)) (sym fields.says)
         (go fields.test a.0 a.1 (take_lists i.b (params_in i.c) (keys_in i.c) entries) refl a.1)
       where
-        go : (test : FieldTest) (after : Entries) → LeavesBy Header after → (o : Option ListBounds) → take_lists i.b (params_in i.c) (keys_in i.c) entries ≡ o → option_and_then (λ (lists : ListBounds). with_entry Truth lists.rest) o ≡ Some after → Leads code mail s (with_lists (test_values mail test) s (lists_on_top i.b (params_in i.c) (keys_in i.c) s.stack))
+        go : (test : FieldTest) (after : Entries) → LeavesBy Header after → (o : Option ListBounds) → take_lists i.b (params_in i.c) (keys_in i.c) entries ≡ o → option_and_then (λ (lists : ListBounds). with_entry Truth lists.below) o ≡ Some after → Leads code mail s (with_lists (test_values mail test) s (lists_on_top i.b (params_in i.c) (keys_in i.c) s.stack))
         go test after leaves None h f = absurd cc
         go test after leaves (Some bounds) h f =
             let lists = lists_are_on_top i.b (params_in i.c) (keys_in i.c) entries bounds s.stack h d in
             subst (λ (o : Option Lists). Leads code mail s (with_lists (test_values mail test) s o)) (sym lists.is)
-            (leads_tested code mail is known s i here from Header (record s { stack = lists.top.below }) bounds.rest after test.how (selected_values (scope_of test.scope) (current_part s.frames) (selector_of test.selector lists.top.params) lists.top.names mail) lists.top.keys e refl leaves f refl refl refl held from.stores lists.below)
+            (leads_tested code mail is known s i here from Header (record s { stack = lists.top.below }) bounds.below after test.how (selected_values (scope_of test.scope) (current_part s.frames) (selector_of test.selector lists.top.params) lists.top.names mail) lists.top.keys e refl leaves f refl refl refl held from.stores lists.below)
 
     pub leads_string : operation_of i.op ≡ Some String → Leads code mail s (effect (referred_in code) mail String i s)
     leads_string e =
@@ -110,12 +110,12 @@ module _ (code : Code) (mail : Mail) (is : IsAccepted code) (known : IsMail mail
         subst (λ (o : Option Match). Leads code mail s (with_meant (λ how. with_lists (test_sources how) s (lists_on_top i.b 0 i.c s.stack)) o)) (sym says.1)
         (go says.0 a.0 a.1 (take_lists i.b 0 i.c entries) refl a.1)
       where
-        go : (how : Match) (after : Entries) → LeavesBy String after → (o : Option ListBounds) → take_lists i.b 0 i.c entries ≡ o → option_and_then (λ (lists : ListBounds). with_entry Truth lists.rest) o ≡ Some after → Leads code mail s (with_lists (test_sources how) s (lists_on_top i.b 0 i.c s.stack))
+        go : (how : Match) (after : Entries) → LeavesBy String after → (o : Option ListBounds) → take_lists i.b 0 i.c entries ≡ o → option_and_then (λ (lists : ListBounds). with_entry Truth lists.below) o ≡ Some after → Leads code mail s (with_lists (test_sources how) s (lists_on_top i.b 0 i.c s.stack))
         go how after leaves None h f = absurd cc
         go how after leaves (Some bounds) h f =
             let lists = lists_are_on_top i.b 0 i.c entries bounds s.stack h d in
             subst (λ (o : Option Lists). Leads code mail s (with_lists (test_sources how) s o)) (sym lists.is)
-            (leads_tested code mail is known s i here from String (record s { stack = lists.top.below }) bounds.rest after how lists.top.names lists.top.keys e refl leaves f refl refl refl held from.stores lists.below)
+            (leads_tested code mail is known s i here from String (record s { stack = lists.top.below }) bounds.below after how lists.top.names lists.top.keys e refl leaves f refl refl refl held from.stores lists.below)
 
     pub leads_variable : operation_of i.op ≡ Some Variable → Leads code mail s (effect (referred_in code) mail Variable i s)
     leads_variable e =
@@ -140,9 +140,9 @@ module _ (code : Code) (mail : Mail) (is : IsAccepted code) (known : IsMail mail
             let parts = on_top i.b entries bounds s.stack h d in
             let joined : List ℕ = take max_string (concat parts.top.texts) in
             let all : length (concat parts.top.texts) ≡ sum_by length parts.top.texts = ap length (concat_is parts.top.texts) ∙ length-flat_map (λ t. t) parts.top.texts in
-            let short : length joined ≤ min (sum bounds.bounds) max_string = omega (arith, length-take max_string (concat parts.top.texts), all, octets_within i.b bounds s.stack parts) in
+            let short : length joined ≤ min (sum bounds.texts) max_string = omega (arith, length-take max_string (concat parts.top.texts), all, octets_within i.b bounds s.stack parts) in
             subst (λ (o : Option OnTop). Leads code mail s (with_texts machine.join s o)) (sym parts.is)
-            (pushes code mail is known s i here from Join (record s { stack = parts.top.below }) (text joined) (Text (min (sum bounds.bounds) max_string)) bounds.rest after e refl leaves f refl refl refl held from.stores parts.below (short, parts.below))
+            (pushes code mail is known s i here from Join (record s { stack = parts.top.below }) (text joined) (Text (min (sum bounds.texts) max_string)) bounds.below after e refl leaves f refl refl refl held from.stores parts.below (short, parts.below))
 
     pub leads_set : operation_of i.op ≡ Some Set → Leads code mail s (effect (referred_in code) mail Set i s)
     leads_set e = let a = after_of code mail is known s i here from (Some Set) e in go entries s.stack a.0 d (left code mail is known s i here from Set a.0 e a.1) a.1
@@ -153,7 +153,7 @@ module _ (code : Code) (mail : Mail) (is : IsAccepted code) (known : IsMail mail
         within : nat_lt i.c (length s.variables) ≡ true
         within = lt-ltb _ _ (omega (arith, held.number, set_known code is s.place i here e))
 
-        go : (es : Entries) (stack : List Value) (after : Entries) → Describes es stack → left_by code (operation_of i.op) i entries ≡ Some after → option_map (λ (value : Texts). value.rest) (take_texts 1 es) ≡ Some after
+        go : (es : Entries) (stack : List Value) (after : Entries) → Describes es stack → left_by code (operation_of i.op) i entries ≡ Some after → option_map (λ (value : Texts). value.below) (take_texts 1 es) ≡ Some after
             → Leads code mail s (with_text (machine.set_variable i) s stack)
         go [] stack after h leaves f = absurd cc
         go (Truth ∷ es) stack after h leaves f = absurd cc
@@ -170,7 +170,7 @@ module _ (code : Code) (mail : Mail) (is : IsAccepted code) (known : IsMail mail
     pub leads_file : operation_of i.op ≡ Some File → Leads code mail s (effect (referred_in code) mail File i s)
     leads_file e = let a = after_of code mail is known s i here from (Some File) e in go entries s.stack a.0 d (left code mail is known s i here from File a.0 e a.1) a.1
       where
-        go : (es : Entries) (stack : List Value) (after : Entries) → Describes es stack → left_by code (operation_of i.op) i entries ≡ Some after → option_map (λ (folder : Texts). folder.rest) (take_texts 1 es) ≡ Some after
+        go : (es : Entries) (stack : List Value) (after : Entries) → Describes es stack → left_by code (operation_of i.op) i entries ≡ Some after → option_map (λ (folder : Texts). folder.below) (take_texts 1 es) ≡ Some after
             → Leads code mail s (with_text file s stack)
         go [] stack after h leaves f = absurd cc
         go (Truth ∷ es) stack after h leaves f = absurd cc
