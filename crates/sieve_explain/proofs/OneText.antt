@@ -47,8 +47,8 @@ one_fault law same name script (refused.Limit number) text other p q = one_reaso
 one_fault law same name script _ text other p q = absurd p
 
 pub one_text : OneList → OneTree → (name script : List ℕ) (refusal : Refusal) (text other : List ℕ) → Explains name script refusal text → Explains name script refusal other → text ≡ other
-one_text law same name script refusal text other (fault, p, e) (fault', q, e') =
-    e ∙ ap (λ (t : List ℕ). t ++ look_told name (look_text script)) (one_fault law same name script refusal fault fault' p q) ∙ sym e'
+one_text law same name script refusal text other p q =
+    p.whole ∙ ap (λ (t : List ℕ). t ++ look_told name (look_text script)) (one_fault law same name script refusal p.fault q.fault p.tells q.tells) ∙ sym q.whole
 
 -- the laws that a script has one refusal of the parser, and none where it has a tree
 abbrev pub OneRefusal : Type 0

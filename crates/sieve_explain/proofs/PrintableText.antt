@@ -135,9 +135,9 @@ module _ (test : ℕ → Bool) (admits : Admits test) where
   pass_fault name script _ text p e = absurd e
 
   pass_text : (name script : List ℕ) (refusal : Refusal) (text : List ℕ) → Passes test (shown Name name) → Explains name script refusal text → Passes test text
-  pass_text name script refusal text p (fault, told, e) =
+  pass_text name script refusal text p h =
       let look = look_text script in
-      ap (list_all test) e ∙ pass_append test fault (look_told name look) (pass_fault name script refusal fault p told) (pass_look name look p (fine_look script))
+      ap (list_all test) h.whole ∙ pass_append test h.fault (look_told name look) (pass_fault name script refusal h.fault p h.tells) (pass_look name look p (fine_look script))
 
   pass_listing : (name listing : List ℕ) (place : ℕ) (kind : FaultKind) → Passes test (shown Name name) → Passes test (listing_told name listing place kind)
   pass_listing name listing place kind p =

@@ -80,5 +80,5 @@ pub with_look : (name script : List ℕ) (found all : Explanation) → IsFaultTo
 with_look name script found all p same text = (
   subst (λ (r : Refusal). r ≢ Memory) (sym same) p.0,
   subst (λ (r : Refusal). IsScriptRefusal script r) (sym same) p.1,
-  (found.text.items, subst (λ (r : Refusal). TellsFault name script r found.text.items) (sym same) p.2, text),
+  record { fault = found.text.items; tells = subst (λ (r : Refusal). TellsFault name script r found.text.items) (sym same) p.2; whole = text },
 )

@@ -171,9 +171,10 @@ abbrev pub look_told : List ℕ → List ℕ → List ℕ
 look_told name text = with_words text (note name (plain text)) []
 
 -- all that is told of a refused script: of the refusal, and what the file looks like
-abbrev pub Explains : List ℕ → List ℕ → Refusal → List ℕ → Type 0
-Explains name script refusal text =
-    (fault : List ℕ) × TellsFault name script refusal fault × (text ≡ fault ++ look_told name (look_text script))
+pub record Explains (name script : List ℕ) (refusal : Refusal) (text : List ℕ) : Type 0 where
+  pub fault : List ℕ
+  pub tells : TellsFault name script refusal fault
+  pub whole : text ≡ fault ++ look_told name (look_text script)
 
 -- nothing is wrong with the script; or this is its refusal, and this is told of it
 abbrev pub IsExplained : List ℕ → List ℕ → Option Explanation → Type 0
