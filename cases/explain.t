@@ -313,6 +313,25 @@ Names that there are not.
     2> refused 17 UnknownCapability at 0
     [1]
 
+## all that a require names and depot lacks, each once
+    $ cat > script << 'END'
+    > require ["fileinto", "copy",
+    >   "imap4flags", "copy"];
+    > fileinto :copy "Bills";
+    > END
+    $ depot explain script
+    script:1:22: error: depot has no "copy": `keep` beside `fileinto` files a message twice
+      require ["fileinto", "copy",
+                           ^
+    script:2:3: error: depot has no "imap4flags": what it files has no flags, file into a folder instead
+        "imap4flags", "copy"];
+        ^
+    script:3:1: error: depot has no `:copy`: `keep` beside `fileinto` files a message twice
+      fileinto :copy "Bills";
+      ^
+    2> refused 17 UnknownCapability at 0
+    [1]
+
 ## capability in another case
     $ printf 'require "FileInto";' > script
     $ depot explain script
@@ -610,10 +629,32 @@ What has to be required.
 ## two capabilities of one command
     $ printf 'require "foreverypart"; foreverypart { take "a"; }' > script
     $ depot explain script
-    script:1:40: error: `take` needs `require ["variables", "vnd.depot"]` before it
+    script:1:40: error: `take` needs `require "variables"` before it
+      require "foreverypart"; foreverypart { take "a"; }
+                                             ^
+    script:1:40: error: `take` needs `require "vnd.depot"` before it
       require "foreverypart"; foreverypart { take "a"; }
                                              ^
     2> refused 16 MissingCapability at 5
+    [1]
+
+## two capabilities of one command, one of which was told
+    $ cat > script << 'END'
+    > require "foreverypart";
+    > set "a" "b";
+    > foreverypart {
+    >     take "a";
+    >     store "a";
+    > }
+    > END
+    $ depot explain script
+    script:2:1: error: `set` needs `require "variables"` before it
+      set "a" "b";
+      ^
+    script:4:5: error: `take` needs `require "vnd.depot"` before it
+          take "a";
+          ^
+    2> refused 16 MissingCapability at 3
     [1]
 
 ## late require
@@ -983,6 +1024,34 @@ Places.
     2> refused 18 BadArguments at 7
     [1]
 
+## loop whose name can't be read
+    $ cat > script << 'END'
+    > require "foreverypart";
+    > foreverypart :name parts {
+    >     break :name "parts";
+    > }
+    > foreverypart :name 5 {
+    >     foreverypart {
+    >         break :name "parts";
+    >     }
+    > }
+    > foreverypart :name "part" {
+    >     break :name "parts";
+    > }
+    > END
+    $ depot explain script
+    script:2:1: error: `:name` needs the name of a loop, one string without brackets
+      foreverypart :name parts {
+      ^
+    script:5:1: error: `:name` needs the name of a loop, one string without brackets
+      foreverypart :name 5 {
+      ^
+    script:11:5: error: no `foreverypart` around this `break` has the name "parts"
+          break :name "parts";
+          ^
+    2> refused 18 BadArguments at 3
+    [1]
+
 ## store outside
     $ printf 'require "vnd.depot"; store "a";' > script
     $ depot explain script
@@ -1057,6 +1126,72 @@ Limits.
       ^
     2> refused 19 Limit at 515
     [1]
+
+How many are told.
+
+## twenty
+    $ awk 'BEGIN { for (n = 1; n <= 20; n++) print "kep" n ";" }' > script
+    $ depot explain script | tail -n 3
+    script:20:1: error: unknown command `kep20`
+      kep20;
+      ^
+    2> refused 15 UnknownCommand at 0
+
+## more than twenty
+    $ awk 'BEGIN { for (n = 1; n <= 21; n++) print "kep" n ";" }' > script
+    $ depot explain script | tail -n 4
+    script:20:1: error: unknown command `kep20`
+      kep20;
+      ^
+    script: note: more is refused than this: the first 20 are told
+    2> refused 15 UnknownCommand at 0
+
+## more than twenty of one require
+    $ awk 'BEGIN { printf "require [\"fileinto\""; for (n = 1; n <= 21; n++) printf ", \"x%d\"", n; print "];" }' > script
+    $ depot explain script | grep -c '^script:1:[0-9]*: error: depot knows no capability'
+    20
+    2> refused 17 UnknownCapability at 0
+    $ depot explain script 2> refused | tail -n 1
+    script: note: more is refused than this: the first 20 are told
+
+Files that are no script.
+
+## a compiled program
+    $ printf 'SVBC\002\000' > script
+    $ depot explain script
+    script:1:5: error: `\02` begins nothing that a script may have here
+      SVBC\02\00
+          ^
+    script: note: the file begins as a compiled program does: `depot disassemble` shows what is in one
+    2> refused 11 Lexical at 4
+    [1]
+
+## a mail
+    $ printf 'From: ann@example.org\r\nSubject: bill\r\n\r\nkeep;\r\n' > script
+    $ depot explain script
+    script:1:5: error: a colon stands here without the name of a tag behind it
+      From: ann@example.org
+          ^
+    script: note: the file begins with a header field, as a mail does: is it a script?
+    2> refused 11 Lexical at 4
+    [1]
+
+## a mail whose first field has a hyphen in its name
+    $ depot explain examples/invoice.eml 2> refused | tail -n 1
+    examples/invoice.eml: note: the file begins with a header field, as a mail does: is it a script?
+
+## a mail that is too long for a script
+    $ { printf 'Subject: long\n\n'; printf '%65536s' ''; } > script
+    $ depot explain script 2> refused | tail -n 1
+    script: note: the file begins with a header field, as a mail does: is it a script?
+    $ cat refused
+    refused 12 ScriptTooLong
+
+## a tag directly behind a name, and a comment
+    $ for text in 'keep:x;' '# Note: kep' ': x'; do printf '%s\nkep;\n' "$text" > script; depot explain script 2> refused | grep -c note; done; true
+    0
+    0
+    0
 
 How the line and the name of the file are printed.
 

@@ -221,7 +221,7 @@ Help.
     2> With no words at all, a program that keeps every message runs on standard input.
     2> The help of a command has an example, and says with which refusals it may end.
     2>
-    2> depot 0.23.0, proved with Rattle, logic dac8208d650f15bf
+    2> depot 0.24.0, proved with Rattle, logic dac8208d650f15bf
     [2]
 
 ## help command
@@ -262,7 +262,7 @@ Help.
     2> With no words at all, a program that keeps every message runs on standard input.
     2> The help of a command has an example, and says with which refusals it may end.
     2>
-    2> depot 0.23.0, proved with Rattle, logic dac8208d650f15bf
+    2> depot 0.24.0, proved with Rattle, logic dac8208d650f15bf
     [2]
 
 ## help check

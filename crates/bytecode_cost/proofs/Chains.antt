@@ -1,7 +1,7 @@
 -- Chains of parts are counted by products, and are no more than powers.
 use Rattle.std.proofs.Common.{◌≡◌, ◌==◌, ℕ, zero, suc, ◌+◌, ◌*◌, ◌^◌, ◌-◌, ◌/◌, ◌≤◌, Bool, true, false, if◌then◌else◌, slice_index, refl, sym, arith}
 use Rattle.std.proofs.Math.Nat.{pow-zero, pow-suc, mul-le-mul, mul-le-mul_left}
-use Rattle.bytecode_cost.specs.Sums.{Sums, chains, turns, turns_left, powers_left, term_at, budget_at}
+use Rattle.bytecode_cost.specs.Sums.{Sums, chains, turns, powers_left, term_at, budget_at}
 
 pub one_chain : (n : ℕ) → chains n 1 ≡ n
 one_chain zero = refl
@@ -53,13 +53,25 @@ chains_below (suc n) (suc k) =
     let next = pow-suc (suc n) k in
     omega arith
 
+-- where the outermost loop visits all parts, too, the turns are powers
+pub powers_are_left : (parts k : ℕ) → powers_left parts parts k ≡ parts ^ k
+powers_are_left parts zero = sym (pow-zero parts)
+powers_are_left parts (suc k) = let power = pow-suc parts k in omega arith
+
+pub turns_are : (version parts k : ℕ) → turns version parts k ≡ (if version == 2 then chains parts k else parts ^ k)
+turns_are version parts k = pick (version == 2)
+  where
+    pick : (by_chains : Bool) → (if by_chains then chains parts k else powers_left parts parts k) ≡ (if by_chains then chains parts k else parts ^ k)
+    pick true = refl
+    pick false = powers_are_left parts k
+
 -- the turns of version 2 are no more than those of any version
 pub turns_below : (version n k : ℕ) → turns 2 n k ≤ turns version n k
 turns_below version n k = pick (version == 2)
   where
-    pick : (by_chains : Bool) → chains n k ≤ (if by_chains then chains n k else n ^ k)
+    pick : (by_chains : Bool) → chains n k ≤ (if by_chains then chains n k else powers_left n n k)
     pick true = omega arith
-    pick false = chains_below n k
+    pick false = omega (arith, chains_below n k, powers_are_left n k)
 
 -- so is what they allow
 pub term_below : (sums : Sums) (n p k : ℕ) → term_at (record sums { version = 2 }) n p k ≤ term_at sums n p k
@@ -72,15 +84,3 @@ budget_below sums n p =
     let two = term_below sums n p 2 in
     let three = term_below sums n p 3 in
     omega arith
-
--- where a loop that is opened now visits all parts, the turns left are all of them
-powers_are_left : (parts k : ℕ) → powers_left parts parts k ≡ parts ^ k
-powers_are_left parts zero = sym (pow-zero parts)
-powers_are_left parts (suc k) = let power = pow-suc parts k in omega arith
-
-pub all_left : (version parts k : ℕ) → turns_left version parts parts k ≡ turns version parts k
-all_left version parts k = pick (version == 2)
-  where
-    pick : (by_chains : Bool) → (if by_chains then chains parts k else powers_left parts parts k) ≡ (if by_chains then chains parts k else parts ^ k)
-    pick true = refl
-    pick false = powers_are_left parts k

@@ -1,12 +1,9 @@
 -- The powers of the parts, and the bound of the budget.
-use Rattle.std.proofs.Common.{◌≡◌, ℕ, ◌+◌, ◌*◌, ◌^◌, ◌<◌, ◌≤◌, ◌==◌, Bool, true, false, if◌then◌else◌, List, length, get_or, All, refl, arith}
+use Rattle.std.proofs.Common.{◌≡◌, ℕ, ◌+◌, ◌*◌, ◌^◌, ◌<◌, ◌≤◌, ◌==◌, Bool, true, false, if◌then◌else◌, List, length, get_or, All, refl, ◌∙◌, arith}
 use Rattle.std.proofs.Math.Nat.{pow-zero, pow-suc, mul-le-mul}
 use Rattle.std.proofs.lemmas.List.Elements.{All-get_or}
-use Rattle.bytecode_cost.specs.Sums.{Sums, IsBudget, chains, turns, term_at, budget_at}
-use Rattle.bytecode_cost.proofs.Chains.{chains_below, one_chain}
-
-pub power_none : (p : ℕ) → p ^ 0 ≡ 1
-power_none p = pow-zero p
+use Rattle.bytecode_cost.specs.Sums.{Sums, IsBudget, chains, powers_left, turns, term_at, budget_at}
+use Rattle.bytecode_cost.proofs.Chains.{chains_below, one_chain, powers_are_left}
 
 pub power_one : (p : ℕ) → p ^ 1 ≡ p
 power_one p = rw (pow-suc p 0, pow-zero p) (omega arith)
@@ -41,24 +38,24 @@ term_bound a b n turns ha hb hn ht =
 pub turns_none : (version p : ℕ) → turns version p 0 ≡ 1
 turns_none version p = pick (version == 2)
   where
-    pick : (by_chains : Bool) → (if by_chains then chains p 0 else p ^ 0) ≡ 1
+    pick : (by_chains : Bool) → (if by_chains then chains p 0 else powers_left p p 0) ≡ 1
     pick true = refl
-    pick false = power_none p
+    pick false = refl
 
 pub turns_one : (version p : ℕ) → turns version p 1 ≡ p
 turns_one version p = pick (version == 2)
   where
-    pick : (by_chains : Bool) → (if by_chains then chains p 1 else p ^ 1) ≡ p
+    pick : (by_chains : Bool) → (if by_chains then chains p 1 else powers_left p p 1) ≡ p
     pick true = one_chain p
-    pick false = power_one p
+    pick false = powers_are_left p 1 ∙ power_one p
 
 -- the turns are at most the powers
 turns_bound : (version p k most : ℕ) → p ^ k ≤ most → turns version p k ≤ most
 turns_bound version p k most h = pick (version == 2)
   where
-    pick : (by_chains : Bool) → (if by_chains then chains p k else p ^ k) ≤ most
+    pick : (by_chains : Bool) → (if by_chains then chains p k else powers_left p p k) ≤ most
     pick true = let below = chains_below p k in omega arith
-    pick false = h
+    pick false = omega (arith, powers_are_left p k, h)
 
 pub turns_one_few : (version p : ℕ) → p ≤ 4096 → turns version p 1 ≤ 68719476736
 turns_one_few version p h = turns_bound version p 1 68719476736 (rw (power_one p) (omega arith))

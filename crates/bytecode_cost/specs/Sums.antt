@@ -23,24 +23,26 @@ abbrev pub with_cap : Sums → ℕ → ℕ → ℕ → Sums
 with_cap sums k fixed scaled =
     record sums { fixed = slice_set sums.fixed k (slice_index sums.fixed k + fixed); scaled = slice_set sums.scaled k (slice_index sums.scaled k + scaled) }
 
--- how many chains of k of n parts there are, where each may stand inside of the one before: n over k, by Pascal's rule
+-- n over k, by Pascal's rule: so many sets of k of n parts there are, and so no more chains of k parts, where each stands inside of the
+-- one before
 abbrev pub chains : ℕ → ℕ → ℕ
 chains n zero = 1
 chains zero (suc k) = 0
 chains (suc n) (suc k) = chains n k + chains n (suc k)
-
--- how often what stands inside k loops may run, over so many parts: chains of k parts in programs of version 2, powers in those of version 1
-abbrev pub turns : ℕ → ℕ → ℕ → ℕ
-turns version parts k = if version == 2 then chains parts k else parts ^ k
 
 -- how often what stands inside k loops may run, where the outermost visits so many and each inside it all parts
 abbrev pub powers_left : ℕ → ℕ → ℕ → ℕ
 powers_left parts visited zero = 1
 powers_left parts visited (suc k) = visited * parts ^ k
 
--- how often what stands inside k further loops may run, where a loop that is opened now visits so many of the parts
+-- how often what stands inside k further loops may run, where a loop that is opened now visits so many of the parts: chains in programs
+-- of version 2, powers in those of version 1
 abbrev pub turns_left : ℕ → ℕ → ℕ → ℕ → ℕ
 turns_left version parts visited k = if version == 2 then chains visited k else powers_left parts visited k
+
+-- how often what stands inside k loops may run, over so many parts
+abbrev pub turns : ℕ → ℕ → ℕ → ℕ
+turns version parts k = turns_left version parts parts k
 
 -- what the instructions inside k open loops may charge at a message of n octets and p parts: their caps, for each of their turns
 abbrev pub term_at : Sums → ℕ → ℕ → ℕ → ℕ

@@ -1,12 +1,17 @@
 //! What holds of every budget.
-ghost use Rattle.std.specs.Prelude.{◌≡◌, ℕ, ◌+◌, ◌*◌, ◌-◌, ◌^◌, ◌<◌, ◌≤◌};
+ghost use Rattle.std.specs.Prelude.{◌≡◌, ◌==◌, ℕ, ◌+◌, ◌*◌, ◌-◌, ◌^◌, ◌<◌, ◌≤◌, if◌then◌else◌};
 ghost use Rattle.octets.specs.Limits.{max_message, max_parts};
-ghost use Rattle.bytecode_cost.specs.Sums.{Sums, IsBudget, budget_at, chains, turns, turns_left};
+ghost use Rattle.bytecode_cost.specs.Sums.{Sums, IsBudget, budget_at, chains, turns};
 
 /// At a message of at most 2^26 octets and 4,096 parts every budget is below 2^128.
 pub fn budget_fits()
     ensures { (sums : Sums) → IsBudget sums
         → (n p : ℕ) → n ≤ max_message → p ≤ max_parts → budget_at sums n p < 2 ^ 128 }
+{}
+
+/// One part of `n` can be chosen in `n` ways.
+pub fn chains_of_one()
+    ensures { (n : ℕ) → chains n 1 ≡ n }
 {}
 
 /// Two parts of `n` can be chosen in `n (n - 1) / 2` ways.
@@ -30,7 +35,9 @@ pub fn chains_never_cost_more()
         → budget_at (record sums { version = 2 }) n p ≤ budget_at sums n p }
 {}
 
-/// Where all parts are left, what is left of the turns is all of them.
-pub fn all_turns_left()
-    ensures { (version parts k : ℕ) → turns_left version parts parts k ≡ turns version parts k }
+/// What stands inside `k` loops may run once for each set of `k` parts in version 2, and `parts ^ k`
+/// times in version 1.
+pub fn turns_are_sets_or_powers()
+    ensures { (version parts k : ℕ)
+        → turns version parts k ≡ (if version == 2 then chains parts k else parts ^ k) }
 {}

@@ -2,6 +2,7 @@ pub mod Loop
 pub mod Fields
 pub mod FormatLemmas
 pub mod Lengths
+pub mod Operations
 pub mod ActionLemmas
 pub mod ModifierLemmas
 pub mod SelectionLemmas

@@ -1,5 +1,5 @@
 //! Laws of the format, of modifiers, of the numbers of tests and of final actions, over their definitions alone.
-ghost use Rattle.std.specs.Prelude.{◌≡◌, ◌<◌, ℕ, Some, List, [], ◌∷◌, ◌++◌};
+ghost use Rattle.std.specs.Prelude.{◌≡◌, ◌↔◌, ◌<◌, ℕ, true, Some, List, [], ◌∷◌, ◌++◌};
 ghost use Rattle.bytecode_format.specs.declared.action.Action.{Action};
 ghost use Rattle.bytecode_format.specs.declared.modifiers.Modifiers.{Modifiers};
 ghost use Rattle.bytecode_format.specs.declared.selection.Scope.{Scope};
@@ -8,6 +8,7 @@ ghost use Rattle.bytecode_format.specs.declared.selection.TestCounts.{TestCounts
 ghost use Rattle.glob_match.specs.declared.match_type.Match.{Match};
 ghost use Rattle.bytecode_format.specs.Code.{Code};
 ghost use Rattle.bytecode_format.specs.Spelling.{IsProgram, spelling};
+ghost use Rattle.bytecode_format.specs.Action.{is_same};
 ghost use Rattle.bytecode_format.specs.Actions.{first_occurrences, with_action};
 ghost use Rattle.bytecode_format.specs.Modifiers.{modifiers_number, modifiers_numbered};
 ghost use Rattle.bytecode_format.specs.Selection.{counts_number, counts_numbered, field_test_number, field_test_numbered, key_numbers, match_number, match_numbered, scope_number, scope_numbered};
@@ -27,6 +28,11 @@ pub fn one_more_action()
     ensures { (actions : List Action) (action : Action)
         → first_occurrences (actions ++ action ∷ [])
         ≡ with_action (first_occurrences actions) action }
+{}
+
+/// Actions are the same exactly where they are equal.
+pub fn same_actions_are_equal()
+    ensures { (a b : Action) → (is_same a b ≡ true) ↔ (a ≡ b) }
 {}
 
 /// Modifiers are known by their number, which takes six bits, and no other number stands for them.

@@ -6,7 +6,9 @@ use Rattle.bytecode_format.specs.Code.{Code}
 use Rattle.bytecode_format.specs.Operations.{operation_of}
 use Rattle.bytecode_format.specs.declared.instruction.Instruction.{Instruction}
 use Rattle.bytecode_format.specs.declared.operation.Operation.{Operation}
-use Rattle.bytecode_format.specs.declared.operation.Operation.TheVariants.{Literal, Jump, JumpIfTrue, JumpIfFalse, Size, PartSize}
+use Rattle.bytecode_verifier.specs.Rows.{row_of}
+use Rattle.bytecode_verifier.specs.declared.row.Table as index
+use Rattle.bytecode_verifier.specs.declared.row.Table.TheVariants as indices
 use Rattle.bytecode_verifier.specs.Budget.{share_at}
 use Rattle.bytecode_verifier.specs.declared.error.Refusal.{Refusal as BrokenRule}
 use Rattle.refusals.specs.Causes.{of_verifier}
@@ -62,15 +64,16 @@ instruction_text place i =
 
 -- ---- comments
 
--- the table that c of an operation is a place in, where it is one of these
+-- how the entries of a program's table are told; a variable has nothing to tell
+abbrev pub told_by : index.Table → Option Table
+told_by indices.Variables = None
+told_by indices.Numbers = Some Numbers
+told_by indices.Strings = Some Strings
+
+-- the table that c of an operation is a place in, where its entries are told
 abbrev pub table_of : Operation → Option Table
-table_of Literal = Some Strings
-table_of Size = Some Numbers
-table_of PartSize = Some Numbers
-table_of Jump = Some Instructions
-table_of JumpIfTrue = Some Instructions
-table_of JumpIfFalse = Some Instructions
-table_of _ = None
+table_of operation =
+    if (row_of operation).jumps then Some Instructions else option_and_then told_by (row_of operation).index
 
 -- the most octets of a string that a comment has
 abbrev pub max_shown : ℕ

@@ -8,6 +8,7 @@ ghost use Rattle.bytecode_listing.specs.Wording.{counts_words, match_words, said
 use crate::wording::{Facet, word_of};
 use crate::writing::{put_number, put_quoted};
 use bytecode_format::{Instruction, Operation, Program, TestCounts};
+use bytecode_verifier::row_of;
 use std::alloc::AllocError;
 
 /// The most octets of a string that a comment has.
@@ -22,17 +23,18 @@ pub enum Table {
     Instructions,
 }
 
-// The table that an operation's c is a place in, where it is one of these.
+// The table that an operation's c is a place in, where its entries are told.
 fn table_of(operation: Operation) -> Option<Table>
     ensures { result ≡ table_of operation }
 {
-    match operation {
-        Operation::Literal => Some(Table::Strings),
-        Operation::Size | Operation::PartSize => Some(Table::Numbers),
-        Operation::Jump | Operation::JumpIfTrue | Operation::JumpIfFalse => {
-            Some(Table::Instructions)
-        }
-        _ => None,
+    let row = row_of(operation);
+    if row.jumps {
+        return Some(Table::Instructions);
+    }
+    match row.index {
+        Some(bytecode_verifier::Table::Strings) => Some(Table::Strings),
+        Some(bytecode_verifier::Table::Numbers) => Some(Table::Numbers),
+        Some(bytecode_verifier::Table::Variables) | None => None,
     }
 }
 

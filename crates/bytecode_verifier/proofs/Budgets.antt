@@ -72,10 +72,10 @@ octets_fit : (number : ℕ) (entries : Entries) → IsSmall entries → (o : Opt
 octets_fit number entries small None h = one_fits
 octets_fit number entries small (Some texts) h =
     let t = taken number entries texts small.short h in
-    let less : sum texts.bounds ≤ one_more_each texts.bounds = sum_by-le-sum_by (λ b. b) (λ b. b + 1) texts.bounds (λ b. omega arith) in
+    let less : sum texts.texts ≤ one_more_each texts.texts = sum_by-le-sum_by (λ b. b) (λ b. b + 1) texts.texts (λ b. omega arith) in
     (omega (arith, t.total, t.left, small.few, less), lit≤ tt)
 
-texts_fit : (number : ℕ) (entries : Entries) → IsSmall entries → (cap : Texts → Cap) → ((texts : Texts) → one_more_each texts.bounds ≤ 16778240 → Fits (cap texts)) → Fits (option_map_or cap (take_texts number entries) one_charge)
+texts_fit : (number : ℕ) (entries : Entries) → IsSmall entries → (cap : Texts → Cap) → ((texts : Texts) → one_more_each texts.texts ≤ 16778240 → Fits (cap texts)) → Fits (option_map_or cap (take_texts number entries) one_charge)
 texts_fit number entries small cap fits = go (take_texts number entries) refl
   where
     go : (o : Option Texts) → take_texts number entries ≡ o → Fits (option_map_or cap o one_charge)

@@ -2,9 +2,9 @@ pub mod Tests
 pub mod Least
 pub mod Steps
 pub mod Taking
+pub mod Again
 pub mod Short
 pub mod Ends
-pub mod Jumping
 pub mod Marks
 pub mod Accepted
 pub mod Consequences

@@ -54,14 +54,14 @@ length_short instructions k i each e =
     fits.b
 
 -- the text on top is taken
-taken_one : (entries after : Entries) → IsSmall entries → option_map (λ (taken : Texts). taken.rest) (take_texts 1 entries) ≡ Some after → IsSmall after
+taken_one : (entries after : Entries) → IsSmall entries → option_map (λ (taken : Texts). taken.below) (take_texts 1 entries) ≡ Some after → IsSmall after
 taken_one entries after small e = go (take_texts 1 entries) refl e
   where
-    go : (o : Option Texts) → take_texts 1 entries ≡ o → option_map (λ (taken : Texts). taken.rest) o ≡ Some after → IsSmall after
+    go : (o : Option Texts) → take_texts 1 entries ≡ o → option_map (λ (taken : Texts). taken.below) o ≡ Some after → IsSmall after
     go None h f = absurd cc
     go (Some top) h f =
         let t = taken 1 entries top small.short h in
-        let same : top.rest ≡ after = cc in
+        let same : top.below ≡ after = cc in
         let few = small.few in
         subst IsSmall same (record { few = omega (arith, t.left); short = t.short })
 
@@ -71,19 +71,19 @@ cleared true after e = let same : [] ≡ after = cc in subst IsSmall same none
 cleared false after e = absurd cc
 
 -- a test takes texts
-tested : (number : ℕ) (entries after : Entries) → IsSmall entries → option_and_then (λ (texts : Texts). with_entry Truth texts.rest) (take_texts number entries) ≡ Some after → IsSmall after
+tested : (number : ℕ) (entries after : Entries) → IsSmall entries → option_and_then (λ (texts : Texts). with_entry Truth texts.below) (take_texts number entries) ≡ Some after → IsSmall after
 tested number entries after small e = go (take_texts number entries) refl e
   where
-    go : (o : Option Texts) → take_texts number entries ≡ o → option_and_then (λ (texts : Texts). with_entry Truth texts.rest) o ≡ Some after → IsSmall after
+    go : (o : Option Texts) → take_texts number entries ≡ o → option_and_then (λ (texts : Texts). with_entry Truth texts.below) o ≡ Some after → IsSmall after
     go None h f = absurd cc
-    go (Some texts) h f = pushed Truth texts.rest after (taken number entries texts small.short h).short f
+    go (Some texts) h f = pushed Truth texts.below after (taken number entries texts small.short h).short f
 
-tested_lists : (names params keys : ℕ) (entries after : Entries) → IsSmall entries → option_and_then (λ (lists : Lists). with_entry Truth lists.rest) (take_lists names params keys entries) ≡ Some after → IsSmall after
+tested_lists : (names params keys : ℕ) (entries after : Entries) → IsSmall entries → option_and_then (λ (lists : Lists). with_entry Truth lists.below) (take_lists names params keys entries) ≡ Some after → IsSmall after
 tested_lists names params keys entries after small e = go (take_lists names params keys entries) refl e
   where
-    go : (o : Option Lists) → take_lists names params keys entries ≡ o → option_and_then (λ (lists : Lists). with_entry Truth lists.rest) o ≡ Some after → IsSmall after
+    go : (o : Option Lists) → take_lists names params keys entries ≡ o → option_and_then (λ (lists : Lists). with_entry Truth lists.below) o ≡ Some after → IsSmall after
     go None h f = absurd cc
-    go (Some lists) h f = pushed Truth lists.rest after (taken_lists names params keys entries lists small.short h).short f
+    go (Some lists) h f = pushed Truth lists.below after (taken_lists names params keys entries lists small.short h).short f
 
 module _ (code : Code) (fits : IsProgram code) where
   lent : (k : ℕ) (o : Option (List ℕ)) (entries after : Entries) → slice_get code.strings k ≡ o → IsSmall entries → with_string o entries ≡ Some after → IsSmall after
@@ -116,7 +116,7 @@ module _ (code : Code) (fits : IsProgram code) where
     where
       go : (o : Option Texts) → take_texts i.b entries ≡ o → option_and_then with_joined o ≡ Some after → IsSmall after
       go None h f = absurd cc
-      go (Some parts) h f = pushed (Text (min (sum parts.bounds) max_string)) parts.rest after (omega arith, (taken i.b entries parts small.short h).short) f
+      go (Some parts) h f = pushed (Text (min (sum parts.texts) max_string)) parts.below after (omega arith, (taken i.b entries parts small.short h).short) f
   small_after Set i entries after small e = taken_one entries after small e
   small_after File i entries after small e = taken_one entries after small e
   small_after Store i entries after small e = taken_one entries after small e

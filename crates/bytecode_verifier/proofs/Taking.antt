@@ -1,10 +1,11 @@
 -- Texts taken from the top of the entries.
-use Rattle.std.proofs.Common.{◌≡◌, ℕ, zero, suc, ◌+◌, ◌-◌, ◌*◌, ◌<◌, ◌≤◌, Bool, true, false, if◌then◌else◌, min, sum, List, [], ◌∷◌, Option, Some, None, length, refl, sym, ap, subst, ◌∙◌, arith}
-use Rattle.std.proofs.lemmas.List.Sums.{sum_by-cons}
+use Rattle.std.proofs.Common.{◌≡◌, ℕ, zero, suc, ◌+◌, ◌-◌, ◌*◌, ◌<◌, ◌≤◌, Bool, true, false, if◌then◌else◌, min, sum, List, [], ◌∷◌, ◌++◌, Option, Some, None, length, length-append, refl, sym, ap, subst, ◌∙◌, arith}
+use Rattle.std.proofs.lemmas.List.Sums.{sum_by-cons, sum_by_push}
 use Rattle.std.specs.Bool.{then_some}
 use Rattle.std.specs.Option.{option_and_then, option_map, option_map_or}
 use Rattle.bytecode_verifier.specs.declared.shape.Entry.TheVariants.{Truth, Text}
-use Rattle.bytecode_verifier.specs.Shape.{Entries, Texts, Lists, with_entry, with_text, with_params_and_keys, with_joined, take_texts, take_below, take_lists}
+use Rattle.bytecode_verifier.specs.Taken.{with_last, with_params_and_keys, lists_below}
+use Rattle.bytecode_verifier.specs.Shape.{Entries, Texts, Lists, bound_in, with_entry, with_joined, take_texts, take_lists}
 use Rattle.bytecode_verifier.specs.Budget.{one_more_each, one_charge, cap_of_octets}
 use Rattle.bytecode_verifier.specs.Pass.{AreShort, Passes, Takes}
 
@@ -15,7 +16,7 @@ pub record Total : Type 0 where
   pub rest : Entries
 
 abbrev pub totalled : ℕ → ℕ → Texts → Total
-totalled total number texts = record { total = total + one_more_each texts.bounds; number = number + length texts.bounds; rest = texts.rest }
+totalled total number texts = record { total = total + one_more_each texts.texts; number = number + length texts.texts; rest = texts.below }
 
 -- what taking so many further texts comes to
 abbrev pub wanted : ℕ → ℕ → ℕ → Entries → Option Total
@@ -28,12 +29,12 @@ same_total t a b rest p q r = rw (← p, ← q, ← r) refl
 pub wanted_more : (total taken left bound : ℕ) (entries : Entries) → wanted total taken (suc left) (Text bound ∷ entries) ≡ wanted (total + bound + 1) (taken + 1) left entries
 wanted_more total taken left bound entries = go (take_texts left entries)
   where
-    go : (o : Option Texts) → option_map (totalled total taken) (option_map (with_text bound) o) ≡ option_map (totalled (total + bound + 1) (taken + 1)) o
+    go : (o : Option Texts) → option_map (totalled total taken) (option_map (with_last bound) o) ≡ option_map (totalled (total + bound + 1) (taken + 1)) o
     go None = refl
     go (Some texts) =
-        let sums : one_more_each (bound ∷ texts.bounds) ≡ (bound + 1) + one_more_each texts.bounds = sum_by-cons (λ b. b + 1) bound texts.bounds in
-        let number : length (bound ∷ texts.bounds) ≡ suc (length texts.bounds) = refl in
-        same_total (totalled total taken (with_text bound texts)) _ _ _ (omega arith) (omega arith) refl
+        let sums : one_more_each (texts.texts ++ bound ∷ []) ≡ one_more_each texts.texts + (bound + 1) = sum_by_push (λ b. b + 1) texts.texts bound in
+        let number = length-append texts.texts (bound ∷ []) in
+        same_total (totalled total taken (with_last bound texts)) _ _ _ (omega (arith, sums)) (omega (arith, number)) refl
 
 -- one text is taken from the top
 pub wanted_next : (total taken number bound : ℕ) (entries now old : Entries) → taken < number → entries ≡ Text bound ∷ now → wanted total taken (number - taken) entries ≡ wanted 0 0 number old
@@ -51,7 +52,7 @@ taken_all number total now old e = go (take_texts number old) e
     go : (o : Option Texts) → wanted total number 0 now ≡ option_map (totalled 0 0) o → Takes number (Some total) now o
     go None h = absurd cc
     go (Some texts) h =
-        let same : totalled total number (record { bounds = []; rest = now }) ≡ totalled 0 0 texts = cc in
+        let same : totalled total number (record { texts = []; below = now }) ≡ totalled 0 0 texts = cc in
         let sums = ap (λ (t : Total). t.total) same in
         let counts = ap (λ (t : Total). t.number) same in
         (omega (arith, sums), omega (arith, counts), ap (λ (t : Total). t.rest) same)
@@ -67,17 +68,17 @@ one_more_sum (x ∷ xs) =
 -- texts that were taken have one more each
 pub number_within : (number total : ℕ) (now : Entries) (taken : Option Texts) → Takes number (Some total) now taken → number ≤ total
 number_within number total now None h = absurd h
-number_within number total now (Some texts) h = omega (arith, h.0, h.1, one_more_sum texts.bounds)
+number_within number total now (Some texts) h = omega (arith, h.0, h.1, one_more_sum texts.texts)
 
 -- the text that texts are joined to
 pub joined : (number total octets bound : ℕ) (fine : Bool) (now after : Entries) (taken : Option Texts) → Takes number (Some total) now taken → octets ≡ total - number → bound ≡ min octets 16384 → (if fine then Some after else None) ≡ with_entry (Text bound) now
     → Passes (then_some fine (record { fixed = 1 + octets; scaled = 0 })) after (option_map_or cap_of_octets taken one_charge) (option_and_then with_joined taken)
 joined number total octets bound fine now after None h sum-is bound-is room = absurd h
 joined number total octets bound fine now after (Some texts) h sum-is bound-is room =
-    let all : octets ≡ sum texts.bounds = omega (arith, sum-is, h.0, h.1, one_more_sum texts.bounds) in
+    let all : octets ≡ sum texts.texts = omega (arith, sum-is, h.0, h.1, one_more_sum texts.texts) in
     go fine all (room ∙ rw (bound-is, all, h.2) refl)
   where
-    go : (fine : Bool) → octets ≡ sum texts.bounds → (if fine then Some after else None) ≡ with_joined texts → Passes (then_some fine (record { fixed = 1 + octets; scaled = 0 })) after (cap_of_octets texts) (with_joined texts)
+    go : (fine : Bool) → octets ≡ sum texts.texts → (if fine then Some after else None) ≡ with_joined texts → Passes (then_some fine (record { fixed = 1 + octets; scaled = 0 })) after (cap_of_octets texts) (with_joined texts)
     go true all room = (rw all refl, sym room)
     go false all room = sym room
 
@@ -91,28 +92,28 @@ wanted_none total taken left entries old number none e = go (take_texts number o
 
 -- texts that were taken from short entries
 pub record Taken (number : ℕ) (entries : Entries) (texts : Texts) : Type 0 where
-  pub number_is : length texts.bounds ≡ number
-  pub left : number + length texts.rest ≡ length entries
-  pub short : AreShort texts.rest
-  pub total : one_more_each texts.bounds ≤ number * 16385
+  pub number_is : length texts.texts ≡ number
+  pub left : number + length texts.below ≡ length entries
+  pub short : AreShort texts.below
+  pub total : one_more_each texts.texts ≤ number * 16385
 
 pub taken : (number : ℕ) (entries : Entries) (texts : Texts) → AreShort entries → take_texts number entries ≡ Some texts → Taken number entries texts
 taken zero entries texts short e =
-    let same : (let t : Texts = record { bounds = []; rest = entries } in t) ≡ texts = cc in
+    let same : (let t : Texts = record { texts = []; below = entries } in t) ≡ texts = cc in
     subst (Taken 0 entries) same (record { number_is = refl; left = omega arith; short = short; total = omega arith })
 taken (suc n) [] texts short e = absurd cc
 taken (suc n) (Truth ∷ entries) texts short e = absurd cc
 taken (suc n) (Text bound ∷ entries) texts short e = go (take_texts n entries) refl e (λ below h. taken n entries below short.1 h)
   where
-    go : (o : Option Texts) → take_texts n entries ≡ o → option_map (with_text bound) o ≡ Some texts → ((below : Texts) → take_texts n entries ≡ Some below → Taken n entries below) → Taken (suc n) (Text bound ∷ entries) texts
+    go : (o : Option Texts) → take_texts n entries ≡ o → option_map (with_last bound) o ≡ Some texts → ((below : Texts) → take_texts n entries ≡ Some below → Taken n entries below) → Taken (suc n) (Text bound ∷ entries) texts
     go None h f ih = absurd cc
     go (Some below) h f ih =
         let before = ih below h in
-        let same : with_text bound below ≡ texts = cc in
-        let sums : one_more_each (bound ∷ below.bounds) ≡ (bound + 1) + one_more_each below.bounds = sum_by-cons (λ b. b + 1) bound below.bounds in
+        let same : with_last bound below ≡ texts = cc in
+        let sums : one_more_each (below.texts ++ bound ∷ []) ≡ one_more_each below.texts + (bound + 1) = sum_by_push (λ b. b + 1) below.texts bound in
         subst (Taken (suc n) (Text bound ∷ entries)) same
         (record {
-          number_is = ap suc before.number_is;
+          number_is = omega (arith, length-append below.texts (bound ∷ []), before.number_is);
           left = omega (arith, before.left);
           short = before.short;
           total = omega (arith, sums, before.total, short.0);
@@ -123,15 +124,15 @@ pub record TakenLists (names params keys : ℕ) (entries : Entries) (lists : Lis
   pub names_are : length lists.names ≡ names
   pub params_are : length lists.params ≡ params
   pub keys_are : length lists.keys ≡ keys
-  pub left : keys + params + names + length lists.rest ≡ length entries
-  pub short : AreShort lists.rest
+  pub left : keys + params + names + length lists.below ≡ length entries
+  pub short : AreShort lists.below
   pub names_total : one_more_each lists.names ≤ names * 16385
   pub keys_total : one_more_each lists.keys ≤ keys * 16385
 
 pub taken_lists : (names params keys : ℕ) (entries : Entries) (lists : Lists) → AreShort entries → take_lists names params keys entries ≡ Some lists → TakenLists names params keys entries lists
 taken_lists names params keys entries lists short e = go (take_texts keys entries) refl e
   where
-    all : (above between below : Texts) → Taken keys entries above → Taken params above.rest between → Taken names between.rest below → with_params_and_keys between.bounds above.bounds below ≡ lists
+    all : (above between below : Texts) → Taken keys entries above → Taken params above.below between → Taken names between.below below → with_params_and_keys between.texts above.texts below ≡ lists
         → TakenLists names params keys entries lists
     all above between below k p n same =
         subst (TakenLists names params keys entries) same
@@ -145,16 +146,16 @@ taken_lists names params keys entries lists short e = go (take_texts keys entrie
           keys_total = k.total;
         })
 
-    then_names : (above between : Texts) → Taken keys entries above → Taken params above.rest between → (o : Option Texts) → take_texts names between.rest ≡ o
-        → option_map (with_params_and_keys between.bounds above.bounds) o ≡ Some lists → TakenLists names params keys entries lists
+    then_names : (above between : Texts) → Taken keys entries above → Taken params above.below between → (o : Option Texts) → take_texts names between.below ≡ o
+        → option_map (with_params_and_keys between.texts above.texts) o ≡ Some lists → TakenLists names params keys entries lists
     then_names above between k p None h f = absurd cc
-    then_names above between k p (Some below) h f = all above between below k p (taken names between.rest below p.short h) cc
+    then_names above between k p (Some below) h f = all above between below k p (taken names between.below below p.short h) cc
 
-    then_params : (above : Texts) → Taken keys entries above → (o : Option Texts) → take_texts params above.rest ≡ o
-        → option_and_then (λ (between : Texts). option_map (with_params_and_keys between.bounds above.bounds) (take_texts names between.rest)) o ≡ Some lists → TakenLists names params keys entries lists
+    then_params : (above : Texts) → Taken keys entries above → (o : Option Texts) → take_texts params above.below ≡ o
+        → option_and_then (λ (between : Texts). option_map (with_params_and_keys between.texts above.texts) (take_texts names between.below)) o ≡ Some lists → TakenLists names params keys entries lists
     then_params above k None h f = absurd cc
-    then_params above k (Some between) h f = then_names above between k (taken params above.rest between k.short h) (take_texts names between.rest) refl f
+    then_params above k (Some between) h f = then_names above between k (taken params above.below between k.short h) (take_texts names between.below) refl f
 
-    go : (o : Option Texts) → take_texts keys entries ≡ o → option_and_then (take_below names params) o ≡ Some lists → TakenLists names params keys entries lists
+    go : (o : Option Texts) → take_texts keys entries ≡ o → option_and_then (lists_below bound_in names params) o ≡ Some lists → TakenLists names params keys entries lists
     go None h f = absurd cc
-    go (Some above) h f = then_params above (taken keys entries above short h) (take_texts params above.rest) refl f
+    go (Some above) h f = then_params above (taken keys entries above short h) (take_texts params above.below) refl f

@@ -1,11 +1,11 @@
 -- The same program in version 2: it is accepted where it was before, and its loops, its shape and its caps are the same.
 use Rattle.std.proofs.Common.{◌≡◌, ℕ, zero, suc, ◌≤◌, Bool, true, false, cond, if◌then◌else◌, not, ◌&&◌, ◌||◌, ◌==◌, nat_le, List, [], ◌∷◌, Option, Some, None, is_some, is_none, length, slice_get, refl, sym, ap, subst, ◌∙◌}
-use Rattle.std.specs.Option.{option_and_then, option_map_or}
+use Rattle.std.specs.Option.{option_and_then, option_map, option_map_or}
 use Rattle.bytecode_format.specs.declared.instruction.Instruction.{Instruction}
 use Rattle.bytecode_format.specs.declared.operation.Operation.{Operation}
-use Rattle.bytecode_format.specs.declared.operation.Operation.TheVariants.{Halt, Literal, Variable, Capture, Join, Set, Bool as BoolOp, Not, Jump, JumpIfTrue, JumpIfFalse, Header, Exists, String, Size, PartSize, PartBody, PartDigest, Keep, Discard, File, Store, Each, Next, Break, Take}
 use Rattle.bytecode_format.specs.Operations.{operation_of}
 use Rattle.bytecode_format.specs.Code.{Code}
+use Rattle.bytecode_format.proofs.Operations.{each}
 use Rattle.bytecode_cost.specs.Sums.{Sums, budget_at}
 use Rattle.bytecode_verifier.specs.Places.{holds_at, sum_below}
 use Rattle.bytecode_verifier.specs.Loops.{loops, open_loops, same_loops}
@@ -42,49 +42,25 @@ row_same code is place i here = row_named_kept code.version (operation_of i.op) 
 -- ---- jumps
 
 -- no jump is of version 2 alone
-no_new_jump : (o : Operation) → ((row_of o).since_two && (row_of o).jumps) ≡ false
-no_new_jump Halt = refl
-no_new_jump Literal = refl
-no_new_jump Variable = refl
-no_new_jump Capture = refl
-no_new_jump Join = refl
-no_new_jump Set = refl
-no_new_jump BoolOp = refl
-no_new_jump Not = refl
-no_new_jump Jump = refl
-no_new_jump JumpIfTrue = refl
-no_new_jump JumpIfFalse = refl
-no_new_jump Header = refl
-no_new_jump Exists = refl
-no_new_jump String = refl
-no_new_jump Size = refl
-no_new_jump PartSize = refl
-no_new_jump PartBody = refl
-no_new_jump PartDigest = refl
-no_new_jump Keep = refl
-no_new_jump Discard = refl
-no_new_jump File = refl
-no_new_jump Store = refl
-no_new_jump Each = refl
-no_new_jump Next = refl
-no_new_jump Break = refl
-no_new_jump Take = refl
+no_new_jump : (o : Operation) → not ((row_of o).since_two && (row_of o).jumps) ≡ true
+no_new_jump = each (λ o. not ((row_of o).since_two && (row_of o).jumps)) refl
 
 jump_kept : (version : ℕ) (o : Operation) → is_jump (row_in_version version o) ≡ (row_of o).jumps
-jump_kept version o = pick (row_of o).since_two (version == 2) (no_new_jump o)
+jump_kept version o = pick (row_of o).since_two (version == 2) (row_of o).jumps refl (no_new_jump o)
   where
-    pick : (since_two in_two : Bool) → (since_two && (row_of o).jumps) ≡ false → is_jump (cond (since_two && not in_two) None (Some (row_of o))) ≡ (row_of o).jumps
-    pick true true none = refl
-    pick true false none = sym none
-    pick false in_two none = refl
-
-jump_named : (first second : ℕ) (o : Option Operation) → is_jump (option_and_then (row_in_version first) o) ≡ is_jump (option_and_then (row_in_version second) o)
-jump_named first second None = refl
-jump_named first second (Some o) = jump_kept first o ∙ sym (jump_kept second o)
+    pick : (since_two in_two jumps : Bool) → (row_of o).jumps ≡ jumps → not (since_two && jumps) ≡ true → is_jump (cond (since_two && not in_two) None (Some (row_of o))) ≡ jumps
+    pick true true jumps e none = e
+    pick true false true e none = absurd cc
+    pick true false false e none = refl
+    pick false in_two jumps e none = e
 
 -- an octet names a jump in every version or in none
+pub jump_named : (version : ℕ) (o : Option Operation) → is_jump (option_and_then (row_in_version version) o) ≡ is_jump (option_map row_of o)
+jump_named version None = refl
+jump_named version (Some o) = jump_kept version o
+
 pub is_jump_same : (first second octet : ℕ) → is_jump (row_named first octet) ≡ is_jump (row_named second octet)
-is_jump_same first second octet = jump_named first second (operation_of octet)
+is_jump_same first second octet = jump_named first (operation_of octet) ∙ sym (jump_named second (operation_of octet))
 
 -- a place is a target in every version or in none
 pub is_target_same : (first second : ℕ) (instructions : List Instruction) (place : ℕ) → is_target first instructions place ≡ is_target second instructions place

@@ -27,11 +27,11 @@ one_more_each bounds = sum_by (λ bound. bound + 1) bounds
 
 -- one charge, and one for each octet of the texts that are taken
 abbrev pub cap_of_octets : Texts → Cap
-cap_of_octets taken = record { fixed = 1 + sum taken.bounds; scaled = 0 }
+cap_of_octets taken = record { fixed = 1 + sum taken.texts; scaled = 0 }
 
 -- for each octet of the message and one more, the names, each with one more: a message has no more fields than octets
 abbrev pub cap_of_names : Texts → Cap
-cap_of_names names = record { fixed = 1; scaled = one_more_each names.bounds }
+cap_of_names names = record { fixed = 1; scaled = one_more_each names.texts }
 
 -- the same, and for each name, or each parameter of each name, the keys, each with one more: what a
 -- name, or a parameter of that name, selects of all fields has no more octets than the message
@@ -46,7 +46,7 @@ cap_of_comparing lists = record { fixed = 1 + one_more_each lists.names * one_mo
 -- for each octet of the message and one more, the keys, each with one more: a part's content has no
 -- more octets than the message
 abbrev pub cap_of_body : Texts → Cap
-cap_of_body keys = record { fixed = 1; scaled = one_more_each keys.bounds }
+cap_of_body keys = record { fixed = 1; scaled = one_more_each keys.texts }
 
 -- one charge, and one for each octet of a part's content that a variable may be set to
 abbrev pub cap_of_content : ℕ → Cap
@@ -58,7 +58,7 @@ digest_length = 64
 
 -- one charge, and for each octet of a digest and one more the keys, each with one more
 abbrev pub cap_of_digest : Texts → Cap
-cap_of_digest keys = record { fixed = 1 + (digest_length + 1) * one_more_each keys.bounds; scaled = 0 }
+cap_of_digest keys = record { fixed = 1 + (digest_length + 1) * one_more_each keys.texts; scaled = 0 }
 
 -- the cap of an instruction that finds these entries
 abbrev pub cap_of : Option Operation → Instruction → Entries → Cap

@@ -1,6 +1,7 @@
 pub mod Places
 pub mod Loops
 pub mod Rows
+pub mod Taken
 pub mod Shape
 pub mod Rules
 pub mod Acceptance

@@ -31,8 +31,8 @@ pub record IsSmall (entries : Entries) : Type 0 where
 -- them; neither, where they weren't there
 abbrev pub Takes : ℕ → Option ℕ → Entries → Option Texts → Type 0
 Takes number None now None = Unit {0}
-Takes number (Some total) now (Some texts) = (total ≡ one_more_each texts.bounds) × (length texts.bounds ≡ number)
-    × (now ≡ texts.rest)
+Takes number (Some total) now (Some texts) = (total ≡ one_more_each texts.texts) × (length texts.texts ≡ number)
+    × (now ≡ texts.below)
 Takes number _ now _ = ⊥
 
 -- the same of names and of keys, with as many names and parameters as are wanted
@@ -40,7 +40,7 @@ abbrev pub TakesLists : ℕ → ℕ → Option (ℕ × ℕ) → Entries → Opti
 TakesLists names params None now None = Unit {0}
 TakesLists names params (Some totals) now (Some lists) =
     (totals.0 ≡ one_more_each lists.names) × (totals.1 ≡ one_more_each lists.keys) × (length lists.names ≡ names)
-    × (length lists.params ≡ params) × (now ≡ lists.rest)
+    × (length lists.params ≡ params) × (now ≡ lists.below)
 TakesLists names params _ now _ = ⊥
 
 -- the shape goes on to these entries with this cap, or it fails

@@ -5,7 +5,7 @@ use Rattle.std.specs.Option.{option_and_then, option_map_or}
 use Rattle.octets.specs.Limits.{max_loops}
 use Rattle.bytecode_format.specs.declared.instruction.Instruction.{Instruction}
 use Rattle.bytecode_format.specs.declared.operation.Operation.{Operation}
-use Rattle.bytecode_format.specs.declared.operation.Operation.TheVariants.{Halt, Jump, JumpIfTrue, JumpIfFalse, Each, Next, Break}
+use Rattle.bytecode_format.specs.declared.operation.Operation.TheVariants.{Halt, Each, Next, Break}
 use Rattle.bytecode_format.specs.Operations.{operation_of}
 use Rattle.bytecode_format.specs.Code.{Code}
 use Rattle.bytecode_verifier.specs.Places.{holds_at}
@@ -38,13 +38,6 @@ breaks_index code place = holds_at code place (λ i. misses_index code (row_in c
 -- Form: no operation, a field out of its range, or a field that isn't named and not 0
 abbrev pub breaks_form : Code → ℕ → Bool
 breaks_form code place = holds_at code place (λ i. not (is_well_formed (row_in code i) i))
-
--- the operation jumps to c, in every version
-abbrev pub jumps : Option Operation → Bool
-jumps (Some Jump) = true
-jumps (Some JumpIfTrue) = true
-jumps (Some JumpIfFalse) = true
-jumps _ = false
 
 abbrev pub is_halt : Option Operation → Bool
 is_halt (Some Halt) = true

@@ -10,6 +10,8 @@ use Rattle.bytecode_format.specs.Operations.{operation_of}
 use Rattle.bytecode_format.specs.Code.{Code}
 use Rattle.bytecode_format.specs.Selection.{keys_in, params_in}
 use Rattle.bytecode_verifier.specs.Rows.{row_named, is_jump}
+use Rattle.bytecode_verifier.specs.Taken as taken
+use Rattle.bytecode_verifier.specs.Taken.{OnTop, texts_on_top, lists_on_top}
 use Rattle.bytecode_verifier.specs.declared.shape.Entry.{Entry}
 use Rattle.bytecode_verifier.specs.declared.shape.Entry.TheVariants.{Truth, Text}
 
@@ -35,42 +37,26 @@ abbrev pub without_truth : Entries → Option Entries
 without_truth (Truth ∷ []) = Some []
 without_truth _ = None
 
--- texts that are taken from the top: their bounds, the top one first, and the entries below them
-pub record Texts : Type 0 where
-  pub bounds : List ℕ
-  pub rest : Entries
+-- the bound of an entry that is a text
+abbrev pub bound_in : Entry → Option ℕ
+bound_in Truth = None
+bound_in (Text bound) = Some bound
 
--- with the text above them
-abbrev pub with_text : ℕ → Texts → Texts
-with_text bound texts = record { bounds = bound ∷ texts.bounds; rest = texts.rest }
+-- the bounds of texts that are taken from the top, and the entries below them
+abbrev pub Texts : Type 0
+Texts = OnTop Entry ℕ
 
--- so many texts from the top, or None where an entry is missing or a truth value
+-- so many texts from the top
 abbrev pub take_texts : ℕ → Entries → Option Texts
-take_texts zero entries = Some (record { bounds = []; rest = entries })
-take_texts (suc n) [] = None
-take_texts (suc n) (Truth ∷ entries) = None
-take_texts (suc n) (Text bound ∷ entries) = option_map (with_text bound) (take_texts n entries)
+take_texts n entries = texts_on_top bound_in n entries
 
--- lists that are taken: the bounds of names or sources, of the parameters above them, and of the
--- keys above these, and the entries below
-pub record Lists : Type 0 where
-  pub names : List ℕ
-  pub params : List ℕ
-  pub keys : List ℕ
-  pub rest : Entries
-
-abbrev pub with_params_and_keys : List ℕ → List ℕ → Texts → Lists
-with_params_and_keys params keys names = record { names = names.bounds; params = params; keys = keys; rest = names.rest }
-
--- so many names or sources, and so many parameters above them, below keys that were taken
-abbrev pub take_below : ℕ → ℕ → Texts → Option Lists
-take_below names params keys =
-    option_and_then (λ (between : Texts). option_map (with_params_and_keys between.bounds keys.bounds)
-    (take_texts names between.rest)) (take_texts params keys.rest)
+-- the bounds of lists of texts that are taken, and the entries below them
+abbrev pub Lists : Type 0
+Lists = taken.Lists Entry ℕ
 
 -- so many names or sources, so many parameters above them, and so many keys above these
 abbrev pub take_lists : ℕ → ℕ → ℕ → Entries → Option Lists
-take_lists names params keys entries = option_and_then (take_below names params) (take_texts keys entries)
+take_lists names params keys entries = lists_on_top bound_in names params keys entries
 
 -- a text of at most as many octets as the string has, where there is one
 abbrev pub with_string : Option (List ℕ) → Entries → Option Entries
@@ -78,7 +64,7 @@ with_string string entries = option_and_then (λ octets. with_entry (Text (lengt
 
 -- in place of texts one of as many octets as they have together, and of no more than a string has
 abbrev pub with_joined : Texts → Option Entries
-with_joined parts = with_entry (Text (min (sum parts.bounds) max_string)) parts.rest
+with_joined parts = with_entry (Text (min (sum parts.texts) max_string)) parts.below
 
 -- the entries that an operation leaves of these, or None where an entry is missing or of the wrong
 -- kind, where there is no room, or where entries are left that must not be
@@ -88,28 +74,28 @@ entries_after code Literal i entries = with_string (slice_get code.strings i.c) 
 entries_after code Variable i entries = with_entry (Text max_value) entries
 entries_after code Capture i entries = with_entry (Text max_value) entries
 entries_after code Join i entries = option_and_then with_joined (take_texts i.b entries)
-entries_after code Set i entries = option_map (λ (value : Texts). value.rest) (take_texts 1 entries)
+entries_after code Set i entries = option_map (λ (value : Texts). value.below) (take_texts 1 entries)
 entries_after code BoolOp i entries = with_entry Truth entries
 entries_after code Not i entries = if has_truth entries then Some entries else None
 entries_after code Jump i entries = if is_empty entries then Some [] else None
 entries_after code JumpIfTrue i entries = without_truth entries
 entries_after code JumpIfFalse i entries = without_truth entries
-entries_after code Header i entries = option_and_then (λ (lists : Lists). with_entry Truth lists.rest)
+entries_after code Header i entries = option_and_then (λ (lists : Lists). with_entry Truth lists.below)
     (take_lists i.b (params_in i.c) (keys_in i.c) entries)
-entries_after code Exists i entries = option_and_then (λ (names : Texts). with_entry Truth names.rest)
+entries_after code Exists i entries = option_and_then (λ (names : Texts). with_entry Truth names.below)
     (take_texts i.b entries)
-entries_after code String i entries = option_and_then (λ (lists : Lists). with_entry Truth lists.rest)
+entries_after code String i entries = option_and_then (λ (lists : Lists). with_entry Truth lists.below)
     (take_lists i.b 0 i.c entries)
 entries_after code Size i entries = with_entry Truth entries
 entries_after code PartSize i entries = with_entry Truth entries
-entries_after code PartBody i entries = option_and_then (λ (keys : Texts). with_entry Truth keys.rest)
+entries_after code PartBody i entries = option_and_then (λ (keys : Texts). with_entry Truth keys.below)
     (take_texts i.c entries)
-entries_after code PartDigest i entries = option_and_then (λ (keys : Texts). with_entry Truth keys.rest)
+entries_after code PartDigest i entries = option_and_then (λ (keys : Texts). with_entry Truth keys.below)
     (take_texts i.c entries)
 entries_after code Keep i entries = Some entries
 entries_after code Discard i entries = Some entries
-entries_after code File i entries = option_map (λ (folder : Texts). folder.rest) (take_texts 1 entries)
-entries_after code Store i entries = option_map (λ (folder : Texts). folder.rest) (take_texts 1 entries)
+entries_after code File i entries = option_map (λ (folder : Texts). folder.below) (take_texts 1 entries)
+entries_after code Store i entries = option_map (λ (folder : Texts). folder.below) (take_texts 1 entries)
 entries_after code Each i entries = if is_empty entries then Some [] else None
 entries_after code Next i entries = if is_empty entries then Some [] else None
 entries_after code Break i entries = if is_empty entries then Some [] else None

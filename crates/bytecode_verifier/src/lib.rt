@@ -21,5 +21,6 @@ mod verified;
 
 pub use cap::Cap;
 pub use error::Refusal;
+pub use row::{Range, Row, Table, row_of};
 pub use share::Share;
 pub use verified::{Verified, verify};

@@ -13,6 +13,7 @@ use bytecode_format::{Instruction, Operation};
 
 /// Whether an Each or Next lacks its partner or names another place, an Each stands inside as many
 /// loops as there may be, or a Break is of more loops than are open.
+#[inline(always)]
 pub fn misses_loop(
     nests: &[Nest],
     place: usize,
@@ -35,6 +36,7 @@ pub fn misses_loop(
 
 /// Whether the instruction at a place is a jump that isn't forward, leads after the last instruction,
 /// or to a place with other open loops.
+#[inline(always)]
 pub fn misses_target(
     nests: &[Nest],
     place: usize,
@@ -53,6 +55,7 @@ pub fn misses_target(
 }
 
 /// Whether the operation is on the current part, and there is none.
+#[inline(always)]
 pub fn misses_part(nests: &[Nest], place: usize, row: Option<Row>) -> bool
     requires { place < length nests.now }
     ensures { (code : Code) → AreNests code.instructions nests.now

@@ -7,6 +7,7 @@ ghost use Rattle.bytecode_verifier.specs.Shape.{shape_after, is_target};
 ghost use Rattle.bytecode_verifier.specs.Budget.{cap_of};
 ghost use Rattle.bytecode_verifier.specs.Nests.{AreNests};
 ghost use Rattle.bytecode_verifier.specs.Noting.{Notes};
+ghost use Rattle.bytecode_format.specs.Operations.{operation_of};
 ghost use Rattle.bytecode_verifier.specs.Pass.{HasPassed, IsSmall, Passes, unless_failed, with_charge};
 
 use crate::cap::{Cap, ONE_CHARGE};
@@ -31,6 +32,17 @@ pub struct Pass {
     pub stack: Option<usize>,
     pub shape: Shape,
     pub budget: Budget,
+}
+
+/// An instruction, where it stands, and what is known there.
+#[derive(Clone, Copy)]
+pub struct Here<'p> {
+    pub program: &'p Program,
+    pub nests: &'p [Nest],
+    pub place: usize,
+    pub instruction: &'p Instruction,
+    /// Whether a jump leads there.
+    pub targeted: bool,
 }
 
 /// Which rules are broken at a place.
@@ -74,44 +86,86 @@ impl Pass {
         }
     }
 
-    /// Takes the instruction at a place, and whether a jump leads there.
-    pub fn take(
-        &mut self,
-        program: &Program,
-        nests: &[Nest],
-        place: usize,
-        instruction: &Instruction,
-        targeted: bool,
-    ) -> Result<(), AllocError>
-        requires small { place < max_instructions }
-        requires here { slice_get program.now.instructions place ≡ Some instruction.now }
-        requires nests { AreNests program.now.instructions nests.now }
-        requires target { targeted ≡ is_target program.now.version program.now.instructions place }
-        requires before { HasPassed program.now place self.old }
-        ensures { OnOk result (HasPassed program.now (place + 1) self.new) }
+    /// Takes an instruction.
+    pub fn take(&mut self, here: &Here<'_>) -> Result<(), AllocError>
+        requires small { here.now.place < max_instructions }
+        requires here { slice_get here.now.program.now.instructions here.now.place
+            ≡ Some here.now.instruction.now }
+        requires nests { AreNests here.now.program.now.instructions here.now.nests.now }
+        requires target { here.now.targeted
+            ≡ is_target here.now.program.now.version here.now.program.now.instructions
+            here.now.place }
+        requires before { HasPassed here.now.program.now here.now.place self.old }
+        ensures { OnOk result
+            (HasPassed here.now.program.now (here.now.place + 1) self.new) }
     {
-        let operation = Operation::of(instruction.op);
-        let row = row_named(program.version(), instruction.op);
+        match Operation::of(here.instruction.op) {
+            Some(Operation::Halt) => self.take_as(here, Some(Operation::Halt)),
+            Some(Operation::Literal) => self.take_as(here, Some(Operation::Literal)),
+            Some(Operation::Variable) => self.take_as(here, Some(Operation::Variable)),
+            Some(Operation::Capture) => self.take_as(here, Some(Operation::Capture)),
+            Some(Operation::Join) => self.take_as(here, Some(Operation::Join)),
+            Some(Operation::Set) => self.take_as(here, Some(Operation::Set)),
+            Some(Operation::Bool) => self.take_as(here, Some(Operation::Bool)),
+            Some(Operation::Not) => self.take_as(here, Some(Operation::Not)),
+            Some(Operation::Jump) => self.take_as(here, Some(Operation::Jump)),
+            Some(Operation::JumpIfTrue) => self.take_as(here, Some(Operation::JumpIfTrue)),
+            Some(Operation::JumpIfFalse) => self.take_as(here, Some(Operation::JumpIfFalse)),
+            Some(Operation::Header) => self.take_as(here, Some(Operation::Header)),
+            Some(Operation::Exists) => self.take_as(here, Some(Operation::Exists)),
+            Some(Operation::String) => self.take_as(here, Some(Operation::String)),
+            Some(Operation::Size) => self.take_as(here, Some(Operation::Size)),
+            Some(Operation::PartSize) => self.take_as(here, Some(Operation::PartSize)),
+            Some(Operation::PartBody) => self.take_as(here, Some(Operation::PartBody)),
+            Some(Operation::PartDigest) => self.take_as(here, Some(Operation::PartDigest)),
+            Some(Operation::Keep) => self.take_as(here, Some(Operation::Keep)),
+            Some(Operation::Discard) => self.take_as(here, Some(Operation::Discard)),
+            Some(Operation::File) => self.take_as(here, Some(Operation::File)),
+            Some(Operation::Store) => self.take_as(here, Some(Operation::Store)),
+            Some(Operation::Each) => self.take_as(here, Some(Operation::Each)),
+            Some(Operation::Next) => self.take_as(here, Some(Operation::Next)),
+            Some(Operation::Break) => self.take_as(here, Some(Operation::Break)),
+            Some(Operation::Take) => self.take_as(here, Some(Operation::Take)),
+            None => self.take_as(here, None),
+        }
+    }
+
+    // The same of an instruction with this operation: each call has the code of its own alone.
+    #[inline(always)]
+    fn take_as(&mut self, here: &Here<'_>, operation: Option<Operation>) -> Result<(), AllocError>
+        requires named { operation ≡ operation_of here.now.instruction.now.op }
+        requires small { here.now.place < max_instructions }
+        requires here { slice_get here.now.program.now.instructions here.now.place
+            ≡ Some here.now.instruction.now }
+        requires nests { AreNests here.now.program.now.instructions here.now.nests.now }
+        requires target { here.now.targeted
+            ≡ is_target here.now.program.now.version here.now.program.now.instructions
+            here.now.place }
+        requires before { HasPassed here.now.program.now here.now.place self.old }
+        ensures { OnOk result
+            (HasPassed here.now.program.now (here.now.place + 1) self.new) }
+    {
+        let row = row_named(here.program.version(), here.instruction.op);
         let passed = advance(
             self.stack,
             &mut self.shape,
-            program,
-            targeted,
+            here.program,
+            here.targeted,
             operation,
-            instruction,
+            here.instruction,
         )?;
         let broken = Broken {
-            index: misses_index(program, row, instruction),
-            form: !is_well_formed(row, instruction),
-            brackets: misses_loop(nests, place, operation, instruction),
-            jump: misses_target(nests, place, row, instruction),
-            part: misses_part(nests, place, row),
+            index: misses_index(here.program, row, here.instruction),
+            form: !is_well_formed(row, here.instruction),
+            brackets: misses_loop(here.nests, here.place, operation, here.instruction),
+            jump: misses_target(here.nests, here.place, row, here.instruction),
+            part: misses_part(here.nests, here.place, row),
             stack: passed.is_none(),
         };
-        self.note(broken, place);
+        self.note(broken, here.place);
         // Of a program whose shape fails the budget is of no account.
         let cap = passed.unwrap_or(ONE_CHARGE);
-        charge(&mut self.budget, depth_at(nests, place), cap);
+        charge(&mut self.budget, depth_at(here.nests, here.place), cap);
         Ok(())
     }
 
@@ -140,6 +194,7 @@ impl Pass {
 }
 
 // Adds the cap of an instruction inside so many loops; with more than there may be it counts nowhere.
+#[inline(always)]
 fn charge(budget: &mut Budget, depth: u32, cap: Cap)
     requires fixed { depth ≤ max_loops → slice_index budget.old.fixed depth + cap.fixed < 2 ^ 63 }
     requires scaled { depth ≤ max_loops
@@ -164,6 +219,7 @@ fn first(before: Option<usize>, broken: bool, place: usize) -> Option<usize>
 
 // Takes the shape over an instruction: what that may charge, or None where the shape fails there or
 // has failed before.
+#[inline(always)]
 fn advance(
     failed: Option<usize>,
     shape: &mut Shape,

@@ -104,6 +104,7 @@ const PART: Row = Row {
 const LIST: Range = Range::Between(1, MAX_TEST_STRINGS as u32);
 
 /// The row of an operation in programs of a version, if they may have it.
+#[inline(always)]
 pub fn row_in_version(version: u8, operation: Operation) -> Option<Row>
     ensures { result ≡ Rows.row_in_version version operation }
 {
@@ -114,8 +115,9 @@ pub fn row_in_version(version: u8, operation: Operation) -> Option<Row>
     Some(row)
 }
 
-// The row of an operation.
-fn row_of(operation: Operation) -> Row
+/// The row of an operation.
+#[inline(always)]
+pub fn row_of(operation: Operation) -> Row
     ensures { result ≡ Rows.row_of operation }
 {
     match operation {
@@ -199,6 +201,7 @@ fn row_of(operation: Operation) -> Row
 
 impl Range {
     /// Whether the field of an instruction that has `a` takes the value.
+    #[inline(always)]
     pub fn takes(self, a: u8, value: u32) -> bool
         ensures { result ≡ Rows.takes a self value }
     {

@@ -1,12 +1,15 @@
 // The rules that look at one instruction.
 ghost use Rattle.std.specs.Prelude.{◌≡◌};
+ghost use Rattle.std.specs.Option.{option_map};
+ghost use Rattle.bytecode_format.specs.Operations.{operation_of};
 ghost use Rattle.bytecode_verifier.specs.Rows;
 ghost use Rattle.bytecode_verifier.specs.Rules;
 
-use crate::row::{Row, Table, row_in_version};
+use crate::row::{Row, Table, row_in_version, row_of};
 use bytecode_format::{Instruction, Operation, Program};
 
 /// The row of an octet, if it names an operation of the version.
+#[inline(always)]
 pub fn row_named(version: u8, octet: u8) -> Option<Row>
     ensures { result ≡ Rows.row_named version octet }
 {
@@ -14,6 +17,7 @@ pub fn row_named(version: u8, octet: u8) -> Option<Row>
 }
 
 /// Whether there is a row, the fields are in its ranges, and the others are 0.
+#[inline(always)]
 pub fn is_well_formed(row: Option<Row>, instruction: &Instruction) -> bool
     ensures { result ≡ Rows.is_well_formed row instruction.now }
 {
@@ -23,6 +27,7 @@ pub fn is_well_formed(row: Option<Row>, instruction: &Instruction) -> bool
 }
 
 /// Whether the instruction's index isn't below the count of what it is an index of.
+#[inline(always)]
 pub fn misses_index(program: &Program, row: Option<Row>, instruction: &Instruction) -> bool
     ensures { result ≡ Rules.misses_index program.now row instruction.now }
 {
@@ -45,6 +50,7 @@ fn count_of(program: &Program, table: Table) -> usize
 }
 
 /// Whether the operation jumps to c.
+#[inline(always)]
 pub fn is_jump(row: Option<Row>) -> bool
     ensures { result ≡ Rows.is_jump row }
 {
@@ -52,14 +58,14 @@ pub fn is_jump(row: Option<Row>) -> bool
     row.jumps
 }
 
-/// Whether the operation jumps to c, in every version.
-pub fn jumps(operation: Option<Operation>) -> bool
-    ensures { result ≡ Rules.jumps operation }
+/// Whether the octet names an operation that jumps to c, in whatever version.
+pub fn jumps(octet: u8) -> bool
+    ensures { result ≡ Rows.is_jump (option_map Rows.row_of (operation_of octet)) }
 {
-    matches!(
-        operation,
-        Some(Operation::Jump | Operation::JumpIfTrue | Operation::JumpIfFalse)
-    )
+    match Operation::of(octet) {
+        Some(operation) => row_of(operation).jumps,
+        None => false,
+    }
 }
 
 /// Whether the operation ends the run.
@@ -70,6 +76,7 @@ pub fn is_halt(operation: Option<Operation>) -> bool
 }
 
 /// Whether the operation is on the current part.
+#[inline(always)]
 pub fn needs_part(row: Option<Row>) -> bool
     ensures { result ≡ Rows.needs_part row }
 {

@@ -88,6 +88,7 @@ impl Shape {
 
     /// Takes the entries over an instruction: what it may charge, or None where they aren't what it
     /// needs.
+    #[inline(always)]
     pub fn advance(
         &mut self,
         program: &Program,
@@ -155,7 +156,7 @@ impl Shape {
         requires { IsSmall self.old }
         ensures { Passes result self.new
             (option_map_or cap_of_octets (take_texts 1 self.old) one_charge)
-            (option_map (λ (taken : Texts). taken.rest) (take_texts 1 self.old)) }
+            (option_map (λ (taken : Texts). taken.below) (take_texts 1 self.old)) }
     {
         let Some(Entry::Text(bound)) = self.pop() else {
             return None;
@@ -189,7 +190,7 @@ impl Shape {
         requires { IsSmall self.old }
         ensures { IfOk result (λ cap. Passes cap self.new
             (option_map_or cap_of_names (take_texts names self.old) one_charge)
-            (option_and_then (λ (taken : Texts). with_entry Entry.Truth taken.rest)
+            (option_and_then (λ (taken : Texts). with_entry Entry.Truth taken.below)
             (take_texts names self.old))) }
     {
         let Some(scaled) = self.take_texts(u32::from(names)) else {
@@ -204,7 +205,7 @@ impl Shape {
         requires { IsSmall self.old }
         ensures { IfOk result (λ cap. Passes cap self.new
             (option_map_or cap_of_body (take_texts keys self.old) one_charge)
-            (option_and_then (λ (taken : Texts). with_entry Entry.Truth taken.rest)
+            (option_and_then (λ (taken : Texts). with_entry Entry.Truth taken.below)
             (take_texts keys self.old))) }
     {
         let Some(scaled) = self.take_texts(keys) else {
@@ -219,7 +220,7 @@ impl Shape {
         requires { IsSmall self.old }
         ensures { IfOk result (λ cap. Passes cap self.new
             (option_map_or cap_of_digest (take_texts keys self.old) one_charge)
-            (option_and_then (λ (taken : Texts). with_entry Entry.Truth taken.rest)
+            (option_and_then (λ (taken : Texts). with_entry Entry.Truth taken.below)
             (take_texts keys self.old))) }
     {
         let Some(total) = self.take_texts(keys) else {
@@ -237,7 +238,7 @@ impl Shape {
         ensures { IfOk result (λ cap. Passes cap self.new
             (option_map_or cap_of_matching (take_lists names counts.params counts.keys self.old)
             one_charge)
-            (option_and_then (λ (lists : Lists). with_entry Entry.Truth lists.rest)
+            (option_and_then (λ (lists : Lists). with_entry Entry.Truth lists.below)
             (take_lists names counts.params counts.keys self.old))) }
     {
         let TestCounts { params, keys } = counts;
@@ -256,7 +257,7 @@ impl Shape {
         requires { IsSmall self.old }
         ensures { IfOk result (λ cap. Passes cap self.new
             (option_map_or cap_of_comparing (take_lists sources 0 keys self.old) one_charge)
-            (option_and_then (λ (lists : Lists). with_entry Entry.Truth lists.rest)
+            (option_and_then (λ (lists : Lists). with_entry Entry.Truth lists.below)
             (take_lists sources 0 keys self.old))) }
     {
         let Some((sources_total, keys_total)) = self.take_lists(sources, 0, keys) else {

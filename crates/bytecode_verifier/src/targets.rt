@@ -3,7 +3,7 @@ ghost use Rattle.std.specs.Prelude.{◌≡◌, ℕ, ◌<◌, length, Some, IfOk,
 ghost use Rattle.bytecode_verifier.specs.Shape.{is_target};
 
 use crate::rules::jumps;
-use bytecode_format::{Instruction, Operation};
+use bytecode_format::Instruction;
 use std::alloc::{AllocError, Global};
 
 /// For each place of an instruction, whether a jump leads there.
@@ -18,7 +18,7 @@ pub fn targets_of(
 {
     let mut targets = vec![in alloc; false; instructions.len()]?;
     for instruction in instructions {
-        if jumps(Operation::of(instruction.op)) {
+        if jumps(instruction.op) {
             mark(&mut targets, instruction.c as usize);
         }
     }

@@ -9,7 +9,7 @@ ghost use Rattle.bytecode_verifier.specs.declared.error.Refusal.TheVariants.{Mem
 
 use crate::error::Refusal;
 use crate::nest::nests_of;
-use crate::pass::Pass;
+use crate::pass::{Here, Pass};
 use crate::rules::is_halt;
 use crate::share::{Share, shares_of};
 use crate::targets::targets_of;
@@ -99,7 +99,13 @@ fn examine(alloc: Global, program: &Program) -> Result<Budget, Refusal>
     let nests = nests_of(alloc, instructions)?;
     let mut pass = Pass::new(alloc, program);
     for (place, instruction) in instructions.iter().enumerate() {
-        pass.take(program, &nests, place, instruction, targets[place])?;
+        pass.take(&Here {
+            program,
+            nests: &nests,
+            place,
+            instruction,
+            targeted: targets[place],
+        })?;
     }
     outcome(program, pass)
 }

@@ -13,7 +13,8 @@ use Rattle.part_store.specs.Filing.{Collides, HasRoom}
 use Rattle.part_store.specs.Standing.{Spares, Stands, StandsFor}
 use Rattle.refusals.specs.declared.refusal.Refusal.{Refusal}
 use Rattle.refusals.specs.declared.refusal.Refusal.TheVariants as refusal
-use Rattle.depot_actions.specs.Causes.{HasCause, IsFault, IsHindered, IsStoreFault, LackRoom}
+use Rattle.depot_actions.specs.Causes.{HasCause, IsFault, IsHindered, IsStoreFault}
+use Rattle.part_store.specs.Refusals.{LackRoom}
 use Rattle.depot_actions.specs.DepotState.{AreActions, Deliver, Does, Listed, MayLeave, filed}
 use Rattle.depot_actions.specs.Drafts.{draft_of_action, drafts_of}
 use Rattle.depot_actions.specs.Filing.{Adds, IsUnfiled, MayFile}

@@ -8,7 +8,6 @@ pub mod NoCause
 pub mod Migrating
 pub mod SameRuns
 pub mod Crashing
-pub mod Opening
 pub mod Surveying
 mod Examples
 pub mod StoreFaults

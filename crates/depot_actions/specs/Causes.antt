@@ -1,10 +1,6 @@
 -- Why a depot refuses a command. The user's name comes first, then the script, program or message, then the store.
-use Rattle.std.specs.Prelude.{◌≡◌, ◌≢◌, ◌⊎◌, ℕ, ◌^◌, ◌≤◌, Err, IsTrue, List, map, None, Ok, Option, Result, Some, length, ⊤}
+use Rattle.std.specs.Prelude.{◌≡◌, ◌≢◌, ◌⊎◌, ℕ, ◌^◌, ◌≤◌, IsTrue, List, map, None, Option, Some, length}
 use Rattle.std.specs.List.{sum_by}
-use Rattle.sqlite_disk.specs.declared.Disk.{Ghosts}
-use Rattle.sqlite.specs.declared.FileStore.{FileStore}
-use Rattle.sqlite.specs.Held.{Held}
-use Rattle.sqlite.specs.Recovery.{Image}
 use Rattle.sqlite.specs.State.{State}
 use Rattle.sqlite_trees.specs.Tree.{Trees}
 use Rattle.bytecode_format.specs.Code.{Code}
@@ -14,10 +10,9 @@ use Rattle.mime_decode.specs.Mail.{IsReadable, mail_of}
 use Rattle.sieve_engine.specs.Execution.{IsChecked, IsProgramRefusal, IsUnread}
 use Rattle.refusals.specs.Scripts.{IsScriptRefusal}
 use Rattle.sieve_engine.specs.Evaluation.{IsCompiled}
-use Rattle.part_store.specs.Entries.{AreProgramsOf, Draft, Entries, Listing, UserProgram, entries_of, listing_of, with_entries, with_program}
+use Rattle.part_store.specs.Entries.{AreProgramsOf, Entries, Listing, UserProgram, entries_of, listing_of, with_program}
 use Rattle.part_store.specs.Filing.{Collides, HasRoom}
-use Rattle.part_store.specs.Opening.{IsUnready}
-use Rattle.part_store.specs.Refusals.{HasFailed, HasNoUserRoom, HaveNoRoom, HaveNoUserRoom}
+use Rattle.part_store.specs.Refusals.{HasFailed, HasNoUserRoom, HaveNoUserRoom, LackRoom}
 use Rattle.part_store.specs.Totals.{octets_of}
 use Rattle.part_store.specs.Changes.{contents_tree}
 use Rattle.part_store.specs.Standing.{HasNone, Stands}
@@ -119,11 +114,6 @@ HasCause refusal command state = IsNamed command × IsUnsound command refusal
 abbrev pub IsCause : Command → State → State → Refusal → Type 0
 IsCause command old new refusal = HasCause refusal command old
 
--- why files that held the image aren't opened as a depot, where that is refused `Database`
-abbrev pub HasOpenCause : {D : Type 0} {g : Ghosts D} → Image → Result (Held (FileStore D g)) Refusal → Type 0
-HasOpenCause image (Ok depot) = ⊤
-HasOpenCause {D} {g} image (Err refusal) = refusal ≡ Database → IsUnready g image
-
 -- ---- why the store refuses
 
 -- where the tables stand for a state, `Database` is told only of a database that can't work, or for this other cause
@@ -136,12 +126,8 @@ abbrev pub IsSpoilt : Option (List ℕ) → Type 0
 IsSpoilt None = ⊥
 IsSpoilt (Some program) = (refusal : Refusal) × (refusal ≢ Memory) × IsProgramRefusal program refusal
 
--- the drafts, or the row of the user whose entries they become, have no room
-abbrev pub LackRoom : List ℕ → List Draft → Entries → Trees → Type 0
-LackRoom user drafts before db = HasNoUserRoom user (with_entries user drafts before) db ⊎ HaveNoRoom user drafts db
-
--- What may keep a store that works from a command: what is to be put in has no room, or a stored
--- program is spoilt. Where a command only reads or removes, nothing does.
+-- What may keep a store that works from a command: what is to be put in has no room, where its
+-- numbers suffice, or a stored program is spoilt. Where a command only reads or removes, nothing does.
 abbrev pub IsHindered : Command → Entries → Trees → Type 0
 IsHindered (SetScript user script) before db = (code : Code) × IsCompiled script code
     × HasNoUserRoom user (with_program user (spelling code) before) db

@@ -1,9 +1,10 @@
--- How the code makes programs of the latest version.
-use Rattle.std.specs.Prelude.{◌≡◌, ℕ, List, [], ◌∷◌, Option, None, Some, if◌then◌else◌}
+-- How the code makes programs of the latest version, and what such a program is to the one before.
+use Rattle.std.specs.Prelude.{◌≡◌, ℕ, ◌≤◌, List, [], ◌∷◌, Option, None, Some, if◌then◌else◌}
 use Rattle.std.specs.List.{AllZip}
 use Rattle.bytecode_format.specs.Code.{Code}
 use Rattle.bytecode_format.specs.Spelling.{spelling}
-use Rattle.sieve_engine.specs.Execution.{IsChecked}
+use Rattle.bytecode_format.specs.declared.action.Action.{Action}
+use Rattle.sieve_engine.specs.Execution.{IsChecked, IsExecution}
 use Rattle.part_store.specs.Entries.{UserProgram}
 use Rattle.depot_actions.specs.DepotState.{is_latest, latest_version}
 
@@ -30,3 +31,11 @@ renewals (pair ∷ stored) (code ∷ codes) = with_renewal (renewal code) pair (
 abbrev pub AreRenewals : List UserProgram → List UserProgram → Type 0
 AreRenewals stored renewed = (codes : List Code) × AllZip (λ pair code. IsChecked pair.1 code) stored codes
     × (renewed ≡ renewals stored codes)
+
+-- Executed on any message, the renewed program comes to what the other comes to, and to nothing else:
+-- the same final actions and the same charge, within a limit that is no larger.
+pub record RunsAs (program renewed : List ℕ) : Type 0 where
+  pub runs : (message : List ℕ) (actions : List Action) (charged limit : ℕ) → IsExecution program message actions charged limit
+      → (less : ℕ) × (less ≤ limit) × IsExecution renewed message actions charged less
+  pub no_other : (message : List ℕ) (actions : List Action) (charged less : ℕ) → IsExecution renewed message actions charged less
+      → (limit : ℕ) × (less ≤ limit) × IsExecution program message actions charged limit

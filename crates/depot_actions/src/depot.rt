@@ -9,7 +9,7 @@ ghost use Rattle.sqlite.specs.WalFiles.{image_at};
 ghost use Rattle.part_store.specs.Refusals.{AreNamed};
 ghost use Rattle.part_store.specs.Standing.{Spares, Stands, listed};
 ghost use Rattle.refusals.specs.declared.refusal.Refusal.TheVariants.{Memory, Database, Write};
-ghost use Rattle.depot_actions.specs.Causes.{HasOpenCause, IsCause, IsFault, IsStoreFault, IsUncounted, MayRefuse};
+ghost use Rattle.depot_actions.specs.Causes.{IsCause, IsFault, IsStoreFault, IsUncounted, MayRefuse};
 ghost use Rattle.depot_actions.specs.DepotState.{Deliver, Does, Done, Export, ListAll, Listed, MayLeave, Migrate, Migrated, Program, ProgramOf, Remove, SetCode, SetScript, Text};
 ghost use Rattle.depot_actions.specs.Overviews.{IsOverview};
 ghost use Rattle.sqlite.specs.Files.{file_state, IsOpened};
@@ -268,7 +268,8 @@ impl<S: Alter> Depot<S> {
     }
 
     /// Gives each filter program that has another version the latest one, and answers how many there were. Its code stays the same; so
-    /// its final actions on every message stay the same ([`crate::laws::migrations_change_no_actions`]), and it may charge no more.
+    /// its final actions on every message stay the same, and what it charges, and it may charge no more
+    /// ([`crate::laws::migrated_programs_run_as_before`]).
     ///
     /// # Errors
     ///
@@ -335,7 +336,8 @@ impl Depot<MemStore> {
 
 impl<B: Start> Depot<FileStore<FileFrom<B>>> {
     /// The depot in the file at a path, where `B` stands for what the file and its log held. One that isn't there, is empty or has
-    /// no tables becomes the empty depot. No clause ties `B` to the path: that the file there is opened is seen in the bodies.
+    /// no tables becomes the empty depot. No clause ties `B` to the path: that the file there is opened is seen in the bodies. Nor does
+    /// one say why it is refused.
     ///
     /// # Errors
     ///
@@ -352,7 +354,6 @@ impl<B: Start> Depot<FileStore<FileFrom<B>>> {
             → HoldsNoTables (image_at B.Start) → IsAt no_entries (file_state d)) }
         ensures settled { IfOk result (λ d. (file_state d).in_transaction ≡ false) }
         ensures refused { IfErr result (λ e. (e ≡ Memory) ⊎ (e ≡ Database)) }
-        ensures cause { HasOpenCause (image_at B.Start) result }
     {
         match PartStore::open_from(rt, path, start) {
             Ok(store) => Ok(Depot { store }),

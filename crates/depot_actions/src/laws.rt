@@ -1,21 +1,22 @@
 //! What holds of the definitions alone.
-ghost use Rattle.std.specs.Prelude.{◌≡◌, ◌∷◌, [], ℕ, List, IsTrue};
+ghost use Rattle.std.specs.Prelude.{◌≡◌, ℕ, List, IsTrue, Some};
 ghost use Rattle.bytecode_format.specs.declared.action.Action.{Action};
 ghost use Rattle.mime_decode.specs.Mail.{Mail};
 ghost use Rattle.sqlite.specs.Held.{Held, state};
 ghost use Rattle.sqlite.specs.Recovery.{Image};
 ghost use Rattle.sqlite.specs.State.{HasCleanDisk};
 ghost use Rattle.sqlite_trees.specs.Tree.{Trees};
-ghost use Rattle.part_store.specs.Entries.{Entries, no_entries};
-ghost use Rattle.part_store.specs.Opening.{HoldsNoTables, HoldsStore};
+ghost use Rattle.part_store.specs.Crashes.{IsCutOff, IsRefusedOpen};
+ghost use Rattle.part_store.specs.Entries.{Entries};
+ghost use Rattle.part_store.specs.Opening.{HoldsState};
 ghost use Rattle.part_store.specs.Standing.{Stands};
 ghost use Rattle.depot_actions.specs.Causes.{IsFull, NamesNone};
 ghost use Rattle.depot_actions.specs.DepotState.{Accepts, AreActions, Command, IsNamed, Migrate, Reply};
 ghost use Rattle.depot_actions.specs.History.{AreAnswered, AreSteps, Call};
-ghost use Rattle.depot_actions.specs.Runs.{AreRuns, HoldFold, Run};
+ghost use Rattle.depot_actions.specs.Renewing.{RunsAs};
+ghost use Rattle.depot_actions.specs.Runs.{AreLed, HoldFold, IsRun, Leads, NotOpened, Past, Run, session_of};
 
-use part_store::laws::{each_image_holds_one_left, refused_opens_leave_the_store};
-use sqlite::{Alter, FileStore};
+use sqlite::Alter;
 use sqlite_disk::Disk;
 
 /// Whatever calls a depot is given, and whichever of them fail, what its store shows while it is open stands for what the accepted ones make of
@@ -37,22 +38,27 @@ pub fn open_stores_leave_what_is_committed<S: Alter>()
         → (state S.Store store).may_leave trees → trees ≡ (state S.Store store).committed.trees }
 {}
 
-/// What one command left is what the next one finds. Commands over two files, each in a run that
-/// opens them, does one command, and ends by itself or in a crash, leave files that hold what the
-/// commands make of what was held, one after another. A run that ends with the depot open makes
-/// what its reply says; one that a crash or a failure of the disk met makes that, or nothing. An open
-/// between them that is refused, or that a crash cuts off, changes nothing of that.
-pub fn runs_are_a_fold<D: Disk + Drop>()
-    ensures held { (runs : List (Run D.Disk)) (image : Image) (before : Entries)
-        → HoldsStore image before → AreRuns image runs → ∥ HoldFold image runs before ∥₁ }
-    ensures new { (run : Run D.Disk) (runs : List (Run D.Disk)) (image : Image)
-        → HoldsNoTables image → run.refused ≡ [] → AreRuns image (run ∷ runs)
-        → ∥ HoldFold image (run ∷ runs) no_entries ∥₁ }
-{
-    open_stores_leave_what_is_committed::<FileStore<D>>();
-    each_image_holds_one_left::<D>();
-    refused_opens_leave_the_store::<D>();
-}
+/// What a session over two files makes of the state that they stand for, also where they have no
+/// tables yet. A run opens them, does one command, and ends by itself or in a crash, also within the
+/// close, or of a depot that a failure had shut. It makes what its command makes, or nothing; one
+/// that ends with the depot open makes what its reply says. An open that is refused, or that a crash
+/// cuts off, also while the tables are made, makes nothing.
+pub fn sessions_are_steps<D: Disk + Drop>()
+    ensures run { (image : Image) (run : Run D.Disk) → IsRun image run
+        → Leads (session_of run) image run.left }
+    ensures refused { (image other : Image) → IsRefusedOpen D.Disk image other
+        → Leads NotOpened image other }
+    ensures cut_off { (image other : Image) → IsCutOff D.Disk image other
+        → Leads NotOpened image other }
+{}
+
+/// What one session left is what the next one finds. Sessions one after another, whatever disks the
+/// files are on, leave files that stand for what the commands make of what was held, one after
+/// another.
+pub fn runs_are_a_fold()
+    ensures { (past : List Past) (image : Image) (before : Entries) → HoldsState image before
+        → AreLed image past → ∥ HoldFold image past before ∥₁ }
+{}
 
 /// An accepted command has none of the causes that commands are refused for: its user is named, an entry that it names is
 /// there, and the numbers that a delivery needs suffice.
@@ -65,11 +71,18 @@ pub fn accepted_commands_have_no_cause()
         → Accepts before command reply after → IsFull before command → ⊥ }
 {}
 
-/// A migration changes no delivery: on every message the final actions of each user's program are what they were. Nor does its budget grow
-/// (`budgets_do_not_grow_in_version_two` of bytecode_verifier).
+/// A migration changes no delivery: on every message the final actions of each user's program are what they were.
 pub fn migrations_change_no_actions()
     ensures { (before after : Entries) (reply : Reply) → Accepts before Migrate reply after
         → (user : List ℕ) (mail : Mail) (actions : List Action)
         → AreActions (before.programs user) mail actions
         → AreActions (after.programs user) mail actions }
+{}
+
+/// Who had a program has one after a migration. On every message it comes to the same final actions and the same charge as the one
+/// before, and to no others, within a limit that is no larger.
+pub fn migrated_programs_run_as_before()
+    ensures { (before after : Entries) (reply : Reply) → Accepts before Migrate reply after
+        → (user program : List ℕ) → before.programs user ≡ Some program
+        → (renewed : List ℕ) × (after.programs user ≡ Some renewed) × RunsAs program renewed }
 {}

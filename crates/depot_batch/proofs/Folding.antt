@@ -33,7 +33,7 @@ module _ {S : Type 0} (g : Ghosts S) where
   unreplied : (request : Request) (refusal : Refusal) (old new : Held S) (host host2 : HostState) → HasCleanDisk (state g new) → HasNotReplied g request refusal old new host host2 → IsCall old new
   unreplied request refusal old new host host2 clean refused = elim refused [
     | inl unread ↦ inl unread.1
-    | inr asked ↦ inr (record { command = request_command request asked.0; reply = None }, (asked.2 clean).1)
+    | inr asked ↦ inr (record { command = request_command request asked.0; reply = None }, (asked.2.1 clean).2)
   ]
 
   done_call : (name : List ℕ) (asked : Asked) (text : List ℕ) (old new : Held S) (host host2 : HostState) → HasCleanDisk (state g new) → IsDone g name asked text old new host host2 → IsCall old new

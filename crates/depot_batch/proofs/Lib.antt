@@ -5,3 +5,6 @@ mod Writing
 mod LineLemmas
 mod LineReading
 mod Batches
+mod Closing
+mod Refusing
+mod ClosingAnswers

@@ -1,12 +1,16 @@
 //! What holds of the definitions alone.
-ghost use Rattle.std.specs.Prelude.{◌≡◌, ◌<◌, ◌⊎◌, ◌∷◌, List, Some, map, ℕ};
+ghost use Rattle.std.specs.Prelude.{◌≡◌, ◌<◌, ◌⊎◌, ◌∷◌, List, Some, false, map, true, ℕ};
 ghost use Rattle.std.specs.List.{All};
 ghost use Rattle.sqlite.specs.Held.{state};
 ghost use Rattle.sqlite.specs.State.{HasCleanDisk};
 ghost use Rattle.sqlite_trees.specs.Tree.{Trees};
+ghost use Rattle.part_store.specs.Entries.{Entries};
+ghost use Rattle.part_store.specs.Standing.{Stands};
 ghost use Rattle.depot_actions.specs.History.{AreAnswered as HaveReplied, Call};
-ghost use Rattle.depot_batch.specs.Batch.{AreAnswered, IsMadeAtOne, Office};
+ghost use Rattle.depot_batch.specs.Batch.{AreAnswered, HasCome, IsMadeAtOne, Office};
+ghost use Rattle.depot_batch.specs.Closings.{HavePlainMedia, has_closing};
 ghost use Rattle.depot_batch.specs.Words.{Writes, spaced, words_of};
+ghost use Rattle.depot_batch.specs.declared.outcome.Outcome.{Outcome};
 
 use sqlite::Alter;
 
@@ -34,4 +38,14 @@ pub fn crashes_leave_one_line_whole<S: Alter>()
         → AreAnswered S.Store name lines old new → HasCleanDisk (state S.Store new.depot)
         → (trees : Trees) → (state S.Store new.depot).may_leave trees
         → (state S.Store old.depot).may_leave trees ⊎ IsMadeAtOne S.Store name lines old trees }
+{}
+
+/// No line of an answer begins with `= `, so whoever reads a batch's output can tell the line that ends an answer from its own lines,
+/// whatever was filed. Of the depot this takes one thing: no media type of an entry has a line break.
+pub fn no_answer_closes_itself<S: Alter>()
+    ensures { (name octets : List ℕ) (outcome : Outcome) (text : List ℕ) (old new : Office S)
+        → HasCome S.Store name octets outcome text old new
+        → HasCleanDisk (state S.Store new.depot) → (before : Entries)
+        → Stands (state S.Store old.depot).now before → HavePlainMedia before
+        → has_closing true text ≡ false }
 {}

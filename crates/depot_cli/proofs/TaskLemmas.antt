@@ -1,15 +1,13 @@
 -- What comes of a task, from what the depot did and what was written.
 use Rattle.std.proofs.Common.{◌≡◌, ◌≢◌, ◌⊎◌, ℕ, inl, inr, refl, subst}
-use Rattle.sqlite.specs.State.{HasCleanDisk}
-use Rattle.part_store.specs.Standing.{Spares}
-use Rattle.depot_actions.specs.Causes.{HasCause, IsExport}
+use Rattle.depot_actions.specs.Causes.{IsExport}
 use Rattle.depot_actions.specs.DepotState.{Command, Reply}
 use Rattle.encodings.specs.Device.{HasBegun, HasBroken}
 use Rattle.refusals.specs.declared.refusal.Refusal.{Refusal}
 use Rattle.refusals.specs.declared.refusal.Refusal.TheVariants.{Memory, MessageTooLarge, TooManyParts, NotCanonical, Lexical, ScriptTooLong, Syntax, TooDeep, UnknownCommand, MissingCapability, UnknownCapability, BadArguments, Limit, Spelling, Index, Form, End, Loop, Jump, NoPart, Stack, Listing, NoSuchEntry, NumberFull, Collision, Database, UserName, Write, Read}
 use Rattle.depot_jobs.specs.Jobs.{HasTold}
 use Rattle.depot_cli.specs.Printed.{reply_text}
-use Rattle.depot_cli.specs.Tasks.{Desk, HasDone, HasPerformed}
+use Rattle.depot_cli.specs.Tasks.{Desk, HasDone, HasPerformed, HasRefused}
 
 -- whether a refusal is one that may come after some of an export was written
 comes_late : (e : Refusal) → (e ≡ Write) ⊎ (e ≡ Memory) ⊎ ((e ≢ Write) × (e ≢ Memory))
@@ -48,7 +46,7 @@ pub stopped : (e : Refusal) (command : Command) (status : ℕ) (old new : Desk) 
     → (e ≡ Write → (reply : Reply) × HasDone command reply old.store new.store × HasBroken (reply_text command reply) old.out new.out)
     → (e ≡ Memory → (new.out ≡ old.out) ⊎ ((reply : Reply) × HasDone command reply old.store new.store × HasBegun (reply_text command reply) old.out new.out))
     → (e ≢ Write → e ≢ Memory → new.out ≡ old.out)
-    → (HasCleanDisk new.store → HasCause e command old.store × Spares old.store new.store)
+    → HasRefused command e old.store new.store
     → status ≡ 1 → HasTold e old.err new.err → HasPerformed command status old new
 stopped e command status old new export broke begun unwritten refused one told = elim (comes_late e) [
   | inl is ↦ let b = broke is in inr (one, inl (b.0, b.1, b.2, subst (λ r. HasTold r old.err new.err) is told))

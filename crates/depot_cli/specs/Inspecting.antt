@@ -2,8 +2,10 @@
 use Rattle.std.specs.Prelude.{◌≡◌, ◌⊎◌, ℕ, IsTrue, Option}
 use Rattle.sqlite.specs.State.{HasCleanDisk, State}
 use Rattle.part_store.specs.Entries.{Entries}
+use Rattle.part_store.specs.Refusals.{AreNamed}
 use Rattle.part_store.specs.Standing.{Spares, Stands}
 use Rattle.encodings.specs.Device.{HasBroken, HasTaken, Output}
+use Rattle.depot_actions.specs.Causes.{IsStoreFault, IsUncounted}
 use Rattle.depot_actions.specs.Overviews.{IsOverview}
 use Rattle.depot_actions.specs.declared.overview.Overview.{Overview}
 use Rattle.refusals.specs.declared.refusal.Refusal.{Refusal}
@@ -29,11 +31,13 @@ abbrev pub HasShownSome : Option ℕ → Desk → Desk → Type 0
 HasShownSome log old new = (x : Overview) × HasSeen x old.store new.store
     × HasBroken (overview_text log x) old.out new.out × HasTold Write old.err new.err
 
--- or memory was refused, or the database failed; nothing was written, and the depot is as it was
+-- Or memory was refused, or the database failed, which has a cause where the users of the tables are
+-- texts; nothing was written, and the depot is as it was.
 abbrev pub HasShownNone : Desk → Desk → Type 0
 HasShownNone old new =
     (refusal : Refusal) × ((refusal ≡ Memory) ⊎ (refusal ≡ Database))
-    × (HasCleanDisk new.store → Spares old.store new.store)
+    × (HasCleanDisk new.store → (AreNamed old.store.now.trees → IsStoreFault IsUncounted old.store new.store refusal)
+    × Spares old.store new.store)
     × HasTold refusal old.err new.err × (new.out ≡ old.out)
 
 -- a depot was inspected with this status: 0 where what it holds was written whole, else 1

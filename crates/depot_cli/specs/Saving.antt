@@ -2,7 +2,6 @@
 use Rattle.std.specs.Prelude.{◌≡◌, ◌⊎◌, ℕ, List, length, Option, None, Some, Result, Ok, Err, ⊤}
 use Rattle.sqlite.specs.State.{HasCleanDisk, State, Survives}
 use Rattle.part_store.specs.Standing.{Spares}
-use Rattle.depot_actions.specs.Causes.{HasCause, MayRefuse}
 use Rattle.depot_actions.specs.DepotState.{Does, Program, ProgramOf}
 use Rattle.encodings.specs.Device.{HasBroken, HasTaken}
 use Rattle.refusals.specs.declared.refusal.Refusal.{Refusal}
@@ -10,6 +9,7 @@ use Rattle.refusals.specs.declared.refusal.Refusal.TheVariants.{NoSuchEntry, Wri
 use Rattle.depot_jobs.specs.Host.{HasMade, HasNotMade, HostState}
 use Rattle.depot_jobs.specs.Jobs.{HasTold, World}
 use Rattle.depot_jobs.specs.Printed.{line, wrote_text}
+use Rattle.depot_cli.specs.Tasks.{HasRefused}
 use Rattle.depot_cli.specs.declared.saving.Saving.{Saving}
 
 -- the depot told the user's program, if he has one, and holds that still, as long as its disk
@@ -26,9 +26,7 @@ HasSavedFile saving program old new host host2 =
 
 -- the depot refused to tell it, and holds what it held
 abbrev pub HasWithheld : List ℕ → Refusal → State → State → Type 0
-HasWithheld user refusal old new =
-    MayRefuse (ProgramOf user) refusal
-    × (HasCleanDisk new → HasCause refusal (ProgramOf user) old × Spares old new)
+HasWithheld user refusal old new = HasRefused (ProgramOf user) refusal old new
 
 -- No file was made: the user has no program, the depot refused to tell it, or the file of the
 -- program could not be made.

@@ -3,7 +3,8 @@ use Rattle.std.specs.Prelude.{◌≡◌, ◌≢◌, ◌⊎◌, ℕ, List, map}
 use Rattle.sqlite.specs.State.{HasCleanDisk, State}
 use Rattle.sqlite_trees.specs.Tree.{Trees}
 use Rattle.part_store.specs.Standing.{Spares, listed}
-use Rattle.depot_actions.specs.Causes.{HasCause, IsExport}
+use Rattle.part_store.specs.Refusals.{AreNamed}
+use Rattle.depot_actions.specs.Causes.{HasCause, IsExport, IsFault, MayRefuse}
 use Rattle.depot_actions.specs.DepotState.{Command, Does, MayLeave, Reply, SetScript, SetCode, ListAll}
 use Rattle.depot_actions.specs.DepotState as depot
 use Rattle.encodings.specs.Device.{HasBegun, HasBroken, HasTaken, Output}
@@ -67,10 +68,17 @@ abbrev pub HasAnswered : Command → List ℕ → State → State → Type 0
 HasAnswered command text old new =
     (reply : Reply) × HasDone command reply old new × (text ≡ reply_text command reply)
 
--- the depot refused the command, and is as it was
+-- why the database failed a command; a migration has a cause where the users of the tables are texts
+abbrev pub HasFault : Command → Refusal → State → State → Type 0
+HasFault depot.Migrate refusal old new = AreNamed old.now.trees → IsFault depot.Migrate old new refusal
+HasFault command refusal old new = IsFault command old new refusal
+
+-- The depot refused the command by a refusal that this command may get, whatever the disk does. As
+-- long as the disk returns what was written, the refusal has its cause, and the depot is as it was.
 abbrev pub HasRefused : Command → Refusal → State → State → Type 0
 HasRefused command refusal old new =
-    HasCleanDisk new → HasCause refusal command old × Spares old new
+    MayRefuse command refusal
+    × (HasCleanDisk new → HasCause refusal command old × HasFault command refusal old new × Spares old new)
 
 -- and the reply was written whole
 abbrev pub HasReplied : Command → Desk → Desk → Type 0
@@ -94,8 +102,7 @@ HasRunOut command old new =
 -- cause in any other command
 abbrev pub HasDeclined : Command → Desk → Desk → Type 0
 HasDeclined command old new =
-    (refusal : Refusal) × (IsExport command → refusal ≢ Write)
-    × (HasCleanDisk new.store → HasCause refusal command old.store × Spares old.store new.store)
+    (refusal : Refusal) × (IsExport command → refusal ≢ Write) × HasRefused command refusal old.store new.store
     × HasTold refusal old.err new.err × (new.out ≡ old.out)
 
 -- a command was performed, with this status: 0 for a reply that was written whole, else 1

@@ -2,5 +2,6 @@ pub mod ListingLemmas
 pub mod NameLemmas
 pub mod OutputLemmas
 pub mod PrintedLemmas
+pub mod SaidLemmas
 pub mod WorkingLemmas
 pub mod SupplyLemmas

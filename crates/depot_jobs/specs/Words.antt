@@ -1,9 +1,10 @@
 -- What a command line says.
-use Rattle.std.specs.Prelude.{◌≡◌, ◌≢◌, ℕ, ◌<◌, ◌^◌, List, [], Option, Some, IfSome, codes, if◌then◌else◌, unwrap_or}
+use Rattle.std.specs.Prelude.{◌≡◌, ◌≢◌, ℕ, ◌<◌, ◌^◌, List, [], Option, Some, IfSome, codes, if◌then◌else◌, unwrap_or, ⊤}
 use Rattle.std.specs.Str.{bytes_eq}
 use Rattle.std.specs.Str.Parse.{IsNumeral, digits_value, without_leading_plus}
-use Rattle.clap.specs.Words.{App, Row, Text, first_of, subcommand_of}
+use Rattle.clap.specs.Words.{App, Row, Text, fault_of, first_of, subcommand_of}
 use Rattle.depot_words.specs.Commands.{IsDepot}
+use Rattle.depot_words.specs.Ranges.{AreComplete, IsEntryNumber, commands}
 use Rattle.encodings.specs.declared.encoding.Encoding.{Encoding}
 use Rattle.encodings.specs.declared.encoding.Encoding.TheVariants.{Raw, Base64, Base64Mime, Base32, Base32Hex, Base16, Qp}
 use Rattle.depot_jobs.specs.declared.line.CommandLine.{CommandLine}
@@ -127,6 +128,40 @@ Says (Inspect depot) matches = (rows : List Row) × IsCommand (codes "inspect") 
 Says (Batch depot) matches = (rows : List Row) × IsCommand (codes "batch") matches rows
     × (depot.now ≡ argument (codes "DB") rows)
 
--- the words say this command
-abbrev pub IsLine : List Text → CommandLine → Type 0
-IsLine words line = (app : App) × IsDepot app × Says line (subcommand_of app words)
+-- The words say this command: clap finds no fault in them, and each of the command's arguments is
+-- there, in its range.
+pub record IsLine (words : List Text) (line : CommandLine) : Type 0 where
+  pub app : App
+  pub is_depot : IsDepot app
+  pub taken : fault_of app words ≡ []
+  pub complete : IfSome (subcommand_of app words) (λ m. AreComplete commands m.0 m.1)
+  pub says : Says line (subcommand_of app words)
+
+-- the name of an encoding
+abbrev pub name_of : Encoding → Text
+name_of Raw = codes "raw"
+name_of Base64 = codes "base64"
+name_of Base64Mime = codes "base64-mime"
+name_of Base32 = codes "base32"
+name_of Base32Hex = codes "base32hex"
+name_of Base16 = codes "base16"
+name_of Qp = codes "qp"
+
+-- the matches have the name of this encoding
+abbrev pub NamesEncoding : Encoding → Option (Text × List Row) → Type 0
+NamesEncoding encoding matches = IfSome matches (λ m. first_of (codes "ENCODING") m.1 ≡ Some (name_of encoding))
+
+-- the matches have a text of this number, which an entry may have
+abbrev pub WritesNumber : ℕ → Option (Text × List Row) → Type 0
+WritesNumber number matches =
+    IfSome matches (λ m. (text : Text) × (first_of (codes "NUMBER") m.1 ≡ Some text) × IsEntryNumber text
+    × (number ≡ digits_value 10 (without_leading_plus text)))
+
+-- the number and the encoding of a command are those that the matches have
+abbrev pub AreSaid : CommandLine → Option (Text × List Row) → Type 0
+AreSaid (Alone (Encode encoding)) matches = NamesEncoding encoding matches
+AreSaid (Alone (Decode encoding)) matches = NamesEncoding encoding matches
+AreSaid (OnDepot depot (Export user number encoding)) matches =
+    WritesNumber number matches × NamesEncoding encoding matches
+AreSaid (OnDepot depot (Remove user number)) matches = WritesNumber number matches
+AreSaid line matches = ⊤

@@ -17,6 +17,7 @@ mod gathering;
 mod host;
 mod inputs;
 mod job;
+pub mod laws;
 mod line;
 mod listing;
 mod making;

@@ -1,9 +1,9 @@
 // What the words of the command line say.
 ghost use Rattle.std.specs.Prelude.{◌≡◌, IfOk, IfErr, MatchOption, Some, map, true};
-ghost use Rattle.clap.specs.Words.{App, FailsBy, fault_of, found_of, kind_of, rows_of, subcommand_of, subcommand_rows_of, takes};
+ghost use Rattle.clap.specs.Words.{App, FailsBy, fault_of, found_of, kind_of, rows_of, subcommand_rows_of, takes};
 ghost use Rattle.clap.specs.declared.error.kind.ErrorKind.TheVariants.{OutOfMemory};
 ghost use Rattle.depot_words.specs.Commands.{AreEncodings, IsDepot};
-ghost use Rattle.depot_jobs.specs.Words.{IsNoWork, IsNoRequest, IsNumber, Says, SaysRequest, SaysWork, argument as text_of, encoding_named};
+ghost use Rattle.depot_jobs.specs.Words.{IsLine, IsNoWork, IsNoRequest, IsNumber, Says, SaysRequest, SaysWork, argument as text_of, encoding_named};
 
 use crate::request::Request;
 use crate::work::Work;
@@ -49,12 +49,12 @@ const ENCODINGS: &[&str] = &[
     "qp",
 ];
 
-/// What the words say, of which the first is the program's name.
+/// What the words say, of which the first is the program's name. Each argument of the command is
+/// there, and in its range.
 ///
 /// Where the words aren't those of a command, or ask for help, the error has the text for the user.
 pub fn line_of<'a>(alloc: Global, words: &'a [&'a str]) -> Result<CommandLine<'a>, Error>
-    ensures says { IfOk result (λ line. (app : App) × IsDepot app
-        × Says line (subcommand_of app (map (λ w. w.now) words.entry.now))) }
+    ensures says { IfOk result (IsLine (map (λ w. w.now) words.entry.now)) }
     ensures taken { IfErr result (λ e. (app : App) × IsDepot app
         × (takes app (map (λ w. w.now) words.entry.now) ≡ true → kind_of e ≡ OutOfMemory)) }
     ensures kinds { (app : App) × IsDepot app

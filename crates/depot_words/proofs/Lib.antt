@@ -1,1 +1,3 @@
 pub mod AppLemmas
+pub mod RangeLemmas
+pub mod Taking

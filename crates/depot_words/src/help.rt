@@ -39,7 +39,7 @@ pub const ALL: &str = concat!(
     "The help of a command has an example, and says with which refusals it may end.\n\n",
     // The version of the program, and the logic in which it is proved, which several kits may share; no
     // other place of the code has them.
-    "depot 0.23.0, proved with Rattle, logic dac8208d650f15bf"
+    "depot 0.24.0, proved with Rattle, logic dac8208d650f15bf"
 );
 
 pub const CHECK: &str = script_ending!("depot check filter.sieve", "1, 2, 11 to 19, 45, 46");

@@ -8,5 +8,6 @@
 mod arguments;
 mod commands;
 mod help;
+pub mod laws;
 
 pub use commands::depot_command;

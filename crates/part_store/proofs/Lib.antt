@@ -29,8 +29,8 @@ mod Showing
 mod ListedFailing
 mod Opened
 pub mod Stored
-mod Crashed
-mod Unfinished
+pub mod Crashed
+pub mod Unfinished
 mod Faults
 mod Asked
 pub mod Failing

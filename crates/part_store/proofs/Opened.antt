@@ -1,5 +1,6 @@
 -- What is opened stands for what the files held.
-use Rattle.std.proofs.Common.{◌≡◌, ◌⊎◌, ℕ, Bool, ◌∷◌, Option, None, Some, IfSome, Result, Ok, Err, IfOk, IfErr, OnErr, IsTrue, false, inl, inr, List, [], length, refl, sym, ap, subst, ◌∙◌, arith, true}
+use Rattle.std.proofs.Common.{◌≡◌, ◌⊎◌, ◌<◌, ◌++◌, ℕ, zero, suc, Bool, ◌∷◌, Option, None, Some, IfSome, Result, Ok, Err, IfOk, IfErr, IsErrAnd, OnErr, IsTrue, false, inl, inr, List, [], length, take, refl, sym, ap, subst, ◌∙◌, arith, true, codes, slice_index, unwrap_or}
+use mathlib.Core.HLevel.{⊥_prop}
 use Rattle.std.proofs.Math.Logic.{∥∥₁_elim}
 use Rattle.std.proofs.lemmas.Bool.{true≢false}
 use Rattle.sqlite_disk.specs.declared.Disk.{Ghosts}
@@ -12,13 +13,21 @@ use Rattle.sqlite.specs.declared.FileStore.{FileStore}
 use Rattle.sqlite.specs.Effect.{Database, IsDatabase}
 use Rattle.sqlite.specs.State.{State, HasCleanDisk, IsLive, Opens, Survives}
 use Rattle.sqlite.specs.Held.{Held}
-use Rattle.sqlite.specs.Files.{file_state, image_of, FailsToOpenFiles, HoldsDatabase, IsCleanLeft, LeavesFiles}
+use Rattle.sqlite.specs.Files.{file_state, image_of, AreFoundIn, FailsToOpenFiles, HoldsDatabase, IsCleanLeft, IsEmpty, IsNothing, LeavesFiles}
 use Rattle.sqlite.specs.Recovery.{Image}
 use Rattle.sqlite.specs.Closing.{HoldsAlone, IsCopied}
 use Rattle.sqlite.specs.Start.{FindsIn}
 use Rattle.sqlite.specs.WalFiles.{outcomes}
 use Rattle.sqlite_disk.specs.Events.{Event, replay, settled}
 use Rattle.sqlite_disk.specs.History.{MayLeave}
+use Rattle.sqlite_wal.specs.Recovery.{Pages}
+use Rattle.sqlite_pool.specs.File.{header_in, IsSoundFile}
+use Rattle.sqlite_pool.specs.Header.{first_page}
+use Rattle.sqlite_pool.specs.Stored.{Adopts, sealed, stored_size, used_size}
+use Rattle.sqlite_pool.specs.StoredLaws.{trimmed_some}
+use Rattle.sqlite_pool.proofs.ProbeLemmas.{first_byte}
+use Rattle.sqlite_wal.proofs.AppendLemmas.{some_value}
+use Rattle.sqlite_wal.proofs.CreateLemmas.{begun_is_not_blank}
 use Rattle.sqlite_catalog.specs.Listing.{Lists}
 use Rattle.sqlite_catalog.proofs.ReadLemmas.{lists_once}
 use Rattle.sqlite_schema.specs.declared.schema.Schema.{Schema}
@@ -30,11 +39,12 @@ use Rattle.sqlite_value.specs.Order.{Row}
 use Rattle.part_store.specs.Tables.{no_schema, store_schema}
 use Rattle.part_store.specs.Entries.{Entries, no_entries}
 use Rattle.part_store.specs.Standing.{Stands}
-use Rattle.part_store.specs.Opening.{HasCause, HasOtherTables, Holds, HoldsNoTables, HoldsStore, IsAt, IsBare, IsEmptied, IsFoundIn, IsReady, IsReadyFrom, IsUnopened, KeepsStore, MakesEmpty, TellsWhy}
-use Rattle.part_store.specs.Looking.{are_tables}
+use Rattle.part_store.specs.Opening.{HasOtherTables, Holds, HoldsNoTables, HoldsStore, IsAt, IsBare, IsEmptied, IsFoundIn, IsReady, IsReadyFrom, IsUnopened, IsUnseen, KeepsStore, MakesEmpty, TellsWhy}
+use Rattle.part_store.specs.Looking.{are_tables, unopened_of}
 use Rattle.part_store.specs.declared.error.StoreError.{StoreError}
 use Rattle.part_store.specs.declared.looking.Unopened.{Unopened}
-use Rattle.part_store.specs.declared.looking.Unopened.TheVariants.{OtherTables}
+use Rattle.part_store.specs.declared.looking.Unopened.TheVariants as unopened
+use Rattle.part_store.specs.declared.looking.Unopened.TheVariants.{Memory, Closed, Damaged, OtherTables, Disk}
 use Rattle.part_store.proofs.Looks.{stores_pass}
 
 -- a database is its trees, which list one schema
@@ -60,12 +70,42 @@ lists_nothing objects schema none lists =
     let empty : Lists [] no_schema = record { listed = record { tables = tt; indexes = tt; views = tt; owned = tt; named = tt; loads = refl }; guarded = tt } in
     lists_once [] schema no_schema (subst (λ rows. Lists rows schema) none lists) empty
 
--- an open of an empty file found no tables
-finds_nothing : (image : Image) (s : State) → Opens s → IsLive s → FindsIn image s → image.db ≡ [] → IsBare s
-finds_nothing image s opens live finds none = elim finds.reads [
-  | inl there ↦ absurd (omega (arith, ap length none, there.3.found.present))
-  | inr empty ↦ lists_nothing _ s.now.schema (ap (λ (x : Database). x.trees catalog_tree) opens.clean ∙ empty.1.1) (live opens.is_open).0.lists
-]
+-- a page that begins a database has its first octet, and more than one
+begins_well : (size : ℕ) (page : List ℕ) → take 16 (take 100 (take size page)) ≡ codes "SQLite format 3" ++ 0 ∷ [] → (1 < length page) × (slice_index page 0 ≡ 83)
+begins_well zero page is = let none : 0 ≡ 16 = ap length is in absurd (omega (arith, none))
+begins_well (suc zero) [] is = let none : 0 ≡ 16 = ap length is in absurd (omega (arith, none))
+begins_well (suc zero) (x ∷ more) is = let one : 1 ≡ 16 = ap length is in absurd (omega (arith, one))
+begins_well (suc (suc size)) [] is = let none : 0 ≡ 16 = ap length is in absurd (omega (arith, none))
+begins_well (suc (suc size)) (x ∷ []) is = let one : 1 ≡ 16 = ap length is in absurd (omega (arith, one))
+begins_well (suc (suc size)) (x ∷ y ∷ more) is = (omega arith, ap (λ (l : List ℕ). slice_index l 0) is)
+
+-- files that a sound file is found in aren't those where none was made
+sound_is_something : (size : ℕ) (image : Image) (pages : Pages) → Adopts size image pages → IsSoundFile size pages → IsNothing image → ⊥
+sound_is_something size image pages found sound nothing =
+    let (page, is) = some_value (found.stored 1) found.whole.first in
+    let used : pages 1 ≡ Some (take size page) = ap (λ (p : Pages). p 1) (sym found.shows) ∙ trimmed_some size _ 1 page is in
+    let head : take 16 (header_in pages) ≡ take 16 (take 100 (take size page)) = ap (λ (o : Option (List ℕ)). take 16 (take 100 (unwrap_or o []))) used in
+    let both = begins_well size page (sym head ∙ sound.header.0.magic) in
+    let whole = found.whole.sized 1 page is in
+    let never = λ (other : ℕ) (some : 0 < other). let gate = first_byte other some in
+    begun_is_not_blank (sealed (first_page other)) page (stored_size size) image found.stored found.found is whole (omega (arith, both.0, whole)) (both.1 ∙ sym gate) (λ none. let never = sym gate ∙ none in omega arith) in
+    elim nothing [ inl plain ↦ never (used_size 4096 false) (omega arith) plain | inr summed ↦ never (used_size 4096 true) (omega arith) summed ]
+
+-- what an open finds where no database was made is empty
+pub nothing_is_empty : (image : Image) (db : Trees) → IsNothing image → AreFoundIn image db → IsEmpty db
+nothing_is_empty image db nothing (inl found) = absurd (∥∥₁_elim found.4 ⊥_prop (λ ours. sound_is_something found.0 image found.1 found.3 ours.file.sound nothing))
+nothing_is_empty image db nothing (inr empty) = empty.1
+
+-- an open of files where no database was made found no tables
+finds_nothing : (image : Image) (s : State) → Opens s → IsLive s → FindsIn image s → IsNothing image → IsBare s
+finds_nothing image s opens live finds nothing =
+    let empty = nothing_is_empty image s.committed.trees nothing finds.reads in
+    lists_nothing _ s.now.schema (ap (λ (x : Database). x.trees catalog_tree) opens.clean ∙ empty.1) (live opens.is_open).0.lists
+
+-- an open of files without tables found none
+pub finds_none : (image : Image) (s : State) → Opens s → IsLive s → FindsIn image s → HoldsNoTables image → IsBare s
+finds_none image s opens live finds (inl nothing) = finds_nothing image s opens live finds nothing
+finds_none image s opens live finds (inr (d, holds, none)) = ap (λ (x : Database). x.schema) (finds_held image s d opens live finds holds) ∙ none
 
 -- a store in the files has the tables of one
 pub others_never : {D : Type 0} {g : Ghosts D} (image : Image) (e : Entries) (found : Held (FileStore D g)) → HoldsStore image e → IsFoundIn image found → HasCleanDisk (file_state found)
@@ -76,17 +116,12 @@ others_never image e found holds there clean other =
     let same : are_tables (file_state found).now.schema.tables ≡ true = ap (λ (x : Schema). are_tables x.tables) shown.0.schema ∙ stores_pass in
     true≢false (sym same ∙ other)
 
-has_tables : (s : State) → s.now.schema ≡ store_schema → IsBare s → ⊥
+pub has_tables : (s : State) → s.now.schema ≡ store_schema → IsBare s → ⊥
 has_tables s is none = let more : 3 ≡ 0 = ap (λ (x : Schema). length x.tables) (sym is ∙ none) in omega (arith, more)
 
 module _ {D : Type 0} {g : Ghosts D} (image : Image) (now : Held (FileStore D g)) (from : IsReadyFrom image now) (clean : HasCleanDisk (file_state now)) where
   early : HasCleanDisk (file_state from.ready.found)
   early = omega (arith, from.ready.survives.clean)
-
-  found_is : (d : Database) → Holds image d → (file_state from.ready.found).now ≡ d
-  found_is d holds =
-      let opened = from.ready.opened early in
-      finds_held image (file_state from.ready.found) d opened.0 opened.1 (from.finds early) holds
 
   pub opens_held : (e : Entries) → HoldsStore image e → IsAt e (file_state now)
   opens_held e held =
@@ -95,10 +130,9 @@ module _ {D : Type 0} {g : Ghosts D} (image : Image) (now : Held (FileStore D g)
       subst (λ (h : Held (FileStore D g)). IsAt e (file_state h)) (sym (from.ready.same (has_tables (file_state from.ready.found) found.0.schema))) found
 
   pub opens_none : HoldsNoTables image → IsAt no_entries (file_state now)
-  opens_none (inl none) =
+  opens_none none =
       let opened = from.ready.opened early in
-      from.ready.made clean (finds_nothing image (file_state from.ready.found) opened.0 opened.1 (from.finds early) none)
-  opens_none (inr (d, holds, none)) = from.ready.made clean (ap (λ (x : Database). x.schema) (found_is d holds) ∙ none)
+      from.ready.made clean (finds_none image (file_state from.ready.found) opened.0 opened.1 (from.finds early) none)
 
 -- what the database's open tells of files that held the image
 pub tells : {D : Type 0} {g : Ghosts D} (image : Image) (P Q : Files D → Type 0) (same : (files : Files D) → P files → Q files → image_of g files ≡ image)
@@ -133,16 +167,40 @@ pub shows_none : {D : Type 0} {g : Ghosts D} (image : Image) (result : Result (H
 shows_none image (Ok s) from = λ clean none. opens_none image s from clean none
 shows_none image (Err e) from = tt
 
-pub unmade : {D : Type 0} {g : Ghosts D} (image : Image) (found : Held (FileStore D g)) (result : Result (Held (FileStore D g)) StoreError) → IsFoundIn image found
-    → (file_state found).in_transaction ≡ false → OnErr result ((file_state found).in_transaction ≡ false → IsBare (file_state found)) → HasCause image result
-unmade image found (Ok s) finds fresh bare = tt
-unmade image found (Err e) finds fresh bare = λ _. inr (found, finds, bare fresh)
+-- the database's errors are never told as other tables
+not_others : (error : Error) → OtherTables ≡ unopened_of error → ⊥
+not_others (SqliteFailure OutOfMemory) is = absurd (cc)
+not_others _ is = absurd (cc)
+
+told_as : {D : Type 0} (g : Ghosts D) (image : Image) (left : Leftover D g) (error : Error) (why : Unopened) → IsUnopened image (Some left) error → why ≡ unopened_of error → IsUnseen g image why
+told_as g image left error Memory un is = tt
+told_as g image left error unopened.Held un is = tt
+told_as g image left error Closed un is = tt
+told_as g image left error Damaged un is = (left, error, un, is)
+told_as g image left error OtherTables un is = absurd (not_others error is)
+told_as g image left error Disk un is = (left, error, un, is)
+
+-- what the database's open tells says why, as far as it says why
+untold : {D : Type 0} (g : Ghosts D) (image : Image) (left : Option (Leftover D g)) (error : Error) (why : Unopened) → IsUnopened image left error → why ≡ unopened_of error → IsUnseen g image why
+untold g image (Some left) error why un is = told_as g image left error why un is
+untold g image None error why un is = elim un [
+  | inl closed ↦ subst (IsUnseen g image) (sym (is ∙ ap unopened_of closed)) tt
+  | inr others ↦ elim others [
+    | inl memory ↦ subst (IsUnseen g image) (sym (is ∙ ap unopened_of memory)) tt
+    | inr busy ↦ subst (IsUnseen g image) (sym (is ∙ ap unopened_of busy)) tt
+  ]
+]
+
+pub told_on : {D : Type 0} {g : Ghosts D} (image : Image) (result : Result (Held (FileStore D g)) Unopened) (left : Option (Leftover D g)) (error : Error) → IsUnopened image left error
+    → IsErrAnd result (λ why. why ≡ unopened_of error) → TellsWhy image result
+told_on image (Ok s) left error un is = tt
+told_on {g = g} image (Err why) left error un is = untold g image left error why un is
 
 -- of a store on what the open found, as it is
 pub unseen : {D : Type 0} {g : Ghosts D} (image : Image) (found : Held (FileStore D g)) (result : Result (Held (FileStore D g)) Unopened) → IsFoundIn image found
     → (file_state found).in_transaction ≡ false → IfErr result (λ why. why ≡ OtherTables) → OnErr result ((file_state found).in_transaction ≡ false → HasOtherTables (file_state found)) → TellsWhy image result
 unseen image found (Ok s) finds fresh others apart = tt
-unseen image found (Err why) finds fresh others apart = inr (others, found, finds, apart fresh)
+unseen {g = g} image found (Err why) finds fresh others apart = subst (IsUnseen g image) (sym others) (found, finds, apart fresh)
 
 pub same_ok : {A E : Type 0} (result : Result A E) (x : A) (P : A → Type 0) → IfOk result (λ s. s ≡ x) → P x → IfOk result P
 same_ok (Ok s) x P same holds = subst P (sym same) holds

@@ -1,5 +1,5 @@
 -- What an open finds and leaves.
-use Rattle.std.specs.Prelude.{◌≡◌, ◌⊎◌, false, [], Option, None, Some, Result, Ok, Err, IsTrue, ⊤}
+use Rattle.std.specs.Prelude.{◌≡◌, ◌⊎◌, false, Option, None, Some, Result, Ok, Err, IsTrue, ⊤}
 use Rattle.sqlite_disk.specs.declared.Disk.{Ghosts}
 use Rattle.sqlite_disk.specs.declared.Files.{Files}
 use Rattle.sqlite.specs.declared.FileStore.{FileStore}
@@ -10,7 +10,7 @@ use Rattle.sqlite.specs.declared.error.ErrorCode.TheVariants.{CannotOpen, OutOfM
 use Rattle.sqlite.specs.Effect.{Database, IsDatabase}
 use Rattle.sqlite.specs.State.{State, HasCleanDisk, Survives}
 use Rattle.sqlite.specs.Held.{Held}
-use Rattle.sqlite.specs.Files.{file_state, image_of, HoldsDatabase, IsOpened, IsCleanLeft, FailsToOpenFiles, LeavesFiles}
+use Rattle.sqlite.specs.Files.{file_state, image_of, HoldsDatabase, IsNothing, IsOpened, IsCleanLeft, FailsToOpenFiles, LeavesFiles}
 use Rattle.sqlite.specs.Recovery.{Image}
 use Rattle.sqlite.specs.Start.{FindsIn}
 use Rattle.sqlite.specs.WalFiles.{outcomes}
@@ -19,11 +19,8 @@ use Rattle.part_store.specs.Tables.{no_schema}
 use Rattle.part_store.specs.Entries.{Entries, no_entries}
 use Rattle.part_store.specs.Standing.{IsStored, Stands}
 use Rattle.part_store.specs.Looking.{are_tables, unopened_of}
-use Rattle.part_store.specs.Refusals.{refusal_of}
 use Rattle.part_store.specs.declared.looking.Unopened.{Unopened}
-use Rattle.part_store.specs.declared.looking.Unopened.TheVariants.{OtherTables}
-use Rattle.part_store.specs.declared.error.StoreError.{StoreError}
-use Rattle.part_store.specs.declared.error.StoreError.TheVariants.{Database as refused}
+use Rattle.part_store.specs.declared.looking.Unopened.TheVariants as unopened
 
 -- the tables aren't those of a store
 abbrev pub HasOtherTables : State → Type 0
@@ -64,9 +61,14 @@ pub record Holds (image : Image) (d : Database) : Type 0 where
 abbrev pub HoldsStore : Image → Entries → Type 0
 HoldsStore image e = (d : Database) × Holds image d × Stands d e
 
--- the file is empty or isn't there, or the two hold a database without table, index or view
+-- No database was made: the file is empty or isn't there, or is what an open that was cut off left
+-- half made. Or the two hold a database without table, index or view.
 abbrev pub HoldsNoTables : Image → Type 0
-HoldsNoTables image = (image.db ≡ []) ⊎ ((d : Database) × Holds image d × (d.schema ≡ no_schema))
+HoldsNoTables image = IsNothing image ⊎ ((d : Database) × Holds image d × (d.schema ≡ no_schema))
+
+-- the two files stand for this state: they hold its store or, where it is the empty one, no tables yet
+abbrev pub HoldsState : Image → Entries → Type 0
+HoldsState image e = HoldsStore image e ⊎ (HoldsNoTables image × (e ≡ no_entries))
 
 -- an open store shows this state, which is committed
 abbrev pub IsAt : Entries → State → Type 0
@@ -96,23 +98,26 @@ pub record IsFoundIn {D : Type 0} {g : Ghosts D} (image : Image) (found : Held (
   pub opened : HasCleanDisk (file_state found) → IsOpened found
   pub finds : HasCleanDisk (file_state found) → FindsIn image (file_state found)
 
--- why files that held the image aren't ready: they weren't opened, or they had no tables and got none
-abbrev pub IsUnready : {D : Type 0} → Ghosts D → Image → Type 0
-IsUnready {D} g image =
-    ((left : Option (Leftover D g)) × (error : Error) × (refusal_of error ≡ refused) × IsUnopened image left error)
-    ⊎ ((found : Held (FileStore D g)) × IsFoundIn image found × IsBare (file_state found))
+-- the database's open left these files of those that held the image, and its error is told so
+abbrev pub IsRefusedAs : {D : Type 0} → Ghosts D → Image → Unopened → Type 0
+IsRefusedAs {D} g image why =
+    (left : Leftover D g) × (error : Error) × IsUnopened image (Some left) error × (why ≡ unopened_of error)
 
--- an open that is refused `Database` has one of these causes
-abbrev pub HasCause : {D : Type 0} {g : Ghosts D} → Image → Result (Held (FileStore D g)) StoreError → Type 0
-HasCause image (Ok s) = ⊤
-HasCause {D} {g} image (Err e) = e ≡ refused → IsUnready g image
+-- the database's open gave a connection, whose tables are others
+abbrev pub HasFoundOthers : {D : Type 0} → Ghosts D → Image → Type 0
+HasFoundOthers {D} g image =
+    (found : Held (FileStore D g)) × IsFoundIn image found × HasOtherTables (file_state found)
 
--- Why an open of files as they are is refused: they weren't opened, and the error is told; or they
--- were, and their tables are others.
+-- Why an open of files as they are is refused. What the system refuses has no cause in a clause, so
+-- nothing is said where memory is lacking, where the file is open elsewhere and where it can't be
+-- opened. The others are told only of files that were opened.
 abbrev pub IsUnseen : {D : Type 0} → Ghosts D → Image → Unopened → Type 0
-IsUnseen {D} g image why =
-    ((left : Option (Leftover D g)) × (error : Error) × IsUnopened image left error × (why ≡ unopened_of error))
-    ⊎ ((why ≡ OtherTables) × (found : Held (FileStore D g)) × IsFoundIn image found × HasOtherTables (file_state found))
+IsUnseen g image unopened.Memory = ⊤
+IsUnseen g image unopened.Held = ⊤
+IsUnseen g image unopened.Closed = ⊤
+IsUnseen g image unopened.Damaged = IsRefusedAs g image unopened.Damaged
+IsUnseen g image unopened.OtherTables = HasFoundOthers g image
+IsUnseen g image unopened.Disk = IsRefusedAs g image unopened.Disk
 
 abbrev pub TellsWhy : {D : Type 0} {g : Ghosts D} → Image → Result (Held (FileStore D g)) Unopened → Type 0
 TellsWhy image (Ok s) = ⊤

@@ -19,7 +19,7 @@ use Rattle.sqlite.specs.State.{State}
 use Rattle.sha2.specs.Sha256.{sha256}
 use Rattle.part_store.specs.Changes.{users_tree, contents_tree, entries_tree, equals, is_entry, new_row}
 use Rattle.part_store.specs.Entries.{Draft, Entry, Entries, UserProgram, entry_of, with_entries}
-use Rattle.part_store.specs.Filing.{entry_values}
+use Rattle.part_store.specs.Filing.{HasRoom, entry_values}
 use Rattle.part_store.specs.Standing.{DiskFailed, HasContent, Stands}
 use Rattle.part_store.specs.Tables.{store_schema, users_table, contents_table, entries_table}
 use Rattle.part_store.specs.declared.error.StoreError.{StoreError}
@@ -155,11 +155,22 @@ abbrev pub HaveNoRoom : List ℕ → List Draft → Trees → Type 0
 HaveNoRoom user drafts db = RunsOut (db contents_tree) (length drafts)
     ⊎ (RunsOut (db entries_tree) (length drafts) ⊎ ((d : Draft) × Has drafts d × IsDraftTooBig user d))
 
+-- the drafts, or the row of the user whose entries they become, have no room
+abbrev pub HaveNoRows : List ℕ → List Draft → Entries → Trees → Type 0
+HaveNoRows user drafts before db = HasNoUserRoom user (with_entries user drafts before) db ⊎ HaveNoRoom user drafts db
+
+-- the numbers that the user has left suffice, but there is no such room
+abbrev pub LackRoom : List ℕ → List Draft → Entries → Trees → Type 0
+LackRoom user drafts before db = HasRoom before user (length drafts) × HaveNoRows user drafts before db
+
 -- where the tables stand for a state, entries of a user are refused only by a database that can't
--- work, or has no room for them or for his row
+-- work, or, where their numbers suffice, has no room for them or for his row
 abbrev pub BlamesEntries : List ℕ → List Draft → State → State → StoreError → Type 0
-BlamesEntries user drafts = BlamesOr
-    (λ before db. HasNoUserRoom user (with_entries user drafts before) db ⊎ HaveNoRoom user drafts db)
+BlamesEntries user drafts = BlamesOr (LackRoom user drafts)
+
+-- the same once their numbers are known to suffice
+abbrev pub BlamesRows : List ℕ → List Draft → State → State → StoreError → Type 0
+BlamesRows user drafts = BlamesOr (HaveNoRows user drafts)
 
 -- each user's name is UTF-8, as is each that a store was given
 abbrev pub AreNamed : Trees → Type 0

@@ -3,7 +3,7 @@ ghost use Rattle.std.specs.Prelude.{◌≡◌, ◌⊎◌, ◌+◌, ◌<◌, ◌�
 ghost use Rattle.octets.specs.Limits.{max_entry_number};
 ghost use Rattle.part_store.specs.Standing.{Stands, Stays, draft_of};
 ghost use Rattle.part_store.specs.Entries.{with_last};
-ghost use Rattle.part_store.specs.Refusals.{refusal_of, Blames, BlamesEntries, HasFailed, HasNoUserRoom, HaveNoRoom};
+ghost use Rattle.part_store.specs.Refusals.{refusal_of, Blames, BlamesEntries, BlamesRows, HasFailed, HasNoUserRoom, HaveNoRoom};
 ghost use Rattle.part_store.specs.declared.error.StoreError.TheVariants.{Database};
 ghost use Rattle.part_store.specs.Filing.{Adds, CanFile, Claims, Collides, Enters, FilesAll, IsFrom};
 ghost use Rattle.part_store.specs.Sharing.{SharesContents, first_of};
@@ -90,7 +90,7 @@ fn claim_and_file<S: Alter>(
         → ((before : _) → Stands old.now before
         → (last ≡ before.lasts user.now)
         × (option_map (λ v. v.items) program ≡ before.programs user.now))
-        → BlamesEntries user.now (map draft_of entries.now) old new (refusal_of e)) }
+        → BlamesRows user.now (map draft_of entries.now) old new (refusal_of e)) }
     ensures survives { CommitsNothing S.Store tx.old.conn.now tx.new.conn.now }
 {
     claim(tx, user, last + entries.len() as u32, lent(&program))?;

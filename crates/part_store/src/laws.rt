@@ -3,18 +3,16 @@
 //! A crash is a disk that fails from some call on, so what it may leave in the midst of a call is
 //! what it may leave once that call has ended. Each call says by `survives` which stores these are,
 //! and `open_from` opens files by what they hold.
-ghost use Rattle.std.specs.Prelude.{◌≡◌, ◌⊎◌, IsTrue, Some};
-ghost use Rattle.sqlite.specs.declared.error.Error.{Error};
-ghost use Rattle.sqlite.specs.declared.file.Leftover.{Leftover};
-ghost use Rattle.sqlite.specs.Files.{file_state, IsCleanLeft};
+ghost use Rattle.std.specs.Prelude.{◌≡◌, ◌⊎◌, IsTrue};
+ghost use Rattle.sqlite.specs.Files.{file_state};
 ghost use Rattle.sqlite.specs.FileStore.{view};
 ghost use Rattle.sqlite.specs.Held.{Held, state};
 ghost use Rattle.sqlite.specs.Recovery.{Image};
 ghost use Rattle.sqlite.specs.State.{HasCleanDisk, Survives};
 ghost use Rattle.sqlite_trees.specs.View.{IsClean};
-ghost use Rattle.part_store.specs.Crashes.{HasNumberedTrees, HoldsOneLeft, LeavesStores, MayLeaveFiles, MayLeaveRefused, TakesSize};
+ghost use Rattle.part_store.specs.Crashes.{HasNumberedTrees, HoldsOneLeft, IsCutOff, IsRefusedOpen, LeavesStores, MayLeaveClosing, MayLeaveFiles};
 ghost use Rattle.part_store.specs.Entries.{Entries};
-ghost use Rattle.part_store.specs.Opening.{HasOtherTables, HoldsStore, IsAt, IsFoundIn, IsUnopened};
+ghost use Rattle.part_store.specs.Opening.{HasOtherTables, HoldsState, HoldsStore, IsAt, IsFoundIn};
 ghost use Rattle.part_store.specs.Standing.{MayMake, Stands, StandsFor};
 ghost use Rattle.part_store.specs.Tables.{store_schema};
 
@@ -37,10 +35,14 @@ pub fn open_stores_list_their_tables<S: Alter>(store: PartStore<S>) -> Connectio
 }
 
 /// Where all that a crash may leave are stores, the two files hold one of them after it, however
-/// far a call got.
+/// far a call got. So too after a close that failed or that a crash cut off, also of a store that a
+/// failure had shut.
 pub fn each_image_holds_one_left<D: Disk + Drop>()
-    ensures { (c : Held (FileStore D D.Disk)) → HasNumberedTrees c → LeavesStores (file_state c)
-        → (image : Image) → MayLeaveFiles c image → ∥ HoldsOneLeft c image ∥₁ }
+    ensures called { (c : Held (FileStore D D.Disk)) → HasNumberedTrees c
+        → LeavesStores (file_state c) → (image : Image) → MayLeaveFiles c image
+        → ∥ HoldsOneLeft c image ∥₁ }
+    ensures closing { (c : Held (FileStore D D.Disk)) → (image : Image) → MayLeaveClosing c image
+        → ∥ HoldsOneLeft c image ∥₁ }
 {}
 
 /// A crash in a call that may commit one change leaves the two files with the store of what was, or
@@ -77,11 +79,13 @@ pub fn trees_are_numbered<D: Disk + Drop>(store: PartStore<FileStore<D>>) -> Fil
     stood_on(store)
 }
 
-/// A database's open that is refused leaves files that held a store with the same store, however far
-/// it got and also after a crash, where it took the page size of what they hold.
-pub fn refused_opens_leave_the_store<D: Disk + Drop>()
-    ensures { (image : Image) (left : Leftover D D.Disk) (e : Error)
-        → IsUnopened image (Some left) e → IsCleanLeft left → TakesSize image left
-        → (held : Entries) → HoldsStore image held → (other : Image) → MayLeaveRefused left other
-        → ∥ HoldsStore other held ∥₁ }
+/// An open that comes to nothing leaves files that stand for the same state, where they held its
+/// store and where they held no tables yet: one that the database refused, however far it got and
+/// also after a crash, where what they hold has no sums; and one that a crash cut off before the
+/// first command, also while the tables were made.
+pub fn refused_opens_leave_the_state<D: Disk + Drop>()
+    ensures refused { (image other : Image) → IsRefusedOpen D.Disk image other
+        → (held : Entries) → HoldsState image held → ∥ HoldsState other held ∥₁ }
+    ensures cut_off { (image other : Image) → IsCutOff D.Disk image other
+        → (held : Entries) → HoldsState image held → ∥ HoldsState other held ∥₁ }
 {}

@@ -16,7 +16,7 @@ ghost use Rattle.sqlite.specs.Files.{file_state, IsClosed, IsOpened};
 ghost use Rattle.sqlite.specs.WalReads.{AreClean};
 ghost use Rattle.part_store.specs.Filing.{Collides, HasRoom};
 ghost use Rattle.sqlite.specs.Steps.{over_memory};
-ghost use Rattle.part_store.specs.Opening.{HasCause, HasOtherTables, HoldsNoTables, HoldsStore, IsAt, IsBare, IsEmptied, IsKept, IsReady, IsReadyFrom, KeepsStore, MakesEmpty, OpensOrTells, TellsWhy};
+ghost use Rattle.part_store.specs.Opening.{HasOtherTables, HoldsNoTables, HoldsStore, IsAt, IsBare, IsEmptied, IsKept, IsReady, IsReadyFrom, KeepsStore, MakesEmpty, OpensOrTells, TellsWhy};
 ghost use Rattle.sqlite.specs.WalFiles.{image_at};
 ghost use Rattle.part_store.specs.Sharing.{SharesContents, first_of};
 ghost use Rattle.part_store.specs.Calls.{Always, AsRefusal, AsRefusalInside, CommitsNothing, DoneWhere, IfDone, IfRefused, IsInside, KeepsStored, MayCommit, OnDone, OnRefused, RefusedWhere, Settles, StaysInside, StaysShut, Tells, WasOpen};
@@ -607,7 +607,8 @@ impl<B: Start> PartStore<FileStore<FileFrom<B>>> {
     /// The store in the file at a path, where `B` stands for what the file and its log held. A file that isn't there, is empty or
     /// has no tables becomes the empty store. Refuses `Memory`, and `Database` where the file can't be opened or is no database.
     ///
-    /// No clause ties `B` to the path: that the file there is opened, and no other, is seen in the body.
+    /// No clause ties `B` to the path: that the file there is opened, and no other, is seen in the body. Nor does one say why it is
+    /// refused, since what the system refuses has no cause in a clause; a connection that has tables isn't refused (`adopt`).
     pub fn open_from(
         rt: &HostRuntime,
         path: &str,
@@ -620,15 +621,15 @@ impl<B: Start> PartStore<FileStore<FileFrom<B>>> {
             → HoldsNoTables (image_at B.Start) → IsAt no_entries (file_state s)) }
         ensures settled { IfOk result (λ s. (file_state s).in_transaction ≡ false) }
         ensures refused { IfErr result (λ e. (e ≡ Memory) ⊎ (e ≡ Database)) }
-        ensures cause { HasCause (image_at B.Start) result }
     {
         let conn = connect(rt, path, start)?;
         made_store(conn)
     }
 
     /// The same as `look`, where `B` stands for what the file and its log held. No clause ties `B`
-    /// to the path. It is refused `OtherTables` exactly where the file was opened and its tables
-    /// are others, and else what the database's open tells.
+    /// to the path. It is refused `OtherTables` only where the file was opened and its tables are
+    /// others, and `Damaged` and `Disk` only where the database's open told so of files that it had;
+    /// why it is refused otherwise no clause says.
     pub fn look_from(
         rt: &HostRuntime,
         path: &str,

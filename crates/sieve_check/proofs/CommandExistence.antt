@@ -19,7 +19,7 @@ use Rattle.sieve_check.specs.Bounded.{IsBoundedString, IsBoundedCommand, AreBoun
 use Rattle.sieve_check.specs.FormOf.{InnerForms, none, one, template_of, setting_in, most_of, taking_in, PartForm, action, filing_in, simple_of, block_of, Forms, closed, closed_by, after_none, put}
 use Rattle.sieve_check.specs.Rules.{command_needs, may_stand, opened_by, expanding, mentions_of, same_tests, same_ending, strings_of}
 use Rattle.sieve_check.specs.Signatures.{◌>>=◌, Read, is_positional, reading, command_signature, ending_of}
-use Rattle.sieve_check.specs.Surroundings.{Context, first_lacking, is_meant, loops_left, opens_many, following}
+use Rattle.sieve_check.specs.Surroundings.{Loop, Context, first_lacking, is_meant, loops_left, opens_many, following}
 use Rattle.sieve_check.specs.Typed.{Template, CommandForm, keep, discard, file_into, set, take_first, store, for_every_part, leave, stop, choice, CommandForms, command, no_branch, otherwise, branch}
 use Rattle.sieve_check.specs.Variables.{string_variables, test_variables, command_variables, commands_variables, branches_variables}
 use Rattle.sieve_check.proofs.Lists.{expands, has_long_string, is_large, texted, both_texted}
@@ -143,7 +143,7 @@ taken s args read rest is has stands positional alone bounded =
     alone bounded
 
 -- those that are left are open
-left_there : (name : Option (List ℕ)) (loops : List (Option (List ℕ))) (n : ℕ) → loops_left name loops ≡ Some n → (0 < n) × (n ≤ length loops)
+left_there : (name : Option (List ℕ)) (loops : List Loop) (n : ℕ) → loops_left name loops ≡ Some n → (0 < n) × (n ≤ length loops)
 left_there name [] n h = absurd (cc)
 left_there name (loop ∷ loops) n h =
     elim (cases_Bool (is_meant name loop)) [

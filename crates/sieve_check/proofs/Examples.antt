@@ -46,7 +46,7 @@ names_numbered zero = []
 names_numbered (suc n) = ((128 + n) ∷ []) ∷ names_numbered n
 
 abbrev brings : ℕ → List (List ℕ) → Visit
-brings token names = record { token = token; name = codes "set"; names = names; cause = None }
+brings token names = record { token = token; name = codes "set"; names = names; cause = None; lacks = [] }
 
 -- 128 names, of which some come again
 enough_names : map refusal_for (refused_among [] (brings 0 (names_numbered 127) ∷ brings 4 (codes "a" ∷ codes "a" ∷ names_numbered 9) ∷ brings 7 (codes "a" ∷ []) ∷ [])) ≡ []
@@ -56,7 +56,7 @@ enough_names = refl
 too_many_names : map refusal_for (refused_among [] (brings 0 (names_numbered 127) ∷ brings 4 (codes "a" ∷ []) ∷ brings 7 (codes "b" ∷ []) ∷ brings 9 (codes "a" ∷ []) ∷ brings 12 (codes "c" ∷ []) ∷ [])) ≡ Limit 7 ∷ Limit 12 ∷ []
 too_many_names = refl
 
-least_fault : map refusal_for (refused_among [] (brings 0 (names_numbered 128) ∷ record { token = 4; name = codes "set"; names = codes "a" ∷ []; cause = Some (plain kind.Misplaced) } ∷ [])) ≡ BadArguments 4 ∷ []
+least_fault : map refusal_for (refused_among [] (brings 0 (names_numbered 128) ∷ record { token = 4; name = codes "set"; names = codes "a" ∷ []; cause = Some (plain kind.Misplaced); lacks = [] } ∷ [])) ≡ BadArguments 4 ∷ []
 least_fault = refl
 
 faults_of_scripts : Gives fault_of (

@@ -20,7 +20,7 @@ use Rattle.sieve_check.specs.Arguments.{arguments_cause}
 use Rattle.sieve_check.specs.Causes.{plain}
 use Rattle.sieve_check.specs.Rules.{fault_of, known_command_cause, read_command_cause, ill_formed_command, tests_cause, ending_cause, mention_cause, misplaced, place_cause, long_string_cause, large_mention_cause, many_loops_cause, lacking, lacking_cause, unknown_cause, command_needs, may_stand, opened_by, loops_by, mentions_of, strings_read, lists_read, where_required, command_mentions, names_by, names_mentioned, same_tests, same_ending, kind_of, strings_of, tests_visits, head_visits, command_visits, commands_visits, after_invocation, invocation_of, loops_opened, looks_inside}
 use Rattle.sieve_check.specs.Signatures.{◌>>=◌, is_positional, reading, command_signature, ending_of}
-use Rattle.sieve_check.specs.Surroundings.{Context, first_lacking, at_start, in_block, inside, opens_many, following}
+use Rattle.sieve_check.specs.Surroundings.{Loop, Context, first_lacking, at_start, in_block, inside, opens_many, following}
 use Rattle.sieve_check.specs.Typed.{CommandForms, no_command, no_branch}
 use Rattle.sieve_check.specs.Variables.{commands_variables, branches_variables}
 use Rattle.sieve_check.proofs.Extent.{form_fits}
@@ -179,7 +179,7 @@ mutual
       let rest = forms_exist after cs parts.1 in
       along s _ _ _ (part_of s c >>= λ part. put part rest.forms) (ap (λ o. o >>= λ rest. part_of s c >>= λ part. put part rest) rest.is)
       (ap (λ names. names_brought (command_visits s c) ++ names) rest.variables ∙ both_names (command_visits s c) (commands_visits after cs))
-      (command_exists s c rest.forms parts.0 rest.begins (subst (λ (loops : List (Option (List ℕ))). AreWithin (length loops) rest.forms) (same_loops s (invocation_of c)) rest.bounded))
+      (command_exists s c rest.forms parts.0 rest.begins (subst (λ (loops : List Loop). AreWithin (length loops) rest.forms) (same_loops s (invocation_of c)) rest.bounded))
 
 -- a script's form, with the variables that its visits bring
 pub record Formed (script : CommandsTree) : Type 0 where

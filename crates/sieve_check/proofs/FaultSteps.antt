@@ -1,7 +1,8 @@
 -- The visits of tests and commands, piece by piece.
-use Rattle.std.proofs.Common.{◌≡◌, ℕ, ◌+◌, ◌<◌, Bool, true, false, if◌then◌else◌, List, [], ◌∷◌, ◌++◌, drop, length, get_or, refl, ap, ◌∙◌}
+use Rattle.std.proofs.Common.{◌≡◌, ℕ, ◌+◌, ◌<◌, Bool, true, false, if◌then◌else◌, List, [], ◌∷◌, ◌++◌, drop, length, get_or, map, refl, ap, ◌∙◌}
 use Rattle.std.specs.Global.{Vec, Box}
 use Rattle.std.specs.Prelude.{Option, Some, None}
+use Rattle.sieve_parser.specs.Tree.{ArgumentTree}
 use Rattle.sieve_parser.specs.View.{invocation_tree, command_tree, commands_tree}
 use Rattle.sieve_parser.specs.declared.tree.Head.{Head}
 use Rattle.sieve_parser.specs.declared.tree.Invocation.{Invocation}
@@ -10,13 +11,20 @@ use Rattle.sieve_parser.specs.declared.tree.Command.{Command as Tree}
 use Rattle.sieve_parser.specs.declared.tree.Command.TheVariants as trees
 use Rattle.sieve_parser.proofs.TestSteps.{tree_plain, tree_test, tree_tests}
 use Rattle.sieve_parser.proofs.CommandSteps.{tree_block}
+use Rattle.sieve_check.specs.declared.findings.Findings.{Findings}
+use Rattle.sieve_check.specs.declared.names.CommandName.{CommandName}
+use Rattle.sieve_check.specs.declared.surroundings.Capabilities.{Capabilities}
+use Rattle.sieve_check.specs.declared.signature.Tests.{Tests}
 use Rattle.sieve_check.specs.declared.signature.Tests.TheVariants.{Nothing, One, Bracketed}
 use Rattle.sieve_check.specs.declared.signature.Ending.{Ending}
 use Rattle.sieve_check.specs.declared.signature.Ending.TheVariants.{Block}
-use Rattle.sieve_check.specs.Refusing.{looks_inside_as, visit_as, visits_as}
-use Rattle.sieve_check.specs.Rules.{Visit, arguments_of, test_visits, more_visits, head_visits, command_visits, commands_visits, invocation_of, loops_opened, after_invocation}
+use Rattle.sieve_check.specs.Causes.{Cause, refused_for}
+use Rattle.sieve_check.specs.Names.{command_named}
+use Rattle.sieve_check.specs.Refusing.{AreNoted, AreVisited, lacks_as, looks_inside_as, visit_as, visits_as}
+use Rattle.sieve_check.specs.Rules.{Visit, arguments_of, capability_arguments, command_lacks, command_needs, lacking_causes, strings_of, unknown_causes, test_visits, more_visits, head_visits, command_visits, commands_visits, invocation_of, loops_opened, after_invocation}
 use Rattle.sieve_check.specs.Surroundings.{Context, in_block, opens_many}
 use Rattle.sieve_check.proofs.FromIndex.{others_of, split_at}
+use Rattle.sieve_check.proofs.Visits.{one_refused}
 
 either_way : {A : Type 0} (x : A) (b : Bool) → (if b then x else x) ≡ x
 either_way x true = refl
@@ -45,6 +53,17 @@ where_made all v inside b made is = is ∙ ap (λ b. v ∷ (if b then inside els
 
 pub where_left : (all : List Visit) (v : Visit) (inside : List Visit) (b : Bool) → b ≡ false → all ≡ v ∷ (if b then inside else []) → all ≡ v ∷ []
 where_left all v inside b left is = is ∙ ap (λ b. v ∷ (if b then inside else [])) left
+
+-- what a command lacks that is known by that name
+pub lacks_known : (ending : Option Ending) (e : Ending) (required : Capabilities) (word : List ℕ) (args : List ArgumentTree) (name : CommandName) → ending ≡ Some e → command_named word ≡ Some name
+    → lacks_as ending required word args ≡ lacking_causes required (command_needs name) ++ unknown_causes (strings_of (capability_arguments name args))
+lacks_known ending e required word args name is named = ap (λ o. lacks_as o required word args) is ∙ ap (command_lacks required args) named
+
+-- a visit with which something is wrong
+pub visit_refused : (ending : Option Ending) (s : Context) (token : ℕ) (name : List ℕ) (args : List ArgumentTree) (tests : Tests) (old between new : Findings) (cause : Cause) → (visit_as ending s token name args tests).cause ≡ Some cause
+    → AreNoted old (refused_for token name cause ∷ []) between → AreNoted between (map (refused_for token name) (lacks_as ending s.required name args)) new → AreVisited old (visit_as ending s token name args tests ∷ []) new
+visit_refused None s token name args tests old between new cause wrong first second = one_refused old between new (visit_as None s token name args tests) cause wrong first second
+visit_refused (Some e) s token name args tests old between new cause wrong first second = one_refused old between new (visit_as (Some e) s token name args tests) cause wrong first second
 
 -- the tests of a list from an index on
 pub rest_visits : (s : Context) (list : List Invocation) (i : ℕ) (x : Invocation) → i < length list → x ≡ get_or list i x

@@ -4,6 +4,7 @@ pub mod TestLists
 pub mod SequenceSteps
 pub mod OnceSteps
 pub mod Visits
+pub mod Noting
 pub mod OpenLoops
 pub mod FaultSteps
 pub mod FormSteps

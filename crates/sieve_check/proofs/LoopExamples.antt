@@ -12,7 +12,7 @@ use Rattle.sieve_check.specs.FormOf.{form_of}
 use Rattle.sieve_check.specs.Causes.{refusal_for}
 use Rattle.sieve_check.specs.Rules.{fault_of, reasons_of}
 use Rattle.sieve_check.specs.Signatures.{Read, no_tag, reading, command_signature}
-use Rattle.sieve_check.specs.Surroundings.{loops_left}
+use Rattle.sieve_check.specs.Surroundings.{nameless, called, unreadable, loops_left}
 use Rattle.sieve_check.specs.Typed as typed
 use Rattle.sieve_check.specs.Typed.{TestForm, part_size, part_body, part_digest, CommandForm, CommandForms, keep, take_first, store, for_every_part, leave, choice, no_branch, branch}
 use Prim.Native.String.{String}
@@ -88,8 +88,17 @@ same_names =
     (if_at 11 "if" (plain_at 12 "true" []) (last_at 14 "break" (named "a")) no_command)))
 
 -- of the loops around, the innermost first
-second_meant : loops_left (Some (codes "a")) (None ∷ Some (codes "a") ∷ Some (codes "a") ∷ []) ≡ Some 2
+second_meant : loops_left (Some (codes "a")) (nameless ∷ called (codes "a") ∷ called (codes "a") ∷ []) ≡ Some 2
 second_meant = refl
+
+-- one whose arguments can't be read may have the name
+may_be_meant : loops_left (Some (codes "a")) (called (codes "b") ∷ unreadable ∷ called (codes "a") ∷ []) ≡ Some 2
+may_be_meant = refl
+
+-- foreverypart :name 5 { break :name "a"; } foreverypart :name "b" { break :name "a"; }
+told_of_breaks : map refusal_for (reasons_of (with_loops (block_at 3 "foreverypart" (tag "name" ∷ amount 5 ∷ []) (last_at 7 "break" (named "a")) (loop_at 12 (named "b") (last_at 16 "break" (named "a"))))))
+    ≡ BadArguments 3 ∷ BadArguments 16 ∷ []
+told_of_breaks = refl
 
 none_open : loops_left None [] ≡ None
 none_open = refl

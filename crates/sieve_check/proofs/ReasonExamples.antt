@@ -131,6 +131,12 @@ first_reasons = refl
 
 -- ---- more than one
 
+abbrev refused_string : Refused → ℕ × List ℕ
+refused_string found = (found.token, found.reason.subject)
+
+abbrev refused_kind : Refused → ReasonKind
+refused_kind found = found.reason.kind
+
 -- keep discard; for `keep; discard;`: what stands behind it isn't looked at
 semicolon_forgotten : map refusal_for (reasons_of (command (simple (followed "keep" "discard")) no_command)) ≡ BadArguments 4 ∷ []
 semicolon_forgotten = refl
@@ -153,3 +159,16 @@ lacking_once : map refusal_for
     (last_at 9 "keep" (str "a" ∷ []))))))
     ≡ Lacking 0 ∷ Lacking 3 ∷ BadArguments 9 ∷ []
 lacking_once = refl
+
+-- each capability that a command lacks is told, where it wasn't told before
+each_lack_told : map refused_kind (reasons_of (simple_at 0 "set" [] (simple_at 2 "take" (str "v" ∷ []) (last_at 5 "take" (str "w" ∷ [])))))
+    ≡ MissingCapability capability.Variables ∷ MissingCapability capability.Depot ∷ []
+each_lack_told = refl
+
+-- each string of a require that is no capability is told, once of each require
+each_unknown_told : map refused_string
+    (reasons_of
+    (simple_at 0 "require" (strs "copy" ("fileinto" ∷ "regex" ∷ "copy" ∷ []) ∷ str "x" ∷ [])
+    (last_at 10 "require" (str "copy" ∷ []))))
+    ≡ (0, codes "copy") ∷ (0, codes "regex") ∷ (0, codes "x") ∷ (10, codes "copy") ∷ []
+each_unknown_told = refl

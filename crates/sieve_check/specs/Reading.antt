@@ -6,6 +6,8 @@ use Rattle.sieve_parser.specs.View.{argument_tree}
 use Rattle.sieve_parser.specs.declared.tree.Argument.{Argument}
 use Rattle.sieve_check.specs.declared.causes.Cause.{Cause}
 use Rattle.sieve_check.specs.declared.causes.ReasonKind.TheVariants.{TagArgument}
+use Rattle.sieve_check.specs.declared.loops.LoopName.{LoopName}
+use Rattle.sieve_check.specs.declared.loops.LoopName.TheVariants as loop
 use Rattle.sieve_check.specs.declared.signature.Reading.{Reading}
 use Rattle.sieve_check.specs.declared.names.Tag.{Tag}
 use Rattle.sieve_check.specs.declared.signature.Signature.{Signature}
@@ -13,6 +15,7 @@ use Rattle.sieve_check.specs.declared.signature.Lists.{Lists}
 use Rattle.sieve_check.specs.Arguments.{arguments_cause, awaiting, rest_cause}
 use Rattle.sieve_check.specs.Causes.{about}
 use Rattle.sieve_check.specs.ReasonView.{cause_view}
+use Rattle.sieve_check.specs.Surroundings.{Loop, nameless, called, unreadable}
 use Rattle.sieve_check.specs.Signatures.{Read, Given, awaited, reading, tags_read}
 
 -- the name of the first argument and the arguments after it, if that is a tag
@@ -25,6 +28,12 @@ FirstTag args answer =
 -- a name that was lent, if one was
 abbrev pub name_in : Option (Bor (List ℕ)) → Option (List ℕ)
 name_in name = option_map (λ (name : Bor (List ℕ)). name.now) name
+
+-- a loop by what the code says that it is called, as a definition sees it
+abbrev pub loop_in : LoopName → Loop
+loop_in loop.Nameless = nameless
+loop_in (loop.Named name) = called name.now
+loop_in loop.Unreadable = unreadable
 
 -- what was read so far, as a definition sees it, and the arguments that are left
 abbrev pub given_of : Reading → Given

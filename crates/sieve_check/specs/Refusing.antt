@@ -1,7 +1,6 @@
 -- What the functions answer that look for faults.
 use Rattle.std.specs.Prelude.{◌≡◌, ℕ, ◌<◌, Bool, true, false, List, [], ◌∷◌, ◌++◌, length, map, take, bytes_eq, Option, Some, None, Result, MatchOption, MatchResult}
 use Rattle.std.specs.Borrow.{Bor}
-use Rattle.std.specs.List.{list_any}
 use Rattle.octets.specs.Ascii.{lowercase_of}
 use Rattle.octets.specs.Limits.{max_variables}
 use Rattle.octets.specs.Once.{with_more}
@@ -14,27 +13,28 @@ use Rattle.sieve_check.specs.declared.mentions.Mentions.{Mentions}
 use Rattle.sieve_check.specs.declared.loops.Loops.{Loops}
 use Rattle.sieve_check.specs.declared.signature.Ending.{Ending}
 use Rattle.sieve_check.specs.declared.signature.Tests.{Tests}
+use Rattle.sieve_check.specs.declared.surroundings.Capabilities.{Capabilities}
 use Rattle.sieve_check.specs.declared.surroundings.Surroundings.{Surroundings}
 use Rattle.sieve_check.specs.declared.variable_names.VariableNames.{VariableNames}
-use Rattle.sieve_check.specs.Reading.{all_lists, name_in}
+use Rattle.sieve_check.specs.Reading.{all_lists, loop_in}
 use Rattle.sieve_check.specs.ReasonView.{cause_view, refused_view}
 use Rattle.sieve_check.specs.Causes as causes
 use Rattle.sieve_check.specs.Rules as rules
-use Rattle.sieve_check.specs.Rules.{Visit, command_visit, head_visits, looks_inside, max_reasons, names_mentioned, names_past, refused_among, same_lack, same_reason, strings_of, test_visit, test_visits}
+use Rattle.sieve_check.specs.Rules.{Visit, command_visit, command_lacks, head_visits, looks_inside, max_found, names_mentioned, names_past, refused_among, same_reason, strings_of, test_lacks, test_visit, test_visits}
 use Rattle.sieve_check.specs.Names.{command_named, test_named}
 use Rattle.sieve_check.specs.Signatures.{command_signature, test_signature}
-use Rattle.sieve_check.specs.Surroundings.{Context, opens_many}
+use Rattle.sieve_check.specs.Surroundings.{Loop, Context, opens_many}
 
--- the names of the loops that are open, the innermost first
-abbrev pub open_loops : Loops → List (Option (List ℕ))
-open_loops loops = map name_in (take loops.number loops.names)
+-- the loops that are open, the innermost first
+abbrev pub open_loops : Loops → List Loop
+open_loops loops = map loop_in (take loops.number loops.names)
 
 -- the code's surroundings, as a definition sees them
 abbrev pub context_of : Surroundings → Context
 context_of s = record { required = s.required; loops = open_loops s.loops; takes_require = s.takes_require; after_if = s.after_if }
 
 -- the loops around a block, around which these are opened, where there may be so many
-abbrev pub LoopsWithin : Context → List (Option (List ℕ)) → Option Loops → Type 0
+abbrev pub LoopsWithin : Context → List Loop → Option Loops → Type 0
 LoopsWithin s opened result = MatchOption result (opens_many opened s ≡ true)
     (λ all. (opens_many opened s ≡ false) × (open_loops all ≡ opened ++ s.loops))
 
@@ -66,7 +66,12 @@ abbrev pub visit_as : Option Ending → Context → ℕ → List ℕ → List Ar
 visit_as None s token name args tests = test_visit s token name args tests
 visit_as (Some ending) s token name args tests = command_visit s token name args tests ending
 
--- the same, with those of its tests behind it
+-- what it lacks
+abbrev pub lacks_as : Option Ending → Capabilities → List ℕ → List ArgumentTree → List causes.Cause
+lacks_as None required name args = test_lacks required args (test_named name)
+lacks_as (Some ending) required name args = command_lacks required args (command_named name)
+
+-- its visit, with those of its tests behind it
 abbrev pub visits_as : Option Ending → Context → InvocationTree → List Visit
 visits_as None s t = test_visits s t
 visits_as (Some ending) s t = head_visits s t ending
@@ -92,9 +97,10 @@ Adds names more result after =
 abbrev pub refused_in : Findings → List causes.Refused
 refused_in findings = map refused_view findings.refused.items
 
--- it was told that this is lacking
-abbrev pub lack_in : ReasonKind → List causes.Refused → Bool
-lack_in kind told = list_any (λ (found : causes.Refused). same_lack kind found.reason.kind) told
+-- these were added to what is refused, but for what was told there, and up to the limit; the names are the same
+pub record AreNoted (old : Findings) (more : List causes.Refused) (new : Findings) : Type 0 where
+  pub names : listed new.names ≡ listed old.names
+  pub refused : refused_in new ≡ take max_found (with_more same_reason (refused_in old) more)
 
 -- the names after visits
 abbrev pub names_after : List (List ℕ) → List Visit → List (List ℕ)
@@ -106,4 +112,4 @@ names_after names (v ∷ vs) = names_after (names_past names v) vs
 pub record AreVisited (old : Findings) (visits : List Visit) (new : Findings) : Type 0 where
   pub names : listed new.names ≡ names_after (listed old.names) visits
   pub refused : refused_in new
-      ≡ take max_reasons (with_more same_reason (refused_in old) (refused_among (listed old.names) visits))
+      ≡ take max_found (with_more same_reason (refused_in old) (refused_among (listed old.names) visits))

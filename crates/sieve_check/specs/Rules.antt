@@ -1,7 +1,7 @@
 -- What is wrong with the commands and tests of a script, and which fault is named.
-use Rattle.std.specs.Prelude.{ℕ, Bool, true, false, ◌||◌, not, nat_lt, bytes_eq, if◌then◌else◌, List, [], ◌∷◌, ◌++◌, map, length, take, drop, flat_map, Option, Some, None, is_some, option_map, slice_get}
+use Rattle.std.specs.Prelude.{ℕ, Bool, true, false, ◌&&◌, ◌||◌, ◌==◌, filter, not, nat_lt, bytes_eq, if◌then◌else◌, List, [], ◌∷◌, ◌++◌, map, length, take, drop, flat_map, Option, Some, None, is_some, option_map, slice_get}
 use Rattle.std.specs.List.{find, list_any}
-use Rattle.std.specs.Option.{option_and_then, option_map_or, option_or, option_to_list}
+use Rattle.std.specs.Option.{option_and_then, option_map_or, option_or}
 use Rattle.octets.specs.Ascii.{lowercase_of}
 use Rattle.octets.specs.Limits.{max_name, max_segments, max_string, max_test_strings, max_variables}
 use Rattle.octets.specs.Once.{with_more}
@@ -32,7 +32,7 @@ use Rattle.sieve_check.specs.Arguments.{arguments_cause}
 use Rattle.sieve_check.specs.Causes.{Cause, Refused, about, plain, refusal_for, refused_for}
 use Rattle.sieve_check.specs.Names.{capability_named, command_named, tag_named, test_named}
 use Rattle.sieve_check.specs.Signatures.{Read, command_signature, ending_of, test_signature, reading}
-use Rattle.sieve_check.specs.Surroundings.{Context, at_start, first_lacking, following, has_capability, same_capability, in_block, in_loop, loops_left, opens_many}
+use Rattle.sieve_check.specs.Surroundings.{Loop, nameless, called, unreadable, Context, at_start, first_lacking, following, has_capability, same_capability, in_block, in_loop, loops_left, opens_many}
 
 -- the strings of arguments, with those in brackets
 abbrev pub strings_in : ArgumentTree → List (List ℕ)
@@ -119,14 +119,19 @@ test_may_stand s PartSize = in_loop s
 test_may_stand s PartBody = in_loop s
 test_may_stand s PartDigest = in_loop s
 
--- the argument of `:name`, if it could be read
-abbrev pub name_read : Option Read → Option (List ℕ)
-name_read None = None
-name_read (Some read) = read.name
+-- a loop, by the argument of `:name`, if it has one
+abbrev pub loop_named : Option (List ℕ) → Loop
+loop_named None = nameless
+loop_named (Some name) = called name
 
--- the loop that a command opens around its block, with its name, if it has one
-abbrev pub opened_by : CommandName → List ArgumentTree → List (Option (List ℕ))
-opened_by ForEveryPart args = name_read (reading (command_signature ForEveryPart) args) ∷ []
+-- a loop, by its arguments, if they could be read
+abbrev pub loop_read : Option Read → Loop
+loop_read None = unreadable
+loop_read (Some read) = loop_named read.name
+
+-- the loop that a command opens around its block
+abbrev pub opened_by : CommandName → List ArgumentTree → List Loop
+opened_by ForEveryPart args = loop_read (reading (command_signature ForEveryPart) args) ∷ []
 opened_by Require args = []
 opened_by If args = []
 opened_by Elsif args = []
@@ -239,6 +244,10 @@ lacking capability = plain (MissingCapability capability)
 abbrev pub lacking_cause : Capabilities → List Capability → Option Cause
 lacking_cause required needed = option_map lacking (first_lacking needed required)
 
+-- each capability that is needed and wasn't required
+abbrev pub lacking_causes : Capabilities → List Capability → List Cause
+lacking_causes required needed = map lacking (filter (λ capability. not (has_capability capability required)) needed)
+
 -- the first string of a require that is no capability, wherever it stands and however it is written
 abbrev pub unknown_cause : CommandName → List ArgumentTree → Option Cause
 unknown_cause Require args = option_map (about UnknownCapability) (find (string_has Unknown) (strings_of args))
@@ -254,6 +263,26 @@ unknown_cause ForEveryPart args = None
 unknown_cause Break args = None
 unknown_cause Store args = None
 unknown_cause Take args = None
+
+-- the arguments whose strings have to be capabilities: those of a require
+abbrev pub capability_arguments : CommandName → List ArgumentTree → List ArgumentTree
+capability_arguments Require args = args
+capability_arguments If args = []
+capability_arguments Elsif args = []
+capability_arguments Else args = []
+capability_arguments Stop args = []
+capability_arguments Keep args = []
+capability_arguments Discard args = []
+capability_arguments FileInto args = []
+capability_arguments Set args = []
+capability_arguments ForEveryPart args = []
+capability_arguments Break args = []
+capability_arguments Store args = []
+capability_arguments Take args = []
+
+-- each of these strings that is no capability
+abbrev pub unknown_causes : List (List ℕ) → List Cause
+unknown_causes strings = map (about UnknownCapability) (filter (string_has Unknown) strings)
 
 -- ---- what is wrong behind the arguments, with references and names, and with the place
 
@@ -384,13 +413,26 @@ abbrev pub names_by : {Name : Type 0} → (Name → Mentions) → Option Name �
 names_by mentions None = []
 names_by mentions (Some name) = names_mentioned (mentions name)
 
+-- each capability that a command lacks, or that it names and there isn't, by what its name is known as
+abbrev pub command_lacks : Capabilities → List ArgumentTree → Option CommandName → List Cause
+command_lacks required args None = []
+command_lacks required args (Some name) =
+    lacking_causes required (command_needs name) ++ unknown_causes (strings_of (capability_arguments name args))
+
+-- the same of a test, which names none
+abbrev pub test_lacks : Capabilities → List ArgumentTree → Option TestName → List Cause
+test_lacks required args None = []
+test_lacks required args (Some name) = lacking_causes required (test_needs name args)
+
 -- a visited command or test: the number of its identifier's token, its name as it is written, the
--- names of variables that it brings, in lower case, and what is wrong with it by itself, if anything is
+-- names of variables that it brings, in lower case, what is wrong with it by itself, if anything is,
+-- and all that it lacks, of which the first is what is wrong with it, if it lacks something
 pub record Visit : Type 0 where
   pub token : ℕ
   pub name : List ℕ
   pub names : List (List ℕ)
   pub cause : Option Cause
+  pub lacks : List Cause
 
 abbrev pub command_visit : Context → ℕ → List ℕ → List ArgumentTree → Tests → Ending → Visit
 command_visit s token name args tests ending = record {
@@ -398,6 +440,7 @@ command_visit s token name args tests ending = record {
   name = name;
   names = names_by (λ known. command_mentions s known args) (command_named name);
   cause = cause_by_name UnknownCommand (λ known. known_command_cause s known args tests ending) (command_named name);
+  lacks = command_lacks s.required args (command_named name);
 }
 
 abbrev pub test_visit : Context → ℕ → List ℕ → List ArgumentTree → Tests → Visit
@@ -406,6 +449,7 @@ test_visit s token name args tests = record {
   name = name;
   names = names_by (λ known. test_mentions s known args) (test_named name);
   cause = cause_by_name UnknownTest (λ known. known_test_cause s known args tests) (test_named name);
+  lacks = test_lacks s.required args (test_named name);
 }
 
 abbrev pub kind_of : TestsTree → Tests
@@ -449,11 +493,11 @@ invocation_of (simple i) = i
 invocation_of (block i cs) = i
 
 -- the loop that a command opens around its block, by what its name is known as
-abbrev pub loops_by : Option CommandName → List ArgumentTree → List (Option (List ℕ))
+abbrev pub loops_by : Option CommandName → List ArgumentTree → List Loop
 loops_by None args = []
 loops_by (Some name) args = opened_by name args
 
-abbrev pub loops_opened : InvocationTree → List (Option (List ℕ))
+abbrev pub loops_opened : InvocationTree → List Loop
 loops_opened (invocation token name args tests) = loops_by (command_named name) args
 
 -- after a command
@@ -477,14 +521,19 @@ abbrev mutual
 abbrev pub names_with : List (List ℕ) → Visit → List (List ℕ)
 names_with names visit = with_more bytes_eq names visit.names
 
--- what is wrong with a visit after names: by itself, or else that the script has too many names with it
-abbrev pub visit_cause : List (List ℕ) → Visit → Option Cause
-visit_cause names visit =
-    option_or visit.cause (if nat_lt max_variables (length (names_with names visit)) then Some (plain ManyVariables) else None)
+-- what is told of a visit: what is wrong with it by itself, and all that it lacks; or else that the script has too many
+-- names with it, if it has
+abbrev pub causes_by : Option Cause → List Cause → Bool → List Cause
+causes_by (Some cause) lacks many = cause ∷ lacks
+causes_by None lacks many = if many then plain ManyVariables ∷ [] else []
 
--- that a visit after names is refused, and why, if it is
-abbrev pub refused_after : List (List ℕ) → Visit → Option Refused
-refused_after names visit = option_map (refused_for visit.token visit.name) (visit_cause names visit)
+-- the same of a visit after names
+abbrev pub visit_causes : List (List ℕ) → Visit → List Cause
+visit_causes names visit = causes_by visit.cause visit.lacks (nat_lt max_variables (length (names_with names visit)))
+
+-- why a visit after names is refused, if it is
+abbrev pub refused_after : List (List ℕ) → Visit → List Refused
+refused_after names visit = map (refused_for visit.token visit.name) (visit_causes names visit)
 
 -- the names after a visit: with its own, as far as there may be so many, if nothing is wrong with it by itself
 abbrev pub names_past : List (List ℕ) → Visit → List (List ℕ)
@@ -493,7 +542,7 @@ names_past names visit = if is_some visit.cause then names else take max_variabl
 -- the visits that are refused, after names, and why
 abbrev pub refused_among : List (List ℕ) → List Visit → List Refused
 refused_among names [] = []
-refused_among names (v ∷ vs) = option_to_list (refused_after names v) ++ refused_among (names_past names v) vs
+refused_among names (v ∷ vs) = refused_after names v ++ refused_among (names_past names v) vs
 
 -- the same is lacking: a capability, or room for variables
 abbrev pub same_lack : ReasonKind → ReasonKind → Bool
@@ -501,10 +550,21 @@ same_lack (MissingCapability capability) (MissingCapability other) = same_capabi
 same_lack ManyVariables ManyVariables = true
 same_lack _ _ = false
 
-abbrev pub same_reason : Refused → Refused → Bool
-same_reason found other = same_lack found.reason.kind other.reason.kind
+-- strings are no capabilities
+abbrev pub are_unknown : ReasonKind → ReasonKind → Bool
+are_unknown UnknownCapability UnknownCapability = true
+are_unknown _ _ = false
 
--- the commands and tests that are refused of a script, in order, and why; what is lacking is told once
+-- the same string of the same require is no capability
+abbrev pub same_string : Refused → Refused → Bool
+same_string found other = are_unknown found.reason.kind other.reason.kind && found.token == other.token
+    && bytes_eq found.reason.subject other.reason.subject
+
+abbrev pub same_reason : Refused → Refused → Bool
+same_reason found other = same_lack found.reason.kind other.reason.kind || same_string found other
+
+-- the commands and tests that are refused of a script, in order, and why; what is lacking is told once, and so is a string
+-- of a require that is no capability
 abbrev pub reasons_of : CommandsTree → List Refused
 reasons_of script = with_more same_reason [] (refused_among [] (commands_visits at_start script))
 
@@ -515,3 +575,7 @@ fault_of script = option_map refusal_for (slice_get (reasons_of script) 0)
 -- the most that are told of a script
 abbrev pub max_reasons : ℕ
 max_reasons = 20
+
+-- the most that are looked for: one more, which says that there are more than these
+abbrev pub max_found : ℕ
+max_found = 21

@@ -8,12 +8,18 @@ use Rattle.sieve_check.specs.declared.names.CommandName.TheVariants.{Require, If
 use Rattle.sieve_check.specs.declared.surroundings.Capabilities.{Capabilities}
 use Rattle.sieve_check.specs.Names.{capability_named}
 
+-- a loop that is open: it has no name, or this one; or its arguments can't be read, so that any may be its name
+pub data Loop : Type 0 where
+  nameless : Loop
+  called : List ℕ → Loop
+  unreadable : Loop
+
 -- what surrounds a command or test: what was required before it, the loops that are open around it,
 -- and where the command stands
 pub record Context : Type 0 where
   pub required : Capabilities
-  -- each with its name, if it has one; the innermost first
-  pub loops : List (Option (List ℕ))
+  -- the innermost first
+  pub loops : List Loop
   -- at the top level, and after no other command than require
   pub takes_require : Bool
   -- directly after an if or elsif of the same block
@@ -77,30 +83,31 @@ at_start = record {
 }
 
 -- before the first command of a block, around which these loops were opened
-abbrev pub in_block : List (Option (List ℕ)) → Context → Context
+abbrev pub in_block : List Loop → Context → Context
 in_block opened s = record s { loops = opened ++ s.loops; takes_require = false; after_if = false }
 
 -- around these loops are opened, one of which would be more than may be open
-abbrev pub opens_many : List (Option (List ℕ)) → Context → Bool
+abbrev pub opens_many : List Loop → Context → Bool
 opens_many [] s = false
 opens_many (loop ∷ loops) s = not (nat_lt (length s.loops) max_loops)
 
 -- before the first command of a block, where there may be so many loops
-abbrev pub inside : List (Option (List ℕ)) → Context → Option Context
+abbrev pub inside : List Loop → Context → Option Context
 inside opened s = if opens_many opened s then None else Some (in_block opened s)
 
 -- a loop is open around
 abbrev pub in_loop : Context → Bool
 in_loop s = nat_lt 0 (length s.loops)
 
--- a loop is meant: each one where none is named, else those of just that name
-abbrev pub is_meant : Option (List ℕ) → Option (List ℕ) → Bool
+-- a loop is meant: each one where none is named, else those of just that name, and those that may have it
+abbrev pub is_meant : Option (List ℕ) → Loop → Bool
 is_meant None loop = true
-is_meant (Some name) None = false
-is_meant (Some name) (Some other) = bytes_eq name other
+is_meant (Some name) nameless = false
+is_meant (Some name) (called other) = bytes_eq name other
+is_meant (Some name) unreadable = true
 
 -- how many of the open loops are left, the innermost first, up to the first that is meant, if one is
-abbrev pub loops_left : Option (List ℕ) → List (Option (List ℕ)) → Option ℕ
+abbrev pub loops_left : Option (List ℕ) → List Loop → Option ℕ
 loops_left name [] = None
 loops_left name (loop ∷ loops) = if is_meant name loop then Some 1 else option_map suc (loops_left name loops)
 

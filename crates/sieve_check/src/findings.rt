@@ -1,14 +1,22 @@
 // What the rules find out about a script.
 ghost use Rattle.std.specs.Prelude.{◌≡◌, ◌≤◌, length};
-ghost use Rattle.sieve_check.specs.Rules.{max_reasons, same_lack};
+ghost use Rattle.sieve_check.specs.ReasonView.{refused_view};
+ghost use Rattle.sieve_check.specs.Rules.{are_unknown, max_found, same_lack, same_reason, same_string};
 
 use crate::causes::{Cause, ReasonKind, Refused};
+use crate::names::Capability;
+use crate::string_faults::StringFault;
+use crate::surroundings::Capabilities;
 use crate::variable_names::VariableNames;
 use arrayvec::ArrayVec;
-use sieve_parser::Head;
+use octets::Octets;
+use sieve_parser::{Argument, Head};
 
-/// The most commands and tests of a script that are told to be refused.
+/// The most reasons that are told of a script.
 pub const MAX_REASONS: usize = 20;
+
+/// The most reasons that are looked for: one more, which says that there are more than [`MAX_REASONS`].
+pub const MAX_FOUND: usize = 21;
 
 // Whether the same is lacking: a capability, or room for variables.
 fn is_same_lack(kind: ReasonKind, other: ReasonKind) -> bool
@@ -23,23 +31,49 @@ fn is_same_lack(kind: ReasonKind, other: ReasonKind) -> bool
     }
 }
 
-/// The commands and tests that were refused so far, the first of them up to [`MAX_REASONS`], each thing that is lacking told once; and
+// Whether both strings are no capabilities.
+fn are_unknown(kind: ReasonKind, other: ReasonKind) -> bool
+    ensures { result ≡ are_unknown kind other }
+{
+    matches!(
+        (kind, other),
+        (ReasonKind::UnknownCapability, ReasonKind::UnknownCapability)
+    )
+}
+
+// Whether the same string of the same `require` is no capability.
+fn is_same_string(found: Refused<'_>, other: Refused<'_>) -> bool
+    ensures { result ≡ same_string (refused_view found.entry) (refused_view other.entry) }
+{
+    are_unknown(found.reason.kind, other.reason.kind)
+        && found.token == other.token
+        && found.reason.subject == other.reason.subject
+}
+
+// Whether one was told with the other.
+fn is_same_reason(found: Refused<'_>, other: Refused<'_>) -> bool
+    ensures { result ≡ same_reason (refused_view found.entry) (refused_view other.entry) }
+{
+    is_same_lack(found.reason.kind, other.reason.kind) || is_same_string(found, other)
+}
+
+/// Why commands and tests were refused so far, the first reasons up to [`MAX_FOUND`], each thing that is lacking told once; and
 /// the names of variables that the others brought, with those of one that brought too many as far as there was room.
 #[derive(Drop)]
 pub struct Findings<'t> {
     pub names: VariableNames<'t>,
-    pub refused: ArrayVec<Refused<'t>, MAX_REASONS>,
-    ghost few: { length refused.items ≤ max_reasons },
+    pub refused: ArrayVec<Refused<'t>, MAX_FOUND>,
+    ghost few: { length refused.items ≤ max_found },
 }
 
 impl<'t> Findings<'t> {
-    ghost use Rattle.std.specs.Prelude.{◌≡◌, [], take};
-    ghost use Rattle.std.specs.List.{list_any};
-    ghost use Rattle.octets.specs.Once.{with_one};
+    ghost use Rattle.std.specs.Prelude.{◌≡◌, [], ◌∷◌, map};
+    ghost use Rattle.octets.specs.Once.{is_listed};
+    ghost use Rattle.sieve_parser.specs.View.{argument_tree};
     ghost use Rattle.sieve_check.specs.Causes.{refused_for};
-    ghost use Rattle.sieve_check.specs.ReasonView.{cause_view};
-    ghost use Rattle.sieve_check.specs.Refusing.{lack_in, listed, refused_in};
-    ghost use Rattle.sieve_check.specs.Rules.{max_reasons, same_reason};
+    ghost use Rattle.sieve_check.specs.ReasonView.{cause_view, refused_view};
+    ghost use Rattle.sieve_check.specs.Refusing.{AreNoted, listed, refused_in};
+    ghost use Rattle.sieve_check.specs.Rules.{lacking_causes, same_reason, strings_in, strings_of, unknown_causes};
 
     /// Nothing.
     pub fn new() -> Findings<'t>
@@ -52,28 +86,98 @@ impl<'t> Findings<'t> {
         }
     }
 
-    // Whether it was told already that this is lacking.
-    fn tells(&self, kind: ReasonKind) -> bool
-        ensures { result ≡ lack_in kind (refused_in self.now) }
+    // Whether the same was told already.
+    fn tells(&self, found: Refused<'_>) -> bool
+        ensures { result ≡ is_listed same_reason (refused_view found.entry) (refused_in self.now) }
     {
         for told in self.refused.as_slice() {
-            if is_same_lack(kind, told.reason.kind) {
+            if is_same_reason(found, *told) {
                 return true;
             }
         }
         false
     }
 
-    /// Notes that a command or test is refused, and why, where there is room, and where it wasn't told already that this is lacking.
+    /// Notes that a command or test is refused, and why, where there is room, and where the same wasn't told already.
     pub fn refuse(&mut self, head: &'t Head, cause: Cause<'t>)
-        ensures names { listed self.new.names ≡ listed self.old.names }
-        ensures refused { refused_in self.new
-            ≡ take max_reasons (with_one same_reason (refused_in self.old)
-            (refused_for head.now.token head.now.name (cause_view cause.entry))) }
+        ensures { AreNoted self.old
+            (refused_for head.now.token head.now.name (cause_view cause.entry) ∷ []) self.new }
     {
-        if self.refused.is_full() || self.tells(cause.kind) {
+        let found = Refused::of(head, cause);
+        if self.refused.is_full() || self.tells(found) {
             return;
         }
-        self.refused.push(Refused::of(head, cause));
+        self.refused.push(found);
+    }
+
+    // Notes the capability that a command or test needs, where it wasn't required.
+    fn refuse_lack(&mut self, head: &'t Head, required: Capabilities, capability: Capability)
+        ensures { AreNoted self.old (map (refused_for head.now.token head.now.name)
+            (lacking_causes required (capability ∷ []))) self.new }
+    {
+        if !required.has(capability) {
+            self.refuse(
+                head,
+                Cause::plain(ReasonKind::MissingCapability(capability)),
+            );
+        }
+    }
+
+    /// Notes each of the capabilities that a command or test needs, where it wasn't required.
+    pub fn refuse_lacking(&mut self, head: &'t Head, required: Capabilities, needed: &[Capability])
+        ensures { AreNoted self.old (map (refused_for head.now.token head.now.name)
+            (lacking_causes required needed.now)) self.new }
+    {
+        for capability in needed {
+            self.refuse_lack(head, required, *capability);
+        }
+    }
+
+    // Notes the string of a `require`, where it is no capability.
+    fn refuse_unknown(&mut self, head: &'t Head, string: &'t Octets)
+        ensures { AreNoted self.old (map (refused_for head.now.token head.now.name)
+            (unknown_causes (string.now ∷ []))) self.new }
+    {
+        if StringFault::Unknown.is_in(string) {
+            self.refuse(
+                head,
+                Cause::about(ReasonKind::UnknownCapability, string.as_slice()),
+            );
+        }
+    }
+
+    // Notes each of the strings of a `require` that is no capability.
+    fn refuse_all_unknown(&mut self, head: &'t Head, strings: &'t [Octets])
+        ensures { AreNoted self.old (map (refused_for head.now.token head.now.name)
+            (unknown_causes strings.now)) self.new }
+    {
+        for string in strings {
+            self.refuse_unknown(head, string);
+        }
+    }
+
+    // Notes each string of the argument that is no capability.
+    fn refuse_argument(&mut self, head: &'t Head, argument: &'t Argument)
+        ensures { AreNoted self.old (map (refused_for head.now.token head.now.name)
+            (unknown_causes (strings_in (argument_tree argument.now)))) self.new }
+    {
+        match argument {
+            Argument::Text(string) => self.refuse_unknown(head, string),
+            Argument::TextList(first, others) => {
+                self.refuse_unknown(head, first);
+                self.refuse_all_unknown(head, others);
+            }
+            Argument::Number(_) | Argument::Tag(_) => {}
+        }
+    }
+
+    /// Notes each string of the arguments of a `require` that is no capability.
+    pub fn refuse_arguments(&mut self, head: &'t Head, arguments: &'t [Argument])
+        ensures { AreNoted self.old (map (refused_for head.now.token head.now.name)
+            (unknown_causes (strings_of (map argument_tree arguments.now)))) self.new }
+    {
+        for argument in arguments {
+            self.refuse_argument(head, argument);
+        }
     }
 }

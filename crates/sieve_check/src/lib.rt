@@ -43,7 +43,7 @@ pub use causes::{Reason, ReasonKind, Refused};
 pub use checked::Checked;
 pub use checker::{check, reasons_of};
 pub use error::{CheckError, Fault};
-pub use findings::MAX_REASONS;
+pub use findings::{MAX_FOUND, MAX_REASONS};
 pub use names::{Capability, CommandName, Tag, TestName, command_named, test_named};
 pub use references::MAX_NAME;
 pub use signature::{Ending, Positional, Tests};

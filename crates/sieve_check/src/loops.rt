@@ -1,29 +1,41 @@
 // The loops that are open around a command or test (RFC 5703, section 3).
 ghost use Rattle.std.specs.Prelude.{◌≡◌, ◌≤◌};
 ghost use Rattle.octets.specs.Limits.{max_loops};
-ghost use Rattle.sieve_check.specs.Reading.{name_in};
+ghost use Rattle.sieve_check.specs.Reading.{loop_in, name_in};
 ghost use Rattle.sieve_check.specs.Surroundings.{is_meant};
 
 use bytecode_format::MAX_LOOPS;
 
-// Whether a loop is meant: each one where none is named, else those of just that name.
-fn is_meant(name: Option<&[u8]>, loop_name: Option<&[u8]>) -> bool
-    ensures { result ≡ is_meant (name_in name.entry) (name_in loop_name.entry) }
+/// What an open loop is called.
+#[derive(Clone, Copy)]
+pub enum LoopName<'t> {
+    /// It has no name.
+    Nameless,
+    /// This is its name.
+    Named(&'t [u8]),
+    /// Its arguments can't be read: any may be its name.
+    Unreadable,
+}
+
+// Whether a loop is meant: each one where none is named, else those of just that name, and those that may have it.
+fn is_meant(name: Option<&[u8]>, loop_name: LoopName<'_>) -> bool
+    ensures { result ≡ is_meant (name_in name.entry) (loop_in loop_name.entry) }
 {
     match name {
         Some(name) => match loop_name {
-            Some(other) => name == other,
-            None => false,
+            LoopName::Named(other) => name == other,
+            LoopName::Nameless => false,
+            LoopName::Unreadable => true,
         },
         None => true,
     }
 }
 
-/// The loops that are open, each with its name, if it has one.
+/// The loops that are open.
 #[derive(Clone, Copy)]
 pub struct Loops<'t> {
     /// The innermost is the first; those after the open ones say nothing.
-    pub names: [Option<&'t [u8]>; MAX_LOOPS],
+    pub names: [LoopName<'t>; MAX_LOOPS],
     /// How many are open.
     pub number: usize,
     ghost few: { number ≤ max_loops },
@@ -32,7 +44,7 @@ pub struct Loops<'t> {
 impl<'t> Loops<'t> {
     ghost use Rattle.std.specs.Prelude.{◌≡◌, [], ◌∷◌, true, false, nat_lt, not, length, MatchOption};
     ghost use Rattle.octets.specs.Limits.{max_loops};
-    ghost use Rattle.sieve_check.specs.Reading.{name_in};
+    ghost use Rattle.sieve_check.specs.Reading.{loop_in, name_in};
     ghost use Rattle.sieve_check.specs.Refusing.{open_loops};
     ghost use Rattle.sieve_check.specs.Surroundings.{loops_left};
 
@@ -41,7 +53,7 @@ impl<'t> Loops<'t> {
         ensures { open_loops result ≡ [] }
     {
         Loops {
-            names: [None; MAX_LOOPS],
+            names: [LoopName::Nameless; MAX_LOOPS],
             number: 0,
         }
     }
@@ -61,10 +73,10 @@ impl<'t> Loops<'t> {
     }
 
     /// These and one within them. Nothing where there would be too many.
-    pub fn with(self, name: Option<&'t [u8]>) -> Option<Loops<'t>>
+    pub fn with(self, name: LoopName<'t>) -> Option<Loops<'t>>
         ensures { MatchOption result (nat_lt (length (open_loops self.entry)) max_loops ≡ false)
             (λ all. (nat_lt (length (open_loops self.entry)) max_loops ≡ true)
-            × (open_loops all ≡ name_in name.entry ∷ open_loops self.entry)) }
+            × (open_loops all ≡ loop_in name.entry ∷ open_loops self.entry)) }
     {
         if self.are_full() {
             return None;

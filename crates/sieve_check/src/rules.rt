@@ -2,11 +2,12 @@
 ghost use Rattle.std.specs.Prelude.{◌≡◌, [], ◌∷◌, map, option_map, take, true};
 ghost use Rattle.sieve_parser.specs.View.{argument_tree, command_tree, commands_tree, invocation_tree, more_tests_of};
 ghost use Rattle.sieve_check.specs.Reading.{left_of, read_of};
+ghost use Rattle.sieve_check.specs.Causes.{refused_for};
 ghost use Rattle.sieve_check.specs.ReasonView.{cause_view};
-ghost use Rattle.sieve_check.specs.Rules.{arguments_of, command_mentions, command_needs, command_visit, command_visits, commands_visits, expanding, head_visits, ill_formed_command, ill_formed_test, is_mime_tag, known_command_cause, known_test_cause, lacking_cause, lists_read, long_string_cause, looks_inside, max_reasons, mentions_of, mime_where_given, misplaced, more_visits, names_mentioned, oversized_command, oversized_test, place_cause, read_command_cause, read_test_cause, reasons_of, strings_of, takes_tests, test_mentions, test_needs, test_place_cause, test_visit, test_visits, tests_cause, unknown_cause, where_required};
+ghost use Rattle.sieve_check.specs.Rules.{arguments_of, capability_arguments, command_mentions, command_needs, command_visit, command_visits, commands_visits, expanding, head_visits, ill_formed_command, ill_formed_test, is_mime_tag, known_command_cause, known_test_cause, lacking_cause, lists_read, long_string_cause, looks_inside, max_found, mentions_of, mime_where_given, misplaced, more_visits, names_mentioned, oversized_command, oversized_test, place_cause, read_command_cause, read_test_cause, reasons_of, strings_of, takes_tests, test_mentions, test_needs, test_place_cause, test_visit, test_visits, tests_cause, unknown_cause, where_required};
 ghost use Rattle.sieve_check.specs.Signatures.{command_signature, is_positional, test_signature};
 ghost use Rattle.sieve_check.specs.Names.{command_named, test_named};
-ghost use Rattle.sieve_check.specs.Refusing.{AreVisited, Finds, context_of, looks_inside_as, mentions_in, refused_in, visit_as, visits_as};
+ghost use Rattle.sieve_check.specs.Refusing.{AreNoted, AreVisited, Finds, context_of, lacks_as, looks_inside_as, mentions_in, refused_in, visit_as, visits_as};
 
 use crate::causes::{Cause, ReasonKind};
 use crate::findings::Findings;
@@ -412,6 +413,41 @@ fn found<'t>(
     }
 }
 
+// The arguments of a command whose strings have to be capabilities.
+fn capability_arguments(name: CommandName, head: &Head) -> &[Argument]
+    ensures { map argument_tree result.now ≡ capability_arguments name (arguments_of head.now) }
+{
+    match name {
+        CommandName::Require => &head.arguments,
+        _ => &[],
+    }
+}
+
+// Notes all that a command lacks, which ends so, or a test.
+fn refuse_lacks<'t>(
+    findings: &mut Findings<'t>,
+    required: Capabilities,
+    head: &'t Head,
+    ending: Option<Ending>,
+)
+    ensures { AreNoted findings.old (map (refused_for head.now.token head.now.name)
+        (lacks_as ending required head.now.name (arguments_of head.now))) findings.new }
+{
+    match ending {
+        Some(_) => {
+            if let Some(name) = command_named(head.name.as_slice()) {
+                findings.refuse_lacking(head, required, command_needs(name));
+                findings.refuse_arguments(head, capability_arguments(name, head));
+            }
+        }
+        None => {
+            if let Some(name) = test_named(head.name.as_slice()) {
+                findings.refuse_lacking(head, required, test_needs(name, head));
+            }
+        }
+    }
+}
+
 // Looks at a command or test, apart from its tests and its block. Says whether its tests are looked at: of one that takes none, what
 // stands there may be meant as something else.
 fn visit<'t>(
@@ -436,7 +472,10 @@ fn visit<'t>(
                 findings.refuse(head, Cause::plain(kind));
             }
         }
-        Err(cause) => findings.refuse(head, cause),
+        Err(cause) => {
+            findings.refuse(head, cause);
+            refuse_lacks(findings, surroundings.required, head, ending);
+        }
     }
     looks_inside
 }
@@ -515,9 +554,9 @@ fn commands<'t>(findings: &mut Findings<'t>, surroundings: &Surroundings<'t>, tr
     }
 }
 
-/// The commands and tests of a script that are refused, in order, the first of them up to [`MAX_REASONS`](crate::MAX_REASONS).
+/// Why commands and tests of a script are refused, in order, the first reasons up to [`MAX_FOUND`](crate::MAX_FOUND).
 pub fn script(trees: &[Command]) -> Findings<'_>
-    ensures { refused_in result ≡ take max_reasons (reasons_of (commands_tree trees.now)) }
+    ensures { refused_in result ≡ take max_found (reasons_of (commands_tree trees.now)) }
 {
     let mut findings = Findings::new();
     commands(&mut findings, &Surroundings::at_start(), trees);

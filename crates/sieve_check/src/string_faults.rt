@@ -31,8 +31,8 @@ impl StringFault {
     ghost use Rattle.sieve_check.specs.Reading.{all_lists, name_in};
     ghost use Rattle.sieve_check.specs.Rules.{string_has, strings_in, strings_of};
 
-    // Whether this is wrong with the string.
-    fn is_in(self, string: &Octets) -> bool
+    /// Whether this is wrong with the string.
+    pub fn is_in(self, string: &Octets) -> bool
         ensures { result ≡ string_has self string.now }
     {
         match self {

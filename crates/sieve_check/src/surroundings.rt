@@ -2,11 +2,11 @@
 ghost use Rattle.std.specs.Prelude.{◌≡◌, map};
 ghost use Rattle.sieve_parser.specs.Tree.{TestsTree};
 ghost use Rattle.sieve_parser.specs.View.{argument_tree, head_tree, invocation_tree};
-ghost use Rattle.sieve_check.specs.Reading.{name_in};
-ghost use Rattle.sieve_check.specs.Rules.{name_read};
+ghost use Rattle.sieve_check.specs.Reading.{loop_in};
+ghost use Rattle.sieve_check.specs.Rules.{loop_read};
 ghost use Rattle.sieve_check.specs.Signatures.{command_signature, reading};
 
-use crate::loops::Loops;
+use crate::loops::{LoopName, Loops};
 use crate::names::{Capability, CommandName, capability_named, command_named};
 use crate::signature::command_signature;
 use octets::Octets;
@@ -125,15 +125,18 @@ fn head_in(invocation: &Invocation) -> &Head
     }
 }
 
-// The name of the loop that a `foreverypart` of these arguments opens, if it could be read with one.
-fn loop_name(arguments: &[Argument]) -> Option<&[u8]>
-    ensures { name_in result ≡ name_read
+// What the loop is called that a `foreverypart` of these arguments opens.
+fn loop_name(arguments: &[Argument]) -> LoopName<'_>
+    ensures { loop_in result ≡ loop_read
         (reading (command_signature CommandName.ForEveryPart) (map argument_tree arguments.now)) }
 {
-    command_signature(CommandName::ForEveryPart)
-        .read(arguments)
-        .ok()?
-        .name
+    match command_signature(CommandName::ForEveryPart).read(arguments) {
+        Ok(reading) => match reading.name {
+            Some(name) => LoopName::Named(name),
+            None => LoopName::Nameless,
+        },
+        Err(_) => LoopName::Unreadable,
+    }
 }
 
 /// What surrounds a command or test.

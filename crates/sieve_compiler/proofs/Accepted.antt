@@ -1,5 +1,5 @@
 -- The code of a script is accepted.
-use Rattle.std.proofs.Common.{◌≡◌, ℕ, zero, suc, ◌+◌, ◌-◌, ◌<◌, ◌≤◌, Bool, true, false, not, ◌&&◌, ◌||◌, ◌==◌, nat_lt, nat_le, List, [], ◌∷◌, Option, Some, None, is_some, is_none, slice_get, get_or, length, refl, sym, ap, subst, ◌∙◌, inl, inr, arith}
+use Rattle.std.proofs.Common.{◌≡◌, ℕ, zero, suc, ◌+◌, ◌-◌, ◌<◌, ◌≤◌, Bool, true, false, not, cond, ◌&&◌, ◌||◌, ◌==◌, nat_lt, nat_le, List, [], ◌∷◌, Option, Some, None, is_some, is_none, slice_get, get_or, length, refl, sym, ap, subst, ◌∙◌, inl, inr, arith}
 use Rattle.std.proofs.lemmas.Bool.{cases_Bool, cases_lt, cases_eq, eq-eqb, ne_eqb, lt-ltb, le-ltb, lt-leb}
 use Rattle.std.proofs.lemmas.List.{length-append, append-nil}
 use Rattle.std.proofs.Math.Bool.{and-false}
@@ -7,7 +7,7 @@ use Rattle.std.proofs.lemmas.Option.{slice_get_within, slice_get-get_or}
 use Rattle.octets.specs.Limits.{max_loops}
 use Rattle.bytecode_format.specs.declared.instruction.Instruction.{Instruction}
 use Rattle.bytecode_format.specs.declared.operation.Operation.{Operation}
-use Rattle.bytecode_format.specs.declared.operation.Operation.TheVariants.{Halt, Literal, Variable, Capture, Join, Set, Bool as BoolOp, Not, Jump, JumpIfTrue, JumpIfFalse, Header, Exists, String, Size, PartSize, PartBody, PartDigest, Keep, Discard, File, Store, Each, Next, Break, Take}
+use Rattle.bytecode_format.specs.declared.operation.Operation.TheVariants.{Halt, Each, Next, Break}
 use Rattle.bytecode_format.specs.Operations.{operation_of}
 use Rattle.bytecode_format.specs.Code.{Code}
 use Rattle.bytecode_verifier.specs.Acceptance.{IsAccepted}
@@ -16,9 +16,11 @@ use Rattle.bytecode_verifier.specs.Nests.{first_of, open_at}
 use Rattle.bytecode_verifier.proofs.Around.{same_loops_is, has_loop_is, length_reverse}
 use Rattle.bytecode_verifier.proofs.Open.{inside, nexts, open_inside, open_loops_are}
 use Rattle.bytecode_verifier.specs.Places.{holds_at}
-use Rattle.bytecode_verifier.specs.Rules.{misses_index, misses_loop, is_halt, breaks_form, breaks_end, breaks_stack}
+use Rattle.bytecode_verifier.specs.Rules.{count_of, misses_index, misses_loop, is_halt, breaks_form, breaks_end, breaks_stack}
 use Rattle.std.specs.Option.{option_and_then, option_map_or}
-use Rattle.bytecode_verifier.specs.Rows.{row_in_version, row_named, is_jump, needs_part}
+use Rattle.bytecode_verifier.specs.declared.row.Table.{Table}
+use Rattle.bytecode_verifier.specs.declared.row.Table.TheVariants.{Variables, Numbers, Strings}
+use Rattle.bytecode_verifier.specs.Rows.{row_of, row_in_version, row_named, is_jump, needs_part}
 use Rattle.bytecode_verifier.specs.Shape.{Entries, is_empty, is_target, shape_at}
 use Rattle.bytecode_verifier.proofs.Ends.{past_stack}
 use Rattle.sieve_check.specs.Bounded.{IsBounded}
@@ -29,7 +31,7 @@ use Rattle.sieve_compiler.specs.Coding.{plain, commands_code, code_of, written_v
 use Rattle.sieve_compiler.proofs.Standing.{Stands, stands_right, stands_first}
 use Rattle.sieve_compiler.proofs.CodeLengths.{commands_code_length}
 use Rattle.sieve_compiler.proofs.Known.{tables_have}
-use Rattle.sieve_compiler.proofs.Sound.{standing, IsKnown, KeepsLoops, IsSound, AreSound, sound_both}
+use Rattle.sieve_compiler.proofs.Sound.{standing, IsInTable, IsKnown, IsInside, KeepsLoops, IsSound, AreSound, sound_both}
 use Rattle.sieve_compiler.proofs.CommandsSound.{halt_sound, commands_end, commands_sound}
 
 sound_at : (all : List Instruction) (tables : Tables) (last place : ℕ) (piece : List Instruction) (k : ℕ) (i : Instruction) → AreSound all tables last place piece → slice_get piece k ≡ Some i → IsSound all tables last (place + k) i
@@ -44,32 +46,18 @@ sound_at all tables last place (j ∷ piece) (suc k) i h e =
 
 index_kept : (code : Code) (tables : Tables) (o : Option Operation) (i : Instruction) → (code.numbers ≡ tables.numbers) × (code.strings ≡ tables.strings) × (code.variables ≡ length tables.variables) → IsKnown tables o i → misses_index code (option_and_then (row_in_version written_version) o) i ≡ false
 index_kept code tables None i same h = refl
-index_kept code tables (Some Halt) i same h = refl
-index_kept code tables (Some Literal) i same h = let lt = slice_get_within tables.strings i.c h.0 h.1 in rw same.1 (lt-leb (length tables.strings) i.c lt)
-index_kept code tables (Some Variable) i same h = let lt = slice_get_within tables.variables i.c h.0 h.1 in rw same.2 (lt-leb (length tables.variables) i.c lt)
-index_kept code tables (Some Capture) i same h = refl
-index_kept code tables (Some Join) i same h = refl
-index_kept code tables (Some Set) i same h = let lt = slice_get_within tables.variables i.c h.0 h.1 in rw same.2 (lt-leb (length tables.variables) i.c lt)
-index_kept code tables (Some BoolOp) i same h = refl
-index_kept code tables (Some Not) i same h = refl
-index_kept code tables (Some Jump) i same h = refl
-index_kept code tables (Some JumpIfTrue) i same h = refl
-index_kept code tables (Some JumpIfFalse) i same h = refl
-index_kept code tables (Some Header) i same h = refl
-index_kept code tables (Some Exists) i same h = refl
-index_kept code tables (Some String) i same h = refl
-index_kept code tables (Some Size) i same h = let lt = slice_get_within tables.numbers i.c h.0 h.1 in rw same.0 (lt-leb (length tables.numbers) i.c lt)
-index_kept code tables (Some PartSize) i same h = let lt = slice_get_within tables.numbers i.c h.0 h.1 in rw same.0 (lt-leb (length tables.numbers) i.c lt)
-index_kept code tables (Some PartBody) i same h = refl
-index_kept code tables (Some PartDigest) i same h = refl
-index_kept code tables (Some Keep) i same h = refl
-index_kept code tables (Some Discard) i same h = refl
-index_kept code tables (Some File) i same h = refl
-index_kept code tables (Some Store) i same h = refl
-index_kept code tables (Some Each) i same h = refl
-index_kept code tables (Some Next) i same h = refl
-index_kept code tables (Some Break) i same h = refl
-index_kept code tables (Some Take) i same h = let lt = slice_get_within tables.variables i.c h.0 h.1 in rw same.2 (lt-leb (length tables.variables) i.c lt)
+index_kept code tables (Some o) i same h = in_version (row_of o).since_two
+  where
+    in_table : (index : Option Table) → IsInTable tables index i.c → option_map_or (λ table. nat_le (count_of code table) i.c) index false ≡ false
+    in_table None h = refl
+    in_table (Some Variables) h = let lt = slice_get_within tables.variables i.c h.0 h.1 in rw same.2 (lt-leb (length tables.variables) i.c lt)
+    in_table (Some Numbers) h = let lt = slice_get_within tables.numbers i.c h.0 h.1 in rw same.0 (lt-leb (length tables.numbers) i.c lt)
+    in_table (Some Strings) h = let lt = slice_get_within tables.strings i.c h.0 h.1 in rw same.1 (lt-leb (length tables.strings) i.c lt)
+
+    -- scripts are written in the version that has every operation
+    in_version : (since_two : Bool) → misses_index code (cond (since_two && not (written_version == 2)) None (Some (row_of o))) i ≡ false
+    in_version true = in_table (row_of o).index h
+    in_version false = in_table (row_of o).index h
 
 none_passes : (o : Option Instruction) (test : Instruction → Bool) → ((i : Instruction) → o ≡ Some i → test i ≡ false) → option_map_or test o false ≡ false
 none_passes None test h = refl
@@ -99,12 +87,15 @@ some_open code place h = ne_eqb (length (open_loops code place)) 0 (λ e. omega 
 
 -- an operation on the current part stands in a loop
 part_kept : (code : Code) (place : ℕ) (o : Option Operation) (i : Instruction) → KeepsLoops code.instructions place o i → (needs_part (option_and_then (row_in_version written_version) o) && (length (open_loops code place) == 0)) ≡ false
-part_kept code place (Some PartSize) i h = some_open code place h
-part_kept code place (Some PartBody) i h = some_open code place h
-part_kept code place (Some PartDigest) i h = some_open code place h
-part_kept code place (Some Store) i h = some_open code place h
-part_kept code place (Some Take) i h = some_open code place h
-part_kept code place _ i h = refl
+part_kept code place None i h = refl
+part_kept code place (Some Each) i h = refl
+part_kept code place (Some Next) i h = refl
+part_kept code place (Some Break) i h = refl
+part_kept code place (Some o) i h = around (row_of o).needs_part h
+  where
+    around : (needs : Bool) → IsInside needs (length (inside code.instructions place)) → (needs && (length (open_loops code place) == 0)) ≡ false
+    around true deep = some_open code place deep
+    around false deep = refl
 
 goes_on : (before after : Option Entries) (entries : Entries) → after ≡ Some entries → (is_some before && is_none after) ≡ false
 goes_on before after entries e = rw e (and-false (is_some before))

@@ -142,7 +142,7 @@ module _ (script : CommandForms) (mail : Mail) (jumps_kept : (p : ℕ) (i : Inst
     with_taken_is most name e on = sym (rw (on.is, on.here) refl)
 
     abbrev take_charge : ℕ → List ℕ → ℕ → Effects → ℕ → ℕ
-    take_charge most name p e c = charge_of code mail Take (take_octets most (place_of_variable tables name)) (at p e c)
+    take_charge most name p e c = charge_of mail Take (take_octets most (place_of_variable tables name)) (at p e c)
 
     take_goes : (p c most : ℕ) (name : List ℕ) (e : Effects) (on : OnPart mail part) → (0 < most) × (most ≤ max_value) → Has tables (uses_with [] [] (name ∷ [])) → slice_get all p ≡ Some (take_octets most (place_of_variable tables name))
         → Goes (at p e c) (at (suc p) (record e { variables = with_value name (take most on.found.content) e.variables }) (c + take_charge most name p e c))

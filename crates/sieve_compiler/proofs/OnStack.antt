@@ -1,5 +1,5 @@
 -- Strings on the stack and as they are expanded, and where a test leads.
-use Rattle.std.proofs.Common.{◌≡◌, ℕ, zero, suc, ◌+◌, ◌-◌, ◌<◌, ◌≤◌, Bool, true, false, not, List, [], ◌∷◌, ◌++◌, Option, Some, None, option_map, length, map, take, append-nil, append_assoc, slice_get, refl, sym, ap, subst, ◌∙◌, arith, if◌then◌else◌}
+use Rattle.std.proofs.Common.{◌≡◌, ℕ, zero, suc, ◌+◌, ◌-◌, ◌<◌, ◌≤◌, Bool, true, false, not, List, [], ◌∷◌, ◌++◌, Option, Some, None, length, map, take, append-nil, slice_get, refl, sym, ap, ◌∙◌, arith, if◌then◌else◌}
 use Rattle.std.specs.List.{concat, flat_map}
 use Rattle.std.proofs.lemmas.Bool.{lt-ltb}
 use Rattle.std.proofs.lemmas.List.{take_all}
@@ -10,9 +10,10 @@ use Rattle.sieve_check.specs.declared.typed.Segment.{Segment}
 use Rattle.sieve_check.specs.declared.typed.Segment.TheVariants.{Text, Variable, Capture}
 use Rattle.sieve_check.specs.Typed.{Template, TestForm, TestForms, test}
 use Rattle.sieve_meaning.specs.Meaning.{Effects, value_of, expanded, all_expanded, Verdict, verdict, broken, left, current, of_part, all_do, any_do}
+use Rattle.bytecode_verifier.proofs.Again.{onto as stacked, onto_number as stacked_number, on_top_again}
 use Rattle.sieve_vm.specs.State.{Value, text, Frame, State, current_part}
 use Rattle.sieve_vm.specs.Machine.{Effect, with_part}
-use Rattle.sieve_vm.specs.Stack.{OnTop, with_last, texts_on_top, lists_on_top}
+use Rattle.sieve_vm.specs.Stack.{OnTop, Lists, text_in, texts_on_top, lists_on_top}
 use Rattle.sieve_compiler.specs.Coding.{aim_of}
 use Rattle.sieve_compiler.proofs.Values.{AreShort, capture_short}
 
@@ -38,36 +39,21 @@ aim_lands false false t ts following target = refl
 
 -- strings on the stack, the last one on top
 abbrev pub onto : List (List ℕ) → List Value → List Value
-onto [] stack = stack
-onto (s ∷ ss) stack = onto ss (text s ∷ stack)
-
-on_top_of : (ss : List (List ℕ)) (k : ℕ) (stack : List Value) (top : OnTop) → texts_on_top k stack ≡ Some top → texts_on_top (length ss + k) (onto ss stack) ≡ Some (record { texts = top.texts ++ ss; below = top.below })
-on_top_of [] k stack top e =
-    let same : k ≡ 0 + k = omega arith in
-    subst (λ n. texts_on_top n stack ≡ Some (record { texts = top.texts ++ []; below = top.below })) same
-    (e ∙ ap (λ texts. Some (let t : OnTop = record { texts = texts; below = top.below } in t)) (sym (append-nil top.texts)))
-on_top_of (s ∷ ss) k stack top e =
-    let one : texts_on_top (suc k) (text s ∷ stack) ≡ Some (with_last s top) = ap (option_map (with_last s)) e in
-    let same : length ss + suc k ≡ suc (length ss) + k = omega arith in
-    subst (λ n. texts_on_top n (onto ss (text s ∷ stack)) ≡ Some (record { texts = top.texts ++ (s ∷ ss); below = top.below })) same
-    (on_top_of ss (suc k) (text s ∷ stack) (with_last s top) one ∙ ap (λ texts. Some (let t : OnTop = record { texts = texts; below = top.below } in t)) (append_assoc top.texts (s ∷ []) ss))
+onto ss stack = stacked text ss stack
 
 -- they are found there again
-pub on_top : (n : ℕ) (ss : List (List ℕ)) (stack : List Value) → length ss ≡ n → texts_on_top n (onto ss stack) ≡ Some (record { texts = ss; below = stack })
-on_top n ss stack number =
-    let same : length ss + 0 ≡ n = omega (arith, number) in
-    subst (λ m. texts_on_top m (onto ss stack) ≡ Some (record { texts = ss; below = stack })) same (on_top_of ss 0 stack (record { texts = []; below = stack }) refl)
+pub on_top : (n : ℕ) (ss : List (List ℕ)) (stack : List Value) → length ss ≡ n → texts_on_top n (onto ss stack) ≡ Some (let t : OnTop = record { texts = ss; below = stack } in t)
+on_top n ss stack number = on_top_again text_in text (λ s. refl) n ss stack number
 
 pub onto_number : (ss : List (List ℕ)) (stack : List Value) → length (onto ss stack) ≡ length ss + length stack
-onto_number [] stack = omega arith
-onto_number (s ∷ ss) stack = omega (arith, onto_number ss (text s ∷ stack))
+onto_number ss stack = stacked_number text ss stack
 
 -- names, and keys above them, are found again
-pub lists_again : (n k : ℕ) (names keys : List (List ℕ)) → length names ≡ n → length keys ≡ k → lists_on_top n 0 k (onto keys (onto names [])) ≡ Some (record { names = names; params = []; keys = keys; below = [] })
+pub lists_again : (n k : ℕ) (names keys : List (List ℕ)) → length names ≡ n → length keys ≡ k → lists_on_top n 0 k (onto keys (onto names [])) ≡ Some (let lists : Lists = record { names = names; params = []; keys = keys; below = [] } in lists)
 lists_again n k names keys e f = rw (on_top k keys (onto names []) f, on_top n names [] e) refl
 
 -- and so are names, parameters above them, and keys above these
-pub three_again : (n m k : ℕ) (names given keys : List (List ℕ)) → length names ≡ n → length given ≡ m → length keys ≡ k → lists_on_top n m k (onto keys (onto given (onto names []))) ≡ Some (record { names = names; params = given; keys = keys; below = [] })
+pub three_again : (n m k : ℕ) (names given keys : List (List ℕ)) → length names ≡ n → length given ≡ m → length keys ≡ k → lists_on_top n m k (onto keys (onto given (onto names []))) ≡ Some (let lists : Lists = record { names = names; params = given; keys = keys; below = [] } in lists)
 three_again n m k names given keys e g f = rw (on_top k keys (onto given (onto names [])) f, on_top m given (onto names []) g, on_top n names [] e) refl
 
 -- ---- strings as they are expanded

@@ -1,12 +1,14 @@
 -- What it is that an instruction of a script's code keeps the rules at its place, and where its jumps may lead.
-use Rattle.std.proofs.Common.{◌≡◌, ℕ, zero, suc, ◌+◌, ◌<◌, ◌≤◌, true, List, [], ◌∷◌, ◌++◌, Option, Some, None, unwrap_or, slice_get, length, min, sum, refl, subst, arith}
+use Rattle.std.proofs.Common.{◌≡◌, ℕ, zero, suc, ◌+◌, ◌<◌, ◌≤◌, Bool, true, false, List, [], ◌∷◌, ◌++◌, Option, Some, None, unwrap_or, slice_get, length, min, sum, refl, subst, arith}
 use Rattle.bytecode_format.specs.declared.instruction.Instruction.{Instruction}
 use Rattle.bytecode_format.specs.declared.operation.Operation.{Operation}
-use Rattle.bytecode_format.specs.declared.operation.Operation.TheVariants.{Literal, Variable as VariableOp, Capture as CaptureOp, Join, Set, String, Bool as BoolOp, Header, Exists, Size, PartSize, PartBody, PartDigest, Store, Each, Next, Break, Take}
+use Rattle.bytecode_format.specs.declared.operation.Operation.TheVariants.{Literal, Variable as VariableOp, Capture as CaptureOp, Join, String, Bool as BoolOp, Header, Exists, Size, PartSize, PartBody, PartDigest, Each, Next, Break}
 use Rattle.bytecode_format.specs.Operations.{operation_of}
 use Rattle.std.specs.Option.{option_and_then, option_map_or}
 use Rattle.bytecode_format.specs.Code.{Code}
-use Rattle.bytecode_verifier.specs.Rows.{row_named, is_well_formed, is_jump}
+use Rattle.bytecode_verifier.specs.declared.row.Table.{Table}
+use Rattle.bytecode_verifier.specs.declared.row.Table.TheVariants.{Variables, Numbers, Strings}
+use Rattle.bytecode_verifier.specs.Rows.{row_of, row_named, is_well_formed, is_jump}
 use Rattle.bytecode_verifier.specs.Nests.{next_at, leads}
 use Rattle.bytecode_verifier.proofs.Open.{inside}
 use Rattle.bytecode_verifier.specs.Shape.{Entries, Texts, take_texts, entries_after}
@@ -21,7 +23,7 @@ string_at tables place = unwrap_or (slice_get tables.strings place) []
 
 -- texts as one
 abbrev pub joined_text : Texts → Entries
-joined_text parts = Text (min (sum parts.bounds) max_string) ∷ parts.rest
+joined_text parts = Text (min (sum parts.texts) max_string) ∷ parts.below
 
 -- the entries that an operation of a script's code leaves: a text goes on those that are there, a test leaves its truth value alone
 abbrev pub leaves : Tables → Option Operation → Instruction → Entries → Entries
@@ -55,27 +57,30 @@ pub record IsAimed (all : List Instruction) (tables : Tables) (last place target
   pub between : standing tables all target ≡ []
   pub same : inside all target ≡ inside all place
 
+-- the table has an entry at the place
+abbrev pub IsInTable : Tables → Option Table → ℕ → Type 0
+IsInTable tables None place = Unit {0}
+IsInTable tables (Some Variables) place = (s : List ℕ) × (slice_get tables.variables place ≡ Some s)
+IsInTable tables (Some Numbers) place = (n : ℕ) × (slice_get tables.numbers place ≡ Some n)
+IsInTable tables (Some Strings) place = (s : List ℕ) × (slice_get tables.strings place ≡ Some s)
+
 -- the index of an operation is one of its table
 abbrev pub IsKnown : Tables → Option Operation → Instruction → Type 0
-IsKnown tables (Some Literal) i = (s : List ℕ) × (slice_get tables.strings i.c ≡ Some s)
-IsKnown tables (Some VariableOp) i = (s : List ℕ) × (slice_get tables.variables i.c ≡ Some s)
-IsKnown tables (Some Set) i = (s : List ℕ) × (slice_get tables.variables i.c ≡ Some s)
-IsKnown tables (Some Take) i = (s : List ℕ) × (slice_get tables.variables i.c ≡ Some s)
-IsKnown tables (Some Size) i = (n : ℕ) × (slice_get tables.numbers i.c ≡ Some n)
-IsKnown tables (Some PartSize) i = (n : ℕ) × (slice_get tables.numbers i.c ≡ Some n)
-IsKnown tables _ i = Unit {0}
+IsKnown tables None i = Unit {0}
+IsKnown tables (Some o) i = IsInTable tables (row_of o).index i.c
+
+-- there is a current part, where one is needed: it is that of a loop
+abbrev pub IsInside : Bool → ℕ → Type 0
+IsInside true loops = 0 < loops
+IsInside false loops = Unit {0}
 
 -- a loop's brackets name each other, and there is room for it; no more loops are left than are open; the current part is that of a loop
 abbrev pub KeepsLoops : List Instruction → ℕ → Option Operation → Instruction → Type 0
+KeepsLoops all place None i = Unit {0}
 KeepsLoops all place (Some Each) i = (leads (next_at all place) i.c ≡ true) × (length (inside all place) < max_loops)
 KeepsLoops all place (Some Next) i = leads (next_at all i.c) place ≡ true
 KeepsLoops all place (Some Break) i = i.a ≤ length (inside all place)
-KeepsLoops all place (Some PartSize) i = 0 < length (inside all place)
-KeepsLoops all place (Some PartBody) i = 0 < length (inside all place)
-KeepsLoops all place (Some PartDigest) i = 0 < length (inside all place)
-KeepsLoops all place (Some Store) i = 0 < length (inside all place)
-KeepsLoops all place (Some Take) i = 0 < length (inside all place)
-KeepsLoops all place _ i = Unit {0}
+KeepsLoops all place (Some o) i = IsInside (row_of o).needs_part (length (inside all place))
 
 -- the operation takes these entries, and leaves those
 abbrev pub TurnsInto : Tables → Option Operation → Instruction → Entries → Entries → Type 0

@@ -22,7 +22,7 @@ use Rattle.sieve_check.specs.Typed.{Template, CommandForms}
 use Rattle.sieve_check.specs.Variables.{string_variables}
 use Rattle.sieve_meaning.specs.Meaning.{Effects, value_of, expanded, all_expanded, is_size}
 use Rattle.sieve_vm.specs.State.{Value, truth, text, Frame, State, current_part, Turn, goes, start}
-use Rattle.sieve_vm.specs.Machine.{is_sound_jump, turn, step, turn_at}
+use Rattle.sieve_vm.specs.Machine.{is_sound_jump, turn, step, turn_at, referred_in}
 use Rattle.sieve_vm.specs.Charge.{charge_of}
 use Rattle.sieve_vm.specs.Runs.{Run}
 use Rattle.sieve_compiler.specs.Growing.{Uses, uses_with, joined, segment_uses, string_uses, strings_uses}
@@ -75,7 +75,7 @@ module _ (script : CommandForms) (mail : Mail) (jumps_kept : (p : ℕ) (i : Inst
   pub step_at : (s : State) (i : Instruction) (turn : Turn) → slice_get all s.place ≡ Some i → turn_at code mail s (Some i) ≡ turn → step code mail s ≡ turn
   step_at s i turn here h = ap (turn_at code mail s) here ∙ h
 
-  sound_jump : (s : State) (i : Instruction) → slice_get all s.place ≡ Some i → is_jump (row_named written_version i.op) ≡ true → is_sound_jump code s i ≡ true
+  sound_jump : (s : State) (i : Instruction) → slice_get all s.place ≡ Some i → is_jump (row_named written_version i.op) ≡ true → is_sound_jump (referred_in code) s i ≡ true
   sound_jump s i here jump = jumps_kept s.place i here jump
 
   -- where these loops are open, and the current part, if there is one, is one of the message
@@ -169,7 +169,7 @@ module _ (script : CommandForms) (mail : Mail) (jumps_kept : (p : ℕ) (i : Inst
         (rest.0, after_steps 1 (with_stack stack p e c) (with_stack pushed (suc p) e (c + 1)) (end (p + suc (length ss))) (with_stack pushed (suc p) e (c + 1), first, refl) others)
 
     abbrev join_charge : List Segment → List Value → ℕ → Effects → ℕ → ℕ
-    join_charge segments stack p e c = charge_of code mail Join (join_texts (length segments)) (with_stack (onto (map (value_of e) segments) stack) p e c)
+    join_charge segments stack p e c = charge_of mail Join (join_texts (length segments)) (with_stack (onto (map (value_of e) segments) stack) p e c)
 
     join_step : (p c : ℕ) (segments : List Segment) (stack : List Value) (e : Effects) → 2 ≤ length segments → length segments ≤ 256 → length stack < max_stack → slice_get all p ≡ Some (join_texts (length segments))
         → Goes (with_stack (onto (map (value_of e) segments) stack) p e c) (with_stack (text (expanded e segments) ∷ stack) (suc p) e (c + join_charge segments stack p e c))

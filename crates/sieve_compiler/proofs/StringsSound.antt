@@ -22,7 +22,7 @@ use Rattle.sieve_compiler.proofs.Standing.{Stands, stands_first, stands_next, st
 use Rattle.sieve_compiler.proofs.CodeLengths.{string_code_length}
 use Rattle.sieve_compiler.proofs.Known.{Has, has_left, has_right, found_string, found_variable}
 use Rattle.sieve_compiler.proofs.Sound.{standing, IsSound, AreSound, sound_both}
-use Rattle.sieve_compiler.proofs.PushedTexts.{pushed, bounds_onto, segment_bound, bound_of, taken_back}
+use Rattle.sieve_compiler.proofs.PushedTexts.{pushed, segment_bound, bound_of, taken_back}
 
 module _ (all : List Instruction) (tables : Tables) (last : ℕ) where
   text_sound : (place : ℕ) (s : List ℕ) → slice_get tables.strings (place_of_string tables s) ≡ Some s → length (standing tables all place) < max_stack → IsSound all tables last place (push_text tables s)
@@ -91,7 +91,7 @@ module _ (all : List Instruction) (tables : Tables) (last : ℕ) where
       )
 
   following_join : (place : ℕ) (segments : List Segment) (entries : Entries) → slice_get all place ≡ Some (join_texts (length segments)) → standing tables all place ≡ pushed (map segment_bound segments) entries
-      → standing tables all (suc place) ≡ Text (min (sum (bounds_onto (map segment_bound segments) [])) max_string) ∷ entries
+      → standing tables all (suc place) ≡ Text (min (sum (map segment_bound segments)) max_string) ∷ entries
   following_join place segments entries here start = rw (here, start, taken_back segment_bound segments entries) refl
 
   join_sound : (place : ℕ) (segments : List Segment) (entries : Entries) → 2 ≤ length segments → length segments ≤ max_segments → length entries < max_stack → standing tables all place ≡ pushed (map segment_bound segments) entries

@@ -114,7 +114,7 @@ module _ (script : CommandForms) (mail : Mail) (jumps_kept : (p : ℕ) (i : Inst
         (second.0, after_steps script mail jumps_kept first.1.0 (at p e c) (with_stack below q e first.0) (end (p + (n + strings_length keys))) first.1.1 others)
 
     abbrev fields_charge : Match → Scope → Selected → List Template → List Template → ℕ → Effects → ℕ → ℕ
-    fields_charge how scope selected names keys p e c = charge_of code mail Header (match_fields how scope selected (length names) (length keys)) (with_stack (three e names (params_of selected) keys) p e c)
+    fields_charge how scope selected names keys p e c = charge_of mail Header (match_fields how scope selected (length names) (length keys)) (with_stack (three e names (params_of selected) keys) p e c)
 
     both_again : (e : Effects) (names keys : List Template) → lists_on_top (length names) 0 (length keys) (both e names keys) ≡ Some (record { names = all_expanded e names; params = []; keys = all_expanded e keys; below = [] })
     both_again e names keys = lists_again (length names) (length keys) (all_expanded e names) (all_expanded e keys) (length-map names (expanded e)) (length-map keys (expanded e))
@@ -143,7 +143,7 @@ module _ (script : CommandForms) (mail : Mail) (jumps_kept : (p : ℕ) (i : Inst
         (tested_turn o (three e names (params_of selected) keys) p c (1 + header_cost (scope_of scope) part (selector_of e selected) (all_expanded e names) (all_expanded e keys) mail) e))
 
     abbrev texts_charge : Match → List Template → List Template → ℕ → Effects → ℕ → ℕ
-    texts_charge how sources keys p e c = charge_of code mail String (match_texts how (length sources) (length keys)) (with_stack (both e sources keys) p e c)
+    texts_charge how sources keys p e c = charge_of mail String (match_texts how (length sources) (length keys)) (with_stack (both e sources keys) p e c)
 
     texts_step : (p c : ℕ) (how : Match) (sources keys : List Template) (e : Effects) → AreBoundedLists sources keys → slice_get all p ≡ Some (match_texts how (length sources) (length keys))
         → let v = test_does mail part (string how sources keys) e in Goes (with_stack (both e sources keys) p e c) (holding v.value (suc p) v.effects (c + texts_charge how sources keys p e c))
@@ -156,7 +156,7 @@ module _ (script : CommandForms) (mail : Mail) (jumps_kept : (p : ℕ) (i : Inst
         (tested_turn o (both e sources keys) p c (1 + values_cost (all_expanded e sources) (all_expanded e keys)) e))
 
     abbrev names_charge : Scope → List Template → ℕ → Effects → ℕ → ℕ
-    names_charge scope names p e c = charge_of code mail Exists (find_fields scope (length names)) (with_stack (onto (all_expanded e names) []) p e c)
+    names_charge scope names p e c = charge_of mail Exists (find_fields scope (length names)) (with_stack (onto (all_expanded e names) []) p e c)
 
     names_step : (p c : ℕ) (scope : Scope) (names : List Template) (e : Effects) → IsBoundedList names → slice_get all p ≡ Some (find_fields scope (length names))
         → Goes (with_stack (onto (all_expanded e names) []) p e c) (holding (exists_in (scope_of scope) part (all_expanded e names) mail) (suc p) e (c + names_charge scope names p e c))
@@ -202,7 +202,7 @@ module _ (script : CommandForms) (mail : Mail) (jumps_kept : (p : ℕ) (i : Inst
         subst (λ (v : Verdict). Goes (at p e c) (holding v.value (suc p) v.effects (c + 1))) (sym is) (part_size_goes order p c n e on known here)
 
     abbrev body_charge : Match → List Template → ℕ → Effects → ℕ → ℕ
-    body_charge how keys p e c = charge_of code mail PartBody (match_body how (length keys)) (with_stack (onto (all_expanded e keys) []) p e c)
+    body_charge how keys p e c = charge_of mail PartBody (match_body how (length keys)) (with_stack (onto (all_expanded e keys) []) p e c)
 
     body_step : (p c : ℕ) (how : Match) (keys : List Template) (e : Effects) → IsBoundedList keys → 0 < length frames → slice_get all p ≡ Some (match_body how (length keys))
         → let v = test_does mail part (part_body how keys) e in Goes (with_stack (onto (all_expanded e keys) []) p e c) (holding v.value (suc p) v.effects (c + body_charge how keys p e c))
@@ -220,7 +220,7 @@ module _ (script : CommandForms) (mail : Mail) (jumps_kept : (p : ℕ) (i : Inst
         (ap (turn cost) (with_part_is (λ number q t. with_texts (test_body how q) t (texts_on_top i.c t.stack)) mail s frames on) ∙ goes_on cost)))
 
     abbrev digest_charge : List Template → ℕ → Effects → ℕ → ℕ
-    digest_charge keys p e c = charge_of code mail PartDigest (match_digest (length keys)) (with_stack (onto (all_expanded e keys) []) p e c)
+    digest_charge keys p e c = charge_of mail PartDigest (match_digest (length keys)) (with_stack (onto (all_expanded e keys) []) p e c)
 
     digest_step : (p c : ℕ) (keys : List Template) (e : Effects) → IsBoundedList keys → 0 < length frames → slice_get all p ≡ Some (match_digest (length keys))
         → let v = test_does mail part (part_digest keys) e in Goes (with_stack (onto (all_expanded e keys) []) p e c) (holding v.value (suc p) v.effects (c + digest_charge keys p e c))

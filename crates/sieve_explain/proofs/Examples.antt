@@ -15,13 +15,13 @@ use Rattle.sieve_lexer.specs.declared.token.TokenKind.{TokenKind}
 use Rattle.sieve_lexer.specs.declared.token.TokenKind.TheVariants.{ClosingBrace, ClosingBracket, Comma, Identifier, MultiLineString, Number, OpeningBrace, OpeningBracket, QuotedString, Semicolon}
 use Rattle.sieve_check.specs.declared.causes.ReasonKind.{ReasonKind}
 use Rattle.sieve_check.specs.declared.causes.ReasonKind.TheVariants.{ExtraArgument, ForeignTag, LongString, MissingArgument, MissingCapability, Misplaced, UnknownCapability, UnknownCommand, UnknownTag, UnknownTest, WrongTests}
-use Rattle.sieve_explain.specs.Explaining.{heading, label_blanks, numbered, remark, told}
-use Rattle.sieve_explain.specs.Faults.{beginnings, end_blanks, lexical_blanks, misplaced_token, token_blanks}
+use Rattle.sieve_explain.specs.Explaining.{heading, label_blanks, look_told, note, numbered, remark, told}
+use Rattle.sieve_explain.specs.Faults.{beginnings, end_blanks, lexical_blanks, look_text, misplaced_token, more_blanks, token_blanks}
 use Rattle.sieve_explain.specs.Hints.{known_capabilities, known_commands, known_tags, known_tests, lacking, meant, meant_too, unknown_capability, unknown_command, unknown_tag, unknown_test}
 use Rattle.sieve_explain.specs.Words.{begin_off, differ_at, is_near, nearest}
 use Rattle.sieve_explain.specs.Marks.{has_unit, has_value, is_unit, label_behind, string_among, unclosed}
 use Rattle.sieve_explain.specs.Places.{column, line_at, line_number, octets_after, octets_before, without_return}
-use Rattle.sieve_explain.specs.Reasons.{capability_words, needs_text, no_argument_words, no_test_words, other_blanks, place_text, reason_blanks}
+use Rattle.sieve_explain.specs.Reasons.{capability_words, no_argument_words, no_test_words, other_blanks, place_text, reason_blanks}
 use Rattle.sieve_explain.specs.Sentences.{filled, filled_octet}
 use Rattle.sieve_explain.specs.Shown.{excerpt, line, marked, named, quoted, shown, shown_end, shown_octet, shown_start}
 use Rattle.sieve_explain.specs.declared.shown.Style.TheVariants.{Line, Name}
@@ -98,11 +98,11 @@ reasons_said :
     × (said ForeignTag (codes "fileinto") (codes "is") ≡ codes "`fileinto` takes no tag `:is`")
     × (said (ExtraArgument Text) (codes "fileinto") [] ≡ codes "`fileinto` has too many arguments: it takes one string without brackets")
     × (said LongString (codes "fileinto") (codes "a@b") ≡ codes "the string \"a@b\" has more than 16384 octets")
-    × (said (MissingCapability capability.Variables) (codes "take") [] ≡ codes "`take` needs `require [\"variables\", \"vnd.depot\"]` before it")
+    × (said (MissingCapability capability.Depot) (codes "take") [] ≡ codes "`take` needs `require \"vnd.depot\"` before it")
     × (said (MissingCapability capability.Variables) (codes "set") [] ≡ codes "`set` needs `require \"variables\"` before it")
     × (said (ExtraArgument positional.Nothing) (codes "if") [] ≡ codes "`if` has too many arguments: it takes none before its test")
     × (said Misplaced (codes "else") [] ≡ codes "`else` stands directly after an `if` or `elsif`")
-unfolding digits other_blanks filled_octet shown_octet shown_start place_text no_test_words needs_text no_argument_words
+unfolding digits other_blanks filled_octet shown_octet shown_start place_text no_test_words no_argument_words
 reasons_said = (refl, refl, refl, refl, refl, refl, refl, refl, refl, refl, refl)
 
 -- a letter that is another, is missing, is one too many, and two that are swapped; and the case of letters
@@ -177,6 +177,18 @@ labels :
     × (filled (label_blanks (codes "Contains") (record { kind = MissingArgument Text; name = codes "header"; subject = [] })) ≡ codes "`Contains` is a tag: is a colon missing before it?")
 unfolding label_behind filled_octet shown_octet shown_start
 labels = (refl, refl, refl, refl)
+
+-- that there is more, and what a file looks like: a program, a mail, and others
+notes :
+    (note (codes "my.sieve") more_blanks ≡ line (codes "my.sieve: note: more is refused than this: the first 20 are told"))
+    × (look_text (codes "SVBC" ++ 2 ∷ []) ≡ codes "the file begins as a compiled program does: `depot disassemble` shows what is in one")
+    × (look_text (codes "Return-Path: <a@b>") ≡ codes "the file begins with a header field, as a mail does: is it a script?")
+    × (look_text (codes "keep:x") ≡ [])
+    × (look_text (codes ": x") ≡ [])
+    × (look_text (codes "# Note: x") ≡ [])
+    × (look_told (codes "my.sieve") [] ≡ [])
+unfolding digits note look_text filled_octet shown_octet
+notes = (refl, refl, refl, refl, refl, refl, refl)
 
 -- all of it
 whole : told (codes "my.sieve") (codes "keep;\nstop }\n") 11 (token_blanks (codes "keep;\nstop }\n") (record { kind = ClosingBrace; start = 11; end = 12 }))

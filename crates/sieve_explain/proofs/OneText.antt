@@ -1,5 +1,5 @@
 -- A refusal of a script has one explanation, and a script one answer.
-use Rattle.std.proofs.Common.{◌≡◌, ◌≢◌, ◌∙◌, ◌⊎◌, ℕ, List, ap, sym, subst, refl, inl, inr}
+use Rattle.std.proofs.Common.{◌≡◌, ◌≢◌, ◌∙◌, ◌⊎◌, ℕ, List, ◌++◌, ap, sym, subst, refl, inl, inr}
 use Rattle.std.specs.Prelude.{Option, Some, None, option_map}
 use Rattle.std.proofs.lemmas.Option.{none-some}
 use Rattle.refusals.specs.Causes.{of_checker, of_parser}
@@ -16,7 +16,8 @@ use Rattle.sieve_parser.specs.Tree.{CommandsTree}
 use Rattle.sieve_parser.specs.declared.error.ParseError.{ParseError}
 use Rattle.sieve_parser.specs.declared.error.ParseError.TheVariants as parser
 use Rattle.sieve_explain.specs.declared.explanation.Explanation.{Explanation}
-use Rattle.sieve_explain.specs.Explaining.{Explains, IsExplained, Tells, TellsReasons, answer_of, depth_told, reasons_told, syntax_told}
+use Rattle.sieve_explain.specs.Explaining.{Explains, IsExplained, Tells, TellsFault, TellsReasons, answer_of, depth_told, look_told, reasons_told, syntax_told}
+use Rattle.sieve_explain.specs.Faults.{look_text}
 
 -- the laws that a script has one list of tokens, and one tree
 abbrev pub OneList : Type 0
@@ -33,17 +34,21 @@ one_reasoning law same name script text other (commands, parsed, tells) (others,
     one_telling law script (reasons_told name script commands) text other tells
     (subst (λ (cs : CommandsTree). Tells script (reasons_told name script cs) other) (same script others commands parsed' parsed) tells')
 
+one_fault : OneList → OneTree → (name script : List ℕ) (refusal : Refusal) (text other : List ℕ) → TellsFault name script refusal text → TellsFault name script refusal other → text ≡ other
+one_fault law same name script (refused.Lexical place) text other p q = p ∙ sym q
+one_fault law same name script refused.ScriptTooLong text other p q = p ∙ sym q
+one_fault law same name script (refused.Syntax number) text other p q = one_telling law script (syntax_told name script number) text other p q
+one_fault law same name script (refused.TooDeep number) text other p q = one_telling law script (depth_told name script number) text other p q
+one_fault law same name script (refused.UnknownCommand number) text other p q = one_reasoning law same name script text other p q
+one_fault law same name script (refused.MissingCapability number) text other p q = one_reasoning law same name script text other p q
+one_fault law same name script (refused.UnknownCapability number) text other p q = one_reasoning law same name script text other p q
+one_fault law same name script (refused.BadArguments number) text other p q = one_reasoning law same name script text other p q
+one_fault law same name script (refused.Limit number) text other p q = one_reasoning law same name script text other p q
+one_fault law same name script _ text other p q = absurd p
+
 pub one_text : OneList → OneTree → (name script : List ℕ) (refusal : Refusal) (text other : List ℕ) → Explains name script refusal text → Explains name script refusal other → text ≡ other
-one_text law same name script (refused.Lexical place) text other p q = p ∙ sym q
-one_text law same name script refused.ScriptTooLong text other p q = p ∙ sym q
-one_text law same name script (refused.Syntax number) text other p q = one_telling law script (syntax_told name script number) text other p q
-one_text law same name script (refused.TooDeep number) text other p q = one_telling law script (depth_told name script number) text other p q
-one_text law same name script (refused.UnknownCommand number) text other p q = one_reasoning law same name script text other p q
-one_text law same name script (refused.MissingCapability number) text other p q = one_reasoning law same name script text other p q
-one_text law same name script (refused.UnknownCapability number) text other p q = one_reasoning law same name script text other p q
-one_text law same name script (refused.BadArguments number) text other p q = one_reasoning law same name script text other p q
-one_text law same name script (refused.Limit number) text other p q = one_reasoning law same name script text other p q
-one_text law same name script _ text other p q = absurd p
+one_text law same name script refusal text other p q =
+    p.whole ∙ ap (λ (t : List ℕ). t ++ look_told name (look_text script)) (one_fault law same name script refusal p.fault q.fault p.tells q.tells) ∙ sym q.whole
 
 -- the laws that a script has one refusal of the parser, and none where it has a tree
 abbrev pub OneRefusal : Type 0

@@ -1,14 +1,14 @@
 -- What is told of a refusal has no control characters, and is printable where the name of the script is in ASCII.
-use Rattle.std.proofs.Common.{◌≡◌, ◌∙◌, ℕ, Bool, true, List, [], ◌∷◌, ◌++◌, length, replicate, ap, refl}
-use Rattle.std.specs.Prelude.{Option, Some, None, ◌&&◌, codes, flat_map, min, take, drop}
+use Rattle.std.proofs.Common.{◌≡◌, ◌∙◌, ℕ, Bool, true, false, List, [], ◌∷◌, ◌++◌, length, replicate, ap, refl}
+use Rattle.std.specs.Prelude.{Option, Some, None, ◌&&◌, codes, flat_map, min, nat_lt, take, drop}
 use Rattle.std.specs.List.{list_all, slice_get}
 use Rattle.std.specs.Fmt.{decimal}
 use Rattle.octets.specs.Limits.{max_script}
 use Rattle.refusals.specs.declared.refusal.Refusal.{Refusal}
 use Rattle.refusals.specs.declared.refusal.Refusal.TheVariants as refused
 use Rattle.bytecode_listing.specs.declared.error.FaultKind.{FaultKind}
-use Rattle.sieve_explain.specs.Explaining.{Explains, TellsReasons, depth_told, end_told, fault_blanks, heading, is_argument_fault, label_blanks, may_lack_label, marked_token, opened, reason_told, remark, start_of, syntax_told, token_told, told, listing_told, numbered}
-use Rattle.sieve_explain.specs.Faults.{colon_blanks, end_blanks, lexical_blanks, listing_blanks, token_blanks, too_deep_blanks, too_long_blanks, unclosed_blanks, unit_blanks}
+use Rattle.sieve_explain.specs.Explaining.{Explains, TellsFault, TellsReasons, depth_told, end_told, fault_blanks, heading, is_argument_fault, label_blanks, look_told, may_lack_label, marked_token, more_told, note, opened, reason_told, remark, start_of, syntax_told, token_told, told, listing_told, numbered}
+use Rattle.sieve_explain.specs.Faults.{colon_blanks, end_blanks, lexical_blanks, listing_blanks, look_text, more_blanks, token_blanks, too_deep_blanks, too_long_blanks, unclosed_blanks, unit_blanks}
 use Rattle.sieve_explain.specs.Marks.{has_unit, label_behind, unclosed}
 use Rattle.sieve_lexer.specs.declared.token.Token.{Token}
 use Rattle.sieve_check.specs.Causes.{Reason, Refused, fault_of_kind}
@@ -16,11 +16,11 @@ use Rattle.sieve_check.specs.Rules.{max_reasons, reasons_of}
 use Rattle.sieve_explain.specs.Places.{column, line_at, line_number, octets_before}
 use Rattle.sieve_explain.specs.Printable.{are_ascii, have_no_controls, is_no_control, is_printable}
 use Rattle.sieve_explain.specs.Reasons.{reason_blanks}
-use Rattle.sieve_explain.specs.Sentences.{Blanks, filled}
+use Rattle.sieve_explain.specs.Sentences.{Blanks, filled, plain}
 use Rattle.sieve_explain.specs.Shown.{excerpt, line, margin, marked, shown, shown_end, shown_start}
 use Rattle.sieve_explain.specs.declared.shown.Style.TheVariants.{Line, Name}
 use Rattle.sieve_explain.proofs.Printing.{Admits, Fine, FineBlanks, Passes, admits_no_control, admits_printable, fine_append, fine_decimal, fine_end, fine_filled, fine_spaces, fine_start, line_plain, name_printable, name_without_controls, pass_append, pass_printable}
-use Rattle.sieve_explain.proofs.PrintingTables.{blanks_if, fine_lexical, fine_listing, fine_misplaced_token, fine_reason}
+use Rattle.sieve_explain.proofs.PrintingTables.{blanks_if, fine_lexical, fine_listing, fine_look, fine_misplaced_token, fine_reason}
 
 fine_line : (text : List ℕ) → Fine text → Fine (line text)
 fine_line text e = fine_append text (10 ∷ []) e refl
@@ -96,23 +96,48 @@ module _ (test : ℕ → Bool) (admits : Admits test) where
       (pass_told name script (start_of script (marked_token script tokens found)) (fault_blanks script tokens found) p (fine_fault script tokens found))
       (pass_reasons name script tokens others p)
 
+  pass_note : (name : List ℕ) (blanks : Blanks) → Passes test (shown Name name) → FineBlanks blanks → Passes test (note name blanks)
+  unfolding note
+  pass_note name blanks p q =
+      let own = shown Name name in
+      let kind = codes ": note: " in
+      pass_append test (own ++ kind ++ filled blanks) (10 ∷ []) (pass_append test (own ++ kind) (filled blanks) (pass_append test own kind p (pass_fine kind refl)) (pass_fine (filled blanks) (fine_filled blanks q)))
+      (pass_fine (10 ∷ []) refl)
+
+  pass_more : (name : List ℕ) (more : Bool) → Passes test (shown Name name) → Passes test (more_told name more)
+  pass_more name true p = pass_note name more_blanks p (refl, refl, refl)
+  pass_more name false p = refl
+
+  pass_look : (name text : List ℕ) → Passes test (shown Name name) → Fine text → Passes test (look_told name text)
+  pass_look name [] p q = refl
+  pass_look name (c ∷ cs) p q = pass_note name (plain (c ∷ cs)) p (q, refl, refl)
+
   pass_reasoned : (name script text : List ℕ) → Passes test (shown Name name) → TellsReasons name script text → Passes test text
-  pass_reasoned name script text p (commands, parsed, (tokens, are, e)) = ap (list_all test) e ∙ pass_reasons name script tokens (take max_reasons (reasons_of commands)) p
+  pass_reasoned name script text p (commands, parsed, (tokens, are, e)) =
+      let all = reasons_of commands in
+      let more = nat_lt max_reasons (length all) in
+      ap (list_all test) e
+      ∙ pass_append test (flat_map (reason_told name script tokens) (take max_reasons all)) (more_told name more) (pass_reasons name script tokens (take max_reasons all) p) (pass_more name more p)
+
+  pass_fault : (name script : List ℕ) (refusal : Refusal) (text : List ℕ) → Passes test (shown Name name) → TellsFault name script refusal text → Passes test text
+  unfolding syntax_told depth_told
+  pass_fault name script (refused.Lexical place) text p e =
+      let at = min place (length script) in ap (list_all test) e ∙ pass_told name script at (lexical_blanks (drop at script)) p (fine_lexical (drop at script))
+  pass_fault name script refused.ScriptTooLong text p e = ap (list_all test) e ∙ pass_told name script (min max_script (length script)) too_long_blanks p (refl, refl, refl)
+  pass_fault name script (refused.Syntax number) text p (tokens, are, e) = ap (list_all test) e ∙ pass_token_told name script (slice_get tokens number) tokens p
+  pass_fault name script (refused.TooDeep number) text p (tokens, are, e) =
+      ap (list_all test) e ∙ pass_told name script (start_of script (slice_get tokens number)) too_deep_blanks p (refl, refl, refl)
+  pass_fault name script (refused.UnknownCommand number) text p e = pass_reasoned name script text p e
+  pass_fault name script (refused.MissingCapability number) text p e = pass_reasoned name script text p e
+  pass_fault name script (refused.UnknownCapability number) text p e = pass_reasoned name script text p e
+  pass_fault name script (refused.BadArguments number) text p e = pass_reasoned name script text p e
+  pass_fault name script (refused.Limit number) text p e = pass_reasoned name script text p e
+  pass_fault name script _ text p e = absurd e
 
   pass_text : (name script : List ℕ) (refusal : Refusal) (text : List ℕ) → Passes test (shown Name name) → Explains name script refusal text → Passes test text
-  unfolding syntax_told depth_told
-  pass_text name script (refused.Lexical place) text p e =
-      let at = min place (length script) in ap (list_all test) e ∙ pass_told name script at (lexical_blanks (drop at script)) p (fine_lexical (drop at script))
-  pass_text name script refused.ScriptTooLong text p e = ap (list_all test) e ∙ pass_told name script (min max_script (length script)) too_long_blanks p (refl, refl, refl)
-  pass_text name script (refused.Syntax number) text p (tokens, are, e) = ap (list_all test) e ∙ pass_token_told name script (slice_get tokens number) tokens p
-  pass_text name script (refused.TooDeep number) text p (tokens, are, e) =
-      ap (list_all test) e ∙ pass_told name script (start_of script (slice_get tokens number)) too_deep_blanks p (refl, refl, refl)
-  pass_text name script (refused.UnknownCommand number) text p e = pass_reasoned name script text p e
-  pass_text name script (refused.MissingCapability number) text p e = pass_reasoned name script text p e
-  pass_text name script (refused.UnknownCapability number) text p e = pass_reasoned name script text p e
-  pass_text name script (refused.BadArguments number) text p e = pass_reasoned name script text p e
-  pass_text name script (refused.Limit number) text p e = pass_reasoned name script text p e
-  pass_text name script _ text p e = absurd e
+  pass_text name script refusal text p h =
+      let look = look_text script in
+      ap (list_all test) h.whole ∙ pass_append test h.fault (look_told name look) (pass_fault name script refusal h.fault p h.tells) (pass_look name look p (fine_look script))
 
   pass_listing : (name listing : List ℕ) (place : ℕ) (kind : FaultKind) → Passes test (shown Name name) → Passes test (listing_told name listing place kind)
   pass_listing name listing place kind p =

@@ -20,10 +20,10 @@ use Rattle.sieve_check.specs.declared.causes.ReasonKind.{ReasonKind}
 use Rattle.sieve_check.specs.declared.causes.ReasonKind.TheVariants as reasons
 use Rattle.bytecode_listing.specs.declared.error.FaultKind.{FaultKind}
 use Rattle.bytecode_listing.specs.declared.error.FaultKind.TheVariants.{Misplaced, SecondLabel, NoLabel, Limits}
-use Rattle.sieve_explain.specs.Faults.{Beginning, beginnings, lexical_blanks, listing_blanks, listing_text, misplaced_text, misplaced_token, other_text, text_at, token_blanks}
+use Rattle.sieve_explain.specs.Faults.{Beginning, beginnings, begins_as_mail, lexical_blanks, listing_blanks, listing_text, look_text, misplaced_text, misplaced_token, other_text, text_at, token_blanks}
 use Rattle.sieve_explain.specs.Hints.{Vocabulary, known_capabilities, known_commands, known_tags, known_tests, lacking, lacking_rows, meant, meant_too, unknown, unknown_capability, unknown_command, unknown_tag, unknown_test, unknown_text, unknown_words}
 use Rattle.sieve_explain.specs.Printable.{are_printable}
-use Rattle.sieve_explain.specs.Reasons.{capability_words, ending_words, extra_words, is_variables, kind_blanks, needs_text, no_argument_words, no_test_words, other_blanks, place_text, positional_words, reason_blanks, reason_text, reason_words, tag_words, tests_words}
+use Rattle.sieve_explain.specs.Reasons.{capability_words, ending_words, extra_words, kind_blanks, no_argument_words, no_test_words, other_blanks, place_text, positional_words, reason_blanks, reason_text, reason_words, tag_words, tests_words}
 use Rattle.sieve_explain.specs.Sentences.{Blanks}
 use Rattle.sieve_explain.specs.Words.{Hint, is_near, nearest, nearest_but, with_words, words_for}
 use Rattle.sieve_explain.proofs.Printing.{Fine, FineBlanks, both, fine_if}
@@ -93,9 +93,10 @@ fine_extra : (taken : Positional) (name : List ℕ) → Fine (extra_words taken 
 fine_extra positional.Nothing name = fine_no_argument name
 fine_extra taken name = fine_positional taken
 
-fine_needs : (needed : Capability) (name : List ℕ) → Fine (needs_text needed name)
-unfolding needs_text
-fine_needs needed name = fine_if (is_variables needed && is_word name (codes "take")) _ _ refl refl
+-- what the file looks like
+pub fine_look : (file : List ℕ) → Fine (look_text file)
+unfolding look_text
+fine_look file = fine_if (bytes_eq (take 4 file) (codes "SVBC")) _ _ refl (fine_if (begins_as_mail file) _ _ refl refl)
 
 fine_no_tests : (name : List ℕ) → Fine (no_test_words name)
 unfolding no_test_words
@@ -126,7 +127,7 @@ fine_words (reasons.WrongEnding taken) name = fine_ending taken
 fine_words _ name = refl
 
 fine_text : (kind : ReasonKind) (name : List ℕ) → Fine (reason_text kind name)
-fine_text (reasons.MissingCapability needed) name = fine_needs needed name
+fine_text (reasons.MissingCapability needed) name = refl
 fine_text reasons.Misplaced name = fine_place name
 fine_text _ name = refl
 

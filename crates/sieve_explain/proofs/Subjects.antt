@@ -1,10 +1,10 @@
 -- What is refused of a script stands where its token does, and a string that is no capability among its own arguments.
-use Rattle.std.proofs.Common.{◌≡◌, ◌∙◌, ℕ, suc, Bool, true, false, if◌then◌else◌, List, [], ◌∷◌, ◌++◌, All, ap, sym, refl}
+use Rattle.std.proofs.Common.{◌≡◌, ◌∙◌, ℕ, suc, Bool, true, false, if◌then◌else◌, List, [], ◌∷◌, ◌++◌, All, filter, map, ap, sym, refl, inl, inr}
 use Rattle.std.specs.Prelude.{Option, Some, None, IfSome, not, ◌&&◌, length, nat_lt, is_some, option_map}
 use Rattle.std.specs.List.{find}
-use Rattle.std.specs.Option.{option_and_then, option_map_or, option_or, option_to_list}
+use Rattle.std.specs.Option.{option_and_then, option_map_or, option_or}
 use Rattle.std.proofs.lemmas.List.{append-nil, append_assoc}
-use Rattle.std.proofs.lemmas.List.Elements.{All-append, All-cons, All-head, All-nil, All-tail}
+use Rattle.std.proofs.lemmas.List.Elements.{All-append, All-cons, All-filter, All-head, All-map, All-nil, All-tail, All-weaker}
 use Rattle.octets.specs.Limits.{max_variables}
 use Rattle.octets.specs.Once.{is_listed, with_more, with_one}
 use Rattle.sieve_references.specs.References.{Segment, beyond, foreign, segments}
@@ -14,9 +14,9 @@ use Rattle.sieve_parser.specs.Tree.{ArgumentTree, label, InvocationTree, invocat
 use Rattle.sieve_check.specs.Arguments.{Awaiting, arguments_cause, awaiting, first_label, is_second_modifier, missing_cause, number_of, positional_cause, rest_cause}
 use Rattle.sieve_check.specs.Causes.{Cause, Refused, about, or_cause, plain, refused_for}
 use Rattle.sieve_check.specs.Names.{command_named, tag_named, test_named}
-use Rattle.sieve_check.specs.Rules.{Mentions, Visit, cause_by_name, command_needs, command_visit, command_visits, commands_visits, ending_cause, has_many_strings, head_visits, ill_formed_command, ill_formed_test, kind_of, known_command_cause, known_test_cause, lacking, lacking_cause, large_cause, large_mention_cause, lists_read, long_name, long_string_cause, looks_inside, loops_opened, after_invocation, invocation_of, many_strings_cause, may_stand, mention_cause, mentions_of, misplaced, more_visits, names_past, names_with, opened_by, expanding, place_cause, read_command_cause, read_test_cause, reasons_of, reference_cause, reference_kind, refused_after, refused_among, same_ending, same_reason, same_tests, string_has, strings_of, test_may_stand, test_needs, test_place_cause, test_visit, test_visits, tests_cause, tests_visits, unknown_cause, visit_cause, where_required}
+use Rattle.sieve_check.specs.Rules.{Mentions, Visit, capability_arguments, cause_by_name, causes_by, command_lacks, command_needs, command_visit, command_visits, commands_visits, ending_cause, has_many_strings, head_visits, ill_formed_command, ill_formed_test, kind_of, known_command_cause, known_test_cause, lacking, lacking_cause, lacking_causes, large_cause, large_mention_cause, lists_read, long_name, long_string_cause, looks_inside, loops_opened, after_invocation, invocation_of, many_strings_cause, may_stand, mention_cause, mentions_of, misplaced, more_visits, names_past, names_with, opened_by, expanding, place_cause, read_command_cause, read_test_cause, reasons_of, reference_cause, reference_kind, refused_after, refused_among, same_ending, same_reason, same_tests, string_has, strings_of, test_lacks, test_may_stand, test_needs, test_place_cause, test_visit, test_visits, tests_cause, tests_visits, unknown_cause, unknown_causes, visit_causes, where_required}
 use Rattle.sieve_check.specs.Signatures.{Given, Read, add_tag, asks_for_mime, command_signature, ending_of, is_positional, no_tag, nothing_given, reading, takes_tag, test_signature, with_argument}
-use Rattle.sieve_check.specs.Surroundings.{Context, at_start, first_lacking, in_block, opens_many}
+use Rattle.sieve_check.specs.Surroundings.{Context, at_start, first_lacking, has_capability, in_block, opens_many}
 use Rattle.sieve_check.specs.declared.causes.ReasonKind.{ReasonKind}
 use Rattle.sieve_check.specs.declared.causes.ReasonKind.TheVariants as reasons
 use Rattle.sieve_check.specs.declared.names.Capability.{Capability}
@@ -200,6 +200,41 @@ good_test_visit s token name args tests = step (test_named name) where
   step None = λ e. absurd (cc)
   step (Some known) = good_other args (known_test_cause s known args tests) (other_test s known args tests)
 
+-- what it lacks
+abbrev IsGood : List ArgumentTree → Cause → Type 0
+IsGood args c = marks_string c.kind ≡ true → IsAmong c.subject (strings_of args)
+
+each_lacking : (args : List ArgumentTree) (needed : List Capability) → All (λ c. IsGood args (lacking c)) needed
+each_lacking args [] = All-nil (λ c. IsGood args (lacking c))
+each_lacking args (c ∷ cs) = All-cons (λ c. IsGood args (lacking c)) c cs (λ e. absurd (cc)) (each_lacking args cs)
+
+good_lacking : (args : List ArgumentTree) (required : Capabilities) (needed : List Capability) → All (IsGood args) (lacking_causes required needed)
+good_lacking args required needed = All-map (IsGood args) lacking _ (each_lacking args (filter (λ c. not (has_capability c required)) needed))
+
+-- of strings among others
+each_among : (all strings : List (List ℕ)) → ((s : List ℕ) → IsAmong s strings → IsAmong s all) → All (λ s. IsAmong s all) strings
+each_among all [] h = All-nil (λ s. IsAmong s all)
+each_among all (s ∷ ss) h = All-cons (λ s. IsAmong s all) s ss (h s (inl refl)) (each_among all ss (λ x later. h x (inr later)))
+
+good_strings : (args : List ArgumentTree) (strings : List (List ℕ)) → All (λ s. IsAmong s (strings_of args)) strings → All (IsGood args) (unknown_causes strings)
+good_strings args strings h =
+    All-map (IsGood args) (about reasons.UnknownCapability) (filter (string_has Unknown) strings)
+    (All-weaker (λ s. IsAmong s (strings_of args)) (λ s. IsGood args (about reasons.UnknownCapability s)) (λ s among e. among) (filter (string_has Unknown) strings)
+    (All-filter (string_has Unknown) (λ s. IsAmong s (strings_of args)) strings h))
+
+good_names : (name : CommandName) (args : List ArgumentTree) → All (IsGood args) (unknown_causes (strings_of (capability_arguments name args)))
+good_names Require args = good_strings args (strings_of args) (each_among (strings_of args) (strings_of args) (λ s among. among))
+good_names _ args = All-nil (IsGood args)
+
+good_command_lacks : (required : Capabilities) (args : List ArgumentTree) (o : Option CommandName) → All (IsGood args) (command_lacks required args o)
+good_command_lacks required args None = All-nil (IsGood args)
+good_command_lacks required args (Some name) =
+    All-append (IsGood args) (lacking_causes required (command_needs name)) (unknown_causes (strings_of (capability_arguments name args))) (good_lacking args required (command_needs name)) (good_names name args)
+
+good_test_lacks : (required : Capabilities) (args : List ArgumentTree) (o : Option TestName) → All (IsGood args) (test_lacks required args o)
+good_test_lacks required args None = All-nil (IsGood args)
+good_test_lacks required args (Some name) = good_lacking args required (test_needs name args)
+
 -- ---- places
 
 -- the lexemes stand among all
@@ -218,7 +253,7 @@ inside_next all x xs w = inside_right all (x ∷ []) xs w
 
 -- a visit's name and arguments stand among all
 abbrev Stands : List Placed → Visit → Type 0
-Stands all v = (d : ℕ) × ((args : List ArgumentTree) × (Inside all (at_depth d (identifier v.token v.name) ∷ arguments_spelled d args) × Good args v.cause))
+Stands all v = (d : ℕ) × ((args : List ArgumentTree) × (Inside all (at_depth d (identifier v.token v.name) ∷ arguments_spelled d args) × Good args v.cause × All (IsGood args) v.lacks))
 
 all_if : (P : Visit → Type 0) (b : Bool) (xs ys : List Visit) → All P xs → All P ys → All P (if b then xs else ys)
 all_if P true xs ys p q = p
@@ -229,7 +264,7 @@ mutual
   test_stands (invocation token name args tests) s d all w =
       let own = at_depth d (identifier token name) ∷ arguments_spelled d args in
       All-cons (Stands all) (test_visit s token name args (kind_of tests)) _
-      (d, (args, (inside_left all own (tests_spelled d tests) w, good_test_visit s token name args (kind_of tests))))
+      (d, (args, (inside_left all own (tests_spelled d tests) w, good_test_visit s token name args (kind_of tests), good_test_lacks s.required args (test_named name))))
       (all_if (Stands all) (looks_inside test_signature (test_named name)) (tests_visits s tests) []
       (tests_stand tests s d all (inside_right all own (tests_spelled d tests) w)) (All-nil (Stands all)))
 
@@ -258,7 +293,7 @@ head_stands : (i : InvocationTree) (s : Context) (d : ℕ) (end : Ending) (all :
 head_stands (invocation token name args tests) s d end all w =
     let own = at_depth d (identifier token name) ∷ arguments_spelled d args in
     All-cons (Stands all) (command_visit s token name args (kind_of tests) end) _
-    (d, (args, (inside_left all own (tests_spelled d tests) w, good_command_visit s token name args (kind_of tests) end)))
+    (d, (args, (inside_left all own (tests_spelled d tests) w, good_command_visit s token name args (kind_of tests) end, good_command_lacks s.required args (command_named name))))
     (all_if (Stands all) (looks_inside command_signature (command_named name)) (tests_visits s tests) []
     (tests_stand tests s d all (inside_right all own (tests_spelled d tests) w)) (All-nil (Stands all)))
 
@@ -290,20 +325,25 @@ abbrev pub IsTold : List Placed → Refused → Type 0
 IsTold all found = (d : ℕ) × ((args : List ArgumentTree) × (Inside all (at_depth d (identifier found.token found.reason.name) ∷ arguments_spelled d args)
     × (marks_string found.reason.kind ≡ true → IsAmong found.reason.subject (strings_of args))))
 
-told_one : (all : List Placed) (token : ℕ) (name : List ℕ) (d : ℕ) (args : List ArgumentTree) (o : Option Cause) → Inside all (at_depth d (identifier token name) ∷ arguments_spelled d args)
-    → Good args o → All (IsTold all) (option_to_list (option_map (refused_for token name) o))
-told_one all token name d args None w good = All-nil (IsTold all)
-told_one all token name d args (Some c) w good = All-cons (IsTold all) (refused_for token name c) [] (d, (args, (w, good))) (All-nil (IsTold all))
+told_causes : (all : List Placed) (token : ℕ) (name : List ℕ) (d : ℕ) (args : List ArgumentTree) (causes : List Cause) → Inside all (at_depth d (identifier token name) ∷ arguments_spelled d args)
+    → All (IsGood args) causes → All (IsTold all) (map (refused_for token name) causes)
+told_causes all token name d args [] w good = All-nil (IsTold all)
+told_causes all token name d args (c ∷ cs) w good =
+    All-cons (IsTold all) (refused_for token name c) (map (refused_for token name) cs) (d, (args, (w, All-head (IsGood args) c cs good))) (told_causes all token name d args cs w (All-tail (IsGood args) c cs good))
 
-told_after : (all : List Placed) (names : List (List ℕ)) (v : Visit) → Stands all v → All (IsTold all) (option_to_list (refused_after names v))
-told_after all names v (d, (args, (w, good))) =
-    told_one all v.token v.name d args (visit_cause names v) w
-    (good_or args v.cause _ good (good_other args _ (other_if (nat_lt max_variables (length (names_with names v))) _ None refl tt)))
+good_causes : (args : List ArgumentTree) (o : Option Cause) (lacks : List Cause) (many : Bool) → Good args o → All (IsGood args) lacks → All (IsGood args) (causes_by o lacks many)
+good_causes args (Some c) lacks many good others = All-cons (IsGood args) c lacks good others
+good_causes args None lacks true good others = All-cons (IsGood args) (plain reasons.ManyVariables) [] (λ e. absurd (cc)) (All-nil (IsGood args))
+good_causes args None lacks false good others = All-nil (IsGood args)
+
+told_after : (all : List Placed) (names : List (List ℕ)) (v : Visit) → Stands all v → All (IsTold all) (refused_after names v)
+told_after all names v (d, (args, (w, good, others))) =
+    told_causes all v.token v.name d args (visit_causes names v) w (good_causes args v.cause v.lacks (nat_lt max_variables (length (names_with names v))) good others)
 
 told_among : (all : List Placed) (names : List (List ℕ)) (vs : List Visit) → All (Stands all) vs → All (IsTold all) (refused_among names vs)
 told_among all names [] h = All-nil (IsTold all)
 told_among all names (v ∷ vs) h =
-    All-append (IsTold all) (option_to_list (refused_after names v)) (refused_among (names_past names v) vs)
+    All-append (IsTold all) (refused_after names v) (refused_among (names_past names v) vs)
     (told_after all names v (All-head (Stands all) v vs h)) (told_among all (names_past names v) vs (All-tail (Stands all) v vs h))
 
 all_one : {A : Type 0} (P : A → Type 0) (b : Bool) (listed : List A) (x : A) → All P listed → P x → All P (if b then listed else listed ++ x ∷ [])

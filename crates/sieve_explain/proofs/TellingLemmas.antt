@@ -1,10 +1,17 @@
 -- A refusal that is told is the script's explanation.
-use Rattle.std.proofs.Common.{◌≡◌, ◌≢◌, ℕ, List, subst, sym}
+use Rattle.std.proofs.Common.{◌≡◌, ◌≢◌, ◌∙◌, ◌<◌, ℕ, List, ◌++◌, length, map, nat_lt, take, ap, subst, sym, arith, inl, inr}
+use Rattle.std.specs.Prelude.{Some}
+use Rattle.std.proofs.lemmas.Bool.{cases_lt, lt-ltb}
+use Rattle.std.proofs.lemmas.List.{length-map, length-take, take-map, take-take, take_all}
 use Rattle.refusals.specs.Causes.{of_checker, of_parser}
 use Rattle.refusals.specs.Scripts.{IsFaulty, IsScriptRefusal}
 use Rattle.refusals.specs.declared.refusal.Refusal.{Refusal}
 use Rattle.refusals.specs.declared.refusal.Refusal.TheVariants.{Memory}
+use Rattle.sieve_check.specs.Causes as causes
 use Rattle.sieve_check.specs.Causes.{refusal}
+use Rattle.sieve_check.specs.ReasonView.{refused_view}
+use Rattle.sieve_check.specs.Rules.{max_found, max_reasons}
+use Rattle.sieve_check.specs.declared.causes.Refused.{Refused}
 use Rattle.sieve_check.specs.declared.error.Fault.{Fault}
 use Rattle.sieve_check.specs.declared.error.Fault.TheVariants as fault
 use Rattle.sieve_lexer.specs.Tokens.{IsLexicalRefusal}
@@ -14,11 +21,13 @@ use Rattle.sieve_parser.specs.Refusals.{parse_error}
 use Rattle.sieve_parser.specs.Scripts.{IsParseRefusal}
 use Rattle.sieve_parser.specs.declared.error.ParseError.{ParseError}
 use Rattle.sieve_parser.specs.declared.error.ParseError.TheVariants as parser
-use Rattle.sieve_explain.specs.Explaining.{Explains, TellsReasons}
+use Rattle.sieve_explain.specs.Explaining.{IsExplained, IsFaultTold, TellsFault, TellsReasons, look_told}
+use Rattle.sieve_explain.specs.Faults.{look_text}
+use Rattle.sieve_explain.specs.declared.explanation.Explanation.{Explanation}
 
--- what `IsExplained` says of a refusal and its text
+-- what `IsFaultTold` says of a refusal and its text
 abbrev pub IsTold : List ℕ → List ℕ → Refusal → List ℕ → Type 0
-IsTold name script refusal text = (refusal ≢ Memory) × IsScriptRefusal script refusal × Explains name script refusal text
+IsTold name script refusal text = (refusal ≢ Memory) × IsScriptRefusal script refusal × TellsFault name script refusal text
 
 checking : (name script : List ℕ) (place : ℕ) (f : Fault) (text : List ℕ) → IsFaulty script (refusal place f) → TellsReasons name script text
     → IsTold name script (of_checker (refusal place f)) text
@@ -33,7 +42,7 @@ pub told_by_checker : (name script : List ℕ) (place : ℕ) (f : Fault) (r : Re
     → IsFaulty script (refusal place f) → TellsReasons name script text → IsTold name script r text
 told_by_checker name script place f r text same is told = subst (λ (x : Refusal). IsTold name script x text) (sym same) (checking name script place f text is told)
 
-parsing : (name script : List ℕ) (e : ParseError) (text : List ℕ) → IsParseRefusal script e → Explains name script (of_parser e) text → IsTold name script (of_parser e) text
+parsing : (name script : List ℕ) (e : ParseError) (text : List ℕ) → IsParseRefusal script e → TellsFault name script (of_parser e) text → IsTold name script (of_parser e) text
 parsing name script parser.Memory text is told = absurd told
 parsing name script (parser.Lexical place) text is told = (λ e. absurd (cc), is, told)
 parsing name script parser.ScriptTooLong text is told = (λ e. absurd (cc), is, told)
@@ -42,12 +51,34 @@ parsing name script (parser.TooDeep place) text is told = (λ e. absurd (cc), is
 
 -- the parser's
 pub told_by_parser : (name script : List ℕ) (e : ParseError) (r : Refusal) (text : List ℕ) → r ≡ of_parser e
-    → IsParseRefusal script e → Explains name script (of_parser e) text → IsTold name script r text
+    → IsParseRefusal script e → TellsFault name script (of_parser e) text → IsTold name script r text
 told_by_parser name script e r text same is told = subst (λ (x : Refusal). IsTold name script x text) (sym same) (parsing name script e text is told)
 
 -- the lexer's
 pub told_by_lexer : (name script : List ℕ) (e : LexicalError) (r : Refusal) (text : List ℕ) → r ≡ of_parser (parse_error e)
-    → IsLexicalRefusal script e → Explains name script (of_parser (parse_error e)) text → IsTold name script r text
+    → IsLexicalRefusal script e → TellsFault name script (of_parser (parse_error e)) text → IsTold name script r text
 told_by_lexer name script lexer.Memory r text same is told = absurd told
 told_by_lexer name script (lexer.Lexical place) r text same is told = told_by_parser name script (parser.Lexical place) r text same is told
 told_by_lexer name script lexer.ScriptTooLong r text same is told = told_by_parser name script parser.ScriptTooLong r text same is told
+
+-- the reasons that are found have those first that are told, and say whether there are more
+pub first_found : (found : List Refused) (all : List causes.Refused) → map refused_view found ≡ take max_found all → map refused_view (take max_reasons found) ≡ take max_reasons all
+first_found found all is = sym (take-map refused_view max_reasons found) ∙ ap (take max_reasons) is ∙ take-take max_reasons max_found all (omega arith)
+
+pub more_found : (found : List Refused) (all : List causes.Refused) → map refused_view found ≡ take max_found all → nat_lt max_reasons (length found) ≡ nat_lt max_reasons (length all)
+more_found found all is =
+    ap (nat_lt max_reasons) (sym (length-map found refused_view) ∙ ap length is) ∙
+    elim (cases_lt max_reasons (length all)) [
+      | inl many ↦
+          let some : max_reasons < length (take max_found all) = omega (arith, many, length-take max_found all) in
+          lt-ltb max_reasons (length (take max_found all)) some ∙ sym (lt-ltb max_reasons (length all) many)
+      | inr few ↦ ap (λ (l : List causes.Refused). nat_lt max_reasons (length l)) (take_all max_found all (omega (arith, few)))
+    ]
+
+-- all that is told of a refusal
+pub with_look : (name script : List ℕ) (found all : Explanation) → IsFaultTold name script (Some found) → all.refusal ≡ found.refusal → all.text.items ≡ found.text.items ++ look_told name (look_text script) → IsExplained name script (Some all)
+with_look name script found all p same text = (
+  subst (λ (r : Refusal). r ≢ Memory) (sym same) p.0,
+  subst (λ (r : Refusal). IsScriptRefusal script r) (sym same) p.1,
+  record { fault = found.text.items; tells = subst (λ (r : Refusal). TellsFault name script r found.text.items) (sym same) p.2; whole = text },
+)

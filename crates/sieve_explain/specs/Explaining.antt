@@ -1,5 +1,5 @@
 -- What is told of a refused script.
-use Rattle.std.specs.Prelude.{◌≡◌, ◌≢◌, ℕ, Bool, true, false, ◌&&◌, IsTrue, List, [], ◌∷◌, ◌++◌, if◌then◌else◌, flat_map, length, take, drop, min, Option, Some, None, option_map, codes}
+use Rattle.std.specs.Prelude.{◌≡◌, ◌≢◌, ℕ, Bool, true, false, ◌&&◌, IsTrue, List, [], ◌∷◌, ◌++◌, if◌then◌else◌, flat_map, length, nat_lt, take, drop, min, Option, Some, None, option_map, codes}
 use Rattle.std.specs.Fmt.{decimal}
 use Rattle.std.specs.List.{Contains, slice_get}
 use Rattle.octets.specs.Limits.{max_script}
@@ -20,12 +20,13 @@ use Rattle.sieve_check.specs.declared.signature.Tests.TheVariants as tests
 use Rattle.sieve_check.specs.Causes.{Reason, Refused, fault_of_kind}
 use Rattle.sieve_check.specs.Rules.{fault_of, max_reasons, reasons_of}
 use Rattle.sieve_explain.specs.declared.explanation.Explanation.{Explanation}
-use Rattle.sieve_explain.specs.Faults.{colon_blanks, end_blanks, lexical_blanks, listing_blanks, token_blanks, too_deep_blanks, too_long_blanks, unclosed_blanks, unit_blanks}
+use Rattle.sieve_explain.specs.Faults.{colon_blanks, end_blanks, lexical_blanks, listing_blanks, look_text, more_blanks, token_blanks, too_deep_blanks, too_long_blanks, unclosed_blanks, unit_blanks}
 use Rattle.sieve_explain.specs.Marks.{arguments_behind, has_unit, is_string, label_behind, string_among, text_of, unclosed}
 use Rattle.sieve_explain.specs.Places.{column, line_number}
 use Rattle.sieve_explain.specs.Reasons.{reason_blanks}
-use Rattle.sieve_explain.specs.Sentences.{Blanks, filled}
+use Rattle.sieve_explain.specs.Sentences.{Blanks, filled, plain}
 use Rattle.sieve_explain.specs.Shown.{excerpt, line, shown}
+use Rattle.sieve_explain.specs.Words.{with_words}
 use Rattle.sieve_explain.specs.declared.shown.Style.TheVariants.{Name}
 
 -- a colon, and the number
@@ -39,6 +40,10 @@ heading kind name script place = shown Name name ++ numbered (line_number script
 -- a remark of that kind about a place of the script, with the line of the place and a mark under it
 unfoldable pub remark : List ℕ → List ℕ → List ℕ → ℕ → Blanks → List ℕ
 remark kind name script place blanks = line (heading kind name script place ++ filled blanks) ++ excerpt script place
+
+-- a remark about the whole file
+unfoldable pub note : List ℕ → Blanks → List ℕ
+note name blanks = line (shown Name name ++ codes ": note: " ++ filled blanks)
 
 -- what is wrong at a place
 abbrev pub told : List ℕ → List ℕ → ℕ → Blanks → List ℕ
@@ -128,9 +133,15 @@ unfoldable pub reason_told : List ℕ → List ℕ → List Token → Refused �
 reason_told name script tokens found =
     told name script (start_of script (marked_token script tokens found)) (fault_blanks script tokens found)
 
--- 15 to 19: why each of them is, in order, up to `max_reasons` of them
+-- that more is refused than is told, where that is so
+abbrev pub more_told : List ℕ → Bool → List ℕ
+more_told name more = if more then note name more_blanks else []
+
+-- 15 to 19: why each of them is, in order, up to `max_reasons` of them, and whether there are more
 abbrev pub reasons_told : List ℕ → List ℕ → CommandsTree → List Token → List ℕ
-reasons_told name script commands tokens = flat_map (reason_told name script tokens) (take max_reasons (reasons_of commands))
+reasons_told name script commands tokens =
+    flat_map (reason_told name script tokens) (take max_reasons (reasons_of commands))
+    ++ more_told name (nat_lt max_reasons (length (reasons_of commands)))
 
 -- the text is what is told by the script's tokens
 abbrev pub Tells : List ℕ → (List Token → List ℕ) → List ℕ → Type 0
@@ -141,19 +152,29 @@ TellsReasons name script text =
     (commands : CommandsTree) × IsParsed script commands × Tells script (reasons_told name script commands) text
 
 -- what is told of a refused script: the refusal's place, a sentence and the line; a script gets no other refusal
-abbrev pub Explains : List ℕ → List ℕ → Refusal → List ℕ → Type 0
-Explains name script (refused.Lexical place) text =
+abbrev pub TellsFault : List ℕ → List ℕ → Refusal → List ℕ → Type 0
+TellsFault name script (refused.Lexical place) text =
     let at = min place (length script) in text ≡ told name script at (lexical_blanks (drop at script))
-Explains name script refused.ScriptTooLong text = text
+TellsFault name script refused.ScriptTooLong text = text
     ≡ told name script (min max_script (length script)) too_long_blanks
-Explains name script (refused.Syntax number) text = Tells script (syntax_told name script number) text
-Explains name script (refused.TooDeep number) text = Tells script (depth_told name script number) text
-Explains name script (refused.UnknownCommand number) text = TellsReasons name script text
-Explains name script (refused.MissingCapability number) text = TellsReasons name script text
-Explains name script (refused.UnknownCapability number) text = TellsReasons name script text
-Explains name script (refused.BadArguments number) text = TellsReasons name script text
-Explains name script (refused.Limit number) text = TellsReasons name script text
-Explains name script _ text = ⊥
+TellsFault name script (refused.Syntax number) text = Tells script (syntax_told name script number) text
+TellsFault name script (refused.TooDeep number) text = Tells script (depth_told name script number) text
+TellsFault name script (refused.UnknownCommand number) text = TellsReasons name script text
+TellsFault name script (refused.MissingCapability number) text = TellsReasons name script text
+TellsFault name script (refused.UnknownCapability number) text = TellsReasons name script text
+TellsFault name script (refused.BadArguments number) text = TellsReasons name script text
+TellsFault name script (refused.Limit number) text = TellsReasons name script text
+TellsFault name script _ text = ⊥
+
+-- what the file looks like, where it looks like something else than a script
+abbrev pub look_told : List ℕ → List ℕ → List ℕ
+look_told name text = with_words text (note name (plain text)) []
+
+-- all that is told of a refused script: of the refusal, and what the file looks like
+pub record Explains (name script : List ℕ) (refusal : Refusal) (text : List ℕ) : Type 0 where
+  pub fault : List ℕ
+  pub tells : TellsFault name script refusal fault
+  pub whole : text ≡ fault ++ look_told name (look_text script)
 
 -- nothing is wrong with the script; or this is its refusal, and this is told of it
 abbrev pub IsExplained : List ℕ → List ℕ → Option Explanation → Type 0
@@ -168,3 +189,9 @@ answer_of answer = option_map (λ (found : Explanation). (found.refusal, found.t
 -- what is told of a listing of a program, whose fault is of that kind: its place, a sentence and the line
 abbrev pub listing_told : List ℕ → List ℕ → ℕ → FaultKind → List ℕ
 listing_told name listing place kind = let at = min place (length listing) in told name listing at (listing_blanks kind (drop at listing))
+
+-- of the refusal alone, before the file's look is told
+abbrev pub IsFaultTold : List ℕ → List ℕ → Option Explanation → Type 0
+IsFaultTold name script None = IsExplained name script None
+IsFaultTold name script (Some found) = (found.refusal ≢ refused.Memory) × IsScriptRefusal script found.refusal
+    × TellsFault name script found.refusal found.text.items

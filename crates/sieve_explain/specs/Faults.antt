@@ -1,10 +1,11 @@
 -- What is said of a script that isn't parsed.
-use Rattle.std.specs.Prelude.{ℕ, suc, ◌^◌, ◌-◌, ◌==◌, nat_lt, if◌then◌else◌, Bool, List, [], ◌∷◌, length, take, take_while, slice_index, slice_range, bytes_eq, codes}
+use Rattle.std.specs.Prelude.{ℕ, suc, ◌^◌, ◌-◌, ◌==◌, nat_lt, ◌&&◌, ◌||◌, if◌then◌else◌, Bool, List, [], ◌∷◌, drop, length, take, take_while, slice_index, slice_range, bytes_eq, codes}
 use Rattle.std.specs.Borrow.{Bor}
-use Rattle.std.specs.Char.{is_ascii_digit}
+use Rattle.std.specs.Char.{is_ascii_alphabetic, is_ascii_digit}
 use Rattle.octets.specs.Limits.{max_nesting, max_script}
 use Rattle.bytecode_listing.specs.declared.error.FaultKind.{FaultKind}
 use Rattle.bytecode_listing.specs.declared.error.FaultKind.TheVariants.{Misplaced, SecondLabel, NoLabel, Limits}
+use Rattle.sieve_check.specs.Rules.{max_reasons}
 use Rattle.sieve_lexer.specs.Classes.{begins_identifier}
 use Rattle.sieve_lexer.specs.declared.token.Token.{Token}
 use Rattle.sieve_lexer.specs.declared.token.TokenKind.{TokenKind}
@@ -109,6 +110,31 @@ unit_blanks = plain (codes "the units of a number are K, M and G, with no blank 
 -- 18, of a test that has the name of a tag, behind what takes none
 abbrev pub colon_blanks : List ℕ → Blanks
 colon_blanks label = record (plain (codes "@ is a tag: is a colon missing before it?")) { name = label }
+
+-- behind the last of the reasons that are told
+abbrev pub more_blanks : Blanks
+more_blanks = record (plain (codes "more is refused than this: the first % are told")) { number = max_reasons }
+
+-- ---- a file that is no script
+
+-- the name of a header field consists of letters and hyphens, as those do with which mails begin
+abbrev pub is_field_octet : ℕ → Bool
+is_field_octet octet = is_ascii_alphabetic octet || octet == 45
+
+-- a header field comes first: its name, a colon and a blank
+abbrev pub begins_as_mail : List ℕ → Bool
+begins_as_mail file =
+    let name = length (take_while is_field_octet file) in
+    nat_lt 0 name && bytes_eq (take 2 (drop name file)) (codes ": ")
+
+-- what is said of a refused file that begins as a program or a mail does, or nothing
+unfoldable pub look_text : List ℕ → List ℕ
+look_text file =
+    if bytes_eq (take 4 file) (codes "SVBC")
+    then codes "the file begins as a compiled program does: `depot disassemble` shows what is in one"
+    else if begins_as_mail file
+    then codes "the file begins with a header field, as a mail does: is it a script?"
+    else []
 
 -- ---- of a listing
 

@@ -1,6 +1,6 @@
 -- What is said of a command or test that isn't accepted: a sentence for each reason.
 use Rattle.std.specs.List.{list_any}
-use Rattle.std.specs.Prelude.{ℕ, Bool, true, false, List, [], ◌∷◌, ◌&&◌, ◌||◌, if◌then◌else◌, is_some, codes}
+use Rattle.std.specs.Prelude.{ℕ, List, [], ◌∷◌, ◌||◌, if◌then◌else◌, is_some, codes}
 use Rattle.octets.specs.Limits.{max_loops, max_name, max_segments, max_string, max_test_strings, max_variables}
 use Rattle.octets.specs.Ascii.{is_word}
 use Rattle.sieve_check.specs.Names.{command_named}
@@ -102,20 +102,9 @@ place_text name =
     if is_word name (codes "elsif") || is_word name (codes "else") then codes "@ stands directly after an `if` or `elsif`" else
     codes "@ stands only inside of a `foreverypart`"
 
-abbrev pub is_variables : Capability → Bool
-is_variables capability.Variables = true
-is_variables _ = false
-
--- the text for a capability that wasn't required, by the name of what needs it; a `take` needs two
-unfoldable pub needs_text : Capability → List ℕ → List ℕ
-needs_text needed name =
-    if is_variables needed && is_word name (codes "take")
-    then codes "@ needs `require [\"variables\", \"vnd.depot\"]` before it"
-    else codes "@ needs `require \"&\"` before it"
-
 -- the text for a reason, by the name of the command or test; none for a name that isn't known
 abbrev pub reason_text : ReasonKind → List ℕ → List ℕ
-reason_text (MissingCapability needed) name = needs_text needed name
+reason_text (MissingCapability needed) name = codes "@ needs `require \"&\"` before it"
 reason_text ForeignTag name = codes "@ takes no tag #"
 reason_text RepeatedTag name = codes "# is repeated, or stands beside another of its kind"
 reason_text TwoModifiers name = codes "# can't stand beside another modifier of its precedence"

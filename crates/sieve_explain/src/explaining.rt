@@ -1,35 +1,38 @@
 // Why a script is refused, and what is told of it.
-ghost use Rattle.std.specs.Prelude.{◌≡◌, ◌≤◌, ◌++◌, IfOk, None, OnOk, flat_map, length, map};
+ghost use Rattle.std.specs.Prelude.{◌≡◌, ◌≤◌, ◌++◌, IfOk, None, OnOk, flat_map, length, map, nat_lt, take};
 ghost use Rattle.octets.specs.Limits.{max_script};
 ghost use Rattle.refusals.specs.Causes.{of_parser};
 ghost use Rattle.sieve_check.specs.ReasonView.{refused_view};
+ghost use Rattle.sieve_check.specs.Rules.{max_reasons};
 ghost use Rattle.sieve_lexer.specs.Tokens.{AreTokens};
 ghost use Rattle.sieve_parser.specs.Refusals.{parse_error};
 ghost use Rattle.sieve_parser.specs.Scripts.{IsGrammarRefusal, IsParsed};
 ghost use Rattle.sieve_parser.specs.View.{commands_tree};
-ghost use Rattle.sieve_explain.specs.Explaining.{Explains, IsExplained, depth_told, end_told, listing_told, marked_token, opened, reason_told, syntax_told};
+ghost use Rattle.sieve_explain.specs.Explaining.{IsExplained, IsFaultTold, TellsFault, depth_told, end_told, listing_told, look_told, marked_token, more_told, opened, reason_told, syntax_told};
+ghost use Rattle.sieve_explain.specs.Faults.{look_text};
 ghost use Rattle.sieve_explain.specs.Marks.{Stands};
 
 use crate::explanation::Explanation;
 use crate::faults::{
-    lexical_sentence, listing_sentence, token_sentence, too_deep_sentence, too_long_sentence,
-    unclosed_sentence,
+    lexical_sentence, listing_sentence, look_text, more_sentence, token_sentence,
+    too_deep_sentence, too_long_sentence, unclosed_sentence,
 };
 use crate::marks::{start_of, string_behind, token_numbered, unclosed};
 use crate::reasons::fault_sentence;
-use crate::remarks::{Source, push_remark, told};
+use crate::remarks::{Source, push_note, push_remark, told};
 use crate::sentence::plain;
 use bytecode_listing::FaultKind;
 use refusals::Refusal;
-use sieve_check::{ReasonKind, Refused, reasons_of};
+use sieve_check::{MAX_REASONS, ReasonKind, Refused, reasons_of};
 use sieve_lexer::{LexicalError, MAX_SCRIPT, Token, tokens};
 use sieve_parser::{ParseError, Script, parse_tokens};
 use std::alloc::{AllocError, Global};
 
 /// Why the script is refused, and a text for whoever wrote it: where, a sentence, the line and a
 /// mark under the place. Where the checker refuses it, each further command and test that is
-/// refused is told too, in order, up to [`MAX_REASONS`](sieve_check::MAX_REASONS) in all. `None`
-/// where nothing is wrong with it.
+/// refused is told too, in order, up to [`MAX_REASONS`] reasons in all, and then whether there are more.
+/// Behind all this stands what the file looks like, where it begins as a program or a mail does.
+/// `None` where nothing is wrong with the script.
 ///
 /// # Errors
 ///
@@ -42,10 +45,41 @@ pub fn explain(alloc: Global, name: &str, script: &[u8]) -> Result<Option<Explan
         name,
         octets: script,
     };
-    match tokens(alloc, script) {
-        Ok(tokens) => explain_tokens(&source, &tokens),
+    match explain_fault(&source)? {
+        Some(found) => Ok(Some(with_look(found, &source)?)),
+        None => Ok(None),
+    }
+}
+
+// A refusal, with what is told of it, and then what the file looks like.
+fn with_look(found: Explanation, source: &Source<'_>) -> Result<Explanation, AllocError>
+    ensures { IfOk result (λ all. (all.refusal ≡ found.refusal) × (all.text.items ≡ found.text.items
+        ++ look_told source.now.name.now (look_text source.now.octets.now))) }
+{
+    let mut all = found;
+    push_look(&mut all.text, source, look_text(source.octets))?;
+    Ok(all)
+}
+
+// Appends what the file looks like, where that is said.
+fn push_look(out: &mut Vec<u8>, source: &Source<'_>, text: &'static str) -> Result<(), AllocError>
+    ensures { OnOk result (out.new.items ≡ out.old.items
+        ++ look_told source.now.name.now text.now) }
+{
+    if text.is_empty() {
+        return Ok(());
+    }
+    push_note(out, source, &plain(text))
+}
+
+// Why the script is refused, and what is told of that.
+fn explain_fault(source: &Source<'_>) -> Result<Option<Explanation>, AllocError>
+    ensures { IfOk result (λ found. IsFaultTold source.now.name.now source.now.octets.now found) }
+{
+    match tokens(source.alloc, source.octets) {
+        Ok(tokens) => explain_tokens(source, &tokens),
         Err(error) => {
-            let text = lexical_told(&source, &error)?;
+            let text = lexical_told(source, &error)?;
             let refusal = Refusal::from(ParseError::from(error));
             Ok(Some(Explanation { refusal, text }))
         }
@@ -56,7 +90,7 @@ pub fn explain(alloc: Global, name: &str, script: &[u8]) -> Result<Option<Explan
 fn explain_tokens(source: &Source<'_>, tokens: &[Token]) -> Result<Option<Explanation>, AllocError>
     requires tokens { AreTokens source.now.octets.now tokens.now }
     requires short { length source.now.octets.now ≤ max_script }
-    ensures { IfOk result (λ found. IsExplained source.now.name.now source.now.octets.now found) }
+    ensures { IfOk result (λ found. IsFaultTold source.now.name.now source.now.octets.now found) }
 {
     match parse_tokens(source.alloc, source.octets, tokens) {
         Ok(tree) => explain_tree(source, tokens, &tree),
@@ -76,7 +110,7 @@ fn explain_tree(
 ) -> Result<Option<Explanation>, AllocError>
     requires tokens { AreTokens source.now.octets.now tokens.now }
     requires parsed { IsParsed source.now.octets.now (commands_tree tree.now) }
-    ensures { IfOk result (λ found. IsExplained source.now.name.now source.now.octets.now found) }
+    ensures { IfOk result (λ found. IsFaultTold source.now.name.now source.now.octets.now found) }
 {
     let reasons = reasons_of(tree);
     let Some(first) = reasons.first() else {
@@ -89,7 +123,7 @@ fn explain_tree(
 
 // What is told of a script that has no tokens.
 fn lexical_told(source: &Source<'_>, error: &LexicalError) -> Result<Vec<u8>, AllocError>
-    ensures { IfOk result (λ text. Explains source.now.name.now source.now.octets.now
+    ensures { IfOk result (λ text. TellsFault source.now.name.now source.now.octets.now
         (of_parser (parse_error error.now)) text.items) }
 {
     match error {
@@ -114,7 +148,7 @@ fn grammar_told(
 ) -> Result<Vec<u8>, AllocError>
     requires tokens { AreTokens source.now.octets.now tokens.now }
     requires grammar { IsGrammarRefusal source.now.octets.now tokens.now error.now }
-    ensures { IfOk result (λ text. Explains source.now.name.now source.now.octets.now
+    ensures { IfOk result (λ text. TellsFault source.now.name.now source.now.octets.now
         (of_parser error.now) text.items) }
 {
     match error {
@@ -182,8 +216,44 @@ fn depth_told(source: &Source<'_>, tokens: &[Token], number: usize) -> Result<Ve
     told(source, start_of(source.octets, token), &too_deep_sentence())
 }
 
-// Why each of the commands and tests is refused.
+// Why commands and tests are refused, the first of the reasons, and whether there are more.
 fn reasons_told(
+    source: &Source<'_>,
+    tokens: &[Token],
+    reasons: &[Refused<'_>],
+) -> Result<Vec<u8>, AllocError>
+    requires { AreTokens source.now.octets.now tokens.now }
+    ensures { IfOk result (λ text. text.items
+        ≡ flat_map (reason_told source.now.name.now source.now.octets.now tokens.now)
+        (map refused_view (take max_reasons reasons.now))
+        ++ more_told source.now.name.now (nat_lt max_reasons (length reasons.now))) }
+{
+    let mut text = first_told(source, tokens, first_of(reasons))?;
+    push_more(&mut text, source, reasons.len() > MAX_REASONS)?;
+    Ok(text)
+}
+
+// The reasons that are told.
+#[tactic(auto, using(std::proofs::lemmas::List::take_min))]
+fn first_of<'a, 'r>(reasons: &'a [Refused<'r>]) -> &'a [Refused<'r>]
+    ensures { result.now ≡ take max_reasons reasons.now }
+{
+    let (told, _) = reasons.split_at(MAX_REASONS.min(reasons.len()));
+    told
+}
+
+// Appends that there are more, where that is so.
+fn push_more(out: &mut Vec<u8>, source: &Source<'_>, more: bool) -> Result<(), AllocError>
+    ensures { OnOk result (out.new.items ≡ out.old.items ++ more_told source.now.name.now more) }
+{
+    if !more {
+        return Ok(());
+    }
+    push_note(out, source, &more_sentence())
+}
+
+// Why each of the commands and tests is refused.
+fn first_told(
     source: &Source<'_>,
     tokens: &[Token],
     reasons: &[Refused<'_>],

@@ -1,6 +1,6 @@
 // What is said of a script that isn't parsed.
 ghost use Rattle.std.specs.Prelude.{◌≡◌, ◌≤◌, Some, bytes_eq, length, map, take, take_while};
-ghost use Rattle.sieve_explain.specs.Faults.{beginning_of, beginnings, dark_at, is_dark, lexical_blanks, listing_blanks, listing_text, misplaced_text, misplaced_token, other_text, text_at, token_blanks, too_deep_blanks, too_long_blanks, unclosed_blanks};
+ghost use Rattle.sieve_explain.specs.Faults.{beginning_of, beginnings, begins_as_mail, dark_at, is_dark, is_field_octet, lexical_blanks, listing_blanks, listing_text, look_text, misplaced_text, more_blanks, misplaced_token, other_text, text_at, token_blanks, too_deep_blanks, too_long_blanks, unclosed_blanks};
 ghost use Rattle.sieve_explain.specs.Marks.{Stands};
 ghost use Rattle.sieve_explain.specs.Sentences.{blanks_of};
 
@@ -8,6 +8,7 @@ use crate::places::around;
 use crate::sentence::{Sentence, plain};
 use crate::words::with_words;
 use bytecode_listing::FaultKind;
+use sieve_check::MAX_REASONS;
 use sieve_lexer::{MAX_SCRIPT, Token, TokenKind};
 use sieve_parser::MAX_NESTING;
 
@@ -101,6 +102,53 @@ pub fn lexical_sentence(rest: &[u8]) -> Sentence<'_>
         words: "#",
         others: "",
         number: u64::MAX,
+    }
+}
+
+// The sentence behind the last of the reasons that are told.
+pub fn more_sentence() -> Sentence<'static>
+    ensures { blanks_of result ≡ more_blanks }
+{
+    Sentence {
+        number: MAX_REASONS as u64,
+        ..plain("more is refused than this: the first % are told")
+    }
+}
+
+// Whether the octet may be in the name of a header field with which a mail begins.
+fn is_field_octet(octet: &&u8) -> bool
+    ensures { result ≡ is_field_octet octet.now.now }
+{
+    octet.is_ascii_alphabetic() || **octet == b'-'
+}
+
+// How many such octets come first.
+fn name_length(file: &[u8]) -> usize
+    ensures { result ≡ length (take_while is_field_octet file.now) }
+{
+    file.iter().take_while(is_field_octet).count()
+}
+
+// Whether a header field comes first: its name, a colon and a blank.
+fn begins_as_mail(file: &[u8]) -> bool
+    ensures { result ≡ begins_as_mail file.now }
+{
+    let length = name_length(file);
+    let (_, rest) = around(file, length);
+    length > 0 && begins_with(rest, b": ")
+}
+
+/// What is said of a refused file that begins as a program or a mail does, or nothing.
+#[tactic(auto, unfolding(crate::specs::Faults::look_text))]
+pub fn look_text(file: &[u8]) -> &'static str
+    ensures { result.now ≡ look_text file.now }
+{
+    if begins_with(file, b"SVBC") {
+        "the file begins as a compiled program does: `depot disassemble` shows what is in one"
+    } else if begins_as_mail(file) {
+        "the file begins with a header field, as a mail does: is it a script?"
+    } else {
+        ""
     }
 }
 

@@ -4,7 +4,8 @@
 //! fault of a program's listing: a line that names the script, the line and the column and says in a
 //! sentence what is wrong there, then the line of the script, and a mark under the place. Where the
 //! checker refuses a script, each command and test that it refuses is told so, up to
-//! [`MAX_REASONS`](sieve_check::MAX_REASONS).
+//! [`MAX_REASONS`](sieve_check::MAX_REASONS) reasons, and a note says where there are more. Another
+//! says where the file begins as a program or a mail does.
 //!
 //! `specs/Explaining` says the text of each refusal, `specs/Faults`, `specs/Reasons` and `specs/Hints`
 //! are its sentences, `specs/Words` is which words are one letter off, `specs/Marks` what is looked for

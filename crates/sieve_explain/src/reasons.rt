@@ -2,7 +2,7 @@
 ghost use Rattle.std.specs.Prelude.{◌≡◌};
 ghost use Rattle.sieve_check.specs.ReasonView.{reason_view, refused_view};
 ghost use Rattle.sieve_explain.specs.Explaining.{fault_blanks, is_argument_fault, label_blanks, may_lack_label};
-ghost use Rattle.sieve_explain.specs.Reasons.{capability_words, ending_words, extra_words, needs_text, no_argument_words, no_test_words, other_blanks, place_text, positional_words, reason_blanks, reason_limit, reason_text, reason_words, tag_words, tests_words};
+ghost use Rattle.sieve_explain.specs.Reasons.{capability_words, ending_words, extra_words, no_argument_words, no_test_words, other_blanks, place_text, positional_words, reason_blanks, reason_limit, reason_text, reason_words, tag_words, tests_words};
 ghost use Rattle.sieve_explain.specs.Sentences.{blanks_of};
 
 use crate::hints::{unknown_capability, unknown_command, unknown_tag, unknown_test};
@@ -155,19 +155,6 @@ fn place_text(name: &[u8]) -> &'static str
     }
 }
 
-// The text for a capability that wasn't required, by the name of what needs it; a `take` needs two.
-#[tactic(auto, unfolding(crate::specs::Reasons::needs_text))]
-fn needs_text(capability: Capability, name: &[u8]) -> &'static str
-    ensures { result.now ≡ needs_text capability name.now }
-{
-    match capability {
-        Capability::Variables if is_word(name, b"take") => {
-            "@ needs `require [\"variables\", \"vnd.depot\"]` before it"
-        }
-        _ => "@ needs `require \"&\"` before it",
-    }
-}
-
 // The text for a reason, by the name of the command or test; none for a name that isn't known.
 fn reason_text(kind: ReasonKind, name: &[u8]) -> &'static str
     ensures { result.now ≡ reason_text kind name.now }
@@ -177,7 +164,7 @@ fn reason_text(kind: ReasonKind, name: &[u8]) -> &'static str
         | ReasonKind::UnknownTest
         | ReasonKind::UnknownCapability
         | ReasonKind::UnknownTag => "",
-        ReasonKind::MissingCapability(capability) => needs_text(capability, name),
+        ReasonKind::MissingCapability(_) => "@ needs `require \"&\"` before it",
         ReasonKind::ForeignTag => "@ takes no tag #",
         ReasonKind::RepeatedTag => "# is repeated, or stands beside another of its kind",
         ReasonKind::TwoModifiers => "# can't stand beside another modifier of its precedence",

@@ -1,6 +1,6 @@
 // Remarks about a place of a script.
 ghost use Rattle.std.specs.Prelude.{◌≡◌, ◌≤◌, ◌++◌, IfOk, OnOk, length};
-ghost use Rattle.sieve_explain.specs.Explaining.{heading, numbered, remark, told};
+ghost use Rattle.sieve_explain.specs.Explaining.{heading, note, numbered, remark, told};
 ghost use Rattle.sieve_explain.specs.Sentences.{blanks_of};
 
 use crate::excerpt::push_excerpt;
@@ -63,6 +63,22 @@ pub fn push_remark(
     push_sentence(out, sentence)?;
     out.extend_from_slice(b"\n")?;
     push_excerpt(out, source.octets, place)
+}
+
+/// Appends a remark about the whole script.
+#[tactic(auto, unfolding(crate::specs::Explaining::note))]
+pub fn push_note(
+    out: &mut Vec<u8>,
+    source: &Source<'_>,
+    sentence: &Sentence<'_>,
+) -> Result<(), AllocError>
+    ensures { OnOk result (out.new.items ≡ out.old.items
+        ++ note source.now.name.now (blanks_of sentence.now)) }
+{
+    push_shown(out, Style::Name, source.name.as_bytes())?;
+    out.extend_from_slice(b": note: ")?;
+    push_sentence(out, sentence)?;
+    out.extend_from_slice(b"\n")
 }
 
 /// What is wrong at a place of the script.

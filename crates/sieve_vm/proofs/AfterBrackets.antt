@@ -2,9 +2,10 @@
 use Rattle.std.proofs.Common.{◌≡◌, ℕ, suc, Bool, true, false, ◌&&◌, cond, [], ◌∷◌, Option, Some, None, slice_get, refl, sym, ap, ◌∙◌}
 use Rattle.bytecode_format.specs.declared.instruction.Instruction.{Instruction}
 use Rattle.bytecode_format.specs.declared.operation.Operation.{Operation}
-use Rattle.bytecode_format.specs.declared.operation.Operation.TheVariants.{Halt, Literal, Variable, Capture, Join, Set, Bool as BoolOp, Not, Jump, JumpIfTrue, JumpIfFalse, Header, Exists, String, Size, PartSize, PartBody, PartDigest, Keep, Discard, File, Store, Each, Next, Break, Take}
+use Rattle.bytecode_format.specs.declared.operation.Operation.TheVariants.{Each, Next}
 use Rattle.bytecode_format.specs.Operations.{operation_of}
 use Rattle.bytecode_format.specs.Code.{Code}
+use Rattle.bytecode_format.proofs.Operations.{alone}
 use Rattle.std.specs.Option.{option_map_or}
 use Rattle.bytecode_verifier.specs.Shape.{Entries, is_empty, shape_at}
 use Rattle.bytecode_verifier.specs.Places.{holds_at}
@@ -19,61 +20,11 @@ first_of_two false b h = absurd cc
 
 opens_each : (o : Option Operation) → opens o ≡ true → o ≡ Some Each
 opens_each None h = absurd cc
-opens_each (Some Halt) h = absurd cc
-opens_each (Some Literal) h = absurd cc
-opens_each (Some Variable) h = absurd cc
-opens_each (Some Capture) h = absurd cc
-opens_each (Some Join) h = absurd cc
-opens_each (Some Set) h = absurd cc
-opens_each (Some BoolOp) h = absurd cc
-opens_each (Some Not) h = absurd cc
-opens_each (Some Jump) h = absurd cc
-opens_each (Some JumpIfTrue) h = absurd cc
-opens_each (Some JumpIfFalse) h = absurd cc
-opens_each (Some Header) h = absurd cc
-opens_each (Some Exists) h = absurd cc
-opens_each (Some String) h = absurd cc
-opens_each (Some Size) h = absurd cc
-opens_each (Some PartSize) h = absurd cc
-opens_each (Some PartBody) h = absurd cc
-opens_each (Some PartDigest) h = absurd cc
-opens_each (Some Keep) h = absurd cc
-opens_each (Some Discard) h = absurd cc
-opens_each (Some File) h = absurd cc
-opens_each (Some Store) h = absurd cc
-opens_each (Some Each) h = refl
-opens_each (Some Next) h = absurd cc
-opens_each (Some Break) h = absurd cc
-opens_each (Some Take) h = absurd cc
+opens_each (Some o) h = ap Some (alone (λ o. opens (Some o)) Each refl o h)
 
 closes_next : (o : Option Operation) → closes o ≡ true → o ≡ Some Next
 closes_next None h = absurd cc
-closes_next (Some Halt) h = absurd cc
-closes_next (Some Literal) h = absurd cc
-closes_next (Some Variable) h = absurd cc
-closes_next (Some Capture) h = absurd cc
-closes_next (Some Join) h = absurd cc
-closes_next (Some Set) h = absurd cc
-closes_next (Some BoolOp) h = absurd cc
-closes_next (Some Not) h = absurd cc
-closes_next (Some Jump) h = absurd cc
-closes_next (Some JumpIfTrue) h = absurd cc
-closes_next (Some JumpIfFalse) h = absurd cc
-closes_next (Some Header) h = absurd cc
-closes_next (Some Exists) h = absurd cc
-closes_next (Some String) h = absurd cc
-closes_next (Some Size) h = absurd cc
-closes_next (Some PartSize) h = absurd cc
-closes_next (Some PartBody) h = absurd cc
-closes_next (Some PartDigest) h = absurd cc
-closes_next (Some Keep) h = absurd cc
-closes_next (Some Discard) h = absurd cc
-closes_next (Some File) h = absurd cc
-closes_next (Some Store) h = absurd cc
-closes_next (Some Each) h = absurd cc
-closes_next (Some Next) h = refl
-closes_next (Some Break) h = absurd cc
-closes_next (Some Take) h = absurd cc
+closes_next (Some o) h = ap Some (alone (λ o. closes (Some o)) Next refl o h)
 
 -- an instruction that passes a test
 held_at : (code : Code) (place : ℕ) (test : Instruction → Bool) → holds_at code place test ≡ true → (i : Instruction) × (slice_get code.instructions place ≡ Some i) × (test i ≡ true)

@@ -64,21 +64,21 @@ matching_within n names keys number values names_bounds keys_bounds number_bound
     omega (arith, most_named, most_compared, first, second, turned, split)
 
 module _ (code : Code) (mail : Mail) (known : IsMail mail) (i : Instruction) (s : State) (entries : Entries) (d : Describes entries s.stack) where
-  file_fits : (after : Entries) → option_map (λ (folder : Texts). folder.rest) (take_texts 1 entries) ≡ Some after → IsWithinCap mail (1 + length_on_top s.stack) (option_map_or cap_of_octets (take_texts 1 entries) one_charge)
+  file_fits : (after : Entries) → option_map (λ (folder : Texts). folder.below) (take_texts 1 entries) ≡ Some after → IsWithinCap mail (1 + length_on_top s.stack) (option_map_or cap_of_octets (take_texts 1 entries) one_charge)
   file_fits after e = go entries s.stack d e
     where
-      go : (es : Entries) (stack : List Value) → Describes es stack → option_map (λ (folder : Texts). folder.rest) (take_texts 1 es) ≡ Some after → IsWithinCap mail (1 + length_on_top stack) (option_map_or cap_of_octets (take_texts 1 es) one_charge)
+      go : (es : Entries) (stack : List Value) → Describes es stack → option_map (λ (folder : Texts). folder.below) (take_texts 1 es) ≡ Some after → IsWithinCap mail (1 + length_on_top stack) (option_map_or cap_of_octets (take_texts 1 es) one_charge)
       go [] stack h f = absurd cc
       go (Truth ∷ es) stack h f = absurd cc
       go (Text bound ∷ es) [] h f = absurd h
       go (Text bound ∷ es) (truth b ∷ vs) h f = absurd h
       go (Text bound ∷ es) (text folder ∷ vs) h f = let short = h.0 in record { some = omega arith; most = omega arith }
 
-  names_fit : (scope : Scope) (after : Entries) → option_and_then (λ (names : Texts). with_entry Truth names.rest) (take_texts i.b entries) ≡ Some after
+  names_fit : (scope : Scope) (after : Entries) → option_and_then (λ (names : Texts). with_entry Truth names.below) (take_texts i.b entries) ≡ Some after
       → IsWithinCap mail (1 + option_map_or (cost_of_names scope (current_part s.frames) mail) (texts_on_top i.b s.stack) 0) (option_map_or cap_of_names (take_texts i.b entries) one_charge)
   names_fit scope after e = go (take_texts i.b entries) refl e
     where
-      go : (o : Option Texts) → take_texts i.b entries ≡ o → option_and_then (λ (names : Texts). with_entry Truth names.rest) o ≡ Some after
+      go : (o : Option Texts) → take_texts i.b entries ≡ o → option_and_then (λ (names : Texts). with_entry Truth names.below) o ≡ Some after
           → IsWithinCap mail (1 + option_map_or (cost_of_names scope (current_part s.frames) mail) (texts_on_top i.b s.stack) 0) (option_map_or cap_of_names o one_charge)
       go None h f = absurd cc
       go (Some bounds) h f =
@@ -86,11 +86,11 @@ module _ (code : Code) (mail : Mail) (known : IsMail mail) (i : Instruction) (s 
           let cost = names_cost-within mail known (scope_of scope) (current_part s.frames) names.top.texts in
           rw names.is (record {
             some = omega arith;
-            most = names_within (size_of mail) (extent_of names.top.texts) (one_more_each bounds.bounds) (cost_of_names scope (current_part s.frames) mail names.top) cost names.extent;
+            most = names_within (size_of mail) (extent_of names.top.texts) (one_more_each bounds.texts) (cost_of_names scope (current_part s.frames) mail names.top) cost names.extent;
           })
 
   -- a number that says no scope costs nothing
-  exists_fits : (meant : Option Scope) (after : Entries) → option_and_then (λ (names : Texts). with_entry Truth names.rest) (take_texts i.b entries) ≡ Some after
+  exists_fits : (meant : Option Scope) (after : Entries) → option_and_then (λ (names : Texts). with_entry Truth names.below) (take_texts i.b entries) ≡ Some after
       → IsWithinCap mail (1 + option_map_or (λ scope. option_map_or (cost_of_names scope (current_part s.frames) mail) (texts_on_top i.b s.stack) 0) meant 0) (option_map_or cap_of_names (take_texts i.b entries) one_charge)
   exists_fits None after e = least (take_texts i.b entries)
     where
@@ -99,11 +99,11 @@ module _ (code : Code) (mail : Mail) (known : IsMail mail) (i : Instruction) (s 
       least (Some bounds) = record { some = omega arith; most = omega arith }
   exists_fits (Some scope) after e = names_fit scope after e
 
-  lists_fit : (test : FieldTest) (after : Entries) → option_and_then (λ (lists : ListBounds). with_entry Truth lists.rest) (take_lists i.b (params_in i.c) (keys_in i.c) entries) ≡ Some after
+  lists_fit : (test : FieldTest) (after : Entries) → option_and_then (λ (lists : ListBounds). with_entry Truth lists.below) (take_lists i.b (params_in i.c) (keys_in i.c) entries) ≡ Some after
       → IsWithinCap mail (1 + option_map_or (cost_of_matching test (current_part s.frames) mail) (lists_on_top i.b (params_in i.c) (keys_in i.c) s.stack) 0) (option_map_or cap_of_matching (take_lists i.b (params_in i.c) (keys_in i.c) entries) one_charge)
   lists_fit test after e = go (take_lists i.b (params_in i.c) (keys_in i.c) entries) refl e
     where
-      go : (o : Option ListBounds) → take_lists i.b (params_in i.c) (keys_in i.c) entries ≡ o → option_and_then (λ (lists : ListBounds). with_entry Truth lists.rest) o ≡ Some after
+      go : (o : Option ListBounds) → take_lists i.b (params_in i.c) (keys_in i.c) entries ≡ o → option_and_then (λ (lists : ListBounds). with_entry Truth lists.below) o ≡ Some after
           → IsWithinCap mail (1 + option_map_or (cost_of_matching test (current_part s.frames) mail) (lists_on_top i.b (params_in i.c) (keys_in i.c) s.stack) 0) (option_map_or cap_of_matching o one_charge)
       go None h f = absurd cc
       go (Some bounds) h f =
@@ -120,7 +120,7 @@ module _ (code : Code) (mail : Mail) (known : IsMail mail) (i : Instruction) (s 
           })
 
   -- a number that says no test of fields costs nothing
-  header_fits : (meant : Option FieldTest) (after : Entries) → option_and_then (λ (lists : ListBounds). with_entry Truth lists.rest) (take_lists i.b (params_in i.c) (keys_in i.c) entries) ≡ Some after
+  header_fits : (meant : Option FieldTest) (after : Entries) → option_and_then (λ (lists : ListBounds). with_entry Truth lists.below) (take_lists i.b (params_in i.c) (keys_in i.c) entries) ≡ Some after
       → IsWithinCap mail (1 + option_map_or (λ test. option_map_or (cost_of_matching test (current_part s.frames) mail) (lists_on_top i.b (params_in i.c) (keys_in i.c) s.stack) 0) meant 0) (option_map_or cap_of_matching (take_lists i.b (params_in i.c) (keys_in i.c) entries) one_charge)
   header_fits None after e = least (take_lists i.b (params_in i.c) (keys_in i.c) entries)
     where
@@ -130,12 +130,12 @@ module _ (code : Code) (mail : Mail) (known : IsMail mail) (i : Instruction) (s 
   header_fits (Some test) after e = lists_fit test after e
 
   -- the texts of a test of the current part
-  keys_fit : (cost : Part → List (List ℕ) → ℕ) (cap : Texts → Cap) → ((place : ℕ) (part : Part) (bounds : Texts) (keys : List (List ℕ)) → slice_get mail.parts place ≡ Some part → extent_of keys ≤ one_more_each bounds.bounds → 1 + cost part keys ≤ cap_value mail (cap bounds))
-      → ((bounds : Texts) → 1 ≤ cap_value mail (cap bounds)) → (after : Entries) → option_and_then (λ (keys : Texts). with_entry Truth keys.rest) (take_texts i.c entries) ≡ Some after
+  keys_fit : (cost : Part → List (List ℕ) → ℕ) (cap : Texts → Cap) → ((place : ℕ) (part : Part) (bounds : Texts) (keys : List (List ℕ)) → slice_get mail.parts place ≡ Some part → extent_of keys ≤ one_more_each bounds.texts → 1 + cost part keys ≤ cap_value mail (cap bounds))
+      → ((bounds : Texts) → 1 ≤ cap_value mail (cap bounds)) → (after : Entries) → option_and_then (λ (keys : Texts). with_entry Truth keys.below) (take_texts i.c entries) ≡ Some after
       → IsWithinCap mail (1 + option_map_or (cost_with_part cost mail (current_part s.frames)) (texts_on_top i.c s.stack) 0) (option_map_or cap (take_texts i.c entries) one_charge)
   keys_fit cost cap fits one_fits after e = go (take_texts i.c entries) refl e
     where
-      with_part : (bounds : Texts) (top : OnTop) → extent_of top.texts ≤ one_more_each bounds.bounds → (current : Option ℕ) → 1 + cost_with_part cost mail current top ≤ cap_value mail (cap bounds)
+      with_part : (bounds : Texts) (top : OnTop) → extent_of top.texts ≤ one_more_each bounds.texts → (current : Option ℕ) → 1 + cost_with_part cost mail current top ≤ cap_value mail (cap bounds)
       with_part bounds top less None = one_fits bounds
       with_part bounds top less (Some place) = at (slice_get mail.parts place) refl
         where
@@ -143,17 +143,17 @@ module _ (code : Code) (mail : Mail) (known : IsMail mail) (i : Instruction) (s 
           at None h = one_fits bounds
           at (Some part) h = fits place part bounds top.texts h less
 
-      go : (o : Option Texts) → take_texts i.c entries ≡ o → option_and_then (λ (keys : Texts). with_entry Truth keys.rest) o ≡ Some after
+      go : (o : Option Texts) → take_texts i.c entries ≡ o → option_and_then (λ (keys : Texts). with_entry Truth keys.below) o ≡ Some after
           → IsWithinCap mail (1 + option_map_or (cost_with_part cost mail (current_part s.frames)) (texts_on_top i.c s.stack) 0) (option_map_or cap o one_charge)
       go None h f = absurd cc
       go (Some bounds) h f =
           let keys = on_top i.c entries bounds s.stack h d in
           rw keys.is (record { some = omega arith; most = with_part bounds keys.top keys.extent (current_part s.frames) })
 
-  body_fits : (place : ℕ) (part : Part) (bounds : Texts) (keys : List (List ℕ)) → slice_get mail.parts place ≡ Some part → extent_of keys ≤ one_more_each bounds.bounds → 1 + body_cost part keys ≤ cap_value mail (cap_of_body bounds)
-  body_fits place part bounds keys here less = names_within (size_of mail) (extent_of keys) (one_more_each bounds.bounds) (body_cost part keys) (body_cost-within mail known place part here keys) less
+  body_fits : (place : ℕ) (part : Part) (bounds : Texts) (keys : List (List ℕ)) → slice_get mail.parts place ≡ Some part → extent_of keys ≤ one_more_each bounds.texts → 1 + body_cost part keys ≤ cap_value mail (cap_of_body bounds)
+  body_fits place part bounds keys here less = names_within (size_of mail) (extent_of keys) (one_more_each bounds.texts) (body_cost part keys) (body_cost-within mail known place part here keys) less
 
-  digest_fits : (place : ℕ) (part : Part) (bounds : Texts) (keys : List (List ℕ)) → slice_get mail.parts place ≡ Some part → extent_of keys ≤ one_more_each bounds.bounds → 1 + digest_cost part keys ≤ cap_value mail (cap_of_digest bounds)
+  digest_fits : (place : ℕ) (part : Part) (bounds : Texts) (keys : List (List ℕ)) → slice_get mail.parts place ≡ Some part → extent_of keys ≤ one_more_each bounds.texts → 1 + digest_cost part keys ≤ cap_value mail (cap_of_digest bounds)
   digest_fits place part bounds keys here less = omega (arith, digest_cost-is part keys, less)
 
   parts_fit : (after : Entries) → option_and_then with_joined (take_texts i.b entries) ≡ Some after → IsWithinCap mail (1 + option_map_or octets_on_top (texts_on_top i.b s.stack) 0) (option_map_or cap_of_octets (take_texts i.b entries) one_charge)
@@ -166,11 +166,11 @@ module _ (code : Code) (mail : Mail) (known : IsMail mail) (i : Instruction) (s 
           let less = octets_within i.b bounds s.stack parts in
           rw parts.is (record { some = omega arith; most = omega arith })
 
-  sources_fit : (after : Entries) → option_and_then (λ (lists : ListBounds). with_entry Truth lists.rest) (take_lists i.b 0 i.c entries) ≡ Some after
+  sources_fit : (after : Entries) → option_and_then (λ (lists : ListBounds). with_entry Truth lists.below) (take_lists i.b 0 i.c entries) ≡ Some after
       → IsWithinCap mail (1 + option_map_or cost_of_comparing (lists_on_top i.b 0 i.c s.stack) 0) (option_map_or cap_of_comparing (take_lists i.b 0 i.c entries) one_charge)
   sources_fit after e = go (take_lists i.b 0 i.c entries) refl e
     where
-      go : (o : Option ListBounds) → take_lists i.b 0 i.c entries ≡ o → option_and_then (λ (lists : ListBounds). with_entry Truth lists.rest) o ≡ Some after
+      go : (o : Option ListBounds) → take_lists i.b 0 i.c entries ≡ o → option_and_then (λ (lists : ListBounds). with_entry Truth lists.below) o ≡ Some after
           → IsWithinCap mail (1 + option_map_or cost_of_comparing (lists_on_top i.b 0 i.c s.stack) 0) (option_map_or cap_of_comparing o one_charge)
       go None h f = absurd cc
       go (Some bounds) h f =
@@ -190,7 +190,7 @@ taken_fits mail most (Some current) = go (slice_get mail.parts current)
 
 -- the charge of an instruction that the shape goes over
 pub charge_fits : (code : Code) (mail : Mail) → IsMail mail → (o : Operation) (i : Instruction) (s : State) (entries : Entries) → Describes entries s.stack → (after : Entries) → left_by code (Some o) i entries ≡ Some after
-    → IsWithinCap mail (charge_of code mail o i s) (cap_of (Some o) i entries)
+    → IsWithinCap mail (charge_of mail o i s) (cap_of (Some o) i entries)
 charge_fits code mail known Header i s entries d after e = header_fits code mail known i s entries d (field_test_numbered i.a) after e
 charge_fits code mail known Exists i s entries d after e = exists_fits code mail known i s entries d (scope_numbered i.a) after e
 charge_fits code mail known File i s entries d after e = file_fits code mail known i s entries d after e

@@ -10,7 +10,7 @@ use Rattle.mime_decode.specs.Mail.{Part, Mail}
 use Rattle.sieve_vm.specs.State.{Value, truth, text, State, start}
 use Rattle.sieve_vm.specs.Stack.{texts_on_top, lists_on_top}
 use Rattle.sieve_vm.specs.Charge.{charge_of}
-use Rattle.sieve_vm.specs.Machine.{on, fails, effect}
+use Rattle.sieve_vm.specs.Machine.{on, fails, effect, referred_in}
 
 -- there are ten captures, and as many variables as the program says
 ten_captures : (code : Code) → length (start code).captures ≡ 10
@@ -55,32 +55,32 @@ module _ (root : Part) where
   abbrev lists : Operation → ℕ → ℕ → ℕ → Instruction
   lists operation a b c = record { op = octet_of operation; a = a; b = b; c = c }
 
-  literal : effect code mail Literal (lists Literal 0 0 0) (with_stack []) ≡ on (with_stack (text (codes "x") ∷ []))
+  literal : effect (referred_in code) mail Literal (lists Literal 0 0 0) (with_stack []) ≡ on (with_stack (text (codes "x") ∷ []))
   literal = refl
 
-  no_literal : effect code mail Literal (lists Literal 0 0 1) (with_stack []) ≡ fails
+  no_literal : effect (referred_in code) mail Literal (lists Literal 0 0 1) (with_stack []) ≡ fails
   no_literal = refl
 
-  filed : effect code mail File (lists File 0 0 0) (with_stack (text (codes "x") ∷ [])) ≡ on (record (with_stack []) { actions = action.File (codes "x") ∷ []; implicit_keep = false })
+  filed : effect (referred_in code) mail File (lists File 0 0 0) (with_stack (text (codes "x") ∷ [])) ≡ on (record (with_stack []) { actions = action.File (codes "x") ∷ []; implicit_keep = false })
   filed = refl
 
-  truth_filed : effect code mail File (lists File 0 0 0) (with_stack (truth true ∷ [])) ≡ fails
+  truth_filed : effect (referred_in code) mail File (lists File 0 0 0) (with_stack (truth true ∷ [])) ≡ fails
   truth_filed = refl
 
   -- two fields and one more, of a name of 7 octets and one more; a value of 2 octets and one more, of a key of 1 and one more
-  matched : effect code mail Header (lists Header 1 1 1) (with_stack (text (codes "A") ∷ text (codes "Subject") ∷ [])) ≡ on (with_stack (truth true ∷ []))
+  matched : effect (referred_in code) mail Header (lists Header 1 1 1) (with_stack (text (codes "A") ∷ text (codes "Subject") ∷ [])) ≡ on (with_stack (truth true ∷ []))
   matched = refl
 
-  matched_charge : charge_of code mail Header (lists Header 1 1 1) (with_stack (text (codes "A") ∷ text (codes "Subject") ∷ [])) ≡ 1 + 3 * 8 + 3 * 2
+  matched_charge : charge_of mail Header (lists Header 1 1 1) (with_stack (text (codes "A") ∷ text (codes "Subject") ∷ [])) ≡ 1 + 3 * 8 + 3 * 2
   matched_charge = refl
 
   -- the captures of a match: the value, and what its wildcard stands for
-  captured : effect code mail Header (lists Header 2 1 1) (with_stack (text (codes "a*") ∷ text (codes "Subject") ∷ []))
+  captured : effect (referred_in code) mail Header (lists Header 2 1 1) (with_stack (text (codes "a*") ∷ text (codes "Subject") ∷ []))
       ≡ on (record (with_stack (truth true ∷ [])) { captures = codes "aa" ∷ codes "a" ∷ [] ∷ [] ∷ [] ∷ [] ∷ [] ∷ [] ∷ [] ∷ [] ∷ [] })
   captured = refl
 
   -- a match that fails leaves them
-  not_captured : effect code mail Header (lists Header 2 1 1) (record (with_stack (text (codes "b*") ∷ text (codes "Subject") ∷ [])) { captures = codes "old" ∷ [] })
+  not_captured : effect (referred_in code) mail Header (lists Header 2 1 1) (record (with_stack (text (codes "b*") ∷ text (codes "Subject") ∷ [])) { captures = codes "old" ∷ [] })
       ≡ on (record (with_stack (truth false ∷ [])) { captures = codes "old" ∷ [] })
   not_captured = refl
 
@@ -89,50 +89,50 @@ module _ (root : Part) where
   abbrev with_variables : List (List ℕ) → List Value → State
   with_variables variables stack = record (with_stack stack) { variables = variables }
 
-  variable : effect code mail Variable (lists Variable 0 0 1) (with_variables (codes "a" ∷ codes "b" ∷ []) []) ≡ on (with_variables (codes "a" ∷ codes "b" ∷ []) (text (codes "b") ∷ []))
+  variable : effect (referred_in code) mail Variable (lists Variable 0 0 1) (with_variables (codes "a" ∷ codes "b" ∷ []) []) ≡ on (with_variables (codes "a" ∷ codes "b" ∷ []) (text (codes "b") ∷ []))
   variable = refl
 
-  no_variable : effect code mail Variable (lists Variable 0 0 2) (with_variables (codes "a" ∷ codes "b" ∷ []) []) ≡ fails
+  no_variable : effect (referred_in code) mail Variable (lists Variable 0 0 2) (with_variables (codes "a" ∷ codes "b" ∷ []) []) ≡ fails
   no_variable = refl
 
   -- captures are empty until a match sets them
-  capture : effect code mail Capture (lists Capture 9 0 0) (with_stack []) ≡ on (with_stack (text [] ∷ []))
+  capture : effect (referred_in code) mail Capture (lists Capture 9 0 0) (with_stack []) ≡ on (with_stack (text [] ∷ []))
   capture = refl
 
   -- the first text of a join was pushed first
-  joined : effect code mail Join (lists Join 0 2 0) (with_stack (text (codes "b") ∷ text (codes "aa") ∷ truth true ∷ [])) ≡ on (with_stack (text (codes "aab") ∷ truth true ∷ []))
+  joined : effect (referred_in code) mail Join (lists Join 0 2 0) (with_stack (text (codes "b") ∷ text (codes "aa") ∷ truth true ∷ [])) ≡ on (with_stack (text (codes "aab") ∷ truth true ∷ []))
   joined = refl
 
-  joined_charge : charge_of code mail Join (lists Join 0 2 0) (with_stack (text (codes "b") ∷ text (codes "aa") ∷ truth true ∷ [])) ≡ 1 + 2 + 1
+  joined_charge : charge_of mail Join (lists Join 0 2 0) (with_stack (text (codes "b") ∷ text (codes "aa") ∷ truth true ∷ [])) ≡ 1 + 2 + 1
   joined_charge = refl
 
   -- a is 9: lower case, and the first octet in upper case
-  set : effect code mail Set (lists Set 9 0 1) (with_variables ([] ∷ codes "old" ∷ []) (text (codes "nEW") ∷ [])) ≡ on (with_variables ([] ∷ codes "New" ∷ []) [])
+  set : effect (referred_in code) mail Set (lists Set 9 0 1) (with_variables ([] ∷ codes "old" ∷ []) (text (codes "nEW") ∷ [])) ≡ on (with_variables ([] ∷ codes "New" ∷ []) [])
   set = refl
 
-  set_charge : charge_of code mail Set (lists Set 9 0 1) (with_variables ([] ∷ codes "old" ∷ []) (text (codes "nEW") ∷ [])) ≡ 1 + 3
+  set_charge : charge_of mail Set (lists Set 9 0 1) (with_variables ([] ∷ codes "old" ∷ []) (text (codes "nEW") ∷ [])) ≡ 1 + 3
   set_charge = refl
 
-  no_modifiers : effect code mail Set (lists Set 3 0 0) (with_variables ([] ∷ []) (text (codes "new") ∷ [])) ≡ fails
+  no_modifiers : effect (referred_in code) mail Set (lists Set 3 0 0) (with_variables ([] ∷ []) (text (codes "new") ∷ [])) ≡ fails
   no_modifiers = refl
 
-  no_variable_to_set : effect code mail Set (lists Set 0 0 1) (with_variables ([] ∷ []) (text (codes "new") ∷ [])) ≡ fails
+  no_variable_to_set : effect (referred_in code) mail Set (lists Set 0 0 1) (with_variables ([] ∷ []) (text (codes "new") ∷ [])) ≡ fails
   no_variable_to_set = refl
 
   -- the second of two sources matches, and it sets captures
-  source_matched : effect code mail String (lists String 2 2 1) (with_stack (text (codes "b*") ∷ text (codes "bc") ∷ text (codes "a") ∷ []))
+  source_matched : effect (referred_in code) mail String (lists String 2 2 1) (with_stack (text (codes "b*") ∷ text (codes "bc") ∷ text (codes "a") ∷ []))
       ≡ on (record (with_stack (truth true ∷ [])) { captures = codes "bc" ∷ codes "c" ∷ [] ∷ [] ∷ [] ∷ [] ∷ [] ∷ [] ∷ [] ∷ [] ∷ [] })
   source_matched = refl
 
   -- all sources and keys count: one octet and one more, two octets and one more, each times two octets and one more
-  source_charge : charge_of code mail String (lists String 2 2 1) (with_stack (text (codes "b*") ∷ text (codes "bc") ∷ text (codes "a") ∷ [])) ≡ 1 + 2 * 3 + 3 * 3
+  source_charge : charge_of mail String (lists String 2 2 1) (with_stack (text (codes "b*") ∷ text (codes "bc") ∷ text (codes "a") ∷ [])) ≡ 1 + 2 * 3 + 3 * 3
   source_charge = refl
 
-  exists : effect code mail Exists (lists Exists 0 2 0) (with_stack (text (codes "x") ∷ text (codes "Subject") ∷ [])) ≡ on (with_stack (truth true ∷ []))
+  exists : effect (referred_in code) mail Exists (lists Exists 0 2 0) (with_stack (text (codes "x") ∷ text (codes "Subject") ∷ [])) ≡ on (with_stack (truth true ∷ []))
   exists = refl
 
-  exists_charge : charge_of code mail Exists (lists Exists 0 2 0) (with_stack (text (codes "x") ∷ text (codes "Subject") ∷ [])) ≡ 1 + 3 * (8 + 2)
+  exists_charge : charge_of mail Exists (lists Exists 0 2 0) (with_stack (text (codes "x") ∷ text (codes "Subject") ∷ [])) ≡ 1 + 3 * (8 + 2)
   exists_charge = refl
 
-  not_there : effect code mail Exists (lists Exists 0 2 0) (with_stack (text (codes "y") ∷ text (codes "Subject") ∷ [])) ≡ on (with_stack (truth false ∷ []))
+  not_there : effect (referred_in code) mail Exists (lists Exists 0 2 0) (with_stack (text (codes "y") ∷ text (codes "Subject") ∷ [])) ≡ on (with_stack (truth false ∷ []))
   not_there = refl

@@ -3,7 +3,7 @@ use Rattle.std.proofs.Common.{◌≡◌, ◌==◌, ℕ, zero, suc, ◌+◌, ◌-
 use Rattle.std.proofs.lemmas.Bool.{cases_lt, le-leb, leb-true}
 use Rattle.std.proofs.Math.Nat.{mul-le-mul}
 use Rattle.bytecode_cost.specs.Sums.{chains, turns, powers_left, turns_left}
-use Rattle.bytecode_cost.proofs.Chains.{all_left}
+use Rattle.bytecode_cost.proofs.Chains.{powers_are_left}
 use Rattle.bytecode_format.specs.Code.{Code}
 use Rattle.bytecode_verifier.specs.Places.{sum_below}
 use Rattle.bytecode_verifier.specs.Loops.{open_loops}
@@ -151,7 +151,7 @@ turn-taken version parts inside left k among all = pick (version == 2) refl
         → cond c (chains inside k) (powers_left parts inside k) + cond c (chains left (suc k)) (powers_left parts left (suc k)) ≤ cond c (chains (suc left) (suc k)) (powers_left parts (suc left) (suc k))
     pick true e = let more = chains-more inside left k (among e) in omega (arith, more)
     pick false e =
-        let whole : powers_left parts inside k ≡ parts ^ k = ap (λ n. powers_left parts n k) (all e) ∙ all_left 1 parts k in
+        let whole : powers_left parts inside k ≡ parts ^ k = ap (λ n. powers_left parts n k) (all e) ∙ powers_are_left parts k in
         let one : suc left * parts ^ k ≡ parts ^ k + left * parts ^ k = grind arith in
         omega (arith, whole, one)
 
@@ -318,6 +318,6 @@ module _ (code : Code) (mail : Mail) where
       λ k. sum-linear (λ p. (cap_at code p).fixed) (λ p. (cap_at code p).scaled) (λ p. nat_eq (depth_at p) k) (size_of mail + 1) (turn k) n in
       let all : potential code mail (start code) ≡ sum_below (weights []) n = from-all (weights []) n in
       let each : (p : ℕ) → weights [] p ≡ cost p * turn (depth_at p) =
-      λ p. ap (λ v. cost p * turns_left code.version parts v (depth_at p - 0)) visits-start ∙ ap (λ t. cost p * t) (all_left code.version parts (depth_at p - 0)) ∙ ap (λ l. cost p * turn l) (omega arith) in
+      λ p. ap (λ v. cost p * turns_left code.version parts v (depth_at p - 0)) visits-start ∙ ap (λ l. cost p * turn l) (omega arith) in
       let four = sum-four (weights []) (column 0) (column 1) (column 2) (column 3) n (λ p. each p ∙ four_columns turn (cost p) (depth_at p) (nesting.few p)) in
       omega (arith, all, four, inside 0, inside 1, inside 2, inside 3)

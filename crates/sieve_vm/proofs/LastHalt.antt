@@ -4,41 +4,17 @@ use Rattle.std.specs.Option.{option_map_or}
 use Rattle.std.proofs.lemmas.Bool.{eq-eqb}
 use Rattle.bytecode_format.specs.declared.instruction.Instruction.{Instruction}
 use Rattle.bytecode_format.specs.declared.operation.Operation.{Operation}
-use Rattle.bytecode_format.specs.declared.operation.Operation.TheVariants.{Halt, Literal, Variable, Capture, Join, Set, Bool as BoolOp, Not, Jump, JumpIfTrue, JumpIfFalse, Header, Exists, String, Size, PartSize, PartBody, PartDigest, Keep, Discard, File, Store, Each, Next, Break, Take}
+use Rattle.bytecode_format.specs.declared.operation.Operation.TheVariants.{Halt}
 use Rattle.bytecode_format.specs.Operations.{operation_of}
 use Rattle.bytecode_format.specs.Code.{Code}
+use Rattle.bytecode_format.proofs.Operations.{alone}
 use Rattle.bytecode_verifier.specs.Places.{holds_at}
 use Rattle.bytecode_verifier.specs.Rules.{is_halt}
 use Rattle.bytecode_verifier.specs.Acceptance.{IsAccepted}
 
 halts_at : (o : Option Operation) → is_halt o ≡ true → o ≡ Some Halt
 halts_at None h = absurd cc
-halts_at (Some Halt) h = refl
-halts_at (Some Literal) h = absurd cc
-halts_at (Some Variable) h = absurd cc
-halts_at (Some Capture) h = absurd cc
-halts_at (Some Join) h = absurd cc
-halts_at (Some Set) h = absurd cc
-halts_at (Some BoolOp) h = absurd cc
-halts_at (Some Not) h = absurd cc
-halts_at (Some Jump) h = absurd cc
-halts_at (Some JumpIfTrue) h = absurd cc
-halts_at (Some JumpIfFalse) h = absurd cc
-halts_at (Some Header) h = absurd cc
-halts_at (Some Exists) h = absurd cc
-halts_at (Some String) h = absurd cc
-halts_at (Some Size) h = absurd cc
-halts_at (Some PartSize) h = absurd cc
-halts_at (Some PartBody) h = absurd cc
-halts_at (Some PartDigest) h = absurd cc
-halts_at (Some Keep) h = absurd cc
-halts_at (Some Discard) h = absurd cc
-halts_at (Some File) h = absurd cc
-halts_at (Some Store) h = absurd cc
-halts_at (Some Each) h = absurd cc
-halts_at (Some Next) h = absurd cc
-halts_at (Some Break) h = absurd cc
-halts_at (Some Take) h = absurd cc
+halts_at (Some o) h = ap Some (alone (λ o. is_halt (Some o)) Halt refl o h)
 
 -- the place of the last instruction, which is a Halt
 pub last_halt : (code : Code) → IsAccepted code → (place : ℕ) → suc place ≡ length code.instructions → (i : Instruction) × (slice_get code.instructions place ≡ Some i) × (operation_of i.op ≡ Some Halt)

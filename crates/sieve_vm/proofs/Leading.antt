@@ -18,7 +18,7 @@ use Rattle.bytecode_verifier.proofs.Nesting.{Nesting}
 use Rattle.mime_decode.specs.Mail.{Mail, IsMail}
 use Rattle.sieve_vm.specs.State.{Value, truth, State}
 use Rattle.sieve_vm.specs.Stores.{NamesPart}
-use Rattle.sieve_vm.specs.Machine.{on, jumps, fails, push, tested, is_sound_jump}
+use Rattle.sieve_vm.specs.Machine.{on, jumps, fails, push, tested, is_sound_jump, referred_in}
 use Rattle.glob_match.specs.declared.match_type.Match.{Match}
 use Rattle.mail_matching.specs.FirstMatch.{first_match}
 use Rattle.bytecode_verifier.proofs.Nesting.{nesting}
@@ -104,7 +104,7 @@ module _ (code : Code) (mail : Mail) (is : IsAccepted code) (known : IsMail mail
           falls = subst (Falls code mail s i.c) (sym frames) (potential-forward code mail s.frames s.place i.c depth before_end (jump_forward code is s.place i here jump));
         }
 
-    pub sound_jump : is_jump (row_in code i) ≡ true → is_sound_jump code s i ≡ true
+    pub sound_jump : is_jump (row_in code i) ≡ true → is_sound_jump (referred_in code) s i ≡ true
     sound_jump jump = rw (lt-ltb _ _ (jump_forward code is s.place i here jump), jump_same_loops code is s.place i here jump) refl
 
     pub after_of : (o : Option Operation) → operation_of i.op ≡ o → (after : Entries) × (left_by code o i entries ≡ Some after)

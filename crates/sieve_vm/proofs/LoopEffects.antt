@@ -14,7 +14,7 @@ use Rattle.bytecode_verifier.proofs.Consequences.{left_by, break_known}
 use Rattle.bytecode_verifier.proofs.Nesting.{Nesting}
 use Rattle.mime_decode.specs.Mail.{Mail, IsMail}
 use Rattle.sieve_vm.specs.State.{Frame, State, current_part}
-use Rattle.sieve_vm.specs.Machine.{fails, are_partners, open_loop, next_part, next, close, effect}
+use Rattle.sieve_vm.specs.Machine.{fails, are_partners, open_loop, next_part, next, close, effect, referred_in}
 use Rattle.sieve_vm.specs.Potential.{potential_from}
 use Rattle.mime_decode.specs.Scope.{visited}
 use Rattle.bytecode_verifier.proofs.Nesting.{nesting}
@@ -69,7 +69,7 @@ module _ (code : Code) (mail : Mail) (is : IsAccepted code) (known : IsMail mail
           falls = falls;
         }
 
-    pub leads_each : operation_of i.op ≡ Some Each → Leads code mail s (effect code mail Each i s)
+    pub leads_each : operation_of i.op ≡ Some Each → Leads code mail s (effect (referred_in code) mail Each i s)
     leads_each e =
         subst (λ (b : Bool). Leads code mail s (cond b (open_loop i.c (visited (current_part s.frames) mail) s) fails)) (sym fits)
         (go (visited (current_part s.frames) mail) refl (are_visited mail known (current_part s.frames)))
@@ -126,7 +126,7 @@ module _ (code : Code) (mail : Mail) (is : IsAccepted code) (known : IsMail mail
                   (potential-enter code mail s.frames s.place i.c part rest depth (omega (arith, within.1)) (ends s.frames from.opened) deeper all are.few (below-left mail (at_first part rest) s.frames way)),
             )
 
-    pub leads_next : operation_of i.op ≡ Some Next → Leads code mail s (effect code mail Next i s)
+    pub leads_next : operation_of i.op ≡ Some Next → Leads code mail s (effect (referred_in code) mail Next i s)
     leads_next e = go s.frames refl from.opened
       where
         loop : Loop
@@ -179,7 +179,7 @@ module _ (code : Code) (mail : Mail) (is : IsAccepted code) (known : IsMail mail
             (subst (λ n. potential_from code mail (suc f.each) (record f { part = p; rest = rest } ∷ fs) + cap_there code mail n ≤ potential_from code mail n (f ∷ fs)) next_is
             (potential-again code mail f fs p rest (ap (depth_at code mail) next_is ∙ deep) deeper rest_is (below-left mail (record f { part = p; rest = rest }) fs on))))
 
-        go : (fs : List Frame) → s.frames ≡ fs → AreOpen mail fs (open_loops code s.place) → Leads code mail s (next code i.c s fs)
+        go : (fs : List Frame) → s.frames ≡ fs → AreOpen mail fs (open_loops code s.place) → Leads code mail s (next (referred_in code) i.c s fs)
         go [] same are = absurd (omega (arith, ap length (sym closed ∙ are), length-append outer (loop ∷ [])))
         go (f ∷ fs) same are =
             let both = last_of_both outer are.0 loop (loop_of f) (sym closed ∙ are.1) in
@@ -189,7 +189,7 @@ module _ (code : Code) (mail : Mail) (is : IsAccepted code) (known : IsMail mail
             subst (λ (b : Bool). Leads code mail s (cond b (next_part f fs f.rest s) fails)) (sym sound)
             (turn_of_frame f fs same each_is next_is (subst (AreOpen mail fs) (sym both.0) are.2) are.5 f.rest refl are.4 (depth ∙ ap length same))
 
-    pub leads_break : operation_of i.op ≡ Some Break → Leads code mail s (effect code mail Break i s)
+    pub leads_break : operation_of i.op ≡ Some Break → Leads code mail s (effect (referred_in code) mail Break i s)
     leads_break e =
         let a = break_known code is s.place i here e in
         let number : i.a ≡ suc (i.a - 1) = omega (arith, a.0) in

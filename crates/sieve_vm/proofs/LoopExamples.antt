@@ -10,7 +10,7 @@ use Rattle.mime_decode.specs.Mail.{Mail, Part}
 use Rattle.mail_matching.proofs.Extents.{digest_cost-is}
 use Rattle.sieve_vm.specs.State.{Value, truth, text, Frame, State, Turn, goes, ends, traps, start}
 use Rattle.sieve_vm.specs.Charge.{charge_of}
-use Rattle.sieve_vm.specs.Machine.{on, jumps, fails, effect, step}
+use Rattle.sieve_vm.specs.Machine.{on, jumps, fails, effect, step, referred_in}
 use Rattle.sieve_vm.specs.Potential.{potential, limit_of}
 
 module _ (root : Part) where
@@ -133,24 +133,24 @@ module _ (root : Part) where
   code = program one_loop
 
   -- its content has three octets: not over three, and not under three
-  not_over : effect code mail PartSize (instruction PartSize 0 0 0) (in_loop []) ≡ on (in_loop (truth false ∷ []))
+  not_over : effect (referred_in code) mail PartSize (instruction PartSize 0 0 0) (in_loop []) ≡ on (in_loop (truth false ∷ []))
   not_over = refl
 
-  no_part : effect code mail PartSize (instruction PartSize 0 0 0) (start code) ≡ fails
+  no_part : effect (referred_in code) mail PartSize (instruction PartSize 0 0 0) (start code) ≡ fails
   no_part = refl
 
-  body_is : effect code mail PartBody (instruction PartBody 0 0 1) (in_loop (text (codes "ONE") ∷ [])) ≡ on (in_loop (truth true ∷ []))
+  body_is : effect (referred_in code) mail PartBody (instruction PartBody 0 0 1) (in_loop (text (codes "ONE") ∷ [])) ≡ on (in_loop (truth true ∷ []))
   body_is = refl
 
-  body_charge : charge_of code mail PartBody (instruction PartBody 0 0 1) (in_loop (text (codes "ON") ∷ [])) ≡ 1 + 4 * 3
+  body_charge : charge_of mail PartBody (instruction PartBody 0 0 1) (in_loop (text (codes "ON") ∷ [])) ≡ 1 + 4 * 3
   body_charge = refl
 
   -- 64 octets and one more
-  digest_charge : charge_of code mail PartDigest (instruction PartDigest 0 0 1) (in_loop (text (codes "ab") ∷ [])) ≡ 1 + 65 * 3
+  digest_charge : charge_of mail PartDigest (instruction PartDigest 0 0 1) (in_loop (text (codes "ab") ∷ [])) ≡ 1 + 65 * 3
   digest_charge = ap (λ n. 1 + n) (digest_cost-is (part 1 (codes "one") (codes "one")) (codes "ab" ∷ []))
 
   -- the part's number is stored, and the implicit keep stays
-  stored : effect code mail Store (instruction Store 0 0 0) (in_loop (text (codes "box") ∷ [])) ≡ on (record (in_loop []) { actions = action.Store (codes "box") 1 ∷ [] })
+  stored : effect (referred_in code) mail Store (instruction Store 0 0 0) (in_loop (text (codes "box") ∷ [])) ≡ on (record (in_loop []) { actions = action.Store (codes "box") 1 ∷ [] })
   stored = refl
 
   -- ---- the first octets of the current part's content
@@ -158,22 +158,22 @@ module _ (root : Part) where
   abbrev with_variable : List (List ℕ) → State
   with_variable variables = record (in_loop []) { variables = variables }
 
-  takes_two : effect code mail Take (instruction Take 0 2 0) (with_variable (codes "old" ∷ [])) ≡ on (with_variable (codes "on" ∷ []))
+  takes_two : effect (referred_in code) mail Take (instruction Take 0 2 0) (with_variable (codes "old" ∷ [])) ≡ on (with_variable (codes "on" ∷ []))
   takes_two = refl
 
-  takes_all : effect code mail Take (instruction Take 0 9 0) (with_variable (codes "old" ∷ [])) ≡ on (with_variable (codes "one" ∷ []))
+  takes_all : effect (referred_in code) mail Take (instruction Take 0 9 0) (with_variable (codes "old" ∷ [])) ≡ on (with_variable (codes "one" ∷ []))
   takes_all = refl
 
-  two_charge : charge_of code mail Take (instruction Take 0 2 0) (with_variable (codes "old" ∷ [])) ≡ 3
+  two_charge : charge_of mail Take (instruction Take 0 2 0) (with_variable (codes "old" ∷ [])) ≡ 3
   two_charge = refl
 
-  all_charge : charge_of code mail Take (instruction Take 0 9 0) (with_variable (codes "old" ∷ [])) ≡ 4
+  all_charge : charge_of mail Take (instruction Take 0 9 0) (with_variable (codes "old" ∷ [])) ≡ 4
   all_charge = refl
 
-  no_variable : effect code mail Take (instruction Take 0 2 1) (with_variable (codes "old" ∷ [])) ≡ fails
+  no_variable : effect (referred_in code) mail Take (instruction Take 0 2 1) (with_variable (codes "old" ∷ [])) ≡ fails
   no_variable = refl
 
-  outside_loops : effect code mail Take (instruction Take 0 2 0) (record (with_variable (codes "old" ∷ [])) { frames = [] }) ≡ fails
+  outside_loops : effect (referred_in code) mail Take (instruction Take 0 2 0) (record (with_variable (codes "old" ∷ [])) { frames = [] }) ≡ fails
   outside_loops = refl
 
   -- it is filed after the loop
@@ -198,34 +198,34 @@ module _ (root : Part) where
   budget_of_taking = refl
 
   -- the root; the current part; that with those below it
-  root_alone : effect code mail Header (instruction Header 0 1 1) (in_loop (text (codes "root") ∷ text (codes "Subject") ∷ [])) ≡ on (in_loop (truth true ∷ []))
+  root_alone : effect (referred_in code) mail Header (instruction Header 0 1 1) (in_loop (text (codes "root") ∷ text (codes "Subject") ∷ [])) ≡ on (in_loop (truth true ∷ []))
   root_alone = refl
 
-  current_alone : effect code mail Header (instruction Header 8 1 1) (in_loop (text (codes "below") ∷ text (codes "Subject") ∷ [])) ≡ on (in_loop (truth false ∷ []))
+  current_alone : effect (referred_in code) mail Header (instruction Header 8 1 1) (in_loop (text (codes "below") ∷ text (codes "Subject") ∷ [])) ≡ on (in_loop (truth false ∷ []))
   current_alone = refl
 
-  current_and_below : effect code mail Header (instruction Header 16 1 1) (in_loop (text (codes "below") ∷ text (codes "Subject") ∷ [])) ≡ on (in_loop (truth true ∷ []))
+  current_and_below : effect (referred_in code) mail Header (instruction Header 16 1 1) (in_loop (text (codes "below") ∷ text (codes "Subject") ∷ [])) ≡ on (in_loop (truth true ∷ []))
   current_and_below = refl
 
   -- two fields and one more, of a name of 7 octets and one more; values of 3 and 5 octets, each with one more, of a key of 1 and one more
-  scope_charge : charge_of code mail Header (instruction Header 16 1 1) (in_loop (text (codes "x") ∷ text (codes "Subject") ∷ [])) ≡ 1 + 3 * 8 + (4 * 2 + 6 * 2)
+  scope_charge : charge_of mail Header (instruction Header 16 1 1) (in_loop (text (codes "x") ∷ text (codes "Subject") ∷ [])) ≡ 1 + 3 * 8 + (4 * 2 + 6 * 2)
   scope_charge = refl
 
-  exists_charge : charge_of code mail Exists (instruction Exists 1 1 0) (in_loop (text (codes "Subject") ∷ [])) ≡ 1 + 2 * 8
+  exists_charge : charge_of mail Exists (instruction Exists 1 1 0) (in_loop (text (codes "Subject") ∷ [])) ≡ 1 + 2 * 8
   exists_charge = refl
 
   -- ---- brackets
 
   -- the Each of another place
-  other_each : effect code mail Next (instruction Next 0 0 1) (record (in_loop []) { place = 2 }) ≡ fails
+  other_each : effect (referred_in code) mail Next (instruction Next 0 0 1) (record (in_loop []) { place = 2 }) ≡ fails
   other_each = refl
 
-  last_part : effect code mail Next (instruction Next 0 0 0) (record (in_loop []) { place = 2; frames = record frame { part = 2; rest = [] } ∷ [] }) ≡ on (record (in_loop []) { place = 2; frames = [] })
+  last_part : effect (referred_in code) mail Next (instruction Next 0 0 0) (record (in_loop []) { place = 2; frames = record frame { part = 2; rest = [] } ∷ [] }) ≡ on (record (in_loop []) { place = 2; frames = [] })
   last_part = refl
 
-  next_part : effect code mail Next (instruction Next 0 0 0) (record (in_loop []) { place = 2 }) ≡ jumps 1 (record (in_loop []) { place = 2; frames = record frame { part = 2; rest = [] } ∷ [] })
+  next_part : effect (referred_in code) mail Next (instruction Next 0 0 0) (record (in_loop []) { place = 2 }) ≡ jumps 1 (record (in_loop []) { place = 2; frames = record frame { part = 2; rest = [] } ∷ [] })
   next_part = refl
 
   -- three loops are open
-  no_fourth : effect code mail Each (instruction Each 0 0 2) (record (start code) { frames = frame ∷ frame ∷ frame ∷ [] }) ≡ fails
+  no_fourth : effect (referred_in code) mail Each (instruction Each 0 0 2) (record (start code) { frames = frame ∷ frame ∷ frame ∷ [] }) ≡ fails
   no_fourth = refl

@@ -14,7 +14,7 @@ use Rattle.mime_decode.specs.Mail.{Mail, IsMail}
 use Rattle.sieve_vm.specs.declared.machine.Machine.{Machine}
 use Rattle.sieve_vm.specs.declared.machine.Done.{Done}
 use Rattle.sieve_vm.specs.State.{Frame, State, current_part}
-use Rattle.sieve_vm.specs.Machine.{Effect, jumps, fails, open_loop, next_part, next, close, effect}
+use Rattle.sieve_vm.specs.Machine.{Effect, jumps, fails, open_loop, next_part, next, close, effect, referred_in}
 use Rattle.sieve_vm.specs.Standing.{Represents, IsIn, HasHad}
 use Rattle.sieve_vm.proofs.Reached.{IsReached, Leads}
 use Rattle.sieve_vm.proofs.Leading.{nested}
@@ -38,14 +38,14 @@ module _ (code : Code) (mail : Mail) (is : IsAccepted code) (known : IsMail mail
     pub room_there : operation_of i.op ≡ Some Each → length m.loops.frames < max_loops
     room_there e = rw at.stands.frames (omega (arith, (nested code mail is known).room s.place i here_is e, open-length mail s.frames (open_loops code s.place) there.opened))
 
-    pub had_each : operation_of i.op ≡ Some Each → (done : Done) (m' : Machine) → ((t : State) → Represents mail t m → HasHad mail (open_loop i.c (visited (current_part t.frames) mail) t) 1 done m') → HasHad mail (effect code mail Each i s) 1 done m'
+    pub had_each : operation_of i.op ≡ Some Each → (done : Done) (m' : Machine) → ((t : State) → Represents mail t m → HasHad mail (open_loop i.c (visited (current_part t.frames) mail) t) 1 done m') → HasHad mail (effect (referred_in code) mail Each i s) 1 done m'
     had_each e done m' opens = rw (guarded _ _ (fine code mail is known m s at i here Each e)) (opens s at.stands)
 
     -- a loop is open, and its Each is one of the program's
     next_frame : operation_of i.op ≡ Some Next → (f : Frame) × ((fs : List Frame) × (s.frames ≡ f ∷ fs) × (f.each < length code.instructions))
     next_frame e = go s.frames refl (fine code mail is known m s at i here Next e) there.opened
       where
-        go : (fs : List Frame) → s.frames ≡ fs → Leads code mail s (next code i.c s fs) → AreOpen mail fs (open_loops code s.place) → (f : Frame) × ((gs : List Frame) × (s.frames ≡ f ∷ gs) × (f.each < length code.instructions))
+        go : (fs : List Frame) → s.frames ≡ fs → Leads code mail s (next (referred_in code) i.c s fs) → AreOpen mail fs (open_loops code s.place) → (f : Frame) × ((gs : List Frame) × (s.frames ≡ f ∷ gs) × (f.each < length code.instructions))
         go [] same leads opened = absurd leads
         go (f ∷ fs) same leads opened = (f, (fs, same, omega (arith, ((nested code mail is known).within s.place opened.0 (loop_of f) [] opened.1).0, there.within)))
 
@@ -53,11 +53,11 @@ module _ (code : Code) (mail : Mail) (is : IsAccepted code) (known : IsMail mail
     next_some fits e = let n = next_frame e in (n.0, (n.1.0, (at.stands.frames ∙ n.1.1, omega (arith, n.1.2, fits.instructions))))
 
     pub had_next : operation_of i.op ≡ Some Next → (done : Done) (m' : Machine)
-        → ((t : State) (f : Frame) (fs : List Frame) → Represents mail t m → t.frames ≡ f ∷ fs → HasHad mail (next_part f fs f.rest t) 1 done m') → HasHad mail (effect code mail Next i s) 1 done m'
+        → ((t : State) (f : Frame) (fs : List Frame) → Represents mail t m → t.frames ≡ f ∷ fs → HasHad mail (next_part f fs f.rest t) 1 done m') → HasHad mail (effect (referred_in code) mail Next i s) 1 done m'
     had_next e done m' onward =
         let n = next_frame e in
-        let fits : Leads code mail s (next code i.c s (n.0 ∷ n.1.0)) = subst (λ fs. Leads code mail s (next code i.c s fs)) n.1.1 (fine code mail is known m s at i here Next e) in
-        let same : effect code mail Next i s ≡ next_part n.0 n.1.0 n.0.rest s = ap (next code i.c s) n.1.1 ∙ guarded _ _ fits in
+        let fits : Leads code mail s (next (referred_in code) i.c s (n.0 ∷ n.1.0)) = subst (λ fs. Leads code mail s (next (referred_in code) i.c s fs)) n.1.1 (fine code mail is known m s at i here Next e) in
+        let same : effect (referred_in code) mail Next i s ≡ next_part n.0 n.1.0 n.0.rest s = ap (next (referred_in code) i.c s) n.1.1 ∙ guarded _ _ fits in
         subst (λ x. HasHad mail x 1 done m') (sym same) (onward s n.0 n.1.0 at.stands n.1.1)
 
     break_number : operation_of i.op ≡ Some Break → (1 ≤ i.a) × (i.a ≤ length (open_loops code s.place))
@@ -79,7 +79,7 @@ module _ (code : Code) (mail : Mail) (is : IsAccepted code) (known : IsMail mail
     break_there fits e = let b = break_frame e in (b.0, (b.1.0, (ap (drop (i.a - 1)) at.stands.frames ∙ b.1.1, omega (arith, b.1.2, fits.instructions))))
 
     pub had_break : operation_of i.op ≡ Some Break → (done : Done) (m' : Machine)
-        → ((t : State) (f : Frame) (fs : List Frame) → Represents mail t m → drop (i.a - 1) t.frames ≡ f ∷ fs → HasHad mail (jumps (suc f.next) (record t { frames = fs })) 1 done m') → HasHad mail (effect code mail Break i s) 1 done m'
+        → ((t : State) (f : Frame) (fs : List Frame) → Represents mail t m → drop (i.a - 1) t.frames ≡ f ∷ fs → HasHad mail (jumps (suc f.next) (record t { frames = fs })) 1 done m') → HasHad mail (effect (referred_in code) mail Break i s) 1 done m'
     had_break e done m' closes =
         let b = break_frame e in
         let number : i.a ≡ suc (i.a - 1) = omega (arith, break_some e) in

@@ -25,7 +25,7 @@ use Rattle.sieve_vm.specs.State.{Value, truth, text, Frame, State}
 use Rattle.sieve_vm.specs.Stack.{OnTop, texts_on_top}
 use Rattle.sieve_vm.specs.Stores.{NamesPart}
 use Rattle.sieve_vm.specs.Machine as machine
-use Rattle.sieve_vm.specs.Machine.{Effect, on, fails, with_text, with_texts, with_number, with_meant, tested, with_part, store_part, test_body, test_digest, next, compares, effect}
+use Rattle.sieve_vm.specs.Machine.{Effect, on, fails, with_text, with_texts, with_number, with_meant, tested, with_part, store_part, test_body, test_digest, next, compares, effect, referred_in}
 use Rattle.glob_match.specs.declared.match_type.Match.{Match}
 use Rattle.mail_matching.specs.FirstMatch.{first_match}
 use Rattle.octets.specs.Limits.{max_value}
@@ -67,7 +67,7 @@ module _ (code : Code) (mail : Mail) (is : IsAccepted code) (known : IsMail mail
         subst (λ fs. Leads code mail s (with_part does mail s fs)) (sym p.is)
         (subst (λ (o : Option Part). Leads code mail s (option_map_or (λ part. does p.frame.part part s) o fails)) (sym p.there) leads)
 
-    pub leads_part_size : operation_of i.op ≡ Some PartSize → Leads code mail s (effect code mail PartSize i s)
+    pub leads_part_size : operation_of i.op ≡ Some PartSize → Leads code mail s (effect (referred_in code) mail PartSize i s)
     leads_part_size e =
         let a = after_of code mail is known s i here from (Some PartSize) e in
         let p = has_part PartSize e refl in
@@ -78,37 +78,37 @@ module _ (code : Code) (mail : Mail) (is : IsAccepted code) (known : IsMail mail
 
     -- a test of the current part with keys
     leads_keys : (operation : Operation) (how : Match) (value : List ℕ) → operation_of i.op ≡ Some operation → is_plain (Some operation) ≡ true
-        → ((es : Entries) → left_by code (Some operation) i es ≡ option_and_then (λ (keys : Texts). with_entry Truth keys.rest) (take_texts i.c es))
+        → ((es : Entries) → left_by code (Some operation) i es ≡ option_and_then (λ (keys : Texts). with_entry Truth keys.below) (take_texts i.c es))
         → Leads code mail s (with_texts (λ keys t. tested t (first_match how (value ∷ []) keys t.captures)) s (texts_on_top i.c s.stack))
     leads_keys operation how value e goes_on takes = let a = after_of code mail is known s i here from (Some operation) e in go a.0 a.1 (take_texts i.c entries) refl (sym (takes entries) ∙ a.1)
       where
-        go : (after : Entries) → LeavesBy operation after → (o : Option Texts) → take_texts i.c entries ≡ o → option_and_then (λ (keys : Texts). with_entry Truth keys.rest) o ≡ Some after
+        go : (after : Entries) → LeavesBy operation after → (o : Option Texts) → take_texts i.c entries ≡ o → option_and_then (λ (keys : Texts). with_entry Truth keys.below) o ≡ Some after
             → Leads code mail s (with_texts (λ keys t. tested t (first_match how (value ∷ []) keys t.captures)) s (texts_on_top i.c s.stack))
         go after leaves None h f = absurd cc
         go after leaves (Some bounds) h f =
             let keys = on_top i.c entries bounds s.stack h d in
             subst (λ (o : Option OnTop). Leads code mail s (with_texts (λ keys t. tested t (first_match how (value ∷ []) keys t.captures)) s o)) (sym keys.is)
-            (leads_tested code mail is known s i here from operation (record s { stack = keys.top.below }) bounds.rest after how (value ∷ []) keys.top.texts e goes_on leaves f refl refl refl held from.stores keys.below)
+            (leads_tested code mail is known s i here from operation (record s { stack = keys.top.below }) bounds.below after how (value ∷ []) keys.top.texts e goes_on leaves f refl refl refl held from.stores keys.below)
 
-    pub leads_part_body : operation_of i.op ≡ Some PartBody → Leads code mail s (effect code mail PartBody i s)
+    pub leads_part_body : operation_of i.op ≡ Some PartBody → Leads code mail s (effect (referred_in code) mail PartBody i s)
     leads_part_body e =
         let p = has_part PartBody e refl in
         let says = meant_by (match_numbered i.a) (part_body_known code is s.place i here e).0 in
         subst (λ (o : Option Match). Leads code mail s (with_meant (λ how. with_part (λ number part t. with_texts (test_body how part) t (texts_on_top i.c t.stack)) mail s s.frames) o)) (sym says.1)
         (in_part (λ number part t. with_texts (test_body says.0 part) t (texts_on_top i.c t.stack)) p (leads_keys PartBody says.0 p.part.content e refl (λ es. refl)))
 
-    pub leads_part_digest : operation_of i.op ≡ Some PartDigest → Leads code mail s (effect code mail PartDigest i s)
+    pub leads_part_digest : operation_of i.op ≡ Some PartDigest → Leads code mail s (effect (referred_in code) mail PartDigest i s)
     leads_part_digest e =
         let p = has_part PartDigest e refl in
         in_part (λ number part t. with_texts (test_digest part) t (texts_on_top i.c t.stack)) p (leads_keys PartDigest exactly (digest_of p.part.content) e refl (λ es. refl))
 
-    pub leads_store : operation_of i.op ≡ Some Store → Leads code mail s (effect code mail Store i s)
+    pub leads_store : operation_of i.op ≡ Some Store → Leads code mail s (effect (referred_in code) mail Store i s)
     leads_store e =
         let a = after_of code mail is known s i here from (Some Store) e in
         let p = has_part Store e refl in
         in_part store_part p (go p.frame.part (slice_get_within mail.parts p.frame.part p.part p.there) entries s.stack a.0 d (left code mail is known s i here from Store a.0 e a.1) a.1)
       where
-        go : (number : ℕ) → number < length mail.parts → (es : Entries) (stack : List Value) (after : Entries) → Describes es stack → left_by code (operation_of i.op) i entries ≡ Some after → option_map (λ (folder : Texts). folder.rest) (take_texts 1 es) ≡ Some after
+        go : (number : ℕ) → number < length mail.parts → (es : Entries) (stack : List Value) (after : Entries) → Describes es stack → left_by code (operation_of i.op) i entries ≡ Some after → option_map (λ (folder : Texts). folder.below) (take_texts 1 es) ≡ Some after
             → Leads code mail s (with_text (machine.store number) s stack)
         go number there [] stack after h leaves f = absurd cc
         go number there (Truth ∷ es) stack after h leaves f = absurd cc
@@ -119,7 +119,7 @@ module _ (code : Code) (mail : Mail) (is : IsAccepted code) (known : IsMail mail
             leads_on code mail is known s i here from (record s { stack = vs; actions = s.actions ++ action.Store folder number ∷ [] }) after (ap is_plain e) leaves (subst (λ (x : Entries). Describes x vs) same h.1) refl refl refl held
             (All-push (NamesPart mail) s.actions (action.Store folder number) from.stores there)
 
-    pub leads_take : operation_of i.op ≡ Some Take → Leads code mail s (effect code mail Take i s)
+    pub leads_take : operation_of i.op ≡ Some Take → Leads code mail s (effect (referred_in code) mail Take i s)
     leads_take e =
         let a = after_of code mail is known s i here from (Some Take) e in
         let same : entries ≡ a.0 = (let f : Some entries ≡ Some a.0 = a.1 in cc) in

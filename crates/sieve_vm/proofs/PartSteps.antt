@@ -30,7 +30,7 @@ use Rattle.sieve_vm.specs.State.{Value, truth, text, State, current_part}
 use Rattle.sieve_vm.specs.Stack.{OnTop, texts_on_top, length_on_top}
 use Rattle.sieve_vm.specs.Visits.{part_in}
 use Rattle.sieve_vm.specs.Charge.{cost_with_part, octets_taken, charge_of}
-use Rattle.sieve_vm.specs.Machine.{Effect, on, fails, push, with_texts, with_number, with_meant, tested, test_body, with_part, set_content, with_text, store, store_part, compares, effect}
+use Rattle.sieve_vm.specs.Machine.{Effect, on, fails, push, with_texts, with_number, with_meant, tested, test_body, with_part, set_content, with_text, store, store_part, compares, effect, referred_in}
 use Rattle.sieve_vm.specs.Standing.{once, Represents, IsIn, HasHad}
 use Rattle.mail_matching.specs.FirstMatch.{first_match}
 use Rattle.sieve_vm.proofs.Taking.{names_there, folder_there}
@@ -89,41 +89,41 @@ module _ (code : Code) (mail : Mail) (is : IsAccepted code) (known : IsMail mail
       cost_is cost top = ap (λ x. cost_with_part cost mail x top) current_is ∙ ap (λ (x : Option Part). option_map_or (λ part. cost part top.texts) x 0) part_here.there
 
       -- keys are on top
-      keys_top : ((es : Entries) → left_by code (Some o) i es ≡ option_and_then (λ (keys : Texts). with_entry Truth keys.rest) (take_texts i.c es)) → (top : OnTop) × (texts_on_top i.c s.stack ≡ Some top)
+      keys_top : ((es : Entries) → left_by code (Some o) i es ≡ option_and_then (λ (keys : Texts). with_entry Truth keys.below) (take_texts i.c es)) → (top : OnTop) × (texts_on_top i.c s.stack ≡ Some top)
       keys_top takes = let a = after code mail is known m s at i here o e in names_there i.c there.entries a.0 s.stack (sym (takes there.entries) ∙ a.1) there.describes
 
-      pub keys_some : ((es : Entries) → left_by code (Some o) i es ≡ option_and_then (λ (keys : Texts). with_entry Truth keys.rest) (take_texts i.c es)) → IsProgram code
+      pub keys_some : ((es : Entries) → left_by code (Some o) i es ≡ option_and_then (λ (keys : Texts). with_entry Truth keys.below) (take_texts i.c es)) → IsProgram code
           → (w : Mail) × ((t : State) × ((top : OnTop) × (Represents w t m × (texts_on_top i.c t.stack ≡ Some top) × AreTexts top.texts)))
       keys_some takes fits = let n = keys_top takes in (mail, (s, (n.0, (at.stands, n.1, texts_are i.c s.stack n.0 (few code mail is known m s at i here fits) (short code mail is known m s at i here fits) n.1))))
 
       -- a test of the current part with keys
-      had_keys : (takes : (es : Entries) → left_by code (Some o) i es ≡ option_and_then (λ (keys : Texts). with_entry Truth keys.rest) (take_texts i.c es)) (how : Match) (value : Part → List ℕ) (cost : Part → List (List ℕ) → ℕ)
-          → effect code mail o i s ≡ with_part (λ number part t. with_texts (λ keys u. tested u (first_match how (value part ∷ []) keys u.captures)) t (texts_on_top i.c t.stack)) mail s s.frames
-          → charge_of code mail o i s ≡ 1 + option_map_or (cost_with_part cost mail (current_part s.frames)) (texts_on_top i.c s.stack) 0
+      had_keys : (takes : (es : Entries) → left_by code (Some o) i es ≡ option_and_then (λ (keys : Texts). with_entry Truth keys.below) (take_texts i.c es)) (how : Match) (value : Part → List ℕ) (cost : Part → List (List ℕ) → ℕ)
+          → effect (referred_in code) mail o i s ≡ with_part (λ number part t. with_texts (λ keys u. tested u (first_match how (value part ∷ []) keys u.captures)) t (texts_on_top i.c t.stack)) mail s s.frames
+          → charge_of mail o i s ≡ 1 + option_map_or (cost_with_part cost mail (current_part s.frames)) (texts_on_top i.c s.stack) 0
           → (done : Done) (m' : Machine)
           → ((t : State) (top : OnTop) (part : Part) → Represents mail t m → texts_on_top i.c t.stack ≡ Some top → part_in m.loops ≡ Some part
           → (done ≡ charged_at (cost part top.texts))
           × Represents mail (record t { stack = truth (is_some (first_match how (value part ∷ []) top.texts t.captures)) ∷ top.below; captures = unwrap_or (first_match how (value part ∷ []) top.texts t.captures) t.captures }) m')
-          → HasHad mail (effect code mail o i s) (charge_of code mail o i s) done m'
+          → HasHad mail (effect (referred_in code) mail o i s) (charge_of mail o i s) done m'
       had_keys takes how value cost does charges done m' tests =
           let n = keys_top takes in
           let p = part_here.part in
           let now = tests s n.0 p at.stands n.1 part_is in
           let found = first_match how (value p ∷ []) n.0.texts s.captures in
           let test : (part : Part) → State → Option OnTop → Effect = λ part t top. with_texts (λ keys u. tested u (first_match how (value part ∷ []) keys u.captures)) t top in
-          let same : effect code mail o i s ≡ tested (record s { stack = n.0.below }) found = does ∙ does_is (λ number part t. test part t (texts_on_top i.c t.stack)) ∙ ap (test p s) n.1 in
-          let price : charge_of code mail o i s ≡ 1 + cost p n.0.texts = charges ∙ ap (λ (x : Option OnTop). 1 + option_map_or (cost_with_part cost mail (current_part s.frames)) x 0) n.1 ∙ ap (λ x. 1 + x) (cost_is cost n.0) in
+          let same : effect (referred_in code) mail o i s ≡ tested (record s { stack = n.0.below }) found = does ∙ does_is (λ number part t. test part t (texts_on_top i.c t.stack)) ∙ ap (test p s) n.1 in
+          let price : charge_of mail o i s ≡ 1 + cost p n.0.texts = charges ∙ ap (λ (x : Option OnTop). 1 + option_map_or (cost_with_part cost mail (current_part s.frames)) x 0) n.1 ∙ ap (λ x. 1 + x) (cost_is cost n.0) in
           let fits : Leads code mail s (tested (record s { stack = n.0.below }) found) = subst (Leads code mail s) same (fine code mail is known m s at i here o e) in
           rw (same, price) (had_tested code mail is known m s at i here (record s { stack = n.0.below }) found (cost p n.0.texts) done m' fits now.0 now.1)
 
     pub had_part_size : (e : operation_of i.op ≡ Some PartSize) (number : ℕ) (done : Done) (m' : Machine) → number ≡ get_or code.numbers i.c 0
         → ((t : State) (part : Part) → Represents mail t m → part_in m.loops ≡ Some part → (done ≡ once On) × Represents mail (record t { stack = truth (compares i number (length part.content)) ∷ t.stack }) m')
-        → HasHad mail (effect code mail PartSize i s) 1 done m'
+        → HasHad mail (effect (referred_in code) mail PartSize i s) 1 done m'
     had_part_size e number done m' right tests =
         let p = part_here PartSize e refl in
         let now = tests s p.part at.stands (part_is PartSize e refl) in
         let known_number : slice_get code.numbers i.c ≡ Some number = slice_get-get_or code.numbers i.c 0 (part_number_known code is s.place i here_is e) ∙ ap (λ n. Some n) (sym right) in
-        let same : effect code mail PartSize i s ≡ push (truth (compares i number (length p.part.content))) s =
+        let same : effect (referred_in code) mail PartSize i s ≡ push (truth (compares i number (length p.part.content))) s =
         does_is PartSize e refl (λ place part t. with_number i (length part.content) t (slice_get code.numbers i.c)) ∙ ap (with_number i (length p.part.content) s) known_number in
         let fits : Leads code mail s (push (truth (compares i number (length p.part.content))) s) = subst (Leads code mail s) same (fine code mail is known m s at i here PartSize e) in
         rw (same, pushed code mail s (truth (compares i number (length p.part.content))) s fits, now.0) (now.1, refl)
@@ -135,7 +135,7 @@ module _ (code : Code) (mail : Mail) (is : IsAccepted code) (known : IsMail mail
         → ((t : State) (top : OnTop) (part : Part) → Represents mail t m → texts_on_top i.c t.stack ≡ Some top → part_in m.loops ≡ Some part
         → (done ≡ charged_at (body_cost part top.texts))
         × Represents mail (record t { stack = truth (is_some (body_match how part top.texts t.captures)) ∷ top.below; captures = unwrap_or (body_match how part top.texts t.captures) t.captures }) m')
-        → HasHad mail (effect code mail PartBody i s) (charge_of code mail PartBody i s) done m'
+        → HasHad mail (effect (referred_in code) mail PartBody i s) (charge_of mail PartBody i s) done m'
     had_part_body e how says done m' tests =
         had_keys PartBody e refl (λ es. refl) how (λ part. part.content) body_cost
         (ap (with_meant (λ x. with_part (λ number part t. with_texts (test_body x part) t (texts_on_top i.c t.stack)) mail s s.frames)) says)
@@ -145,7 +145,7 @@ module _ (code : Code) (mail : Mail) (is : IsAccepted code) (known : IsMail mail
         → ((t : State) (top : OnTop) (part : Part) → Represents mail t m → texts_on_top i.c t.stack ≡ Some top → part_in m.loops ≡ Some part
         → (done ≡ charged_at (digest_cost part top.texts))
         × Represents mail (record t { stack = truth (is_some (digest_match part top.texts t.captures)) ∷ top.below; captures = unwrap_or (digest_match part top.texts t.captures) t.captures }) m')
-        → HasHad mail (effect code mail PartDigest i s) (charge_of code mail PartDigest i s) done m'
+        → HasHad mail (effect (referred_in code) mail PartDigest i s) (charge_of mail PartDigest i s) done m'
     had_part_digest e done m' tests = had_keys PartDigest e refl (λ es. refl) exactly (λ part. digest_of part.content) digest_cost refl refl done m' tests
 
     store_top : operation_of i.op ≡ Some Store → (folder : List ℕ) × ((rest : List Value) × (s.stack ≡ text folder ∷ rest))
@@ -157,13 +157,13 @@ module _ (code : Code) (mail : Mail) (is : IsAccepted code) (known : IsMail mail
     pub had_store : operation_of i.op ≡ Some Store → (done : Done) (m' : Machine)
         → ((t : State) (folder : List ℕ) (rest : List Value) (part : ℕ) → Represents mail t m → t.stack ≡ text folder ∷ rest → current_part t.frames ≡ Some part
         → (done ≡ charged_at (length folder)) × Represents mail (record t { stack = rest; actions = t.actions ++ action.Store folder part ∷ [] }) m')
-        → HasHad mail (effect code mail Store i s) (charge_of code mail Store i s) done m'
+        → HasHad mail (effect (referred_in code) mail Store i s) (charge_of mail Store i s) done m'
     had_store e done m' stores =
         let f = store_top e in
         let p = part_here Store e refl in
         let now = stores s f.0 f.1.0 p.frame.part at.stands f.1.1 (current_is Store e refl) in
-        let same : effect code mail Store i s ≡ on (record s { stack = f.1.0; actions = s.actions ++ action.Store f.0 p.frame.part ∷ [] }) = does_is Store e refl store_part ∙ ap (with_text (store p.frame.part) s) f.1.1 in
-        let price : charge_of code mail Store i s ≡ 1 + length f.0 = ap (λ (v : List Value). 1 + length_on_top v) f.1.1 in
+        let same : effect (referred_in code) mail Store i s ≡ on (record s { stack = f.1.0; actions = s.actions ++ action.Store f.0 p.frame.part ∷ [] }) = does_is Store e refl store_part ∙ ap (with_text (store p.frame.part) s) f.1.1 in
+        let price : charge_of mail Store i s ≡ 1 + length f.0 = ap (λ (v : List Value). 1 + length_on_top v) f.1.1 in
         rw (same, price, now.0) (now.1, refl)
 
     taken_within : operation_of i.op ≡ Some Take → i.c < length s.variables
@@ -175,12 +175,12 @@ module _ (code : Code) (mail : Mail) (is : IsAccepted code) (known : IsMail mail
     pub had_take : operation_of i.op ≡ Some Take → (done : Done) (m' : Machine)
         → ((t : State) (part : Part) → Represents mail t m → part_in m.loops ≡ Some part
         → (done ≡ charged_at (min i.b (length part.content))) × Represents mail (record t { variables = slice_set t.variables i.c (take i.b part.content) }) m')
-        → HasHad mail (effect code mail Take i s) (charge_of code mail Take i s) done m'
+        → HasHad mail (effect (referred_in code) mail Take i s) (charge_of mail Take i s) done m'
     had_take e done m' takes =
         let p = part_here Take e (take_needs_part code is s.place i here_is e) in
         let now = takes s p.part at.stands (part_is Take e (take_needs_part code is s.place i here_is e)) in
         let next : State = record s { variables = slice_set s.variables i.c (take i.b p.part.content) } in
-        let same : effect code mail Take i s ≡ on next = does_is Take e (take_needs_part code is s.place i here_is e) (set_content i) ∙ ap (λ (b : Bool). cond b (on next) fails) (lt-ltb _ _ (taken_within e)) in
-        let price : charge_of code mail Take i s ≡ 1 + min i.b (length p.part.content) =
+        let same : effect (referred_in code) mail Take i s ≡ on next = does_is Take e (take_needs_part code is s.place i here_is e) (set_content i) ∙ ap (λ (b : Bool). cond b (on next) fails) (lt-ltb _ _ (taken_within e)) in
+        let price : charge_of mail Take i s ≡ 1 + min i.b (length p.part.content) =
         ap (λ x. 1 + octets_taken i.b mail x) (current_is Take e (take_needs_part code is s.place i here_is e)) ∙ ap (λ (x : Option Part). 1 + option_map_or (λ (part : Part). min i.b (length part.content)) x 0) p.there in
         rw (same, price, now.0) (now.1, refl)

@@ -30,7 +30,7 @@ use Rattle.sieve_vm.specs.State.{Value, truth, text, Frame, State, current_part,
 use Rattle.sieve_vm.specs.Stack.{OnTop, length_on_top}
 use Rattle.sieve_vm.specs.Charge.{octets_on_top, charge_of}
 use Rattle.sieve_vm.specs.Machine as machine
-use Rattle.sieve_vm.specs.Machine.{Effect, on, jumps, halts, fails, push, with_text, with_texts, join, file, store, store_part, with_part, are_partners, open_loop, next_part, effect, turn, turn_of, turn_at, step}
+use Rattle.sieve_vm.specs.Machine.{Effect, on, jumps, halts, fails, push, with_text, with_texts, join, file, store, store_part, with_part, are_partners, open_loop, next_part, effect, turn, turn_of, turn_at, step, referred_in}
 use Rattle.sieve_vm.specs.Runs.{Run, RunEnds}
 use Rattle.sieve_vm.specs.Potential.{potential_from, cap_value, limit_of}
 use Rattle.sieve_vm.proofs.Falls.{depth_at, cap_there, end_of, potential-start}
@@ -135,13 +135,13 @@ module _ (code : Code) (mail : Mail) (is : IsAccepted code) (known : IsMail mail
           (stays_on (record to { stack = text t ∷ to.stack }) es cost left (subst (λ x. Fills x (text t ∷ to.stack)) (with_entry-some (Text bound) below es with_one).1 (long, fills)) frames charge place most)
 
       -- a text is taken
-      stays_taking : (does : List ℕ → State → Effect) (es : Entries) → option_map (λ (v : Texts). v.rest) (take_texts 1 entries) ≡ Some es
+      stays_taking : (does : List ℕ → State → Effect) (es : Entries) → option_map (λ (v : Texts). v.below) (take_texts 1 entries) ≡ Some es
           → cap_value mail (cap_of (Some o) i entries) ≡ cap_value mail (option_map_or cap_of_octets (take_texts 1 entries) one_charge)
           → ((t : List ℕ) (vs : List Value) → Fills es vs → cap_value mail (cap_of (Some o) i entries) ≤ 1 + length t → Stays s (1 + length t) (does t (record s { stack = vs })))
           → Stays s (1 + length_on_top s.stack) (with_text does s s.stack)
       stays_taking does es taken priced each = go entries s.stack full.fills taken priced
         where
-          go : (before : Entries) (stack : List Value) → Fills before stack → option_map (λ (v : Texts). v.rest) (take_texts 1 before) ≡ Some es
+          go : (before : Entries) (stack : List Value) → Fills before stack → option_map (λ (v : Texts). v.below) (take_texts 1 before) ≡ Some es
               → cap_value mail (cap_of (Some o) i entries) ≡ cap_value mail (option_map_or cap_of_octets (take_texts 1 before) one_charge) → Stays s (1 + length_on_top stack) (with_text does s stack)
           go [] stack d f price = absurd cc
           go (Truth ∷ before) stack d f price = absurd cc
@@ -152,18 +152,18 @@ module _ (code : Code) (mail : Mail) (is : IsAccepted code) (known : IsMail mail
               let one : sum (bound ∷ []) ≡ bound + sum [] = sum_by-cons (λ x. x) bound [] in
               each t vs (subst (λ x. Fills x vs) same d.1) (omega (arith, price, one, d.0))
 
-    stays_literal : operation_of i.op ≡ Some Literal → Stays s (charge_of code mail Literal i s) (effect code mail Literal i s)
+    stays_literal : operation_of i.op ≡ Some Literal → Stays s (charge_of mail Literal i s) (effect (referred_in code) mail Literal i s)
     stays_literal e = let n = next_entries Literal e in go n.0 n.1 (slice_get code.strings i.c) refl n.1
       where
         go : (es : Entries) → left_by code (Some Literal) i entries ≡ Some es → (string : Option (List ℕ)) → slice_get code.strings i.c ≡ string → shape_string string entries ≡ Some es → Stays s 1 (machine.with_string s string)
         go es left None h f = tt
         go es left (Some octets) h f = stays_pushed Literal e octets (length octets) s es entries 1 left f (omega arith) full.fills refl refl refl (omega arith)
 
-    stays_join : operation_of i.op ≡ Some Join → Stays s (charge_of code mail Join i s) (effect code mail Join i s)
+    stays_join : operation_of i.op ≡ Some Join → Stays s (charge_of mail Join i s) (effect (referred_in code) mail Join i s)
     stays_join e = let n = next_entries Join e in go n.0 n.1 (take_texts i.b entries) refl n.1
       where
         go : (es : Entries) → left_by code (Some Join) i entries ≡ Some es → (bounds : Option Texts) → take_texts i.b entries ≡ bounds → option_and_then with_joined bounds ≡ Some es
-            → Stays s (charge_of code mail Join i s) (effect code mail Join i s)
+            → Stays s (charge_of mail Join i s) (effect (referred_in code) mail Join i s)
         go es left None h f = absurd cc
         go es left (Some bounds) h f =
             let top = fills_top i.b entries bounds s.stack h full.fills in
@@ -172,10 +172,10 @@ module _ (code : Code) (mail : Mail) (is : IsAccepted code) (known : IsMail mail
             let all : length (concat top.top.texts) ≡ sum_by length top.top.texts = ap length (concat_is top.top.texts) ∙ length-flat_map (λ t. t) top.top.texts in
             let price : cap_value mail (cap_of (Some Join) i entries) ≡ cap_value mail (cap_of_octets bounds) = ap (λ (x : Option Texts). cap_value mail (option_map_or cap_of_octets x one_charge)) h in
             subst (λ (x : Option OnTop). Stays s (1 + option_map_or octets_on_top x 0) (with_texts join s x)) (sym top.is)
-            (stays_pushed Join e joined (min (sum bounds.bounds) max_string) (record s { stack = top.top.below }) es bounds.rest (1 + sum_by length top.top.texts) left f
+            (stays_pushed Join e joined (min (sum bounds.texts) max_string) (record s { stack = top.top.below }) es bounds.below (1 + sum_by length top.top.texts) left f
             (omega (arith, length-take max_string (concat top.top.texts), all, long)) top.below refl refl refl (omega (arith, price, long)))
 
-    stays_set : operation_of i.op ≡ Some Set → Stays s (charge_of code mail Set i s) (effect code mail Set i s)
+    stays_set : operation_of i.op ≡ Some Set → Stays s (charge_of mail Set i s) (effect (referred_in code) mail Set i s)
     stays_set e =
         let n = next_entries Set e in
         stays_taking Set e (machine.set_variable i) n.0 n.1 refl (λ t vs fills most. go n.0 n.1 t vs fills most (modifiers_numbered i.a))
@@ -187,13 +187,13 @@ module _ (code : Code) (mail : Mail) (is : IsAccepted code) (known : IsMail mail
             let to : State = record s { stack = vs; variables = slice_set s.variables i.c (take max_value (modified modifiers t)) } in
             stays_if Set e (nat_lt i.c (length s.variables)) (1 + length t) (on to) (stays_on Set e to es (1 + length t) left fills refl refl refl most)
 
-    stays_file : operation_of i.op ≡ Some File → Stays s (charge_of code mail File i s) (effect code mail File i s)
+    stays_file : operation_of i.op ≡ Some File → Stays s (charge_of mail File i s) (effect (referred_in code) mail File i s)
     stays_file e =
         let n = next_entries File e in
         stays_taking File e file n.0 n.1 refl
         (λ t vs fills most. stays_on File e (record s { stack = vs; actions = s.actions ++ action.File t ∷ []; implicit_keep = false }) n.0 (1 + length t) n.1 fills refl refl refl most)
 
-    stays_store : operation_of i.op ≡ Some Store → Stays s (charge_of code mail Store i s) (effect code mail Store i s)
+    stays_store : operation_of i.op ≡ Some Store → Stays s (charge_of mail Store i s) (effect (referred_in code) mail Store i s)
     stays_store e = go s.frames
       where
         stores : (number : ℕ) → Stays s (1 + length_on_top s.stack) (with_text (store number) s s.stack)
@@ -222,7 +222,7 @@ module _ (code : Code) (mail : Mail) (is : IsAccepted code) (known : IsMail mail
         let same : [] ≡ es = (let f : Some [] ≡ Some es = sym shape ∙ e in cc) in
         subst (λ (x : Entries). Fills x s.stack) same none
 
-    stays_each : operation_of i.op ≡ Some Each → Stays s (charge_of code mail Each i s) (effect code mail Each i s)
+    stays_each : operation_of i.op ≡ Some Each → Stays s (charge_of mail Each i s) (effect (referred_in code) mail Each i s)
     stays_each e =
         stays_if Each e (are_partners code s.place i.c && nat_lt (length s.frames) 3) 1 (open_loop i.c (visited (current_part s.frames) mail) s)
         (go (visited (current_part s.frames) mail) refl (are_visited mail known (current_part s.frames)))
@@ -270,7 +270,7 @@ module _ (code : Code) (mail : Mail) (is : IsAccepted code) (known : IsMail mail
               refl,
             )
 
-    stays_next : operation_of i.op ≡ Some Next → Stays s (charge_of code mail Next i s) (effect code mail Next i s)
+    stays_next : operation_of i.op ≡ Some Next → Stays s (charge_of mail Next i s) (effect (referred_in code) mail Next i s)
     stays_next e = go s.frames refl full.reached.opened
       where
         loop : Loop
@@ -320,7 +320,7 @@ module _ (code : Code) (mail : Mail) (is : IsAccepted code) (known : IsMail mail
                   refl,
                 )
 
-        go : (fs : List Frame) → s.frames ≡ fs → AreOpen mail fs (open_loops code s.place) → Stays s 1 (machine.next code i.c s fs)
+        go : (fs : List Frame) → s.frames ≡ fs → AreOpen mail fs (open_loops code s.place) → Stays s 1 (machine.next (referred_in code) i.c s fs)
         go [] same are = tt
         go (f ∷ fs) same are =
             let both = last_of_both outer are.0 loop (loop_of f) (sym closed ∙ are.1) in
@@ -329,7 +329,7 @@ module _ (code : Code) (mail : Mail) (is : IsAccepted code) (known : IsMail mail
             stays_if Next e (are_partners code i.c s.place && (f.each == i.c) && (f.next == s.place)) 1 (next_part f fs f.rest s)
             (turns f fs same each_is next_is (subst (AreOpen mail fs) (sym both.0) are.2) are.5 f.rest refl are.4)
 
-    stays_halt : operation_of i.op ≡ Some Halt → Stays s (charge_of code mail Halt i s) (effect code mail Halt i s)
+    stays_halt : operation_of i.op ≡ Some Halt → Stays s (charge_of mail Halt i s) (effect (referred_in code) mail Halt i s)
     stays_halt e = (go s.frames refl full.reached.opened, refl)
       where
         n : ℕ
@@ -354,40 +354,40 @@ module _ (code : Code) (mail : Mail) (is : IsAccepted code) (known : IsMail mail
     other : (o : Operation) → operation_of i.op ≡ Some o → is_plain o ≡ false → (e : Effect) (cost : ℕ) → Stays s cost e
     other o named not_plain e cost = absurd (let wrong : false ≡ true = sym not_plain ∙ plain.operations s.place i o here named in cc)
 
-    stays : (o : Operation) → operation_of i.op ≡ Some o → Stays s (charge_of code mail o i s) (effect code mail o i s)
+    stays : (o : Operation) → operation_of i.op ≡ Some o → Stays s (charge_of mail o i s) (effect (referred_in code) mail o i s)
     stays Halt e = stays_halt e
     stays Literal e = stays_literal e
-    stays Variable e = other Variable e refl (effect code mail Variable i s) (charge_of code mail Variable i s)
-    stays Capture e = other Capture e refl (effect code mail Capture i s) (charge_of code mail Capture i s)
+    stays Variable e = other Variable e refl (effect (referred_in code) mail Variable i s) (charge_of mail Variable i s)
+    stays Capture e = other Capture e refl (effect (referred_in code) mail Capture i s) (charge_of mail Capture i s)
     stays Join e = stays_join e
     stays Set e = stays_set e
-    stays BoolOp e = other BoolOp e refl (effect code mail BoolOp i s) (charge_of code mail BoolOp i s)
-    stays Not e = other Not e refl (effect code mail Not i s) (charge_of code mail Not i s)
-    stays Jump e = other Jump e refl (effect code mail Jump i s) (charge_of code mail Jump i s)
-    stays JumpIfTrue e = other JumpIfTrue e refl (effect code mail JumpIfTrue i s) (charge_of code mail JumpIfTrue i s)
-    stays JumpIfFalse e = other JumpIfFalse e refl (effect code mail JumpIfFalse i s) (charge_of code mail JumpIfFalse i s)
-    stays Header e = other Header e refl (effect code mail Header i s) (charge_of code mail Header i s)
-    stays Exists e = other Exists e refl (effect code mail Exists i s) (charge_of code mail Exists i s)
-    stays String e = other String e refl (effect code mail String i s) (charge_of code mail String i s)
-    stays Size e = other Size e refl (effect code mail Size i s) (charge_of code mail Size i s)
-    stays PartSize e = other PartSize e refl (effect code mail PartSize i s) (charge_of code mail PartSize i s)
-    stays PartBody e = other PartBody e refl (effect code mail PartBody i s) (charge_of code mail PartBody i s)
-    stays PartDigest e = other PartDigest e refl (effect code mail PartDigest i s) (charge_of code mail PartDigest i s)
+    stays BoolOp e = other BoolOp e refl (effect (referred_in code) mail BoolOp i s) (charge_of mail BoolOp i s)
+    stays Not e = other Not e refl (effect (referred_in code) mail Not i s) (charge_of mail Not i s)
+    stays Jump e = other Jump e refl (effect (referred_in code) mail Jump i s) (charge_of mail Jump i s)
+    stays JumpIfTrue e = other JumpIfTrue e refl (effect (referred_in code) mail JumpIfTrue i s) (charge_of mail JumpIfTrue i s)
+    stays JumpIfFalse e = other JumpIfFalse e refl (effect (referred_in code) mail JumpIfFalse i s) (charge_of mail JumpIfFalse i s)
+    stays Header e = other Header e refl (effect (referred_in code) mail Header i s) (charge_of mail Header i s)
+    stays Exists e = other Exists e refl (effect (referred_in code) mail Exists i s) (charge_of mail Exists i s)
+    stays String e = other String e refl (effect (referred_in code) mail String i s) (charge_of mail String i s)
+    stays Size e = other Size e refl (effect (referred_in code) mail Size i s) (charge_of mail Size i s)
+    stays PartSize e = other PartSize e refl (effect (referred_in code) mail PartSize i s) (charge_of mail PartSize i s)
+    stays PartBody e = other PartBody e refl (effect (referred_in code) mail PartBody i s) (charge_of mail PartBody i s)
+    stays PartDigest e = other PartDigest e refl (effect (referred_in code) mail PartDigest i s) (charge_of mail PartDigest i s)
     stays Keep e = stays_on Keep e (record s { actions = s.actions ++ action.Keep ∷ []; implicit_keep = false }) entries 1 refl full.fills refl refl refl (omega arith)
     stays Discard e = stays_on Discard e (record s { implicit_keep = false }) entries 1 refl full.fills refl refl refl (omega arith)
     stays File e = stays_file e
     stays Store e = stays_store e
     stays Each e = stays_each e
     stays Next e = stays_next e
-    stays Break e = other Break e refl (effect code mail Break i s) (charge_of code mail Break i s)
-    stays Take e = other Take e refl (effect code mail Take i s) (charge_of code mail Take i s)
+    stays Break e = other Break e refl (effect (referred_in code) mail Break i s) (charge_of mail Break i s)
+    stays Take e = other Take e refl (effect (referred_in code) mail Take i s) (charge_of mail Take i s)
 
     stays_of : (o : Option Operation) → operation_of i.op ≡ o → StaysFull (turn_of code mail o i s)
     stays_of None e = tt
     stays_of (Some o) e = go (is_well_formed (row_in code i) i)
       where
-        go : (b : Bool) → StaysFull (cond b (turn (charge_of code mail o i s) (effect code mail o i s)) traps)
-        go true = stays_turn s (charge_of code mail o i s) (effect code mail o i s) full (stays o e)
+        go : (b : Bool) → StaysFull (cond b (turn (charge_of mail o i s) (effect (referred_in code) mail o i s)) traps)
+        go true = stays_turn s (charge_of mail o i s) (effect (referred_in code) mail o i s) full (stays o e)
         go false = tt
 
   full_step : (s : State) → IsFull code mail s → StaysFull (step code mail s)

@@ -6,8 +6,9 @@ use Rattle.octets.specs.Limits.{max_stack}
 use Rattle.mail_matching.specs.Texts.{AreTexts}
 use Rattle.sieve_vm.specs.declared.entry.Entry.{Entry}
 use Rattle.sieve_vm.specs.declared.entry.Entry.TheVariants.{Truth, Text}
+use Rattle.bytecode_verifier.specs.Taken.{with_params_and_keys, lists_below}
 use Rattle.sieve_vm.specs.State.{Value}
-use Rattle.sieve_vm.specs.Stack.{OnTop, texts_on_top, Lists, with_params_and_keys, lists_below, lists_on_top}
+use Rattle.sieve_vm.specs.Stack.{OnTop, text_in, texts_on_top, Lists, lists_on_top}
 use Rattle.sieve_vm.specs.Standing.{value_of, octets_of}
 use Rattle.sieve_vm.proofs.Taking.{octets_in, AreShortTexts, is_top}
 
@@ -49,7 +50,7 @@ lists_are names params keys stack top few short e = go (texts_on_top keys stack)
         let l = left params above.below between less brief h in
         then_names above between k l.0 l.1 l.2 (texts_on_top names between.below) refl f
 
-    go : (o : Option OnTop) → texts_on_top keys stack ≡ o → option_and_then (lists_below names params) o ≡ Some top → AreTestTexts top
+    go : (o : Option OnTop) → texts_on_top keys stack ≡ o → option_and_then (lists_below text_in names params) o ≡ Some top → AreTestTexts top
     go None h f = absurd cc
     go (Some above) h f =
         let l = left keys stack above few short h in
@@ -144,7 +145,7 @@ lists_lent names params keys items stack top stands e = go (texts_on_top keys st
     then_params above k None h f = absurd cc
     then_params above k (Some between) h f = then_names above between k (lent_before params (n - keys) items above.below between (omega arith) (sym k.below) h) (texts_on_top names between.below) refl f
 
-    go : (o : Option OnTop) → texts_on_top keys stack ≡ o → option_and_then (lists_below names params) o ≡ Some top → AreLent names params keys items top
+    go : (o : Option OnTop) → texts_on_top keys stack ≡ o → option_and_then (lists_below text_in names params) o ≡ Some top → AreLent names params keys items top
     go None h f = absurd cc
     go (Some above) h f =
         let all : map value_of (reverse (take n items)) ≡ stack = ap (λ es. map value_of (reverse es)) (take_all n items (omega arith)) ∙ stands in

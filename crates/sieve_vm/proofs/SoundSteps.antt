@@ -19,7 +19,7 @@ use Rattle.sieve_vm.specs.State.{State, goes, traps, start}
 use Rattle.sieve_vm.specs.Runs.{Run}
 use Rattle.sieve_vm.specs.Charge.{charge_of}
 use Rattle.sieve_vm.specs.Stores.{NamesPart}
-use Rattle.sieve_vm.specs.Machine.{Effect, on, jumps, halts, fails, effect, turn, turn_of, turn_at, step}
+use Rattle.sieve_vm.specs.Machine.{Effect, on, jumps, halts, fails, effect, turn, turn_of, turn_at, step, referred_in}
 use Rattle.bytecode_verifier.specs.Budget.{cap_of, cap_at}
 use Rattle.glob_match.specs.Matching.{max_captures}
 use Rattle.sieve_vm.proofs.Charges.{charge_fits}
@@ -72,7 +72,7 @@ module _ (code : Code) (mail : Mail) (is : IsAccepted code) (known : IsMail mail
     held = from.texts
 
     -- every operation's effect
-    pub leads : (o : Operation) → operation_of i.op ≡ Some o → Leads code mail s (effect code mail o i s)
+    pub leads : (o : Operation) → operation_of i.op ≡ Some o → Leads code mail s (effect (referred_in code) mail o i s)
     leads Halt e = (refl, from.stores)
     leads Literal e = leads_literal code mail is known s i here from e
     leads Variable e = leads_variable code mail is known s i here from e
@@ -106,8 +106,8 @@ module _ (code : Code) (mail : Mail) (is : IsAccepted code) (known : IsMail mail
     sound (Some o) e =
         let cost = charge_fits code mail known o i s entries d (after_of code mail is known s i here from (Some o) e).0 (after_of code mail is known s i here from (Some o) e).1 in
         let cap : cap_at code s.place ≡ cap_of (Some o) i entries = rw (here, at, e) refl in
-        subst (λ (b : Bool). IsSound code mail s (cond b (turn (charge_of code mail o i s) (effect code mail o i s)) traps)) (sym (well_formed code is s.place i here))
-        (sound_turn code mail s (charge_of code mail o i s) (effect code mail o i s) (leads o e) cost.some (rw cap cost.most))
+        subst (λ (b : Bool). IsSound code mail s (cond b (turn (charge_of mail o i s) (effect (referred_in code) mail o i s)) traps)) (sym (well_formed code is s.place i here))
+        (sound_turn code mail s (charge_of mail o i s) (effect (referred_in code) mail o i s) (leads o e) cost.some (rw cap cost.most))
 
   -- a step from a state that a run may reach
   pub step_is_sound : (s : State) → IsReached code mail s → IsSound code mail s (step code mail s)

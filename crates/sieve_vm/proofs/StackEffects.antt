@@ -27,7 +27,7 @@ use Rattle.sieve_vm.specs.State.{Value, truth, text, State, current_part}
 use Rattle.sieve_vm.specs.Stack.{OnTop, Lists, texts_on_top, lists_on_top}
 use Rattle.sieve_vm.specs.Stores.{NamesPart}
 use Rattle.sieve_vm.specs.Machine as machine
-use Rattle.sieve_vm.specs.Machine.{on, jumps, fails, branch, with_truth, with_text, with_texts, with_lists, with_number, with_meant, file, test_names, test_values, test_sources, next, is_sound_jump, compares, effect}
+use Rattle.sieve_vm.specs.Machine.{on, jumps, fails, branch, with_truth, with_text, with_texts, with_lists, with_number, with_meant, file, test_names, test_values, test_sources, next, is_sound_jump, compares, effect, referred_in}
 use Rattle.mime_decode.specs.Scope.{selected_values}
 use Rattle.glob_match.specs.declared.match_type.Match.{Match}
 use Rattle.octets.specs.Limits.{max_string, max_value}
@@ -54,19 +54,19 @@ module _ (code : Code) (mail : Mail) (is : IsAccepted code) (known : IsMail mail
     abbrev LeavesBy : Operation → Entries → Type 0
     LeavesBy o after = left_by code (Some o) i entries ≡ Some after
 
-    pub leads_bool : operation_of i.op ≡ Some BoolOp → Leads code mail s (effect code mail BoolOp i s)
+    pub leads_bool : operation_of i.op ≡ Some BoolOp → Leads code mail s (effect (referred_in code) mail BoolOp i s)
     leads_bool e =
         let a = after_of code mail is known s i here from (Some BoolOp) e in
         pushes code mail is known s i here from BoolOp s (truth (i.a == 1)) Truth entries a.0 e refl a.1 a.1 refl refl refl held from.stores d d
 
-    pub leads_size : operation_of i.op ≡ Some Size → Leads code mail s (effect code mail Size i s)
+    pub leads_size : operation_of i.op ≡ Some Size → Leads code mail s (effect (referred_in code) mail Size i s)
     leads_size e =
         let a = after_of code mail is known s i here from (Some Size) e in
         let number : slice_get code.numbers i.c ≡ Some (get_or code.numbers i.c 0) = slice_get-get_or code.numbers i.c 0 (number_known code is s.place i here e) in
         subst (λ (o : Option ℕ). Leads code mail s (with_number i (size_of mail) s o)) (sym number)
         (pushes code mail is known s i here from Size s (truth (compares i (get_or code.numbers i.c 0) (size_of mail))) Truth entries a.0 e refl a.1 a.1 refl refl refl held from.stores d d)
 
-    pub leads_literal : operation_of i.op ≡ Some Literal → Leads code mail s (effect code mail Literal i s)
+    pub leads_literal : operation_of i.op ≡ Some Literal → Leads code mail s (effect (referred_in code) mail Literal i s)
     leads_literal e =
         let a = after_of code mail is known s i here from (Some Literal) e in
         let octets : List ℕ = get_or code.strings i.c [] in
@@ -75,49 +75,49 @@ module _ (code : Code) (mail : Mail) (is : IsAccepted code) (known : IsMail mail
         subst (λ (o : Option (List ℕ)). Leads code mail s (machine.with_string s o)) (sym string)
         (pushes code mail is known s i here from Literal s (text octets) (Text (length octets)) entries a.0 e refl a.1 room refl refl refl held from.stores d (omega arith, d))
 
-    pub leads_exists : operation_of i.op ≡ Some Exists → Leads code mail s (effect code mail Exists i s)
+    pub leads_exists : operation_of i.op ≡ Some Exists → Leads code mail s (effect (referred_in code) mail Exists i s)
     leads_exists e =
         let a = after_of code mail is known s i here from (Some Exists) e in
         let says = exists_known code is s.place i here e in
         subst (λ (o : Option Scope). Leads code mail s (with_meant (λ scope. with_texts (test_names mail scope) s (texts_on_top i.b s.stack)) o)) (sym says.1.0)
         (go says.0 a.0 a.1 (take_texts i.b entries) refl a.1)
       where
-        go : (scope : Scope) (after : Entries) → LeavesBy Exists after → (o : Option Texts) → take_texts i.b entries ≡ o → option_and_then (λ (names : Texts). with_entry Truth names.rest) o ≡ Some after → Leads code mail s (with_texts (test_names mail scope) s (texts_on_top i.b s.stack))
+        go : (scope : Scope) (after : Entries) → LeavesBy Exists after → (o : Option Texts) → take_texts i.b entries ≡ o → option_and_then (λ (names : Texts). with_entry Truth names.below) o ≡ Some after → Leads code mail s (with_texts (test_names mail scope) s (texts_on_top i.b s.stack))
         go scope after leaves None h f = absurd cc
         go scope after leaves (Some bounds) h f =
             let names = on_top i.b entries bounds s.stack h d in
             subst (λ (o : Option OnTop). Leads code mail s (with_texts (test_names mail scope) s o)) (sym names.is)
-            (pushes code mail is known s i here from Exists (record s { stack = names.top.below }) (truth (exists_in (scope_of scope) (current_part s.frames) names.top.texts mail)) Truth bounds.rest after e refl leaves f refl refl refl held from.stores names.below names.below)
+            (pushes code mail is known s i here from Exists (record s { stack = names.top.below }) (truth (exists_in (scope_of scope) (current_part s.frames) names.top.texts mail)) Truth bounds.below after e refl leaves f refl refl refl held from.stores names.below names.below)
 
-    pub leads_header : operation_of i.op ≡ Some Header → Leads code mail s (effect code mail Header i s)
+    pub leads_header : operation_of i.op ≡ Some Header → Leads code mail s (effect (referred_in code) mail Header i s)
     leads_header e =
         let a = after_of code mail is known s i here from (Some Header) e in
         let fields = header_known code is s.place i here e in
         subst (λ (o : Option FieldTest). Leads code mail s (with_meant (λ test. with_lists (test_values mail test) s (lists_on_top i.b (params_in i.c) (keys_in i.c) s.stack)) o)) (sym fields.says)
         (go fields.test a.0 a.1 (take_lists i.b (params_in i.c) (keys_in i.c) entries) refl a.1)
       where
-        go : (test : FieldTest) (after : Entries) → LeavesBy Header after → (o : Option ListBounds) → take_lists i.b (params_in i.c) (keys_in i.c) entries ≡ o → option_and_then (λ (lists : ListBounds). with_entry Truth lists.rest) o ≡ Some after → Leads code mail s (with_lists (test_values mail test) s (lists_on_top i.b (params_in i.c) (keys_in i.c) s.stack))
+        go : (test : FieldTest) (after : Entries) → LeavesBy Header after → (o : Option ListBounds) → take_lists i.b (params_in i.c) (keys_in i.c) entries ≡ o → option_and_then (λ (lists : ListBounds). with_entry Truth lists.below) o ≡ Some after → Leads code mail s (with_lists (test_values mail test) s (lists_on_top i.b (params_in i.c) (keys_in i.c) s.stack))
         go test after leaves None h f = absurd cc
         go test after leaves (Some bounds) h f =
             let lists = lists_are_on_top i.b (params_in i.c) (keys_in i.c) entries bounds s.stack h d in
             subst (λ (o : Option Lists). Leads code mail s (with_lists (test_values mail test) s o)) (sym lists.is)
-            (leads_tested code mail is known s i here from Header (record s { stack = lists.top.below }) bounds.rest after test.how (selected_values (scope_of test.scope) (current_part s.frames) (selector_of test.selector lists.top.params) lists.top.names mail) lists.top.keys e refl leaves f refl refl refl held from.stores lists.below)
+            (leads_tested code mail is known s i here from Header (record s { stack = lists.top.below }) bounds.below after test.how (selected_values (scope_of test.scope) (current_part s.frames) (selector_of test.selector lists.top.params) lists.top.names mail) lists.top.keys e refl leaves f refl refl refl held from.stores lists.below)
 
-    pub leads_string : operation_of i.op ≡ Some String → Leads code mail s (effect code mail String i s)
+    pub leads_string : operation_of i.op ≡ Some String → Leads code mail s (effect (referred_in code) mail String i s)
     leads_string e =
         let a = after_of code mail is known s i here from (Some String) e in
         let says = meant_by (match_numbered i.a) (sources_known code is s.place i here e) in
         subst (λ (o : Option Match). Leads code mail s (with_meant (λ how. with_lists (test_sources how) s (lists_on_top i.b 0 i.c s.stack)) o)) (sym says.1)
         (go says.0 a.0 a.1 (take_lists i.b 0 i.c entries) refl a.1)
       where
-        go : (how : Match) (after : Entries) → LeavesBy String after → (o : Option ListBounds) → take_lists i.b 0 i.c entries ≡ o → option_and_then (λ (lists : ListBounds). with_entry Truth lists.rest) o ≡ Some after → Leads code mail s (with_lists (test_sources how) s (lists_on_top i.b 0 i.c s.stack))
+        go : (how : Match) (after : Entries) → LeavesBy String after → (o : Option ListBounds) → take_lists i.b 0 i.c entries ≡ o → option_and_then (λ (lists : ListBounds). with_entry Truth lists.below) o ≡ Some after → Leads code mail s (with_lists (test_sources how) s (lists_on_top i.b 0 i.c s.stack))
         go how after leaves None h f = absurd cc
         go how after leaves (Some bounds) h f =
             let lists = lists_are_on_top i.b 0 i.c entries bounds s.stack h d in
             subst (λ (o : Option Lists). Leads code mail s (with_lists (test_sources how) s o)) (sym lists.is)
-            (leads_tested code mail is known s i here from String (record s { stack = lists.top.below }) bounds.rest after how lists.top.names lists.top.keys e refl leaves f refl refl refl held from.stores lists.below)
+            (leads_tested code mail is known s i here from String (record s { stack = lists.top.below }) bounds.below after how lists.top.names lists.top.keys e refl leaves f refl refl refl held from.stores lists.below)
 
-    pub leads_variable : operation_of i.op ≡ Some Variable → Leads code mail s (effect code mail Variable i s)
+    pub leads_variable : operation_of i.op ≡ Some Variable → Leads code mail s (effect (referred_in code) mail Variable i s)
     leads_variable e =
         let a = after_of code mail is known s i here from (Some Variable) e in
         let value : List ℕ = get_or s.variables i.c [] in
@@ -126,25 +126,25 @@ module _ (code : Code) (mail : Mail) (is : IsAccepted code) (known : IsMail mail
         subst (λ (o : Option (List ℕ)). Leads code mail s (machine.with_string s o)) (sym value_is)
         (pushes code mail is known s i here from Variable s (text value) (Text max_value) entries a.0 e refl a.1 a.1 refl refl refl held from.stores d (cut_at s.variables i.c held.values, d))
 
-    pub leads_capture : operation_of i.op ≡ Some Capture → Leads code mail s (effect code mail Capture i s)
+    pub leads_capture : operation_of i.op ≡ Some Capture → Leads code mail s (effect (referred_in code) mail Capture i s)
     leads_capture e =
         let a = after_of code mail is known s i here from (Some Capture) e in
         pushes code mail is known s i here from Capture s (text (get_or s.captures i.a [])) (Text max_value) entries a.0 e refl a.1 a.1 refl refl refl held from.stores d (cut_at s.captures i.a held.captured, d)
 
-    pub leads_join : operation_of i.op ≡ Some Join → Leads code mail s (effect code mail Join i s)
+    pub leads_join : operation_of i.op ≡ Some Join → Leads code mail s (effect (referred_in code) mail Join i s)
     leads_join e = let a = after_of code mail is known s i here from (Some Join) e in go a.0 a.1 (take_texts i.b entries) refl a.1
       where
-        go : (after : Entries) → LeavesBy Join after → (o : Option Texts) → take_texts i.b entries ≡ o → option_and_then with_joined o ≡ Some after → Leads code mail s (effect code mail Join i s)
+        go : (after : Entries) → LeavesBy Join after → (o : Option Texts) → take_texts i.b entries ≡ o → option_and_then with_joined o ≡ Some after → Leads code mail s (effect (referred_in code) mail Join i s)
         go after leaves None h f = absurd cc
         go after leaves (Some bounds) h f =
             let parts = on_top i.b entries bounds s.stack h d in
             let joined : List ℕ = take max_string (concat parts.top.texts) in
             let all : length (concat parts.top.texts) ≡ sum_by length parts.top.texts = ap length (concat_is parts.top.texts) ∙ length-flat_map (λ t. t) parts.top.texts in
-            let short : length joined ≤ min (sum bounds.bounds) max_string = omega (arith, length-take max_string (concat parts.top.texts), all, octets_within i.b bounds s.stack parts) in
+            let short : length joined ≤ min (sum bounds.texts) max_string = omega (arith, length-take max_string (concat parts.top.texts), all, octets_within i.b bounds s.stack parts) in
             subst (λ (o : Option OnTop). Leads code mail s (with_texts machine.join s o)) (sym parts.is)
-            (pushes code mail is known s i here from Join (record s { stack = parts.top.below }) (text joined) (Text (min (sum bounds.bounds) max_string)) bounds.rest after e refl leaves f refl refl refl held from.stores parts.below (short, parts.below))
+            (pushes code mail is known s i here from Join (record s { stack = parts.top.below }) (text joined) (Text (min (sum bounds.texts) max_string)) bounds.below after e refl leaves f refl refl refl held from.stores parts.below (short, parts.below))
 
-    pub leads_set : operation_of i.op ≡ Some Set → Leads code mail s (effect code mail Set i s)
+    pub leads_set : operation_of i.op ≡ Some Set → Leads code mail s (effect (referred_in code) mail Set i s)
     leads_set e = let a = after_of code mail is known s i here from (Some Set) e in go entries s.stack a.0 d (left code mail is known s i here from Set a.0 e a.1) a.1
       where
         named : (modifiers : Modifiers) × (modifiers_numbered i.a ≡ Some modifiers)
@@ -153,7 +153,7 @@ module _ (code : Code) (mail : Mail) (is : IsAccepted code) (known : IsMail mail
         within : nat_lt i.c (length s.variables) ≡ true
         within = lt-ltb _ _ (omega (arith, held.number, set_known code is s.place i here e))
 
-        go : (es : Entries) (stack : List Value) (after : Entries) → Describes es stack → left_by code (operation_of i.op) i entries ≡ Some after → option_map (λ (value : Texts). value.rest) (take_texts 1 es) ≡ Some after
+        go : (es : Entries) (stack : List Value) (after : Entries) → Describes es stack → left_by code (operation_of i.op) i entries ≡ Some after → option_map (λ (value : Texts). value.below) (take_texts 1 es) ≡ Some after
             → Leads code mail s (with_text (machine.set_variable i) s stack)
         go [] stack after h leaves f = absurd cc
         go (Truth ∷ es) stack after h leaves f = absurd cc
@@ -167,10 +167,10 @@ module _ (code : Code) (mail : Mail) (is : IsAccepted code) (known : IsMail mail
             (subst (λ (b : Bool). Leads code mail s (cond b (on (record s { stack = vs; variables = slice_set s.variables i.c next })) fails)) (sym within)
             (leads_on code mail is known s i here from _ after (ap is_plain e) leaves (subst (λ (x : Entries). Describes x vs) same h.1) refl refl refl (set_one code.variables i.c s.variables s.captures next held cut) from.stores))
 
-    pub leads_file : operation_of i.op ≡ Some File → Leads code mail s (effect code mail File i s)
+    pub leads_file : operation_of i.op ≡ Some File → Leads code mail s (effect (referred_in code) mail File i s)
     leads_file e = let a = after_of code mail is known s i here from (Some File) e in go entries s.stack a.0 d (left code mail is known s i here from File a.0 e a.1) a.1
       where
-        go : (es : Entries) (stack : List Value) (after : Entries) → Describes es stack → left_by code (operation_of i.op) i entries ≡ Some after → option_map (λ (folder : Texts). folder.rest) (take_texts 1 es) ≡ Some after
+        go : (es : Entries) (stack : List Value) (after : Entries) → Describes es stack → left_by code (operation_of i.op) i entries ≡ Some after → option_map (λ (folder : Texts). folder.below) (take_texts 1 es) ≡ Some after
             → Leads code mail s (with_text file s stack)
         go [] stack after h leaves f = absurd cc
         go (Truth ∷ es) stack after h leaves f = absurd cc
@@ -180,7 +180,7 @@ module _ (code : Code) (mail : Mail) (is : IsAccepted code) (known : IsMail mail
             let same : es ≡ after = cc in
             leads_on code mail is known s i here from (record s { stack = vs; actions = s.actions ++ action.File folder ∷ []; implicit_keep = false }) after (ap is_plain e) leaves (subst (λ (x : Entries). Describes x vs) same h.1) refl refl refl held (All-push (NamesPart mail) s.actions (action.File folder) from.stores tt)
 
-    pub leads_not : operation_of i.op ≡ Some Not → Leads code mail s (effect code mail Not i s)
+    pub leads_not : operation_of i.op ≡ Some Not → Leads code mail s (effect (referred_in code) mail Not i s)
     leads_not e =
         let a = after_of code mail is known s i here from (Some Not) e in
         let t = has_truth-some entries a.0 a.1 in
@@ -197,7 +197,7 @@ module _ (code : Code) (mail : Mail) (is : IsAccepted code) (known : IsMail mail
         way true = leads_target code mail is known s i here from (record s { stack = [] }) jump refl refl refl held from.stores
         way false = leads_on code mail is known s i here from (record s { stack = [] }) [] goes_on shape tt refl refl refl held from.stores
 
-    pub leads_jump : operation_of i.op ≡ Some Jump → Leads code mail s (effect code mail Jump i s)
+    pub leads_jump : operation_of i.op ≡ Some Jump → Leads code mail s (effect (referred_in code) mail Jump i s)
     leads_jump e =
         let a = after_of code mail is known s i here from (Some Jump) e in
         let jump : is_jump (row_in code i) ≡ true = ap (λ o. is_jump (option_and_then (row_in_version code.version) o)) e in
@@ -207,7 +207,7 @@ module _ (code : Code) (mail : Mail) (is : IsAccepted code) (known : IsMail mail
 
     -- a jump that takes a truth value
     pub leads_branch : (o : Operation) (wanted : Bool) → operation_of i.op ≡ Some o → is_jump (row_in_version code.version o) ≡ true → is_plain (Some o) ≡ true → left_by code (Some o) i entries ≡ without_truth entries
-        → Leads code mail s (cond (is_sound_jump code s i) (with_truth (branch i.c wanted) s s.stack) fails)
+        → Leads code mail s (cond (is_sound_jump (referred_in code) s i) (with_truth (branch i.c wanted) s s.stack) fails)
     leads_branch o wanted e jump_op goes_on takes =
         let a = after_of code mail is known s i here from (Some o) e in
         let w = without_truth-some entries a.0 (sym takes ∙ a.1) in

@@ -23,7 +23,7 @@ use Rattle.sieve_vm.specs.declared.machine.Flow.TheVariants.{On, To, Ends}
 use Rattle.sieve_vm.specs.State.{Value, State, goes, ends, traps, start}
 use Rattle.sieve_vm.specs.Visits.{Visits}
 use Rattle.sieve_vm.specs.Charge.{charge_of}
-use Rattle.sieve_vm.specs.Machine.{Effect, on, jumps, halts, fails, push, is_sound_jump, effect, turn, turn_of, turn_at, step}
+use Rattle.sieve_vm.specs.Machine.{Effect, on, jumps, halts, fails, push, is_sound_jump, effect, turn, turn_of, turn_at, step, referred_in}
 use Rattle.sieve_vm.specs.Standing.{held_of, Represents, IsIn, IsRunning, GoesFrom, StepsOn, IsOver}
 use Rattle.sieve_vm.specs.Ending.{IsOutcome}
 use Rattle.sieve_vm.proofs.Taking.{Describes}
@@ -77,19 +77,19 @@ module _ (code : Code) (mail : Mail) (is : IsAccepted code) (known : IsMail mail
       after = after_of code mail is known s i here_is there (Some o) named
 
       -- the step is the turn of what the operation does
-      pub stepped : step code mail s ≡ turn (charge_of code mail o i s) (effect code mail o i s)
+      pub stepped : step code mail s ≡ turn (charge_of mail o i s) (effect (referred_in code) mail o i s)
       stepped =
           ap (turn_at code mail s) here_is ∙ ap (λ x. turn_of code mail x i s) named ∙ turned (is_well_formed (row_in code i) i) form
         where
-          turned : (b : Bool) → b ≡ true → cond b (turn (charge_of code mail o i s) (effect code mail o i s)) traps ≡ turn (charge_of code mail o i s) (effect code mail o i s)
+          turned : (b : Bool) → b ≡ true → cond b (turn (charge_of mail o i s) (effect (referred_in code) mail o i s)) traps ≡ turn (charge_of mail o i s) (effect (referred_in code) mail o i s)
           turned true e = refl
           turned false e = absurd (cc)
 
       -- and that leads on
-      pub fine : Leads code mail s (effect code mail o i s)
+      pub fine : Leads code mail s (effect (referred_in code) mail o i s)
       fine = leads code mail is known s i here_is there o named
 
-      pub jumps_soundly : is_jump (row_in_version code.version o) ≡ true → is_sound_jump code s i ≡ true
+      pub jumps_soundly : is_jump (row_in_version code.version o) ≡ true → is_sound_jump (referred_in code) s i ≡ true
       jumps_soundly jump = sound_jump code mail is known s i here_is there (ap (λ x. is_jump (option_and_then (row_in_version code.version) x)) named ∙ jump)
 
       pub branch_top : left_by code (Some o) i there.entries ≡ without_truth there.entries → (es : Entries) × TopTruth s.stack es

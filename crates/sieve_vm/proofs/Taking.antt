@@ -6,12 +6,13 @@ use Rattle.std.proofs.lemmas.List.{reverse-append}
 use Rattle.std.specs.Option.{option_and_then, option_map}
 use Rattle.octets.specs.Limits.{max_string}
 use Rattle.bytecode_verifier.specs.declared.shape.Entry.TheVariants.{Truth, Text}
-use Rattle.bytecode_verifier.specs.Shape.{Entries, Texts, Lists as ListBounds, with_entry, with_text, with_joined, take_texts, take_below, take_lists, with_params_and_keys as with_bounds}
+use Rattle.bytecode_verifier.specs.Taken.{with_last, with_params_and_keys, lists_below}
+use Rattle.bytecode_verifier.specs.Shape.{Entries, Texts, Lists as ListBounds, bound_in, with_entry, with_joined, take_texts, take_lists}
 use Rattle.bytecode_verifier.specs.Budget.{one_more_each}
 use Rattle.bytecode_verifier.specs.Pass.{AreShort}
 use Rattle.mail_matching.specs.Costs.{extent_of}
 use Rattle.sieve_vm.specs.State.{Value, truth, text}
-use Rattle.sieve_vm.specs.Stack.{OnTop, with_last, texts_on_top, Lists, with_params_and_keys, lists_below, lists_on_top}
+use Rattle.sieve_vm.specs.Stack.{OnTop, text_in, texts_on_top, Lists, lists_on_top}
 
 -- the entries of the shape describe the stack
 abbrev pub Describes : Entries → List Value → Type 0
@@ -40,13 +41,13 @@ one_more_each_is f (x ∷ xs) =
 pub record AreOnTop (n : ℕ) (bounds : Texts) (stack : List Value) : Type 0 where
   pub top : OnTop
   pub is : texts_on_top n stack ≡ Some top
-  pub below : Describes bounds.rest top.below
-  pub extent : extent_of top.texts ≤ one_more_each bounds.bounds
-  pub number : length top.texts ≡ length bounds.bounds
+  pub below : Describes bounds.below top.below
+  pub extent : extent_of top.texts ≤ one_more_each bounds.texts
+  pub number : length top.texts ≡ length bounds.texts
 
 pub on_top : (n : ℕ) (entries : Entries) (bounds : Texts) (stack : List Value) → take_texts n entries ≡ Some bounds → Describes entries stack → AreOnTop n bounds stack
 on_top zero entries bounds stack e d =
-    let same : (let t : Texts = record { bounds = []; rest = entries } in t) ≡ bounds = cc in
+    let same : (let t : Texts = record { texts = []; below = entries } in t) ≡ bounds = cc in
     subst (λ b. AreOnTop 0 b stack) same (record { top = record { texts = []; below = stack }; is = refl; below = d; extent = omega arith; number = refl })
 on_top (suc n) [] bounds stack e d = absurd cc
 on_top (suc n) (Truth ∷ entries) bounds stack e d = absurd cc
@@ -54,13 +55,13 @@ on_top (suc n) (Text bound ∷ entries) bounds [] e d = absurd d
 on_top (suc n) (Text bound ∷ entries) bounds (truth b ∷ vs) e d = absurd d
 on_top (suc n) (Text bound ∷ entries) bounds (text t ∷ vs) e d = go (take_texts n entries) refl e (λ others h. on_top n entries others vs h d.1)
   where
-    go : (o : Option Texts) → take_texts n entries ≡ o → option_map (with_text bound) o ≡ Some bounds → ((others : Texts) → take_texts n entries ≡ Some others → AreOnTop n others vs) → AreOnTop (suc n) bounds (text t ∷ vs)
+    go : (o : Option Texts) → take_texts n entries ≡ o → option_map (with_last bound) o ≡ Some bounds → ((others : Texts) → take_texts n entries ≡ Some others → AreOnTop n others vs) → AreOnTop (suc n) bounds (text t ∷ vs)
     go None h f ih = absurd cc
     go (Some others) h f ih =
         let before = ih others h in
-        let same : with_text bound others ≡ bounds = cc in
+        let same : with_last bound others ≡ bounds = cc in
         let short = d.0 in
-        let bounded : one_more_each (bound ∷ others.bounds) ≡ (bound + 1) + one_more_each others.bounds = sum_by-cons (λ b. b + 1) bound others.bounds in
+        let bounded : one_more_each (others.texts ++ bound ∷ []) ≡ one_more_each others.texts + (bound + 1) = sum_by_push (λ b. b + 1) others.texts bound in
         let extended : extent_of (before.top.texts ++ t ∷ []) ≡ extent_of before.top.texts + (length t + 1) = sum_by_push (λ x. length x + 1) before.top.texts t in
         let less = before.extent in
         let counted = before.number in
@@ -70,14 +71,14 @@ on_top (suc n) (Text bound ∷ entries) bounds (text t ∷ vs) e d = go (take_te
           is = ap (option_map (with_last t)) before.is;
           below = before.below;
           extent = omega arith;
-          number = omega (arith, length-append before.top.texts (t ∷ []));
+          number = omega (arith, length-append before.top.texts (t ∷ []), length-append others.texts (bound ∷ []));
         })
 
 -- names, parameters above them, and keys above these
 pub record ListsAreOnTop (names params keys : ℕ) (bounds : ListBounds) (stack : List Value) : Type 0 where
   pub top : Lists
   pub is : lists_on_top names params keys stack ≡ Some top
-  pub below : Describes bounds.rest top.below
+  pub below : Describes bounds.below top.below
   pub names_extent : extent_of top.names ≤ one_more_each bounds.names
   pub names_number : length top.names ≡ length bounds.names
   pub params_number : length top.params ≡ length bounds.params
@@ -86,12 +87,12 @@ pub record ListsAreOnTop (names params keys : ℕ) (bounds : ListBounds) (stack 
 pub lists_are_on_top : (names params keys : ℕ) (entries : Entries) (bounds : ListBounds) (stack : List Value) → take_lists names params keys entries ≡ Some bounds → Describes entries stack → ListsAreOnTop names params keys bounds stack
 lists_are_on_top names params keys entries bounds stack e d = go (take_texts keys entries) refl e
   where
-    all : (above between under : Texts) → (k : AreOnTop keys above stack) → (p : AreOnTop params between k.top.below) → AreOnTop names under p.top.below → with_bounds between.bounds above.bounds under ≡ bounds → ListsAreOnTop names params keys bounds stack
+    all : (above between under : Texts) → (k : AreOnTop keys above stack) → (p : AreOnTop params between k.top.below) → AreOnTop names under p.top.below → with_params_and_keys between.texts above.texts under ≡ bounds → ListsAreOnTop names params keys bounds stack
     all above between under k p n same =
         subst (λ b. ListsAreOnTop names params keys b stack) same
         (record {
           top = with_params_and_keys p.top.texts k.top.texts n.top;
-          is = ap (option_and_then (lists_below names params)) k.is
+          is = ap (option_and_then (lists_below text_in names params)) k.is
               ∙ ap (option_and_then (λ (top : OnTop). option_map (with_params_and_keys top.texts k.top.texts) (texts_on_top names top.below))) p.is
               ∙ ap (option_map (with_params_and_keys p.top.texts k.top.texts)) n.is;
           below = n.below;
@@ -101,18 +102,18 @@ lists_are_on_top names params keys entries bounds stack e d = go (take_texts key
           keys_extent = k.extent;
         })
 
-    then_names : (above between : Texts) → (k : AreOnTop keys above stack) → AreOnTop params between k.top.below → (o : Option Texts) → take_texts names between.rest ≡ o → option_map (with_bounds between.bounds above.bounds) o ≡ Some bounds → ListsAreOnTop names params keys bounds stack
+    then_names : (above between : Texts) → (k : AreOnTop keys above stack) → AreOnTop params between k.top.below → (o : Option Texts) → take_texts names between.below ≡ o → option_map (with_params_and_keys between.texts above.texts) o ≡ Some bounds → ListsAreOnTop names params keys bounds stack
     then_names above between k p None h f = absurd cc
-    then_names above between k p (Some under) h f = all above between under k p (on_top names between.rest under p.top.below h p.below) cc
+    then_names above between k p (Some under) h f = all above between under k p (on_top names between.below under p.top.below h p.below) cc
 
-    then_params : (above : Texts) → AreOnTop keys above stack → (o : Option Texts) → take_texts params above.rest ≡ o
-        → option_and_then (λ (between : Texts). option_map (with_bounds between.bounds above.bounds) (take_texts names between.rest)) o ≡ Some bounds → ListsAreOnTop names params keys bounds stack
+    then_params : (above : Texts) → AreOnTop keys above stack → (o : Option Texts) → take_texts params above.below ≡ o
+        → option_and_then (λ (between : Texts). option_map (with_params_and_keys between.texts above.texts) (take_texts names between.below)) o ≡ Some bounds → ListsAreOnTop names params keys bounds stack
     then_params above k None h f = absurd cc
-    then_params above k (Some between) h f = then_names above between k (on_top params above.rest between k.top.below h k.below) (take_texts names between.rest) refl f
+    then_params above k (Some between) h f = then_names above between k (on_top params above.below between k.top.below h k.below) (take_texts names between.below) refl f
 
-    go : (o : Option Texts) → take_texts keys entries ≡ o → option_and_then (take_below names params) o ≡ Some bounds → ListsAreOnTop names params keys bounds stack
+    go : (o : Option Texts) → take_texts keys entries ≡ o → option_and_then (lists_below bound_in names params) o ≡ Some bounds → ListsAreOnTop names params keys bounds stack
     go None h f = absurd cc
-    go (Some above) h f = then_params above (on_top keys entries above stack h d) (take_texts params above.rest) refl f
+    go (Some above) h f = then_params above (on_top keys entries above stack h d) (take_texts params above.below) refl f
 
 -- ---- texts that are no longer than strings
 
@@ -173,28 +174,28 @@ parts_there n entries after stack e d = go (take_texts n entries) refl e
     go (Some bounds) h f = let are = on_top n entries bounds stack h d in (are.top, are.is)
 
 -- texts on top have no more octets than their bounds say
-pub octets_within : (n : ℕ) (bounds : Texts) (stack : List Value) (are : AreOnTop n bounds stack) → sum_by length are.top.texts ≤ sum bounds.bounds
+pub octets_within : (n : ℕ) (bounds : Texts) (stack : List Value) (are : AreOnTop n bounds stack) → sum_by length are.top.texts ≤ sum bounds.texts
 octets_within n bounds stack are =
     let texts : extent_of are.top.texts ≡ sum_by length are.top.texts + length are.top.texts = one_more_each_is length are.top.texts in
-    let most : one_more_each bounds.bounds ≡ sum bounds.bounds + length bounds.bounds = one_more_each_is (λ b. b) bounds.bounds in
+    let most : one_more_each bounds.texts ≡ sum bounds.texts + length bounds.texts = one_more_each_is (λ b. b) bounds.texts in
     omega (arith, texts, most, are.extent, are.number)
 
-pub names_there : (n : ℕ) (entries after : Entries) (stack : List Value) → option_and_then (λ (names : Texts). with_entry Truth names.rest) (take_texts n entries) ≡ Some after → Describes entries stack → (top : OnTop) × (texts_on_top n stack ≡ Some top)
+pub names_there : (n : ℕ) (entries after : Entries) (stack : List Value) → option_and_then (λ (names : Texts). with_entry Truth names.below) (take_texts n entries) ≡ Some after → Describes entries stack → (top : OnTop) × (texts_on_top n stack ≡ Some top)
 names_there n entries after stack e d = go (take_texts n entries) refl e
   where
-    go : (o : Option Texts) → take_texts n entries ≡ o → option_and_then (λ (names : Texts). with_entry Truth names.rest) o ≡ Some after → (top : OnTop) × (texts_on_top n stack ≡ Some top)
+    go : (o : Option Texts) → take_texts n entries ≡ o → option_and_then (λ (names : Texts). with_entry Truth names.below) o ≡ Some after → (top : OnTop) × (texts_on_top n stack ≡ Some top)
     go None h f = absurd cc
     go (Some bounds) h f = let are = on_top n entries bounds stack h d in (are.top, are.is)
 
-pub lists_there : (names params keys : ℕ) (entries after : Entries) (stack : List Value) → option_and_then (λ (lists : ListBounds). with_entry Truth lists.rest) (take_lists names params keys entries) ≡ Some after → Describes entries stack
+pub lists_there : (names params keys : ℕ) (entries after : Entries) (stack : List Value) → option_and_then (λ (lists : ListBounds). with_entry Truth lists.below) (take_lists names params keys entries) ≡ Some after → Describes entries stack
     → (top : Lists) × (lists_on_top names params keys stack ≡ Some top)
 lists_there names params keys entries after stack e d = go (take_lists names params keys entries) refl e
   where
-    go : (o : Option ListBounds) → take_lists names params keys entries ≡ o → option_and_then (λ (lists : ListBounds). with_entry Truth lists.rest) o ≡ Some after → (top : Lists) × (lists_on_top names params keys stack ≡ Some top)
+    go : (o : Option ListBounds) → take_lists names params keys entries ≡ o → option_and_then (λ (lists : ListBounds). with_entry Truth lists.below) o ≡ Some after → (top : Lists) × (lists_on_top names params keys stack ≡ Some top)
     go None h f = absurd cc
     go (Some bounds) h f = let are = lists_are_on_top names params keys entries bounds stack h d in (are.top, are.is)
 
-pub folder_there : (entries after : Entries) (stack : List Value) → option_map (λ (folder : Texts). folder.rest) (take_texts 1 entries) ≡ Some after → Describes entries stack → (t : List ℕ) × ((rest : List Value) × (stack ≡ text t ∷ rest))
+pub folder_there : (entries after : Entries) (stack : List Value) → option_map (λ (folder : Texts). folder.below) (take_texts 1 entries) ≡ Some after → Describes entries stack → (t : List ℕ) × ((rest : List Value) × (stack ≡ text t ∷ rest))
 folder_there [] after stack e d = absurd cc
 folder_there (Truth ∷ es) after stack e d = absurd cc
 folder_there (Text bound ∷ es) after [] e d = absurd d

@@ -2,7 +2,6 @@
 use Rattle.std.proofs.Common.{◌≡◌, ℕ, zero, suc, Option, Some, None, slice_get, refl, sym, ◌∙◌}
 use Rattle.bytecode_format.specs.declared.instruction.Instruction.{Instruction}
 use Rattle.bytecode_format.specs.declared.operation.Operation.{Operation}
-use Rattle.bytecode_format.specs.declared.operation.Operation.TheVariants.{Halt, Literal, Variable, Capture, Join, Set, Bool as BoolOp, Not, Jump, JumpIfTrue, JumpIfFalse, Header, Exists, String, Size, PartSize, PartBody, PartDigest, Keep, Discard, File, Store, Each, Next, Break, Take}
 use Rattle.bytecode_format.specs.Operations.{operation_of}
 use Rattle.bytecode_format.specs.Code.{Code}
 use Rattle.bytecode_verifier.specs.Rules.{row_in}
@@ -11,72 +10,15 @@ use Rattle.bytecode_verifier.proofs.Versions.{row_same}
 use Rattle.mime_decode.specs.Mail.{Mail}
 use Rattle.sieve_vm.specs.State.{State, start}
 use Rattle.sieve_vm.specs.Runs.{Run, RunEnds}
-use Rattle.sieve_vm.specs.Charge.{charge_of}
-use Rattle.sieve_vm.specs.Machine.{effect, turn_of, turn_at, step}
+use Rattle.sieve_vm.specs.Machine.{turn_of, turn_at, step}
 
 module _ (code : Code) (mail : Mail) where
   abbrev later : Code
   later = record code { version = 2 }
 
-  same_charge : (o : Operation) (i : Instruction) (s : State) → charge_of later mail o i s ≡ charge_of code mail o i s
-  same_charge Halt i s = refl
-  same_charge Literal i s = refl
-  same_charge Variable i s = refl
-  same_charge Capture i s = refl
-  same_charge Join i s = refl
-  same_charge Set i s = refl
-  same_charge BoolOp i s = refl
-  same_charge Not i s = refl
-  same_charge Jump i s = refl
-  same_charge JumpIfTrue i s = refl
-  same_charge JumpIfFalse i s = refl
-  same_charge Header i s = refl
-  same_charge Exists i s = refl
-  same_charge String i s = refl
-  same_charge Size i s = refl
-  same_charge PartSize i s = refl
-  same_charge PartBody i s = refl
-  same_charge PartDigest i s = refl
-  same_charge Keep i s = refl
-  same_charge Discard i s = refl
-  same_charge File i s = refl
-  same_charge Store i s = refl
-  same_charge Each i s = refl
-  same_charge Next i s = refl
-  same_charge Break i s = refl
-  same_charge Take i s = refl
-
-  same_effect : (o : Operation) (i : Instruction) (s : State) → effect later mail o i s ≡ effect code mail o i s
-  same_effect Halt i s = refl
-  same_effect Literal i s = refl
-  same_effect Variable i s = refl
-  same_effect Capture i s = refl
-  same_effect Join i s = refl
-  same_effect Set i s = refl
-  same_effect BoolOp i s = refl
-  same_effect Not i s = refl
-  same_effect Jump i s = refl
-  same_effect JumpIfTrue i s = refl
-  same_effect JumpIfFalse i s = refl
-  same_effect Header i s = refl
-  same_effect Exists i s = refl
-  same_effect String i s = refl
-  same_effect Size i s = refl
-  same_effect PartSize i s = refl
-  same_effect PartBody i s = refl
-  same_effect PartDigest i s = refl
-  same_effect Keep i s = refl
-  same_effect Discard i s = refl
-  same_effect File i s = refl
-  same_effect Store i s = refl
-  same_effect Each i s = refl
-  same_effect Next i s = refl
-  same_effect Break i s = refl
-  same_effect Take i s = refl
-
   same_turn : (o : Option Operation) (i : Instruction) (s : State) → row_in later i ≡ row_in code i → turn_of later mail o i s ≡ turn_of code mail o i s
   same_turn None i s same = refl
-  same_turn (Some o) i s same = rw (same, same_charge o i s, same_effect o i s) refl
+  same_turn (Some o) i s same = rw same refl
 
   module _ (is : IsAccepted code) where
     pub same_step : (s : State) → step later mail s ≡ step code mail s

@@ -1,6 +1,6 @@
 -- The open loops of the code, and what is known of the parts that they visit.
-use Rattle.std.proofs.Common.{◌≡◌, ℕ, zero, suc, ◌+◌, ◌-◌, ◌<◌, ◌≤◌, Bool, true, false, cond, nat_eq, List, [], ◌∷◌, ◌++◌, Option, Some, None, IfSome, All, length, map, reverse, take, drop, get_or, slice_get, refl, sym, ap, subst, ◌∙◌, Global, Result, Ok, Err, IfOk, arith}
-use Rattle.std.proofs.lemmas.Bool.{eqb-true}
+use Rattle.std.proofs.Common.{◌≡◌, ℕ, zero, suc, ◌+◌, ◌-◌, ◌<◌, ◌≤◌, ◌==◌, Bool, true, false, cond, if◌then◌else◌, nat_eq, slice_index_or, inl, inr, List, [], ◌∷◌, ◌++◌, Option, Some, None, IfSome, All, length, map, reverse, take, drop, get_or, slice_get, refl, sym, ap, subst, ◌∙◌, Global, Result, Ok, Err, IfOk, arith}
+use Rattle.std.proofs.lemmas.Bool.{cases_eq, eq-eqb, eqb-true, ne_eqb}
 use Rattle.std.proofs.lemmas.List.{take-append-drop, take_more, drop_at, map-append, reverse-append, length-reverse, length-drop, length-map}
 use Rattle.std.proofs.lemmas.List.Elements.{All-get_or}
 use Rattle.std.specs.declared.borrow.CowSlice.{CowSlice}
@@ -14,7 +14,7 @@ use Rattle.mime_decode.specs.Content.{digest_of}
 use Rattle.mime_decode.specs.Mail.{Mail, Part}
 use Rattle.sieve_vm.specs.declared.frame.Frame as code
 use Rattle.sieve_vm.specs.State.{Frame, current_part}
-use Rattle.sieve_vm.specs.Visits.{Visits, frame_of, frames_of, HasContent, IsKnown, part_in}
+use Rattle.sieve_vm.specs.Visits.{Visits, frame_of, frames_of, HasContent, IsKnown, Learns, part_in}
 
 -- ---- loops that are closed
 
@@ -48,6 +48,24 @@ closes items number frame frames some there e =
 
 pub current_at : (visits : Visits) (place : ℕ) (part : Part) → current_part visits.frames ≡ Some place → part_in visits ≡ Some part → slice_get visits.mail.parts place ≡ Some part
 current_at visits place part e at = sym (ap (option_and_then (slice_get visits.mail.parts)) e) ∙ at
+
+-- ---- what is known of the current part
+
+-- what was known of it before is learnt again
+pub learnt : (list : List (Option (List ℕ))) (visits : Visits) (place : ℕ) (found : List ℕ) → current_part visits.frames ≡ Some place → slice_index_or list place None ≡ Some found → Learns found list list visits
+learnt list visits place found current known = λ part other e.
+    let same : place ≡ part = (let both : Some place ≡ Some part = sym current ∙ e in cc) in
+    elim (cases_eq other part) [
+      | inl is ↦ rw (is, eq-eqb part part refl) (ap (λ p. slice_index_or list p None) (sym same) ∙ known)
+      | inr differ ↦ rw (ne_eqb other part differ) refl
+    ]
+
+-- it is kept, and nothing else
+pub learns : (found wanted : List ℕ) (old before new : List (Option (List ℕ))) (visits : Visits) (place : ℕ) → current_part visits.frames ≡ Some place
+    → ((other : ℕ) → slice_index_or new other None ≡ (if other == place then Some found else slice_index_or before other None)) → before ≡ old → found ≡ wanted → Learns wanted old new visits
+learns found wanted old before new visits place current kept same is = λ part other e.
+    let at : part ≡ place = (let both : Some part ≡ Some place = sym e ∙ current in cc) in
+    rw (at, ← same, ← is) (kept other)
 
 -- the content that the innermost loop has is that of the current part
 pub content_held : (mail : Mail) (items : List code.Frame) (d : code.Frame) (place : ℕ) (part : Part) (content : CowSlice ℕ Global) → All (HasContent mail) items → current_part (frames_of items) ≡ Some place → slice_get mail.parts place ≡ Some part

@@ -4,7 +4,6 @@ use Rattle.std.specs.Option.{option_map_or}
 use Rattle.bytecode_format.specs.declared.instruction.Instruction.{Instruction}
 use Rattle.bytecode_format.specs.declared.operation.Operation.{Operation}
 use Rattle.bytecode_format.specs.declared.operation.Operation.TheVariants.{Halt, Literal, Variable, Capture, Join, Set, Bool as BoolOp, Not, Jump, JumpIfTrue, JumpIfFalse, Header, Exists, String, Size, PartSize, PartBody, PartDigest, Keep, Discard, File, Store, Each, Next, Break, Take}
-use Rattle.bytecode_format.specs.Code.{Code}
 use Rattle.bytecode_format.specs.declared.selection.Scope.{Scope}
 use Rattle.bytecode_format.specs.declared.selection.FieldTest.{FieldTest}
 use Rattle.bytecode_format.specs.Selection.{scope_numbered, field_test_numbered, keys_in, params_in}
@@ -46,37 +45,37 @@ octets_taken most mail (Some current) = option_map_or (λ (part : Part). min mos
     (slice_get mail.parts current) 0
 
 -- the charge of an instruction, from the state that it meets
-abbrev pub charge_of : Code → Mail → Operation → Instruction → State → ℕ
-charge_of code mail Halt i state = 1
-charge_of code mail Literal i state = 1
-charge_of code mail Variable i state = 1
-charge_of code mail Capture i state = 1
-charge_of code mail Join i state = 1 + option_map_or octets_on_top (texts_on_top i.b state.stack) 0
-charge_of code mail Set i state = 1 + length_on_top state.stack
-charge_of code mail BoolOp i state = 1
-charge_of code mail Not i state = 1
-charge_of code mail Jump i state = 1
-charge_of code mail JumpIfTrue i state = 1
-charge_of code mail JumpIfFalse i state = 1
-charge_of code mail Header i state = 1 + option_map_or
+abbrev pub charge_of : Mail → Operation → Instruction → State → ℕ
+charge_of mail Halt i state = 1
+charge_of mail Literal i state = 1
+charge_of mail Variable i state = 1
+charge_of mail Capture i state = 1
+charge_of mail Join i state = 1 + option_map_or octets_on_top (texts_on_top i.b state.stack) 0
+charge_of mail Set i state = 1 + length_on_top state.stack
+charge_of mail BoolOp i state = 1
+charge_of mail Not i state = 1
+charge_of mail Jump i state = 1
+charge_of mail JumpIfTrue i state = 1
+charge_of mail JumpIfFalse i state = 1
+charge_of mail Header i state = 1 + option_map_or
     (λ test. option_map_or (cost_of_matching test (current_part state.frames) mail)
     (lists_on_top i.b (params_in i.c) (keys_in i.c) state.stack) 0)
     (field_test_numbered i.a) 0
-charge_of code mail Exists i state = 1 + option_map_or
+charge_of mail Exists i state = 1 + option_map_or
     (λ scope. option_map_or (cost_of_names scope (current_part state.frames) mail) (texts_on_top i.b state.stack) 0)
     (scope_numbered i.a) 0
-charge_of code mail String i state = 1 + option_map_or cost_of_comparing (lists_on_top i.b 0 i.c state.stack) 0
-charge_of code mail Size i state = 1
-charge_of code mail PartSize i state = 1
-charge_of code mail PartBody i state = 1 + option_map_or (cost_with_part body_cost mail (current_part state.frames))
+charge_of mail String i state = 1 + option_map_or cost_of_comparing (lists_on_top i.b 0 i.c state.stack) 0
+charge_of mail Size i state = 1
+charge_of mail PartSize i state = 1
+charge_of mail PartBody i state = 1 + option_map_or (cost_with_part body_cost mail (current_part state.frames))
     (texts_on_top i.c state.stack) 0
-charge_of code mail PartDigest i state = 1 + option_map_or (cost_with_part digest_cost mail (current_part state.frames))
+charge_of mail PartDigest i state = 1 + option_map_or (cost_with_part digest_cost mail (current_part state.frames))
     (texts_on_top i.c state.stack) 0
-charge_of code mail Keep i state = 1
-charge_of code mail Discard i state = 1
-charge_of code mail File i state = 1 + length_on_top state.stack
-charge_of code mail Store i state = 1 + length_on_top state.stack
-charge_of code mail Each i state = 1
-charge_of code mail Next i state = 1
-charge_of code mail Break i state = 1
-charge_of code mail Take i state = 1 + octets_taken i.b mail (current_part state.frames)
+charge_of mail Keep i state = 1
+charge_of mail Discard i state = 1
+charge_of mail File i state = 1 + length_on_top state.stack
+charge_of mail Store i state = 1 + length_on_top state.stack
+charge_of mail Each i state = 1
+charge_of mail Next i state = 1
+charge_of mail Break i state = 1
+charge_of mail Take i state = 1 + octets_taken i.b mail (current_part state.frames)

@@ -61,9 +61,17 @@ abbrev pub with_lists : (Lists → State → Effect) → State → Option Lists 
 with_lists go state None = fails
 with_lists go state (Some top) = go top (record state { stack = top.below })
 
+-- what an instruction may refer to in its program: its strings and its numbers, whether the same loops are open at two places, and
+-- whether two places have an Each and a Next that name each other; of the version nothing
+pub record Referred : Type 0 where
+  pub strings : List (List ℕ)
+  pub numbers : List ℕ
+  pub same_loops : ℕ → ℕ → Bool
+  pub are_partners : ℕ → ℕ → Bool
+
 -- a jump is forward, and keeps the open loops
-abbrev pub is_sound_jump : Code → State → Instruction → Bool
-is_sound_jump code state i = nat_lt state.place i.c && same_loops code state.place i.c
+abbrev pub is_sound_jump : Referred → State → Instruction → Bool
+is_sound_jump program state i = nat_lt state.place i.c && program.same_loops state.place i.c
 
 -- to the target where the truth value is this one, else on
 abbrev pub branch : ℕ → Bool → Bool → State → Effect
@@ -154,21 +162,15 @@ abbrev pub set_content : Instruction → ℕ → Part → State → Effect
 set_content i number part state =
     if nat_lt i.c (length state.variables) then on (record state { variables = slice_set state.variables i.c (take i.b part.content) }) else fails
 
--- the instructions at two places are an Each and a Next that name each other
-abbrev pub are_partners : Code → ℕ → ℕ → Bool
-are_partners code each next =
-    holds_at code each (λ i. opens (operation_of i.op) && (i.c == next))
-    && holds_at code next (λ i. closes (operation_of i.op) && (i.c == each))
-
 -- a loop up to the Next at a place is open with the first of the parts; without parts the run goes on after it
 abbrev pub open_loop : ℕ → List ℕ → State → Effect
 open_loop next [] state = jumps (suc next) state
 open_loop next (part ∷ rest) state = on (record state { frames = record { each = state.place; next = next; part = part; rest = rest } ∷ state.frames })
 
 -- the loop of an Each whose Next stands at a place, where no more are open than may be
-abbrev pub each : Code → Mail → ℕ → State → Effect
-each code mail next state =
-    if are_partners code state.place next && nat_lt (length state.frames) max_loops then open_loop next (visited (current_part state.frames) mail) state else fails
+abbrev pub each : Referred → Mail → ℕ → State → Effect
+each program mail next state =
+    if program.are_partners state.place next && nat_lt (length state.frames) max_loops then open_loop next (visited (current_part state.frames) mail) state else fails
 
 -- the loop goes on with its next part, or it is closed
 abbrev pub next_part : Frame → List Frame → List ℕ → State → Effect
@@ -176,10 +178,10 @@ next_part frame frames [] state = on (record state { frames = frames })
 next_part frame frames (part ∷ rest) state = jumps (suc frame.each) (record state { frames = record frame { part = part; rest = rest } ∷ frames })
 
 -- the innermost open loop is that of an Each at a place and of this Next
-abbrev pub next : Code → ℕ → State → List Frame → Effect
-next code each state [] = fails
-next code each state (frame ∷ frames) =
-    if are_partners code each state.place && (frame.each == each) && (frame.next == state.place) then next_part frame frames frame.rest state else fails
+abbrev pub next : Referred → ℕ → State → List Frame → Effect
+next program each state [] = fails
+next program each state (frame ∷ frames) =
+    if program.are_partners each state.place && (frame.each == each) && (frame.next == state.place) then next_part frame frames frame.rest state else fails
 
 -- so many loops are closed, the innermost first, and the run goes on after the Next of the last
 abbrev pub close : ℕ → State → List Frame → Effect
@@ -189,42 +191,52 @@ close (suc zero) state (frame ∷ frames) = jumps (suc frame.next) (record state
 close (suc (suc n)) state (frame ∷ frames) = close (suc n) state frames
 
 -- what each operation does
-abbrev pub effect : Code → Mail → Operation → Instruction → State → Effect
-effect code mail Halt i state = halts state
-effect code mail Literal i state = with_string state (slice_get code.strings i.c)
-effect code mail Variable i state = with_string state (slice_get state.variables i.c)
-effect code mail Capture i state = push (text (slice_index_or state.captures i.a [])) state
-effect code mail Join i state = with_texts join state (texts_on_top i.b state.stack)
-effect code mail Set i state = with_text (set_variable i) state state.stack
-effect code mail BoolOp i state = push (truth (i.a == 1)) state
-effect code mail Not i state = with_truth (λ b s. on (record s { stack = truth (not b) ∷ s.stack })) state state.stack
-effect code mail Jump i state = if is_sound_jump code state i then jumps i.c state else fails
-effect code mail JumpIfTrue i state = if is_sound_jump code state i then with_truth (branch i.c true) state state.stack else fails
-effect code mail JumpIfFalse i state = if is_sound_jump code state i then with_truth (branch i.c false) state state.stack else fails
-effect code mail Header i state = with_meant
+abbrev pub effect : Referred → Mail → Operation → Instruction → State → Effect
+effect program mail Halt i state = halts state
+effect program mail Literal i state = with_string state (slice_get program.strings i.c)
+effect program mail Variable i state = with_string state (slice_get state.variables i.c)
+effect program mail Capture i state = push (text (slice_index_or state.captures i.a [])) state
+effect program mail Join i state = with_texts join state (texts_on_top i.b state.stack)
+effect program mail Set i state = with_text (set_variable i) state state.stack
+effect program mail BoolOp i state = push (truth (i.a == 1)) state
+effect program mail Not i state = with_truth (λ b s. on (record s { stack = truth (not b) ∷ s.stack })) state state.stack
+effect program mail Jump i state = if is_sound_jump program state i then jumps i.c state else fails
+effect program mail JumpIfTrue i state = if is_sound_jump program state i then with_truth (branch i.c true) state state.stack else fails
+effect program mail JumpIfFalse i state = if is_sound_jump program state i then with_truth (branch i.c false) state state.stack else fails
+effect program mail Header i state = with_meant
     (λ test. with_lists (test_values mail test) state (lists_on_top i.b (params_in i.c) (keys_in i.c) state.stack))
     (field_test_numbered i.a)
-effect code mail Exists i state = with_meant
+effect program mail Exists i state = with_meant
     (λ scope. with_texts (test_names mail scope) state (texts_on_top i.b state.stack)) (scope_numbered i.a)
-effect code mail String i state = with_meant
+effect program mail String i state = with_meant
     (λ how. with_lists (test_sources how) state (lists_on_top i.b 0 i.c state.stack)) (match_numbered i.a)
-effect code mail Size i state = with_number i (size_of mail) state (slice_get code.numbers i.c)
-effect code mail PartSize i state = with_part
-    (λ number part s. with_number i (length part.content) s (slice_get code.numbers i.c)) mail state state.frames
-effect code mail PartBody i state = with_meant
+effect program mail Size i state = with_number i (size_of mail) state (slice_get program.numbers i.c)
+effect program mail PartSize i state = with_part
+    (λ number part s. with_number i (length part.content) s (slice_get program.numbers i.c)) mail state state.frames
+effect program mail PartBody i state = with_meant
     (λ how. with_part
     (λ number part s. with_texts (test_body how part) s (texts_on_top i.c s.stack)) mail state state.frames)
     (match_numbered i.a)
-effect code mail PartDigest i state = with_part
+effect program mail PartDigest i state = with_part
     (λ number part s. with_texts (test_digest part) s (texts_on_top i.c s.stack)) mail state state.frames
-effect code mail Keep i state = on (record state { actions = state.actions ++ action.Keep ∷ []; implicit_keep = false })
-effect code mail Discard i state = on (record state { implicit_keep = false })
-effect code mail File i state = with_text file state state.stack
-effect code mail Store i state = with_part store_part mail state state.frames
-effect code mail Each i state = each code mail i.c state
-effect code mail Next i state = next code i.c state state.frames
-effect code mail Break i state = close i.a state state.frames
-effect code mail Take i state = with_part (set_content i) mail state state.frames
+effect program mail Keep i state = on (record state { actions = state.actions ++ action.Keep ∷ []; implicit_keep = false })
+effect program mail Discard i state = on (record state { implicit_keep = false })
+effect program mail File i state = with_text file state state.stack
+effect program mail Store i state = with_part store_part mail state state.frames
+effect program mail Each i state = each program mail i.c state
+effect program mail Next i state = next program i.c state state.frames
+effect program mail Break i state = close i.a state state.frames
+effect program mail Take i state = with_part (set_content i) mail state state.frames
+
+-- the instructions at two places are an Each and a Next that name each other
+abbrev pub are_partners : Code → ℕ → ℕ → Bool
+are_partners code each next =
+    holds_at code each (λ i. opens (operation_of i.op) && (i.c == next))
+    && holds_at code next (λ i. closes (operation_of i.op) && (i.c == each))
+
+-- what the instructions of a program may refer to
+abbrev pub referred_in : Code → Referred
+referred_in code = record { strings = code.strings; numbers = code.numbers; same_loops = same_loops code; are_partners = are_partners code }
 
 -- the turn of an instruction at a place, from its charge and its effect
 abbrev pub turn : ℕ → Effect → Turn
@@ -237,7 +249,7 @@ turn cost fails = traps
 abbrev pub turn_of : Code → Mail → Option Operation → Instruction → State → Turn
 turn_of code mail None i state = traps
 turn_of code mail (Some operation) i state =
-    if is_well_formed (row_in code i) i then turn (charge_of code mail operation i state) (effect code mail operation i state) else traps
+    if is_well_formed (row_in code i) i then turn (charge_of mail operation i state) (effect (referred_in code) mail operation i state) else traps
 
 -- a place past the end traps
 abbrev pub turn_at : Code → Mail → State → Option Instruction → Turn

@@ -1,7 +1,8 @@
 //! Laws of the machine, over its definitions alone.
-ghost use Rattle.std.specs.Prelude.{◌≡◌, ◌≢◌, ℕ, suc, ◌+◌, ◌≤◌, All, List};
+ghost use Rattle.std.specs.Prelude.{◌≡◌, ◌≢◌, ℕ, suc, ◌+◌, ◌≤◌, All, List, length};
 ghost use Rattle.bytecode_format.specs.Code.{Code};
 ghost use Rattle.bytecode_verifier.specs.Acceptance.{IsAccepted};
+ghost use Rattle.bytecode_verifier.specs.Loops.{open_loops};
 ghost use Rattle.mime_decode.specs.Mail.{Mail, IsMail};
 ghost use Rattle.sieve_vm.specs.State.{State, goes, ends, traps, start};
 ghost use Rattle.sieve_vm.specs.Machine.{step};
@@ -44,10 +45,14 @@ pub fn runs_stay_within_the_budget()
 {}
 
 /// Turns are chains of parts: the current part of each open loop is below that of the loop around it, what a
-/// loop has left comes after its current part, and what is below that part is among it.
+/// loop has left comes after its current part, and what is below that part is among it. At a place inside `k`
+/// loops of the program `k` loops are open, so such a chain has `k` parts.
 pub fn turns_are_chains()
-    ensures { (code : Code) (mail : Mail) (steps : ℕ) (state : State)
+    ensures chain { (code : Code) (mail : Mail) (steps : ℕ) (state : State)
         → Reaches code mail steps state → AreChained mail state.frames }
+    ensures depth { (code : Code) (mail : Mail) (steps : ℕ) (state : State)
+        → Reaches code mail steps state
+        → length state.frames ≡ length (open_loops code state.place) }
 {}
 
 /// The run of an accepted program reaches its end, within the budget.

@@ -1,8 +1,8 @@
 // The open loops, and what is known of the parts that they visit.
-ghost use Rattle.std.specs.Prelude.{◌≡◌, ◌<◌, ◌≤◌, ◌+◌, ◌-◌, ℕ, suc, false, true, List, [], ◌∷◌, None, Some, IfOk, OnErr, OnOk, IfSome, IsNone, IsSome, length, drop, take};
-ghost use Rattle.std.specs.Cow.{IsBorrowedSlice, cow_slice_items};
+ghost use Rattle.std.specs.Prelude.{◌≡◌, ◌<◌, ◌≤◌, ◌+◌, ◌-◌, ℕ, suc, false, true, List, [], ◌∷◌, None, Some, IfOk, OnErr, OnOk, IfSome, IsSome, length, drop, take};
+ghost use Rattle.std.specs.Cow.{cow_slice_items};
 ghost use Rattle.octets.specs.Limits.{max_loops, max_parts, max_value};
-ghost use Rattle.mime_decode.specs.Content.{digest_of};
+ghost use Rattle.mime_decode.specs.Content.{digest_of, is_decoded};
 ghost use Rattle.mime_decode.specs.Mail.{Part};
 ghost use Rattle.mime_decode.specs.Scope.{numbers_from, visited};
 ghost use Rattle.sieve_vm.specs.State;
@@ -16,6 +16,7 @@ use crate::shared_text::copied;
 use arrayvec::ArrayVec;
 use bytecode_format::MAX_LOOPS;
 use mime_decode::{Message, digest_of};
+use mime_params::TransferEncoding;
 use octets::Octets;
 use std::alloc::{AllocError, Global};
 use std::borrow::CowSlice;
@@ -270,6 +271,10 @@ impl<'s, 'm> Loops<'s, 'm> {
             (IsSome (known_of self.old.beginnings self.old) → self.new ≡ self.old) }
         ensures held { OnOk result (known_of self.old.beginnings self.old ≡ None
             → self.new ≡ record (holding self.old) { beginnings = self.new.beginnings }) }
+        ensures kept { IfOk result (λ _. (part : Part) → part_in self.old ≡ Some part
+            → is_decoded part.encoding ≡ true
+            → Learns (take max_value part.content) self.old.beginnings self.new.beginnings
+            self.old) }
     {
         let part = self.part();
         if let Some(found) = octets_known(&self.beginnings, part) {
@@ -278,7 +283,8 @@ impl<'s, 'm> Loops<'s, 'm> {
         self.fetch(alloc)?;
         let content = self.content();
         let octets = Vec::from_slice(alloc, as_many(content.as_slice(), most))?;
-        if let Some(found) = decoded_beginning(alloc, content)? {
+        if is_decoded(self.message.encoding(part)) {
+            let found = first_of(alloc, content)?;
             keep(&mut self.beginnings, self.message.parts(), part, found)?;
         }
         Ok(octets)
@@ -294,17 +300,22 @@ impl<'s, 'm> Loops<'s, 'm> {
     }
 }
 
-// The first octets of a content that had to be decoded.
-fn decoded_beginning(
-    alloc: Global,
-    content: &CowSlice<'_, u8>,
-) -> Result<Option<Octets>, AllocError>
-    ensures decoded { IfOk result
-        (λ found. IfSome found (λ octets. octets ≡ take max_value (cow_slice_items content.now))) }
-    ensures lent { IfOk result (λ found. IsNone found → IsBorrowedSlice content.now) }
+// A copy of the first octets of a content.
+fn first_of(alloc: Global, content: &CowSlice<'_, u8>) -> Result<Octets, AllocError>
+    ensures { IfOk result (λ octets. octets ≡ take max_value (cow_slice_items content.now)) }
 {
-    match content {
-        CowSlice::Borrowed(_) => Ok(None),
-        CowSlice::Owned(octets) => Ok(Some(copied(alloc, first(octets.as_slice()))?)),
+    copied(alloc, first(content.as_slice()))
+}
+
+// Whether a body in this encoding has to be decoded.
+fn is_decoded(encoding: TransferEncoding) -> bool
+    ensures { result ≡ is_decoded encoding }
+{
+    match encoding {
+        TransferEncoding::QuotedPrintable | TransferEncoding::Base64 => true,
+        TransferEncoding::SevenBit
+        | TransferEncoding::EightBit
+        | TransferEncoding::Binary
+        | TransferEncoding::Unknown => false,
     }
 }

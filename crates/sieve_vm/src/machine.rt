@@ -65,7 +65,7 @@ impl<'p, 's, 'm> Machine<'p, 's, 'm> {
     ghost use Rattle.sieve_vm.specs.State.{Frame, State, Value, truth, text, current_part};
     ghost use Rattle.sieve_vm.specs.Stack.{OnTop, Lists, texts_on_top};
     ghost use Rattle.sieve_vm.specs.Charge.{octets_on_top, charge_of};
-    ghost use Rattle.sieve_vm.specs.Machine.{branch, effect, jumps, next_part, open_loop};
+    ghost use Rattle.sieve_vm.specs.Machine.{branch, effect, jumps, next_part, open_loop, referred_in};
     ghost use Rattle.sieve_vm.specs.Standing.{IsNewMachine, Represents, IsIn, IsRunning, HasHad, StepsOn, IsOver};
 
     /// Goes before the first instruction of the program.
@@ -130,8 +130,8 @@ impl<'p, 's, 'm> Machine<'p, 's, 'm> {
         requires named { operation_of instruction.now.op ≡ Some operation }
         requires running { IsRunning program.now message.now self.old }
         ensures { IfOk result (λ done. (s : State) → IsIn program.now message.now s self.old
-            → HasHad message.now (effect program.now message.now operation instruction.now s)
-            (charge_of program.now message.now operation instruction.now s) done self.new) }
+            → HasHad message.now (effect (referred_in program.now) message.now operation instruction.now s)
+            (charge_of message.now operation instruction.now s) done self.new) }
     {
         match operation {
             Operation::Halt => Ok(once(Flow::Ends)),

@@ -1,7 +1,6 @@
 use Rattle.std.proofs.Common.{length, set, slice_get, true, refl, ap, ◌∙◌, sym, length-set}
 use Rattle.std.proofs.lemmas.List.{with_items_is}
-use Rattle.bytecode_verifier.specs.Rules.{jumps}
-use Rattle.bytecode_verifier.proofs.Jumping.{jumps_in}
+use Rattle.bytecode_verifier.proofs.Versions.{jump_named}
 use Rattle.bytecode_verifier.proofs.Marks.{marks_stay, marks_more}
 use Rattle.bytecode_verifier.proofs.targets.targets_of.Goals as goal
 use Rattle.bytecode_verifier.proofs.targets.targets_of.Goals.{then-jumps, else-jumps}
@@ -16,7 +15,7 @@ loop-instruction-preserved c =
             number = rw (items, length-set) c.loop-instruction.invariant.number;
             each = λ place within. rw items
                 (marks_more c.args.version c.args.instructions.now c.loop-instruction.instruction-index _ _ c.loop-instruction.targets.items place c.loop-instruction-test.true refl
-                (jumps_in c.args.version _ ∙ ap jumps (sym c.of.ensures) ∙ sym c.jumps.ensures ∙ w.if-jumps.true)
+                (jump_named c.args.version _ ∙ sym c.jumps.ensures ∙ w.if-jumps.true)
                 (rw c.loop-instruction.invariant.number within) (c.loop-instruction.invariant.each place within));
           }
       | else-jumps w ↦
@@ -24,7 +23,7 @@ loop-instruction-preserved c =
             number = ap (λ v. length v.items) w.targets-is ∙ c.loop-instruction.invariant.number;
             each = λ place within. ap (λ v. slice_get v.items place) w.targets-is
                 ∙ marks_stay c.args.version c.args.instructions.now c.loop-instruction.instruction-index _ _ c.loop-instruction.targets.items place c.loop-instruction-test.true refl
-                (jumps_in c.args.version _ ∙ ap jumps (sym c.of.ensures) ∙ sym c.jumps.ensures ∙ w.if-jumps.false)
+                (jump_named c.args.version _ ∙ sym c.jumps.ensures ∙ w.if-jumps.false)
                 (c.loop-instruction.invariant.each place within);
           }
     ]

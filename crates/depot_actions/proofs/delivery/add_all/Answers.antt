@@ -1,5 +1,5 @@
 use Rattle.depot_actions.proofs.StoreFaults.{fault_told, of_refusal, passed_on}
-use Rattle.depot_actions.specs.Causes.{LackRoom}
+use Rattle.part_store.specs.Refusals.{LackRoom}
 use Rattle.part_store.specs.Standing.{draft_of}
 use Rattle.std.proofs.Common.{map}
 use Rattle.sqlite.specs.Held.{state}

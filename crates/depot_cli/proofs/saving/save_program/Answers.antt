@@ -1,4 +1,4 @@
-use Rattle.std.proofs.Common.{inr}
+use Rattle.std.proofs.Common.{inl, inr, refl}
 use Rattle.std.proofs.lemmas.Result.{err_from_is_err_and}
 use Rattle.depot_cli.proofs.saving.save_program.Goals as goal
 
@@ -12,3 +12,9 @@ returns-in_err-make_file-in-Some-clause-unsaved g c =
       λ clean. (rw c.in-Some.is at (c.in_ok-program.ensures.done clean), c.in_ok-program.ensures.spared clean),
       c.in_err-make_file-in-Some.ensures.err,
     )))
+
+pub returns-in_err-program-clause-unsaved : goal.returns-in_err-program-clause-unsaved
+returns-in_err-program-clause-unsaved g c =
+    let p = err_from_is_err_and c.from_residual.result c.from_residual.ensures.1 in
+    let all = c.in_err-program.ensures in
+    rw (p.1, p.2) (inr (inl ((all.which, λ clean. (all.refused clean, all.cause clean, all.spared clean)), refl)))

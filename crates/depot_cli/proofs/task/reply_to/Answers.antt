@@ -11,3 +11,8 @@ returns-in-Ok-list-clause-done g c = rw c.in-List.is (Listed (map listed c.in-Ok
 
 pub returns-in-Ok-migrate-clause-done : goal.returns-in-Ok-migrate-clause-done
 returns-in-Ok-migrate-clause-done g c = rw c.in-Migrate.is (Migrated c.in-Ok-migrate.count, c.in-Ok-migrate.ensures.done, refl)
+
+pub returns-in-Err-migrate-clause-refused : goal.returns-in-Err-migrate-clause-refused
+returns-in-Err-migrate-clause-refused g c =
+    let all = c.in-Err-migrate.ensures in
+    rw c.in-Migrate.is (all.which, λ clean. (all.refused clean, all.cause clean, all.spared clean))

@@ -3,7 +3,8 @@ use Rattle.std.proofs.lemmas.Result.{err_from_is_err_and}
 use Rattle.clap.specs.Faults.{is_simple_and_free}
 use Rattle.clap.specs.Words.{App, FailsBy, HasKind, fault_of, is_simple, subcommand_of, takes}
 use Rattle.depot_words.proofs.AppLemmas.{depot_has, simple, simple_and_free}
-use Rattle.depot_words.specs.Commands.{depot_app}
+use Rattle.depot_words.proofs.RangeLemmas.{complete}
+use Rattle.depot_words.specs.Commands.{IsDepot, depot_app}
 use Rattle.depot_jobs.specs.Words.{Says}
 use Rattle.depot_jobs.proofs.line.line_of.Goals as goal
 
@@ -36,13 +37,20 @@ returns-in_err-matches-clause-kinds c =
 
 pub returns-clause-says : goal.returns-clause-says
 returns-clause-says c =
+    let words = map (λ w. w.now) c.args.words.now in
+    let names = c.encodings-names.result in
     let app_is = c.in_ok-depot_command.ensures.app in
-    let made = (c.in_ok-matches.ensures.matches (ap is_simple app_is ∙ simple c.encodings-names.result)).1 in
-    let said = subst (Says c.line_in.result) made c.line_in.ensures in (
-      depot_app c.encodings-names.result,
-      (c.encodings-names.result, c.encodings-names.ensures, refl),
-      subst (λ (a : App). Says c.line_in.result (subcommand_of a (map (λ w. w.now) c.args.words.now))) app_is said,
-    )
+    let is_depot : IsDepot (depot_app names) = (names, c.encodings-names.ensures, refl) in
+    let taken = ap (λ (a : App). fault_of a words) (sym app_is) ∙ c.in_ok-matches.ensures.kinds (ap is_simple_and_free app_is ∙ simple_and_free names) in
+    let made = (c.in_ok-matches.ensures.matches (ap is_simple app_is ∙ simple names)).1 in
+    let said = subst (Says c.line_in.result) made c.line_in.ensures in
+    record {
+      app = depot_app names;
+      is_depot = is_depot;
+      taken = taken;
+      complete = complete (depot_app names) words is_depot taken;
+      says = subst (λ (a : App). Says c.line_in.result (subcommand_of a words)) app_is said;
+    }
 
 pub returns-clause-kinds : goal.returns-clause-kinds
 returns-clause-kinds c =

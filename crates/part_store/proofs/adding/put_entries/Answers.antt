@@ -57,5 +57,6 @@ returns-in_err-claim_and_file-clause-cause g c clean =
     let drafts = map draft_of c.args.entries.now in
     let still = c.in_ok-last.ensures.same early in
     passed c.from_residual-in_err-claim_and_file.result _ _ c.from_residual-in_err-claim_and_file.ensures.1 (λ inside.
-    entries_after old mid new user drafts _ c.user_of.ensures.survives c.claim_and_file.ensures.survives clean still (λ before stands.
+    entries_after old mid new user drafts _ c.user_of.ensures.survives c.claim_and_file.ensures.survives clean still
+    (λ before stands. omega (arith, (c.in_ok-last.ensures.told early before stands).0, c.if-entries-last.false, length-map c.args.entries.now draft_of)) (λ before stands.
     c.in_err-claim_and_file.ensures.cause clean (c.in_ok-last.ensures.inside early stands.schema inside) (λ other there. c.in_ok-last.ensures.told early other (stood old mid before other still stands there))))

@@ -1,5 +1,5 @@
 use Rattle.sqlite.specs.WalFiles.{image_at}
-use Rattle.part_store.proofs.Opened.{ready_from, shows, shows_none, unmade}
+use Rattle.part_store.proofs.Opened.{ready_from, shows, shows_none}
 use Rattle.part_store.proofs.store.PartStore+FileStore+FileFrom+B.open_from.Goals as goal
 
 pub returns-clause-ready : goal.returns-clause-ready
@@ -12,8 +12,3 @@ returns-clause-found g c = shows (image_at g.B.Start) c.made_store.result (retur
 
 pub returns-clause-empty : goal.returns-clause-empty
 returns-clause-empty g c = shows_none (image_at g.B.Start) c.made_store.result (returns-clause-ready g c)
-
-pub returns-clause-cause : goal.returns-clause-cause
-returns-clause-cause g c =
-    unmade (image_at g.B.Start) c.in_ok-conn.conn c.made_store.result (record { opened = c.in_ok-conn.ensures.opened; finds = c.in_ok-conn.ensures.found })
-    c.in_ok-conn.ensures.fresh c.made_store.ensures.bare

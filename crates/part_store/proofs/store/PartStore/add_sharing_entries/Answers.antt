@@ -1,10 +1,10 @@
-use Rattle.std.proofs.Common.{◌⊎◌, IfErr, IsTrue, arith, length, map, rules, subst}
+use Rattle.std.proofs.Common.{IfErr, IsTrue, arith, length, map, rules, subst}
 use Rattle.std.proofs.lemmas.List.{length-map}
 use Rattle.sqlite.specs.Held.{state}
 use Rattle.sqlite.specs.State.{HasCleanDisk, Survives}
 use Rattle.part_store.specs.Entries.{Entries, with_entries}
 use Rattle.part_store.specs.Filing.{Adds, Collides, HasRoom}
-use Rattle.part_store.specs.Refusals.{refusal_of, BlamesEntries, HasNoUserRoom, HaveNoRoom}
+use Rattle.part_store.specs.Refusals.{refusal_of, BlamesEntries, LackRoom}
 use Rattle.part_store.specs.Standing.{MayMake, Stands, draft_of}
 use Rattle.part_store.specs.declared.adding.Adding.TheVariants.{Collision, From, NumberFull}
 use Rattle.part_store.proofs.Failing.{dropped}
@@ -102,4 +102,4 @@ returns-in_err-first-clause-cause g c clean =
     let early : HasCleanDisk mid = omega (arith, clean, c.drop-tx.ensures.survives.clean) in
     let cause = subst (λ h. IsTrue (state g.S.Store h).in_transaction → BlamesEntries user drafts (state g.S.Store h) mid (refusal_of c.in_err-first.field-0.0)) c.begin-tx.ensures.begun (c.in_err-first.ensures.cause early) in
     subst (λ h. IfErr c.from_residual.result (BlamesEntries user drafts (state g.S.Store h) new)) c.self.view_is
-    (passed c.from_residual.result _ _ c.from_residual.ensures.1 (dropped g.S.Store c.self.inside.conn mid new (λ before db. HasNoUserRoom user (with_entries user drafts before) db ⊎ HaveNoRoom user drafts db) (refusal_of c.in_err-first.field-0.0) c.drop-tx.ensures.survives cause))
+    (passed c.from_residual.result _ _ c.from_residual.ensures.1 (dropped g.S.Store c.self.inside.conn mid new (LackRoom user drafts) (refusal_of c.in_err-first.field-0.0) c.drop-tx.ensures.survives cause))

@@ -1,7 +1,7 @@
 use Rattle.std.proofs.Common.{◌≡◌, ◌∙◌, ℕ, ◌+◌, Some, slice_get, get_or, refl, sym, ap, subst, arith}
 use Rattle.std.proofs.lemmas.Option.{slice_get-get_or}
 use Rattle.bytecode_format.specs.declared.instruction.Instruction.{Instruction}
-use Rattle.sieve_vm.specs.Machine.{Effect, effect}
+use Rattle.sieve_vm.specs.Machine.{Effect, effect, referred_in}
 use Rattle.sieve_vm.specs.declared.machine.Flow.TheVariants.{On, To, Ends}
 use Rattle.sieve_vm.specs.Charge.{charge_of}
 use Rattle.sieve_vm.specs.Standing.{GoesFrom}
@@ -33,8 +33,8 @@ overflow_add-self c =
     let here : slice_get c.args.program.now.instructions c.args.self.now.place ≡ Some i =
     slice_get-get_or c.args.program.now.instructions c.args.self.now.place no_instruction (place_within c.args.program.now c.args.message.now c.requires.accepted c.requires.mail c.args.self.now c.requires.running.0 c.requires.running.1)
     ∙ ap (λ xs. Some (get_or xs c.args.self.now.place no_instruction)) (sym c.instructions.ensures.value) in
-    let done : Effect = effect c.args.program.now c.args.message.now c.unwrap-operation.result i c.requires.running.0 in
-    let cost : ℕ = charge_of c.args.program.now c.args.message.now c.unwrap-operation.result i c.requires.running.0 in
+    let done : Effect = effect (referred_in c.args.program.now) c.args.message.now c.unwrap-operation.result i c.requires.running.0 in
+    let cost : ℕ = charge_of c.args.message.now c.unwrap-operation.result i c.requires.running.0 in
     let had = c.in_ok-done.ensures c.requires.running.0 c.requires.running.1 in
     let one = stepped c.args.program.now c.args.message.now c.requires.accepted c.requires.mail c.args.self.now c.requires.running.0 c.requires.running.1 i here c.unwrap-operation.result (sym c.of.ensures ∙ c.unwrap-operation.ensures) in
     let within = charged_within c.args.program.now c.args.message.now c.requires.accepted c.requires.mail c.args.self.now c.requires.running.0 c.requires.running.1 cost done one c.act.new.self c.in_ok-done.done.flow had.0 in
@@ -47,8 +47,8 @@ overflow_add-self-2 c =
     let here : slice_get c.args.program.now.instructions c.args.self.now.place ≡ Some i =
     slice_get-get_or c.args.program.now.instructions c.args.self.now.place no_instruction (place_within c.args.program.now c.args.message.now c.requires.accepted c.requires.mail c.args.self.now c.requires.running.0 c.requires.running.1)
     ∙ ap (λ xs. Some (get_or xs c.args.self.now.place no_instruction)) (sym c.instructions.ensures.value) in
-    let done : Effect = effect c.args.program.now c.args.message.now c.unwrap-operation.result i c.requires.running.0 in
-    let cost : ℕ = charge_of c.args.program.now c.args.message.now c.unwrap-operation.result i c.requires.running.0 in
+    let done : Effect = effect (referred_in c.args.program.now) c.args.message.now c.unwrap-operation.result i c.requires.running.0 in
+    let cost : ℕ = charge_of c.args.message.now c.unwrap-operation.result i c.requires.running.0 in
     let had = c.in_ok-done.ensures c.requires.running.0 c.requires.running.1 in
     let one = stepped c.args.program.now c.args.message.now c.requires.accepted c.requires.mail c.args.self.now c.requires.running.0 c.requires.running.1 i here c.unwrap-operation.result (sym c.of.ensures ∙ c.unwrap-operation.ensures) in
     let within = charged_within c.args.program.now c.args.message.now c.requires.accepted c.requires.mail c.args.self.now c.requires.running.0 c.requires.running.1 cost done one c.act.new.self c.in_ok-done.done.flow had.0 in
@@ -61,8 +61,8 @@ overflow_add-self-in-On c =
     let here : slice_get c.args.program.now.instructions c.args.self.now.place ≡ Some i =
     slice_get-get_or c.args.program.now.instructions c.args.self.now.place no_instruction (place_within c.args.program.now c.args.message.now c.requires.accepted c.requires.mail c.args.self.now c.requires.running.0 c.requires.running.1)
     ∙ ap (λ xs. Some (get_or xs c.args.self.now.place no_instruction)) (sym c.instructions.ensures.value) in
-    let done : Effect = effect c.args.program.now c.args.message.now c.unwrap-operation.result i c.requires.running.0 in
-    let cost : ℕ = charge_of c.args.program.now c.args.message.now c.unwrap-operation.result i c.requires.running.0 in
+    let done : Effect = effect (referred_in c.args.program.now) c.args.message.now c.unwrap-operation.result i c.requires.running.0 in
+    let cost : ℕ = charge_of c.args.message.now c.unwrap-operation.result i c.requires.running.0 in
     let had = c.in_ok-done.ensures c.requires.running.0 c.requires.running.1 in
     let one = stepped c.args.program.now c.args.message.now c.requires.accepted c.requires.mail c.args.self.now c.requires.running.0 c.requires.running.1 i here c.unwrap-operation.result (sym c.of.ensures ∙ c.unwrap-operation.ensures) in
     let went : GoesFrom c.args.message.now done On c.act.new.self = subst (λ f. GoesFrom c.args.message.now done f c.act.new.self) c.in-On.is had.0 in
@@ -74,8 +74,8 @@ returns-in-On-clause-goes_on c =
     let here : slice_get c.args.program.now.instructions c.args.self.now.place ≡ Some i =
     slice_get-get_or c.args.program.now.instructions c.args.self.now.place no_instruction (place_within c.args.program.now c.args.message.now c.requires.accepted c.requires.mail c.args.self.now c.requires.running.0 c.requires.running.1)
     ∙ ap (λ xs. Some (get_or xs c.args.self.now.place no_instruction)) (sym c.instructions.ensures.value) in
-    let done : Effect = effect c.args.program.now c.args.message.now c.unwrap-operation.result i c.requires.running.0 in
-    let cost : ℕ = charge_of c.args.program.now c.args.message.now c.unwrap-operation.result i c.requires.running.0 in
+    let done : Effect = effect (referred_in c.args.program.now) c.args.message.now c.unwrap-operation.result i c.requires.running.0 in
+    let cost : ℕ = charge_of c.args.message.now c.unwrap-operation.result i c.requires.running.0 in
     let had = c.in_ok-done.ensures c.requires.running.0 c.requires.running.1 in
     let one = stepped c.args.program.now c.args.message.now c.requires.accepted c.requires.mail c.args.self.now c.requires.running.0 c.requires.running.1 i here c.unwrap-operation.result (sym c.of.ensures ∙ c.unwrap-operation.ensures) in
     let went : GoesFrom c.args.message.now done On c.act.new.self = subst (λ f. GoesFrom c.args.message.now done f c.act.new.self) c.in-On.is had.0 in
@@ -87,8 +87,8 @@ returns-in-To-clause-goes_on c =
     let here : slice_get c.args.program.now.instructions c.args.self.now.place ≡ Some i =
     slice_get-get_or c.args.program.now.instructions c.args.self.now.place no_instruction (place_within c.args.program.now c.args.message.now c.requires.accepted c.requires.mail c.args.self.now c.requires.running.0 c.requires.running.1)
     ∙ ap (λ xs. Some (get_or xs c.args.self.now.place no_instruction)) (sym c.instructions.ensures.value) in
-    let done : Effect = effect c.args.program.now c.args.message.now c.unwrap-operation.result i c.requires.running.0 in
-    let cost : ℕ = charge_of c.args.program.now c.args.message.now c.unwrap-operation.result i c.requires.running.0 in
+    let done : Effect = effect (referred_in c.args.program.now) c.args.message.now c.unwrap-operation.result i c.requires.running.0 in
+    let cost : ℕ = charge_of c.args.message.now c.unwrap-operation.result i c.requires.running.0 in
     let had = c.in_ok-done.ensures c.requires.running.0 c.requires.running.1 in
     let one = stepped c.args.program.now c.args.message.now c.requires.accepted c.requires.mail c.args.self.now c.requires.running.0 c.requires.running.1 i here c.unwrap-operation.result (sym c.of.ensures ∙ c.unwrap-operation.ensures) in
     let went : GoesFrom c.args.message.now done (To c.in-To.place) c.act.new.self = subst (λ f. GoesFrom c.args.message.now done f c.act.new.self) c.in-To.is had.0 in
@@ -100,8 +100,8 @@ returns-in-Ends-clause-ends c =
     let here : slice_get c.args.program.now.instructions c.args.self.now.place ≡ Some i =
     slice_get-get_or c.args.program.now.instructions c.args.self.now.place no_instruction (place_within c.args.program.now c.args.message.now c.requires.accepted c.requires.mail c.args.self.now c.requires.running.0 c.requires.running.1)
     ∙ ap (λ xs. Some (get_or xs c.args.self.now.place no_instruction)) (sym c.instructions.ensures.value) in
-    let done : Effect = effect c.args.program.now c.args.message.now c.unwrap-operation.result i c.requires.running.0 in
-    let cost : ℕ = charge_of c.args.program.now c.args.message.now c.unwrap-operation.result i c.requires.running.0 in
+    let done : Effect = effect (referred_in c.args.program.now) c.args.message.now c.unwrap-operation.result i c.requires.running.0 in
+    let cost : ℕ = charge_of c.args.message.now c.unwrap-operation.result i c.requires.running.0 in
     let had = c.in_ok-done.ensures c.requires.running.0 c.requires.running.1 in
     let one = stepped c.args.program.now c.args.message.now c.requires.accepted c.requires.mail c.args.self.now c.requires.running.0 c.requires.running.1 i here c.unwrap-operation.result (sym c.of.ensures ∙ c.unwrap-operation.ensures) in
     let went : GoesFrom c.args.message.now done Ends c.act.new.self = subst (λ f. GoesFrom c.args.message.now done f c.act.new.self) c.in-Ends.is had.0 in

@@ -1,0 +1,221 @@
+-- No line of an answer begins with `= `.
+use Rattle.std.proofs.Common.{◌≡◌, ◌∙◌, refl, sym, ap, subst, cond, codes, Bool, true, false, ◌&&◌, ◌++◌, ℕ, List, [], ◌∷◌, map, Option, Some, None, true≢false}
+use Rattle.std.specs.Prelude.{filter, bytes_eq}
+use Rattle.std.specs.List.{list_all}
+use Rattle.std.specs.Fmt.{decimal}
+use Rattle.sqlite_trees.specs.declared.store.Store.{Ghosts}
+use Rattle.sqlite.specs.Held.{state}
+use Rattle.sqlite.specs.State.{HasCleanDisk, State}
+use Rattle.part_store.specs.Entries.{Entries, Entry, Listing, entries_of, listing_of}
+use Rattle.part_store.specs.Standing.{Stands}
+use Rattle.part_store.specs.declared.entry.Kind.{Kind}
+use Rattle.part_store.specs.declared.entry.Kind.TheVariants.{Message, Part}
+use Rattle.depot_actions.specs.DepotState.{Reply as DepotReply}
+use Rattle.depot_actions.specs.DepotState as depot
+use Rattle.refusals.specs.Lines.{name_of, number_of, place_of, place_text, refusal_text}
+use Rattle.refusals.specs.declared.refusal.Refusal.{Refusal}
+use Rattle.refusals.specs.declared.refusal.Refusal.TheVariants.{Memory, MessageTooLarge, TooManyParts, NotCanonical, Lexical, ScriptTooLong, Syntax, TooDeep, UnknownCommand, MissingCapability, UnknownCapability, BadArguments, Limit, Spelling, Index, Form, End, Loop, Jump, NoPart, Stack, Listing as BadListing, NoSuchEntry, NumberFull, Collision, Database, UserName, Write, Read}
+use Rattle.depot_jobs.specs.Printed.{line, quoted, refusal_line}
+use Rattle.depot_jobs.specs.declared.request.Request.{Request}
+use Rattle.depot_jobs.specs.declared.request.Request.TheVariants.{Script, Code, Deliver, List as ListEntries, Export, Remove, Migrate}
+use Rattle.depot_cli.specs.Printed.{entries_text, entry_text, kind_text, migrated_text, removed_text, reply_text}
+use Rattle.depot_cli.specs.Requests.{request_command}
+use Rattle.depot_cli.specs.Tasks.{HasDone}
+use Rattle.depot_cli.specs.declared.entries.Detail.TheVariants.{Brief, Full}
+use Rattle.depot_batch.specs.Batch.{HasCome, IsDone, Office, exported_text}
+use Rattle.depot_batch.specs.Asked.{Asks, Text}
+use Rattle.depot_batch.specs.Closings.{HavePlainMedia, has_closing, is_one_line}
+use Rattle.depot_batch.specs.Sentences.{wrong_line}
+use Rattle.depot_batch.specs.declared.asked.Asked.{Asked}
+use Rattle.depot_batch.specs.declared.asked.Asked.TheVariants.{Reply, Export as IntoFile}
+use Rattle.depot_batch.specs.declared.fault.Form.TheVariants as forms
+use Rattle.depot_batch.specs.declared.fault.LineFault.{LineFault}
+use Rattle.depot_batch.specs.declared.fault.LineFault.TheVariants as faults
+use Rattle.depot_batch.specs.declared.outcome.Outcome.{Outcome}
+use Rattle.depot_batch.specs.declared.outcome.Outcome.TheVariants.{Done, Refused, Wrong}
+use Rattle.depot_batch.proofs.Closing.{begins_otherwise, both, decimal_begins, decimal_one_line, line_alone, lines_pass, one_line_both, quoted_one_line}
+
+-- a text of one line, which begins otherwise
+abbrev Safe : List ℕ → Type 0
+Safe text = (begins_otherwise text ≡ true) × (is_one_line text ≡ true)
+
+safe_both : (a b : List ℕ) → Safe a → is_one_line b ≡ true → Safe (a ++ b)
+safe_both [] b safe more = absurd (true≢false (sym safe.0))
+safe_both (x ∷ xs) b safe more = (safe.0, one_line_both (x ∷ xs) b safe.1 more)
+
+safe_line : (text : List ℕ) → Safe text → has_closing true (line text) ≡ false
+safe_line text safe = line_alone text safe.0 safe.1
+
+-- ---- what a depot replies
+
+kind_one_line : (kind : Kind) → is_one_line (kind_text kind) ≡ true
+kind_one_line Message = refl
+kind_one_line Part = refl
+
+brief_safe : (entry : Listing) → Safe (entry_text Brief entry)
+brief_safe entry =
+    let number = decimal entry.number in
+    let spaced = number ++ codes " " in
+    let kind = spaced ++ kind_text entry.kind in
+    safe_both (kind ++ codes " ") (quoted entry.folder)
+    (safe_both kind (codes " ")
+    (safe_both spaced (kind_text entry.kind)
+    (safe_both number (codes " ") (decimal_begins entry.number, decimal_one_line entry.number) refl) (kind_one_line entry.kind)) refl) (quoted_one_line entry.folder)
+
+full_safe : (entry : Listing) → is_one_line entry.media ≡ true → Safe (entry_text Full entry)
+full_safe entry plain =
+    let folder = entry_text Brief entry in
+    let spaced = folder ++ codes " " in
+    let name = spaced ++ quoted entry.name in
+    let before_media = name ++ codes " " in
+    let media = before_media ++ entry.media in
+    safe_both (media ++ codes " ") (decimal entry.octets)
+    (safe_both media (codes " ")
+    (safe_both before_media entry.media
+    (safe_both name (codes " ")
+    (safe_both spaced (quoted entry.name) (safe_both folder (codes " ") (brief_safe entry) refl) (quoted_one_line entry.name)) refl) plain) refl) (decimal_one_line entry.octets)
+
+all_true : {A : Type 0} (xs : List A) → list_all (λ _. true) xs ≡ true
+all_true [] = refl
+all_true (x ∷ xs) = all_true xs
+
+brief_closes_none : (entries : List Listing) → has_closing true (entries_text Brief entries) ≡ false
+brief_closes_none [] = refl
+brief_closes_none (e ∷ es) =
+    lines_pass (entry_text Brief) (e ∷ es) (λ _. true) (all_true (e ∷ es)) (λ x fit. (brief_safe x).0) (λ x fit. (brief_safe x).1)
+
+full_closes_none : (entries : List Listing) → list_all (λ x. is_one_line x.media) entries ≡ true → has_closing true (entries_text Full entries) ≡ false
+full_closes_none [] plain = refl
+full_closes_none (e ∷ es) plain =
+    lines_pass (entry_text Full) (e ∷ es) (λ x. is_one_line x.media) plain (λ x fit. (full_safe x fit).0) (λ x fit. (full_safe x fit).1)
+
+-- the entries of a user have the media types of all entries
+plain_listed : (user : List ℕ) (entries : List Entry) → list_all (λ x. is_one_line x.media) entries ≡ true
+    → list_all (λ (x : Listing). is_one_line x.media) (map listing_of (filter (λ (x : Entry). bytes_eq x.user user) entries)) ≡ true
+plain_listed user [] plain = refl
+plain_listed user (x ∷ xs) plain = go (bytes_eq x.user user) (plain_listed user xs (both _ _ plain).1)
+  where
+    go : (b : Bool) → list_all (λ (x : Listing). is_one_line x.media) (map listing_of (filter (λ (x : Entry). bytes_eq x.user user) xs)) ≡ true
+        → list_all (λ (x : Listing). is_one_line x.media)
+        (map listing_of (cond b (x ∷ filter (λ (x : Entry). bytes_eq x.user user) xs) (filter (λ (x : Entry). bytes_eq x.user user) xs))) ≡ true
+    go true rest =
+        let here : is_one_line x.media ≡ true = (both (is_one_line x.media) _ plain).0 in
+        rw here rest
+    go false rest = rest
+
+numbered_safe : (words : List ℕ) (number : ℕ) → Safe words → has_closing true (line (words ++ decimal number)) ≡ false
+numbered_safe words number safe = safe_line (words ++ decimal number) (safe_both words (decimal number) safe (decimal_one_line number))
+
+delivered : (reply : DepotReply) (user message : List ℕ) → has_closing true (reply_text (depot.Deliver user message) reply) ≡ false
+delivered (depot.Listed entries) user message = brief_closes_none entries
+delivered depot.Done user message = refl
+delivered (depot.Program program) user message = refl
+delivered (depot.Text text) user message = refl
+delivered (depot.Migrated number) user message = refl
+
+migrated : (reply : DepotReply) → has_closing true (reply_text depot.Migrate reply) ≡ false
+migrated (depot.Migrated number) = numbered_safe (codes "migrated ") number (refl, refl)
+migrated depot.Done = refl
+migrated (depot.Program program) = refl
+migrated (depot.Text text) = refl
+migrated (depot.Listed entries) = refl
+
+listed : (user : List ℕ) (reply : DepotReply) (old new : State) (before : Entries) → HasDone (depot.ListAll user) reply old new → HasCleanDisk new → Stands old.now before
+    → HavePlainMedia before → has_closing true (reply_text (depot.ListAll user) reply) ≡ false
+listed user reply old new before done clean stands plain =
+    let accepted = (done clean).1 before stands in
+    let is : reply ≡ depot.Listed (map listing_of (entries_of user before)) = accepted.1.step.0 in
+    ap (λ r. has_closing true (reply_text (depot.ListAll user) r)) is ∙ full_closes_none _ (plain_listed user before.entries plain)
+
+replied : (request : Request) (octets : List ℕ) (words : List Text) (reply : DepotReply) (old new : State) (before : Entries) → Asks words (Reply request)
+    → HasDone (request_command request octets) reply old new → HasCleanDisk new → Stands old.now before → HavePlainMedia before
+    → has_closing true (reply_text (request_command request octets) reply) ≡ false
+replied (Script user script) octets words reply old new before asks done clean stands plain = refl
+replied (Code user program) octets words reply old new before asks done clean stands plain = refl
+replied (Deliver user message) octets words reply old new before asks done clean stands plain = delivered reply user.now octets
+replied (ListEntries user) octets words reply old new before asks done clean stands plain = listed user.now reply old new before done clean stands plain
+replied (Export user number encoding) octets words reply old new before asks done clean stands plain = absurd asks
+replied (Remove user number) octets words reply old new before asks done clean stands plain = numbered_safe (codes "removed ") number (refl, refl)
+replied Migrate octets words reply old new before asks done clean stands plain = migrated reply
+
+-- ---- what is refused, or wrong
+
+name_one_line : (refusal : Refusal) → is_one_line (name_of refusal) ≡ true
+name_one_line Memory = refl
+name_one_line MessageTooLarge = refl
+name_one_line TooManyParts = refl
+name_one_line NotCanonical = refl
+name_one_line (Lexical place) = refl
+name_one_line ScriptTooLong = refl
+name_one_line (Syntax place) = refl
+name_one_line (TooDeep place) = refl
+name_one_line (UnknownCommand place) = refl
+name_one_line (MissingCapability place) = refl
+name_one_line (UnknownCapability place) = refl
+name_one_line (BadArguments place) = refl
+name_one_line (Limit place) = refl
+name_one_line Spelling = refl
+name_one_line (Index place) = refl
+name_one_line (Form place) = refl
+name_one_line (End place) = refl
+name_one_line (Loop place) = refl
+name_one_line (Jump place) = refl
+name_one_line (NoPart place) = refl
+name_one_line (Stack place) = refl
+name_one_line (BadListing place) = refl
+name_one_line NoSuchEntry = refl
+name_one_line NumberFull = refl
+name_one_line Collision = refl
+name_one_line Database = refl
+name_one_line UserName = refl
+name_one_line Write = refl
+name_one_line Read = refl
+
+place_one_line : (place : Option ℕ) → is_one_line (place_text place) ≡ true
+place_one_line None = refl
+place_one_line (Some place) = one_line_both (codes " at ") (decimal place) refl (decimal_one_line place)
+
+refused_closes_none : (refusal : Refusal) → has_closing true (refusal_line refusal) ≡ false
+refused_closes_none refusal =
+    let number = codes "refused " ++ decimal (number_of refusal) in
+    let name = number ++ codes " " ++ name_of refusal in
+    safe_line (refusal_text refusal)
+    (safe_both name (place_text (place_of refusal))
+    (safe_both (number ++ codes " ") (name_of refusal)
+    (safe_both number (codes " ") (safe_both (codes "refused ") (decimal (number_of refusal)) (refl, refl) (decimal_one_line (number_of refusal))) refl)
+    (name_one_line refusal)) (place_one_line (place_of refusal)))
+
+wrong_closes_none : (fault : LineFault) → has_closing true (wrong_line fault) ≡ false
+wrong_closes_none faults.Unfinished = refl
+wrong_closes_none faults.Words = refl
+wrong_closes_none faults.NotText = refl
+wrong_closes_none faults.NoCommand = refl
+wrong_closes_none (faults.Form forms.Script) = refl
+wrong_closes_none (faults.Form forms.Code) = refl
+wrong_closes_none (faults.Form forms.Deliver) = refl
+wrong_closes_none (faults.Form forms.List) = refl
+wrong_closes_none (faults.Form forms.Export) = refl
+wrong_closes_none (faults.Form forms.Remove) = refl
+wrong_closes_none (faults.Form forms.Migrate) = refl
+wrong_closes_none faults.Number = refl
+wrong_closes_none faults.Encoding = refl
+
+-- ---- answers
+
+module _ {S : Type 0} (g : Ghosts S) where
+  done_closes_none : (name : List ℕ) (asked : Asked) (words : List Text) (text : List ℕ) (old new : Office S) (before : Entries) → Asks words asked
+      → IsDone g name asked text old.depot new.depot old.host new.host → HasCleanDisk (state g new.depot) → Stands (state g old.depot).now before
+      → HavePlainMedia before → has_closing true text ≡ false
+  done_closes_none name (Reply request) words text old new before asks done clean stands plain =
+      let answered = done.2 in
+      ap (has_closing true) answered.2
+      ∙ replied request done.0 words answered.0 (state g old.depot) (state g new.depot) before asks answered.1 clean stands plain
+  done_closes_none name (IntoFile export) words text old new before asks done clean stands plain =
+      ap (has_closing true) done.0 ∙ numbered_safe (codes "exported ") export.number (refl, refl)
+
+  pub closes_none : (name octets : List ℕ) (outcome : Outcome) (text : List ℕ) (old new : Office S) → HasCome g name octets outcome text old new
+      → HasCleanDisk (state g new.depot) → (before : Entries) → Stands (state g old.depot).now before → HavePlainMedia before → has_closing true text ≡ false
+  closes_none name octets Done text old new come clean before stands plain =
+      done_closes_none name come.0 come.1.0 text old new before come.1.2 come.2 clean stands plain
+  closes_none name octets (Refused refusal) text old new come clean before stands plain = ap (has_closing true) come.0 ∙ refused_closes_none refusal
+  closes_none name octets Wrong text old new come clean before stands plain = ap (has_closing true) come.2 ∙ wrong_closes_none come.0
