@@ -8,3 +8,4 @@ mod Batches
 mod Closing
 mod Refusing
 mod ClosingAnswers
+mod Exporting

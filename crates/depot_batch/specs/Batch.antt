@@ -8,7 +8,6 @@ use Rattle.sqlite_trees.specs.Tree.{Trees}
 use Rattle.sqlite.specs.Held.{Held, state}
 use Rattle.sqlite.specs.State.{HasCleanDisk, State, Survives}
 use Rattle.part_store.specs.Standing.{Spares}
-use Rattle.depot_actions.specs.Causes.{HasCause}
 use Rattle.depot_actions.specs.DepotState.{Export as Exports, Text as Written}
 use Rattle.encodings.specs.Device.{HasBroken, HasTaken, Output}
 use Rattle.encodings.specs.Supply.{HasGiven, Supply}
@@ -97,8 +96,7 @@ module _ {S : Type 0} (g : Ghosts S) where
   HasNotExported name export refusal old new host host2 =
       (HasNotMade refusal export.file.now name host host2
       ⊎ ((refusal ≢ Write) × (host2 ≡ with_call (makes export.file.now name) host)
-      × (HasCleanDisk (state g new) → HasCause refusal (Exports export.user.now export.number export.encoding)
-      (state g old))))
+      × HasRefused (Exports export.user.now export.number export.encoding) refusal (state g old) (state g new)))
       × (HasCleanDisk (state g new) → Spares (state g old) (state g new))
 
   -- what is asked was done, with this text as the answer
