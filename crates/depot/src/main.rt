@@ -1,18 +1,20 @@
 // Hands the words and the system to the command line, and its errands to the depot that they name.
 #![tactic(auto)]
 
+mod errands;
 mod place;
 mod streams;
 
+use crate::errands::{carry_from, close};
 use crate::place::{Obstacle, look_at};
 use crate::streams::hold_closed;
 use depot_actions::Depot;
 use depot_batch::batch;
-use depot_cli::{Errand, Next, Saving, carry, inspect_opened, run, save, tell_no_depot};
+use depot_cli::{Errand, Next, Saving, inspect_opened, run, save, tell_no_depot};
 use depot_jobs::{Host, System, tell, tell_no_words, texts, words};
 use encodings::{OfRead, OfWrite, Sink};
 use refusals::Refusal;
-use sqlite::{File, FileStore};
+use sqlite::Unknown;
 use std::io::{BufReader, BufWriter};
 use std::process::ExitCode;
 use std::{env, io, process};
@@ -62,9 +64,7 @@ fn perform_errand<O: Sink, E: Sink>(
     out: &mut O,
     err: &mut E,
 ) -> u8 {
-    let mut opened = Depot::open(rt, errand.name);
-    let status = carry(rt.alloc(), errand, &mut opened, out, err);
-    close(opened);
+    let (status, _left) = carry_from(rt, errand, Unknown, out, err);
     status
 }
 
@@ -117,13 +117,5 @@ fn inspect_file<O: Sink, E: Sink>(rt: &HostRuntime, name: &str, out: &mut O, err
         }
         Err(Obstacle::NoDepot(why)) => tell_no_depot(out, err, why),
         Err(Obstacle::Memory) => tell(err, &Refusal::Memory),
-    }
-}
-
-// Closes the depot that was opened, if one was, which copies its log into the file. Where that fails the log stays, and the next open
-// copies it.
-fn close<W: Drop>(opened: Result<Depot<FileStore<File>>, W>) {
-    if let Ok(depot) = opened {
-        let _ = depot.release().close_files();
     }
 }

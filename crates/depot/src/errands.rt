@@ -1,0 +1,74 @@
+//! Errands, from the open of their depot to its close.
+//!
+//! The promises hold for any type that stands for what the files held. The program passes the one of which nothing is known (`Unknown`),
+//! since what a file of the system holds no contract can say: what it runs is the same code.
+ghost use Rattle.sqlite.specs.Recovery.{Image};
+ghost use Rattle.sqlite.specs.WalFiles.{image_at};
+ghost use Rattle.depot_cli.specs.Tasks.{command_of};
+ghost use Rattle.depot.specs.Ending.{HasEnded, IsFound, IsShut};
+
+use depot_actions::Depot;
+use depot_cli::{Errand, carry};
+use encodings::Sink;
+use refusals::Refusal;
+use sqlite::{FileFrom, FileStore, Files, Start};
+use sqlite_disk::Disk;
+use std::alloc::Global;
+
+/// What is left of files that were opened: both, closed; or the store that their close failed to let go of.
+pub type Left<D> = Result<Files<D>, FileStore<D>>;
+
+/// Opens the depot that an errand names, has the errand carried to it, and closes it. Gives the status, and what is left of the files;
+/// none where the depot wasn't opened.
+///
+/// `B` stands for what the two files held. Where they stood for a state and no lie of the disk was taken for true, a status of 0 means
+/// that the depot accepted the command, that its reply is written whole, and that the files hold the state after it, also after a crash.
+/// A status of 1 means that the command was refused, that this was told, and that the state is as it was; or that its reply broke off,
+/// and the files hold the state after it. Where the close fails or a crash comes before its end, the files hold what was answered; where
+/// the answer changed nothing, they may hold what the command makes. No clause ties `B` to the name: that the file there is opened is seen
+/// in the body.
+pub fn carry_from<B: Start, O: Sink, E: Sink>(
+    rt: &HostRuntime,
+    errand: &Errand<'_>,
+    start: B,
+    out: &mut O,
+    err: &mut E,
+) -> (u8, Option<Left<FileFrom<B>>>)
+    ensures ended { HasEnded
+        (record { command = command_of errand.now.task; status = result.0; out = O.output out.old; err = E.output err.old; out_after = O.output out.new; err_after = E.output err.new })
+        (image_at B.Start) result.1 }
+{
+    let opened = Depot::open_from(rt, errand.name, start);
+    carry_and_close(rt.alloc(), errand, opened, out, err)
+}
+
+// Carries an errand to what opening gave, and closes that.
+fn carry_and_close<D: Disk + Drop, O: Sink, E: Sink>(
+    alloc: Global,
+    errand: &Errand<'_>,
+    opened: Result<Depot<FileStore<D>>, Refusal>,
+    out: &mut O,
+    err: &mut E,
+) -> (u8, Option<Left<D>>)
+    ensures ended { (image : Image) → IsFound image opened → HasEnded
+        (record { command = command_of errand.now.task; status = result.0; out = O.output out.old; err = E.output err.old; out_after = O.output out.new; err_after = E.output err.new })
+        image result.1 }
+{
+    let mut opened = opened;
+    let status = carry(alloc, errand, &mut opened, out, err);
+    (status, close(opened))
+}
+
+/// Closes the depot that was opened, if one was, which copies its log into the file. Where that fails the log stays, and the next open
+/// copies it.
+pub fn close<D: Disk + Drop, W: Drop>(opened: Result<Depot<FileStore<D>>, W>) -> Option<Left<D>>
+    ensures shut { IsShut opened result }
+{
+    match opened {
+        Ok(depot) => match depot.release().close_files() {
+            Ok(files) => Some(Ok(files)),
+            Err((_, last)) => Some(Err(last)),
+        },
+        Err(_) => None,
+    }
+}
