@@ -10,7 +10,7 @@ import re
 
 TOP = os.path.dirname(os.path.dirname(os.path.realpath(__file__)))
 # Crates that test or measure promise nothing, and the functions of the program itself have no contract.
-NO_LIBRARY = re.compile(r"altered|bench|depot|tables|\w+_rows")
+NO_LIBRARY = re.compile(r"altered|bench|tables|\w+_rows")
 
 HEAD = re.compile(r"(?:(?:abbrev|unfoldable|pub)(?: pub| record| data)* |(?=mutual))(\S+)")
 MEMBER = re.compile(r"(?:  ){1,2}(?:pub )?(?:record |data )?([^-( :→][^:(]*?) :")
@@ -114,7 +114,7 @@ def places(words, names):
 
 
 def contracts():
-    """Gives the contracts of the libraries that may be met from outside of a file."""
+    """Gives the contracts of the libraries and of the program that may be met from outside of a file."""
     for crate in sorted(os.listdir(f"{TOP}/crates")):
         for path in sorted(glob.glob(f"{TOP}/crates/{crate}/src/**/*.rt", recursive=True)):
             if NO_LIBRARY.fullmatch(crate):
