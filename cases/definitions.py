@@ -59,6 +59,15 @@ def definitions():
     return units, modules, {it for it in named if it[:2] in modules and it not in units}
 
 
+def private_modules():
+    """Returns the modules that their crates name as private: those after a line `-- private: ..` of `specs/Lib.antt`."""
+    found = set()
+    for path in glob.glob(f"{TOP}/crates/*/specs/Lib.antt"):
+        _, _, named = f"\n{text_of(path)}".partition("\n-- private: ")
+        found |= {(path.split("/")[-3], it) for it in re.findall(r"^pub mod (\w+)$", named, re.MULTILINE)}
+    return found
+
+
 def units_of(lines, home, head):
     """Cuts a module into its definitions. Those of a `module _` stand two blanks further in than it."""
     found, unit, waiting, around = [], None, 0, []

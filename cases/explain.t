@@ -26,6 +26,35 @@ No fault.
     $ depot explain spaces
     ok
 
+Letters outside of ASCII in a test of the header, which mail writes encoded.
+
+## a key outside of ASCII
+    $ printf 'require "fileinto";\nif anyof (header :contains "Subject" ["bill", "Gr\303\274\303\237e"], header "From" "\303\274") {\n' > script
+    $ printf '    fileinto "Bills";\n}\n' >> script
+    $ depot explain script
+    ok
+    script:2:47: note: header fields are compared as they are written, and mail mostly writes such letters encoded, as =?UTF-8?..?=: this may never match
+      if anyof (header :contains "Subject" ["bill", "Gr\c3\bc\c3\9fe"], header "From" "\c3\bc") {
+                                                    ^
+    $ depot check script
+    ok
+
+## a name outside of ASCII of a parameter
+    $ printf 'if header :mime :param "\303\274" "Content-Type" "x" { stop; }\n' > script
+    $ { echo 'require "mime";'; cat script; } > with_mime
+    $ depot explain with_mime
+    ok
+    with_mime:2:24: note: header fields are compared as they are written, and mail mostly writes such letters encoded, as =?UTF-8?..?=: this may never match
+      if header :mime :param "\c3\bc" "Content-Type" "x" { stop; }
+                             ^
+
+## letters outside of ASCII elsewhere
+    $ printf 'require ["variables", "fileinto", "foreverypart", "vnd.depot"];\nset "a" "\303\274"; # \303\274\n' > script
+    $ printf 'if allof (header "Subject" "${a}", string "${a}" "\303\274") { fileinto "\303\274"; }\n' >> script
+    $ printf 'foreverypart { if partbody :contains "\303\274" { store "\303\274"; } }\n' >> script
+    $ depot explain script
+    ok
+
 Tokens.
 
 ## byte order mark

@@ -19,12 +19,18 @@
 ## the lines of docs/AUDIT.md and README.md, and the definitions
     $ "$TOP/cases/rings"
 
-## a definition that no contract names doesn't go unseen
+## a definition that is in the wrong module doesn't go unseen
     $ mkdir copy && cd "$TOP" && tar c README.md docs/AUDIT.md cases crates/*/specs crates/*/src | tar x -C "$OLDPWD/copy"
     $ copy/cases/rings
     $ printf 'abbrev pub stray : Bool\nstray = true\n' >> copy/crates/mime_tree/specs/Order.antt
-    $ copy/cases/rings | grep -c '^+.*Order 2'
-    1
+    $ copy/cases/rings | sed -n 's/.*Order.antt:[0-9]*: //p'
+    stray: no public contract reaches this, and specs/Lib.antt doesn't name the module as private
+    $ sed -i '/^pub mod Readable$/d' copy/crates/mime_tree/specs/Lib.antt
+    $ echo 'pub mod Readable' >> copy/crates/mime_tree/specs/Lib.antt
+    $ copy/cases/rings | sed -n 's/.*Readable.antt:[0-9]*: //p'
+    IsReadable: a public contract reaches this, and specs/Lib.antt names the module as private
+    IsTree: a public contract reaches this, and specs/Lib.antt names the module as private
+    only where specs/Lib.antt names a module as private does it begin with `-- Private: `
     $ rm -r copy
 
 ## the links, paths and contents of the documents

@@ -172,13 +172,34 @@ Other words that are no command.
     2> error: a word isn't UTF-8
     [2]
 
-## version
-    $ depot --version
-    2> error: unexpected argument '--version' found
+## words with version
+    $ depot version
+    2> error: unrecognized subcommand 'version'
+    2>
+    2>   tip: a similar subcommand exists: 'verify'
     2>
     2> Usage: depot [COMMAND]
     2>
     2> For more information, try '--help'.
+    [2]
+    $ depot check --version
+    2> error: unexpected argument '--version' found
+    2>
+    2>   tip: to pass '--version' as a value, use '-- --version'
+    2>
+    2> Usage: depot check <SCRIPT>
+    2>
+    2> For more information, try '--help'.
+    [2]
+
+The version: one line, as help is given.
+
+## version
+    $ depot --version
+    2> depot 0.25.0, proved with Rattle, logic dac8208d650f15bf
+    [2]
+    $ depot -V
+    2> depot 0.25.0, proved with Rattle, logic dac8208d650f15bf
     [2]
 
 Help.
@@ -194,6 +215,7 @@ Help.
     2>   explain      Says in words what the fault of a Sieve script is, and shows its line
     2>   compile      Writes a Sieve script as a filter program (bytecode)
     2>   verify       Says whether a filter program is safe to run, and what it may charge
+    2>   limit        Says how much a filter program may charge and file, for messages up to a size
     2>   run          Runs a filter program on a message, and prints what it does with it
     2>   disassemble  Lists a filter program, an instruction a line, and says what the verifier says of it
     2>   assemble     Writes the filter program (bytecode) that a listing says
@@ -218,10 +240,12 @@ Help.
     2>
     2> An answer goes to standard output, with status 0. A refusal is one line on standard error, with
     2> its number and name, and status 1. Status 2 says that the words aren't those of a command.
+    2> `depot help 43` says what the refusal 43 means and what to do; so does each number and name.
     2> With no words at all, a program that keeps every message runs on standard input.
+    2> A file `-` is one of this name: standard input is /dev/stdin.
     2> The help of a command has an example, and says with which refusals it may end.
     2>
-    2> depot 0.24.0, proved with Rattle, logic dac8208d650f15bf
+    2> depot 0.25.0, proved with Rattle, logic dac8208d650f15bf
     [2]
 
 ## help command
@@ -235,6 +259,7 @@ Help.
     2>   explain      Says in words what the fault of a Sieve script is, and shows its line
     2>   compile      Writes a Sieve script as a filter program (bytecode)
     2>   verify       Says whether a filter program is safe to run, and what it may charge
+    2>   limit        Says how much a filter program may charge and file, for messages up to a size
     2>   run          Runs a filter program on a message, and prints what it does with it
     2>   disassemble  Lists a filter program, an instruction a line, and says what the verifier says of it
     2>   assemble     Writes the filter program (bytecode) that a listing says
@@ -259,10 +284,12 @@ Help.
     2>
     2> An answer goes to standard output, with status 0. A refusal is one line on standard error, with
     2> its number and name, and status 1. Status 2 says that the words aren't those of a command.
+    2> `depot help 43` says what the refusal 43 means and what to do; so does each number and name.
     2> With no words at all, a program that keeps every message runs on standard input.
+    2> A file `-` is one of this name: standard input is /dev/stdin.
     2> The help of a command has an example, and says with which refusals it may end.
     2>
-    2> depot 0.24.0, proved with Rattle, logic dac8208d650f15bf
+    2> depot 0.25.0, proved with Rattle, logic dac8208d650f15bf
     [2]
 
 ## help check
@@ -282,7 +309,7 @@ Help.
     2>
     2> Status 0: done. 1: refused, or the answer broke off, with one line on standard error.
     2> 2: the words aren't those of a command.
-    2> Refusals: 1, 2, 11 to 19, 45, 46. docs/SPECIFICATION.md says what each means, and what to do.
+    2> Refusals: 1, 2, 11 to 19, 45, 46. `depot help NUMBER` says what each means, and what to do.
     2> What is wrong with a script, `depot explain SCRIPT` says in words.
     [2]
 
@@ -303,7 +330,7 @@ Help.
     2>
     2> Status 0: done. 1: refused, or the answer broke off, with one line on standard error.
     2> 2: the words aren't those of a command.
-    2> Refusals: 1, 2, 11 to 19, 45, 46. docs/SPECIFICATION.md says what each means, and what to do.
+    2> Refusals: 1, 2, 11 to 19, 45, 46. `depot help NUMBER` says what each means, and what to do.
     [2]
 
 ## help compile
@@ -324,7 +351,7 @@ Help.
     2>
     2> Status 0: done. 1: refused, or the answer broke off, with one line on standard error.
     2> 2: the words aren't those of a command.
-    2> Refusals: 1, 2, 11 to 19, 45, 46. docs/SPECIFICATION.md says what each means, and what to do.
+    2> Refusals: 1, 2, 11 to 19, 45, 46. `depot help NUMBER` says what each means, and what to do.
     2> What is wrong with a script, `depot explain SCRIPT` says in words.
     [2]
 
@@ -342,6 +369,28 @@ Help.
     2>
     2> Example:
     2>   depot verify filter.svbc
+    2>
+    2> Status 0: done. 1: refused, or the answer broke off, with one line on standard error.
+    2> 2: the words aren't those of a command.
+    2> Refusals: 1, 2, 20 to 27, 45, 46. `depot help NUMBER` says what each means, and what to do.
+    [2]
+
+## help limit
+    $ depot limit --help
+    2> Says how much a filter program may charge and file, for messages up to a size
+    2>
+    2> Usage: depot limit <PROGRAM> <OCTETS> <PARTS>
+    2>
+    2> Arguments:
+    2>   <PROGRAM>  The file of a filter program (bytecode)
+    2>   <OCTETS>   How many octets a message has at most: 0 to 67108864
+    2>   <PARTS>    How many parts it has at most, itself among them: 1 to 4096
+    2>
+    2> Options:
+    2>   -h, --help  Print help
+    2>
+    2> Example:
+    2>   depot limit filter.svbc 10000000 100
     2>
     2> Status 0: done. 1: refused, or the answer broke off, with one line on standard error.
     2> 2: the words aren't those of a command.
@@ -366,7 +415,7 @@ Help.
     2>
     2> Status 0: done. 1: refused, or the answer broke off, with one line on standard error.
     2> 2: the words aren't those of a command.
-    2> Refusals: 1 to 3, 20 to 27, 45, 46. docs/SPECIFICATION.md says what each means, and what to do.
+    2> Refusals: 1 to 3, 20 to 27, 45, 46. `depot help NUMBER` says what each means, and what to do.
     [2]
 
 ## help disassemble
@@ -386,7 +435,7 @@ Help.
     2>
     2> Status 0: done. 1: refused, or the answer broke off, with one line on standard error.
     2> 2: the words aren't those of a command.
-    2> Refusals: 1, 2, 20, 45, 46. docs/SPECIFICATION.md says what each means, and what to do.
+    2> Refusals: 1, 2, 20, 45, 46. `depot help NUMBER` says what each means, and what to do.
     [2]
 
 ## help assemble
@@ -407,7 +456,7 @@ Help.
     2>
     2> Status 0: done. 1: refused, or the answer broke off, with one line on standard error.
     2> 2: the words aren't those of a command.
-    2> Refusals: 1, 2, 28, 45, 46. docs/SPECIFICATION.md says what each means, and what to do.
+    2> Refusals: 1, 2, 28, 45, 46. `depot help NUMBER` says what each means, and what to do.
     [2]
 
 ## help eval
@@ -428,7 +477,7 @@ Help.
     2>
     2> Status 0: done. 1: refused, or the answer broke off, with one line on standard error.
     2> 2: the words aren't those of a command.
-    2> Refusals: 1 to 3, 11 to 19, 45, 46. docs/SPECIFICATION.md says what each means, and what to do.
+    2> Refusals: 1 to 3, 11 to 19, 45, 46. `depot help NUMBER` says what each means, and what to do.
     2> What is wrong with a script, `depot explain SCRIPT` says in words.
     [2]
 
@@ -449,7 +498,7 @@ Help.
     2>
     2> Status 0: done. 1: refused, or the answer broke off, with one line on standard error.
     2> 2: the words aren't those of a command.
-    2> Refusals: 1 to 3, 45, 46. docs/SPECIFICATION.md says what each means, and what to do.
+    2> Refusals: 1 to 3, 45, 46. `depot help NUMBER` says what each means, and what to do.
     [2]
 
 ## help script
@@ -471,8 +520,11 @@ Help.
     2>
     2> Status 0: done. 1: refused, or the answer broke off, with one line on standard error.
     2> 2: the words aren't those of a command.
-    2> Refusals: 1, 2, 11 to 19, 43 to 46. docs/SPECIFICATION.md says what each means, and what to do.
-    2> What is wrong with a script, `depot explain SCRIPT` says in words.
+    2> Refusals: 1, 2, 11 to 19, 43 to 46. `depot help NUMBER` says what each means, and what to do.
+    2> First comes the file, then the user: the wrong way round another depot is made, in silence.
+    2> What is wrong with DB, `depot inspect DB` says; it makes no file.
+    2> What is wrong with a script, `depot explain SCRIPT` says in words. With an empty script every
+    2> message is kept.
     [2]
 
 ## help code
@@ -494,7 +546,9 @@ Help.
     2>
     2> Status 0: done. 1: refused, or the answer broke off, with one line on standard error.
     2> 2: the words aren't those of a command.
-    2> Refusals: 1, 2, 20 to 27, 43 to 46. docs/SPECIFICATION.md says what each means, and what to do.
+    2> Refusals: 1, 2, 20 to 27, 43 to 46. `depot help NUMBER` says what each means, and what to do.
+    2> First comes the file, then the user: the wrong way round another depot is made, in silence.
+    2> What is wrong with DB, `depot inspect DB` says; it makes no file.
     [2]
 
 ## help program
@@ -516,7 +570,9 @@ Help.
     2>
     2> Status 0: done. 1: refused, or the answer broke off, with one line on standard error.
     2> 2: the words aren't those of a command.
-    2> Refusals: 1, 40, 43 to 45. docs/SPECIFICATION.md says what each means, and what to do.
+    2> Refusals: 1, 40, 43 to 45. `depot help NUMBER` says what each means, and what to do.
+    2> First comes the file, then the user: the wrong way round another depot is made, in silence.
+    2> What is wrong with DB, `depot inspect DB` says; it makes no file.
     [2]
 
 ## help deliver
@@ -538,7 +594,9 @@ Help.
     2>
     2> Status 0: done. 1: refused, or the answer broke off, with one line on standard error.
     2> 2: the words aren't those of a command.
-    2> Refusals: 1 to 3, 41 to 46. docs/SPECIFICATION.md says what each means, and what to do.
+    2> Refusals: 1 to 3, 41 to 46. `depot help NUMBER` says what each means, and what to do.
+    2> First comes the file, then the user: the wrong way round another depot is made, in silence.
+    2> What is wrong with DB, `depot inspect DB` says; it makes no file.
     [2]
 
 ## help list
@@ -559,7 +617,9 @@ Help.
     2>
     2> Status 0: done. 1: refused, or the answer broke off, with one line on standard error.
     2> 2: the words aren't those of a command.
-    2> Refusals: 1, 43 to 45. docs/SPECIFICATION.md says what each means, and what to do.
+    2> Refusals: 1, 43 to 45. `depot help NUMBER` says what each means, and what to do.
+    2> First comes the file, then the user: the wrong way round another depot is made, in silence.
+    2> What is wrong with DB, `depot inspect DB` says; it makes no file.
     [2]
 
 ## help export
@@ -582,7 +642,9 @@ Help.
     2>
     2> Status 0: done. 1: refused, or the answer broke off, with one line on standard error.
     2> 2: the words aren't those of a command.
-    2> Refusals: 1, 40, 43 to 45. docs/SPECIFICATION.md says what each means, and what to do.
+    2> Refusals: 1, 40, 43 to 45. `depot help NUMBER` says what each means, and what to do.
+    2> First comes the file, then the user: the wrong way round another depot is made, in silence.
+    2> What is wrong with DB, `depot inspect DB` says; it makes no file.
     [2]
 
 ## help remove
@@ -604,7 +666,9 @@ Help.
     2>
     2> Status 0: done. 1: refused, or the answer broke off, with one line on standard error.
     2> 2: the words aren't those of a command.
-    2> Refusals: 1, 40, 43 to 45. docs/SPECIFICATION.md says what each means, and what to do.
+    2> Refusals: 1, 40, 43 to 45. `depot help NUMBER` says what each means, and what to do.
+    2> First comes the file, then the user: the wrong way round another depot is made, in silence.
+    2> What is wrong with DB, `depot inspect DB` says; it makes no file.
     [2]
 
 ## help migrate
@@ -624,7 +688,7 @@ Help.
     2>
     2> Status 0: done. 1: refused, or the answer broke off, with one line on standard error.
     2> 2: the words aren't those of a command.
-    2> Refusals: 1, 43, 45. docs/SPECIFICATION.md says what each means, and what to do.
+    2> Refusals: 1, 43, 45. `depot help NUMBER` says what each means, and what to do.
     [2]
 
 ## help inspect
@@ -644,7 +708,7 @@ Help.
     2>
     2> Status 0: it is a depot. 1: it is none, and the line says why; or refused, or the answer broke off,
     2> with one line on standard error. 2: the words aren't those of a command.
-    2> Refusals: 1, 43, 45. docs/SPECIFICATION.md says what each means, and what to do.
+    2> Refusals: 1, 43, 45. `depot help NUMBER` says what each means, and what to do.
     [2]
 
 ## help batch
@@ -671,7 +735,7 @@ Help.
     2>
     2> Status 0: the input has ended. 1: a line was refused 43, or this process 1, 43, 45 or 46, with one
     2> line on standard error. 2: the words aren't those of a command.
-    2> docs/SPECIFICATION.md says what each refusal means, and what to do.
+    2> `depot help NUMBER` says what each refusal means, and what to do.
     [2]
 
 ## help encode
@@ -691,7 +755,7 @@ Help.
     2>
     2> Status 0: done. 1: refused, or the answer broke off, with one line on standard error.
     2> 2: the words aren't those of a command.
-    2> Refusals: 1, 2, 45, 46. docs/SPECIFICATION.md says what each means, and what to do.
+    2> Refusals: 1, 2, 45, 46. `depot help NUMBER` says what each means, and what to do.
     [2]
 
 ## help decode
@@ -711,5 +775,53 @@ Help.
     2>
     2> Status 0: done. 1: refused, or the answer broke off, with one line on standard error.
     2> 2: the words aren't those of a command.
-    2> Refusals: 1, 2, 10, 45, 46. docs/SPECIFICATION.md says what each means, and what to do.
+    2> Refusals: 1, 2, 10, 45, 46. `depot help NUMBER` says what each means, and what to do.
+    [2]
+
+Help on a refusal, by its number or its name.
+
+## help on a refusal
+    $ depot help 44
+    2> 44 UserName
+    2>
+    2> This is no name of a user.
+    2>
+    2> It is 1 to 64 of a to z (small letters), 0 to 9, dot, underscore and hyphen: no @. First comes the
+    2> file of the depot, then the user.
+    [2]
+    $ depot help UserName 2> by_name
+    [2]
+    $ depot help 44 2> by_number
+    [2]
+    $ cmp by_name by_number
+    $ rm by_name by_number
+
+## help on what is no refusal
+    $ depot help 4
+    2> error: unrecognized subcommand '4'
+    2>
+    2> Usage: depot [COMMAND]
+    2>
+    2> For more information, try '--help'.
+    [2]
+    $ depot help database
+    2> error: unrecognized subcommand 'database'
+    2>
+    2> Usage: depot [COMMAND]
+    2>
+    2> For more information, try '--help'.
+    [2]
+    $ depot help 43 44
+    2> error: unrecognized subcommand '43'
+    2>
+    2> Usage: depot [COMMAND]
+    2>
+    2> For more information, try '--help'.
+    [2]
+    $ depot 43
+    2> error: unrecognized subcommand '43'
+    2>
+    2> Usage: depot [COMMAND]
+    2>
+    2> For more information, try '--help'.
     [2]

@@ -84,3 +84,39 @@ budget_below sums n p =
     let two = term_below sums n p 2 in
     let three = term_below sums n p 3 in
     omega arith
+
+-- ---- more parts
+
+pub chains_more : (a b k : ℕ) → a ≤ b → chains a k ≤ chains b k
+chains_more a b zero le = omega arith
+chains_more zero b (suc k) le = omega arith
+chains_more (suc a) zero (suc k) le = absurd (omega (arith, le))
+chains_more (suc a) (suc b) (suc k) le = omega (arith, chains_more a b k (omega (arith, le)), chains_more a b (suc k) (omega (arith, le)))
+
+powers_more : (a b k : ℕ) → a ≤ b → a ^ k ≤ b ^ k
+powers_more a b zero le = rw (pow-zero a, pow-zero b) (omega arith)
+powers_more a b (suc k) le = rw (pow-suc a k, pow-suc b k) (mul-le-mul (powers_more a b k le) le)
+
+-- so are the turns over them
+pub turns_more : (version a b k : ℕ) → a ≤ b → turns version a k ≤ turns version b k
+turns_more version a b k le = pick (version == 2)
+  where
+    pick : (by_chains : Bool) → (if by_chains then chains a k else powers_left a a k) ≤ (if by_chains then chains b k else powers_left b b k)
+    pick true = chains_more a b k le
+    pick false = omega (arith, powers_more a b k le, powers_are_left a k, powers_are_left b k)
+
+term_more : (sums : Sums) (n m p q k : ℕ) → n ≤ m → p ≤ q → term_at sums n p k ≤ term_at sums m q k
+term_more sums n m p q k octets parts =
+    let scaled : ℕ = slice_index sums.scaled k in
+    let each : scaled * (n + 1) ≤ scaled * (m + 1) = mul-le-mul_left scaled (omega (arith, octets)) in
+    let caps : slice_index sums.fixed k + scaled * (n + 1) ≤ slice_index sums.fixed k + scaled * (m + 1) = omega (arith, each) in
+    mul-le-mul caps (turns_more sums.version p q k parts)
+
+-- and what the sums allow
+pub budget_more : (sums : Sums) (n m p q : ℕ) → n ≤ m → p ≤ q → budget_at sums n p ≤ budget_at sums m q
+budget_more sums n m p q octets parts =
+    let none = term_more sums n m p q 0 octets parts in
+    let one = term_more sums n m p q 1 octets parts in
+    let two = term_more sums n m p q 2 octets parts in
+    let three = term_more sums n m p q 3 octets parts in
+    omega arith

@@ -41,3 +41,10 @@ pub fn turns_are_sets_or_powers()
     ensures { (version parts k : ℕ)
         → turns version parts k ≡ (if version == 2 then chains parts k else parts ^ k) }
 {}
+
+/// The budget is nowhere smaller at a message of more octets and more parts, and neither are the turns.
+pub fn budgets_grow_with_the_message()
+    ensures budget { (sums : Sums) → (n m p q : ℕ) → n ≤ m → p ≤ q
+        → budget_at sums n p ≤ budget_at sums m q }
+    ensures turns { (version p q k : ℕ) → p ≤ q → turns version p k ≤ turns version q k }
+{}

@@ -1,4 +1,4 @@
--- Reading a program from left to right, as the private readers do.
+-- Private: reading a program from left to right, as the readers do.
 -- A field is a value and the octets after it; None where the octets are no such field.
 use Rattle.std.specs.Prelude.{◌≡◌, ℕ, zero, suc, List, [], ◌∷◌, length, take, drop, Option, Some, None, Result, Ok, Err, nat_lt, nat_eq, ◌==◌, ◌||◌, codes, if◌then◌else◌}
 use Rattle.std.specs.Int.{Width, w16, w32, w64, byte_len, from_be_bytes}

@@ -4,6 +4,6 @@ pub mod Listing
 pub mod Tokens
 pub mod Labels
 pub mod Items
--- how the private writers and readers go
+-- private: how the code goes; no public contract names these
 pub mod Noted
 pub mod Readers

@@ -1,4 +1,4 @@
--- The notes that the writer of listings is given; nothing public rests on it.
+-- Private: the notes that the writer of listings is given.
 use Rattle.std.specs.Prelude.{None, slice_get, option_map}
 use Rattle.bytecode_listing.specs.declared.notes.Notes as given
 use Rattle.bytecode_listing.specs.declared.notes.Notes.TheVariants.{Without, Shares, Refusal}

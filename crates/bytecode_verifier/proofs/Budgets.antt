@@ -116,11 +116,11 @@ cap_at_fits code fits place = found (slice_get code.instructions place) (shape_a
     found (Some i) None here h = (lit≤ tt, lit≤ tt)
     found (Some i) (Some entries) here h = cap_fits (operation_of i.op) i entries (length_short code.instructions place i fits.each_instruction here) (shape_small code fits place entries h)
 
-sum_small : (f : ℕ → ℕ) (n most : ℕ) → ((place : ℕ) → f place ≤ most) → sum_below f n ≤ n * most
+pub sum_small : (f : ℕ → ℕ) (n most : ℕ) → ((place : ℕ) → f place ≤ most) → sum_below f n ≤ n * most
 sum_small f zero most h = omega arith
 sum_small f (suc n) most h = omega (arith, sum_small f n most h, h n)
 
-counted_small : (b : Bool) (n most : ℕ) → n ≤ most → cond b n 0 ≤ most
+pub counted_small : (b : Bool) (n most : ℕ) → n ≤ most → cond b n 0 ≤ most
 counted_small true n most h = h
 counted_small false n most h = omega arith
 

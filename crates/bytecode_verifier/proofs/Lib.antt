@@ -18,3 +18,4 @@ pub mod Around
 pub mod LoopRules
 pub mod Nesting
 pub mod Versions
+pub mod Numbers

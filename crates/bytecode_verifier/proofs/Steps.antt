@@ -71,7 +71,7 @@ cap_here : (code : Code) (place : ℕ) (i : Instruction) (entries : Entries) →
 cap_here code place i entries here shape = rw (here, shape) refl
 
 -- the four sums after one more number inside so many loops
-levels_more : (depth a b c d n : ℕ)
+pub levels_more : (depth a b c d n : ℕ)
     → (a + (if depth == 0 then n else 0)) ∷ (b + (if depth == 1 then n else 0)) ∷ (c + (if depth == 2 then n else 0)) ∷ (d + (if depth == 3 then n else 0)) ∷ []
     ≡ (if nat_le depth max_loops then slice_set (a ∷ b ∷ c ∷ d ∷ []) depth (slice_index (a ∷ b ∷ c ∷ d ∷ []) depth + n) else a ∷ b ∷ c ∷ d ∷ [])
 levels_more zero a b c d n = simp add-zero refl

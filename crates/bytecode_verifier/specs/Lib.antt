@@ -6,7 +6,9 @@ pub mod Shape
 pub mod Rules
 pub mod Acceptance
 pub mod Budget
--- how the verifier goes; nothing public rests on it
+-- how much a delivery files at most
+pub mod Counting
+-- private: how the code goes; no public contract names these
 pub mod Nests
 pub mod Pass
 pub mod Noting

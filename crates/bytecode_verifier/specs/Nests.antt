@@ -1,4 +1,4 @@
--- What the verifier knows of the loops at each place, with a list of open brackets.
+-- Private: what the verifier knows of the loops at each place, with a list of open brackets.
 use Rattle.std.specs.Prelude.{◌≡◌, ℕ, zero, suc, ◌<◌, Bool, not, ◌&&◌, List, [], ◌∷◌, Option, Some, if◌then◌else◌, length, drop, ◌==◌, slice_get}
 use Rattle.std.specs.Option.{option_map_or}
 use Rattle.bytecode_format.specs.declared.instruction.Instruction.{Instruction}

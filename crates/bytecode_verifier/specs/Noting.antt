@@ -1,4 +1,4 @@
--- The first places where rules are broken, with one more place.
+-- Private: the first places where rules are broken, with one more place.
 use Rattle.std.specs.Prelude.{◌≡◌, ℕ, Bool, ◌||◌}
 use Rattle.std.specs.Bool.{then_some}
 use Rattle.std.specs.Option.{option_or}

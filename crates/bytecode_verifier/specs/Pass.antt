@@ -1,4 +1,4 @@
--- What the verifier knows when it has passed the instructions below a place.
+-- Private: what the verifier knows when it has passed the instructions below a place.
 use Rattle.std.specs.Prelude.{◌≡◌, ℕ, ◌*◌, ◌^◌, ◌-◌, ◌≤◌, ◌==◌, length, List, [], ◌∷◌, Option, Some, None, if◌then◌else◌, is_none, nat_le, slice_index}
 use Rattle.octets.specs.Limits.{max_stack, max_string, max_loops}
 use Rattle.bytecode_format.specs.Code.{Code}
@@ -11,6 +11,8 @@ use Rattle.bytecode_verifier.specs.Shape.{Entries, Texts, Lists, shape_at}
 use Rattle.bytecode_verifier.specs.Rules.{breaks_index, breaks_form, breaks_loop, breaks_jump, breaks_no_part, breaks_stack}
 use Rattle.bytecode_verifier.specs.declared.cap.Cap.{Cap}
 use Rattle.bytecode_verifier.specs.Budget.{one_more_each, cap_at}
+use Rattle.bytecode_verifier.specs.declared.counting.Counted.{Counted}
+use Rattle.bytecode_verifier.specs.Counting.{number_below}
 
 -- the shape, unless it has failed at a place before
 abbrev pub unless_failed : Option ℕ → Entries → Option Entries
@@ -82,3 +84,13 @@ pub record HasPassed (code : Code) (place : ℕ) (pass : Pass) : Type 0 where
   -- each instruction adds at most so much to a sum
   pub fixed : (k : ℕ) → slice_index pass.budget.fixed k ≤ place * max_cap
   pub scaled : (k : ℕ) → slice_index pass.budget.scaled k ≤ place * max_cap
+
+-- the numbers as those of a budget, of which nothing is for each octet of the message
+abbrev pub numbers_below : Counted → Code → ℕ → Sums
+numbers_below counted code bound =
+    record {
+      version = code.version;
+      fixed = number_below counted code bound 0 ∷ number_below counted code bound 1 ∷ number_below counted code bound 2
+          ∷ number_below counted code bound 3 ∷ [];
+      scaled = 0 ∷ 0 ∷ 0 ∷ 0 ∷ [];
+    }

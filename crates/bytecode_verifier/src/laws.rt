@@ -1,11 +1,12 @@
 //! What holds of every program.
-ghost use Rattle.std.specs.Prelude.{◌≡◌, ◌↔◌, ℕ, ◌<◌, ◌≤◌, ◌^◌, None};
-ghost use Rattle.octets.specs.Limits.{max_message, max_parts};
+ghost use Rattle.std.specs.Prelude.{◌≡◌, ◌↔◌, ℕ, ◌+◌, ◌*◌, ◌<◌, ◌≤◌, ◌^◌, None};
+ghost use Rattle.octets.specs.Limits.{max_depth, max_message, max_parts};
 ghost use Rattle.bytecode_cost.specs.Sums.{budget_at};
 ghost use Rattle.bytecode_format.specs.Code.{Code};
 ghost use Rattle.bytecode_format.specs.Spelling.{IsProgram};
 ghost use Rattle.bytecode_verifier.specs.Budget.{budget_of};
 ghost use Rattle.bytecode_verifier.specs.Acceptance.{IsAccepted, refusal_of};
+ghost use Rattle.bytecode_verifier.specs.Counting.{entries_at, octets_at};
 
 /// A program is accepted exactly where there is nothing to refuse it with.
 pub fn accepted_or_refused()
@@ -29,4 +30,20 @@ pub fn budgets_do_not_grow_in_version_two()
         → budget_of (record code { version = 2 }) ≡ record (budget_of code) { version = 2 } }
     ensures values { (code : Code) → (n p : ℕ)
         → budget_at (budget_of (record code { version = 2 })) n p ≤ budget_at (budget_of code) n p }
+{}
+
+/// What a program may charge, and what a delivery to it files, is nowhere less at a message of more
+/// octets and more parts.
+pub fn limits_grow_with_the_message()
+    ensures charge { (code : Code) → (n m p q : ℕ) → n ≤ m → p ≤ q
+        → budget_at (budget_of code) n p ≤ budget_at (budget_of code) m q }
+    ensures entries { (code : Code) → (p q : ℕ) → p ≤ q → entries_at code p ≤ entries_at code q }
+    ensures octets { (code : Code) → (n m p q : ℕ) → n ≤ m → p ≤ q
+        → octets_at code n p ≤ octets_at code m q }
+{}
+
+/// Whatever the program, no delivery files more octets than the message has once, and once more for
+/// each depth of a part.
+pub fn octets_have_a_bound_for_all_programs()
+    ensures { (code : Code) → (n p : ℕ) → octets_at code n p ≤ (1 + max_depth) * n }
 {}

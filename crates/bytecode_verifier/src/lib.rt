@@ -6,6 +6,7 @@
 #![tactic(auto)]
 
 mod cap;
+mod counting;
 mod error;
 pub mod laws;
 mod loop_rules;

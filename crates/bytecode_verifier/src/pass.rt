@@ -193,9 +193,9 @@ impl Pass {
     }
 }
 
-// Adds the cap of an instruction inside so many loops; with more than there may be it counts nowhere.
+/// Adds the cap of an instruction inside so many loops; with more than there may be it counts nowhere.
 #[inline(always)]
-fn charge(budget: &mut Budget, depth: u32, cap: Cap)
+pub fn charge(budget: &mut Budget, depth: u32, cap: Cap)
     requires fixed { depth ≤ max_loops → slice_index budget.old.fixed depth + cap.fixed < 2 ^ 63 }
     requires scaled { depth ≤ max_loops
         → slice_index budget.old.scaled depth + cap.scaled < 2 ^ 63 }

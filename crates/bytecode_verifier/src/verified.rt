@@ -1,12 +1,15 @@
 // Programs that are accepted.
-ghost use Rattle.std.specs.Prelude.{◌≡◌, ◌≢◌, ◌<◌, ℕ, length, slice_get, IfOk, IfErr, Some, None};
+ghost use Rattle.std.specs.Prelude.{◌≡◌, ◌≢◌, ◌<◌, ◌≤◌, ℕ, length, slice_get, IfOk, IfErr, Some, None};
 ghost use Rattle.bytecode_verifier.specs.Acceptance.{IsAccepted, refusal_of};
 ghost use Rattle.bytecode_verifier.specs.Budget.{budget_of, share_at};
+ghost use Rattle.octets.specs.Limits.{max_parts};
+ghost use Rattle.bytecode_verifier.specs.Counting.{entries_at, octets_at};
 ghost use Rattle.bytecode_verifier.specs.Pass.{HasPassed};
 ghost use Rattle.bytecode_verifier.specs.Places.{least_place};
 ghost use Rattle.bytecode_verifier.specs.Rules.{breaks_end};
 ghost use Rattle.bytecode_verifier.specs.declared.error.Refusal.TheVariants.{Memory};
 
+use crate::counting::{entries_of, octets_of};
 use crate::error::Refusal;
 use crate::nest::nests_of;
 use crate::pass::{Here, Pass};
@@ -58,6 +61,30 @@ impl Verified {
             → slice_get shares.items place ≡ Some (share_at self.now place)) }
     {
         shares_of(alloc, &self.program)
+    }
+
+    /// How many entries a delivery of a message of so many parts to this program files at most: one
+    /// each time that KEEP, FILE or STORE may run, and one for the implicit keep.
+    ///
+    /// An error comes only where memory was refused. The time is linear in the number of
+    /// instructions.
+    pub fn entries(&self, alloc: Global, parts: u64) -> Result<u128, AllocError>
+        requires { parts ≤ max_parts }
+        ensures { IfOk result (λ entries. entries ≡ entries_at self.now parts) }
+    {
+        entries_of(alloc, &self.program, parts)
+    }
+
+    /// How many octets the contents that it files have together at most, each content once, where
+    /// the message has so many octets and parts.
+    ///
+    /// An error comes only where memory was refused. The time is linear in the number of
+    /// instructions.
+    pub fn octets(&self, alloc: Global, octets: u64, parts: u64) -> Result<u128, AllocError>
+        requires { parts ≤ max_parts }
+        ensures { IfOk result (λ filed. filed ≡ octets_at self.now octets parts) }
+    {
+        octets_of(alloc, &self.program, octets, parts)
     }
 
     /// The program.

@@ -1,1 +1,5 @@
+mod Ended
 mod Carried
+mod Served
+mod Saved
+mod Looked

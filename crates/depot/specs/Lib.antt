@@ -1,1 +1,7 @@
 pub mod Ending
+pub mod Errands
+pub mod Batches
+pub mod Programs
+pub mod Looks
+-- private: how the code goes; no public contract names these
+pub mod Private

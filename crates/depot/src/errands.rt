@@ -1,22 +1,23 @@
 //! Errands, from the open of their depot to its close.
 //!
 //! The promises hold for any type that stands for what the files held. The program passes the one of which nothing is known (`Unknown`),
-//! since what a file of the system holds no contract can say: what it runs is the same code.
+//! since what a file of the system holds no contract can say: what it runs is the same code. So it is with batches, with programs that
+//! are saved, and with looks.
 ghost use Rattle.sqlite.specs.Recovery.{Image};
 ghost use Rattle.sqlite.specs.WalFiles.{image_at};
 ghost use Rattle.depot_cli.specs.Tasks.{command_of};
-ghost use Rattle.depot.specs.Ending.{HasEnded, IsFound, IsShut};
+ghost use Rattle.depot.specs.Ending.{IsToldAs};
+ghost use Rattle.depot.specs.Private.{IsFound, IsLeftOf};
+ghost use Rattle.depot.specs.Errands.{HasEnded, answer};
 
+use crate::closing::{Left, close};
 use depot_actions::Depot;
 use depot_cli::{Errand, carry};
 use encodings::Sink;
 use refusals::Refusal;
-use sqlite::{FileFrom, FileStore, Files, Start};
+use sqlite::{FileFrom, FileStore, Start};
 use sqlite_disk::Disk;
 use std::alloc::Global;
-
-/// What is left of files that were opened: both, closed; or the store that their close failed to let go of.
-pub type Left<D> = Result<Files<D>, FileStore<D>>;
 
 /// Opens the depot that an errand names, has the errand carried to it, and closes it. Gives the status, and what is left of the files;
 /// none where the depot wasn't opened.
@@ -35,7 +36,8 @@ pub fn carry_from<B: Start, O: Sink, E: Sink>(
     err: &mut E,
 ) -> (u8, Option<Left<FileFrom<B>>>)
     ensures ended { HasEnded
-        (record { command = command_of errand.now.task; status = result.0; out = O.output out.old; err = E.output err.old; out_after = O.output out.new; err_after = E.output err.new })
+        (answer (command_of errand.now.task) result.0 (O.output out.old) (E.output err.old)
+        (O.output out.new) (E.output err.new))
         (image_at B.Start) result.1 }
 {
     let opened = Depot::open_from(rt, errand.name, start);
@@ -51,24 +53,14 @@ fn carry_and_close<D: Disk + Drop, O: Sink, E: Sink>(
     err: &mut E,
 ) -> (u8, Option<Left<D>>)
     ensures ended { (image : Image) → IsFound image opened → HasEnded
-        (record { command = command_of errand.now.task; status = result.0; out = O.output out.old; err = E.output err.old; out_after = O.output out.new; err_after = E.output err.new })
+        (answer (command_of errand.now.task) result.0 (O.output out.old) (E.output err.old)
+        (O.output out.new) (E.output err.new))
         image result.1 }
+    ensures told { IsLeftOf (λ e. IsToldAs e result.0 (O.output out.old) (E.output err.old)
+        (O.output out.new) (E.output err.new)) opened result.1 }
 {
     let mut opened = opened;
     let status = carry(alloc, errand, &mut opened, out, err);
-    (status, close(opened))
-}
-
-/// Closes the depot that was opened, if one was, which copies its log into the file. Where that fails the log stays, and the next open
-/// copies it.
-pub fn close<D: Disk + Drop, W: Drop>(opened: Result<Depot<FileStore<D>>, W>) -> Option<Left<D>>
-    ensures shut { IsShut opened result }
-{
-    match opened {
-        Ok(depot) => match depot.release().close_files() {
-            Ok(files) => Some(Ok(files)),
-            Err((_, last)) => Some(Err(last)),
-        },
-        Err(_) => None,
-    }
+    let left = close(opened);
+    (status, left)
 }

@@ -1,16 +1,21 @@
 // Hands the words and the system to the command line, and its errands to the depot that they name.
 #![tactic(auto)]
 
+mod batches;
+mod closing;
 mod errands;
+mod looks;
 mod place;
+mod programs;
 mod streams;
 
-use crate::errands::{carry_from, close};
+use crate::batches::serve_from;
+use crate::errands::carry_from;
+use crate::looks::inspect_from;
 use crate::place::{Obstacle, look_at};
+use crate::programs::save_from;
 use crate::streams::hold_closed;
-use depot_actions::Depot;
-use depot_batch::batch;
-use depot_cli::{Errand, Next, Saving, inspect_opened, run, save, tell_no_depot};
+use depot_cli::{Errand, Next, Saving, run, tell_no_depot};
 use depot_jobs::{Host, System, tell, tell_no_words, texts, words};
 use encodings::{OfRead, OfWrite, Sink};
 use refusals::Refusal;
@@ -76,9 +81,7 @@ fn save_program<H: Host, O: Sink, E: Sink>(
     out: &mut O,
     err: &mut E,
 ) -> u8 {
-    let mut opened = Depot::open(rt, saving.name);
-    let status = save(rt.alloc(), saving, &mut opened, host, out, err);
-    close(opened);
+    let (status, _left) = save_from(rt, saving, Unknown, host, out, err);
     status
 }
 
@@ -92,17 +95,7 @@ fn take_batch<H: Host, E: Sink>(rt: &HostRuntime, name: &str, host: &mut H, err:
     };
     let mut input = OfRead::new(reader);
     let mut out = OfWrite::new(writer);
-    let mut opened = Depot::open(rt, name);
-    let status = batch(
-        rt.alloc(),
-        name,
-        &mut opened,
-        host,
-        &mut input,
-        &mut out,
-        err,
-    );
-    close(opened);
+    let (status, _left) = serve_from(rt, name, Unknown, host, &mut input, &mut out, err);
     status
 }
 
@@ -110,9 +103,7 @@ fn take_batch<H: Host, E: Sink>(rt: &HostRuntime, name: &str, host: &mut H, err:
 fn inspect_file<O: Sink, E: Sink>(rt: &HostRuntime, name: &str, out: &mut O, err: &mut E) -> u8 {
     match look_at(rt, name) {
         Ok(log) => {
-            let mut opened = Depot::look(rt, name);
-            let status = inspect_opened(rt.alloc(), log, &mut opened, out, err);
-            close(opened);
+            let (status, _left) = inspect_from(rt, name, log, Unknown, out, err);
             status
         }
         Err(Obstacle::NoDepot(why)) => tell_no_depot(out, err, why),

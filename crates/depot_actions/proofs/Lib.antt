@@ -11,3 +11,4 @@ pub mod Crashing
 pub mod Surveying
 mod Examples
 pub mod StoreFaults
+pub mod Adding

@@ -12,7 +12,8 @@ use Rattle.part_store.specs.declared.error.StoreError.TheVariants as store
 use Rattle.part_store.proofs.Failing.{later_failed}
 use Rattle.refusals.specs.declared.refusal.Refusal.{Refusal}
 use Rattle.refusals.specs.declared.refusal.Refusal.TheVariants.{Database}
-use Rattle.depot_actions.specs.Causes.{of_store, IsStoreFault}
+use Rattle.depot_actions.specs.Causes.{IsStoreFault}
+use Rattle.depot_actions.specs.Private.{of_store}
 use Rattle.depot_actions.proofs.Commands.{stands_still}
 
 of_database : (e : StoreError) → of_store e ≡ Database → e ≡ store.Database

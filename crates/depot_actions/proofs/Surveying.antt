@@ -6,7 +6,7 @@ use Rattle.std.proofs.lemmas.List.Sums.{sum_by-cons}
 use Rattle.sqlite.specs.Effect.{Database}
 use Rattle.sqlite.specs.State.{State, HasCleanDisk, Survives}
 use Rattle.sqlite.proofs.StateLemmas.{survives_then}
-use Rattle.part_store.specs.Changes.{contents_tree, users_tree}
+use Rattle.part_store.specs.Tables.{contents_tree, users_tree}
 use Rattle.part_store.specs.Entries.{Entries, Listing, entries_of, listing_of}
 use Rattle.part_store.specs.Standing.{Spares, Stands, listed}
 use Rattle.part_store.specs.Totals.{IsTotalOf}

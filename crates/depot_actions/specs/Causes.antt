@@ -14,9 +14,8 @@ use Rattle.part_store.specs.Entries.{AreProgramsOf, Entries, Listing, UserProgra
 use Rattle.part_store.specs.Filing.{Collides, HasRoom}
 use Rattle.part_store.specs.Refusals.{HasFailed, HasNoUserRoom, HaveNoUserRoom, LackRoom}
 use Rattle.part_store.specs.Totals.{octets_of}
-use Rattle.part_store.specs.Changes.{contents_tree}
+use Rattle.part_store.specs.Tables.{contents_tree}
 use Rattle.part_store.specs.Standing.{HasNone, Stands}
-use Rattle.part_store.specs.declared.error.StoreError.{StoreError}
 use Rattle.part_store.specs.declared.error.StoreError.TheVariants as store
 use Rattle.refusals.specs.declared.refusal.Refusal.{Refusal}
 use Rattle.refusals.specs.declared.refusal.Refusal.TheVariants.{Memory, NoSuchEntry, NumberFull, Collision, Database, UserName, Write}
@@ -176,11 +175,3 @@ abbrev pub MayRefuse : Command → Refusal → Type 0
 MayRefuse command refusal =
     ((refusal ≡ UserName) × (IsNamed command → ⊥))
     ⊎ (IsNamed command × ((refusal ≡ Memory) ⊎ (IsOwn command refusal ⊎ ((refusal ≡ Database) × IsSound command))))
-
--- an error of the store, as the refusal of its name
-abbrev pub of_store : StoreError → Refusal
-of_store store.Memory = Memory
-of_store store.NoSuchEntry = NoSuchEntry
-of_store store.NumberFull = NumberFull
-of_store store.Collision = Collision
-of_store store.Database = Database

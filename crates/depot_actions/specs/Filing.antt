@@ -1,4 +1,4 @@
--- How the code files what actions ask for.
+-- Private: how the code files what actions ask for.
 use Rattle.std.specs.Prelude.{◌≡◌, ◌⊎◌, ℕ, ◌+◌, IsTrue, List, [], Option, None, IfSome, IsSome, length, map, slice_index_or}
 use Rattle.std.specs.List.{HoldsAt}
 use Rattle.std.specs.Cow.{cow_slice_items}

@@ -1,12 +1,15 @@
 pub mod Users
 pub mod Drafts
 pub mod DepotState
+-- how much a delivery files
+pub mod Amounts
 pub mod Causes
 pub mod History
 pub mod Runs
 pub mod Overviews
 -- how programs get the latest version
 pub mod Renewing
--- how what actions ask for is filed; nothing public rests on this
+-- private: how the code goes; no public contract names these
 pub mod Filing
 pub mod Sources
+pub mod Private

@@ -5,7 +5,7 @@ use Rattle.sqlite_trees.specs.Tree.{Trees}
 use Rattle.bytecode_format.specs.Code.{Code}
 use Rattle.sieve_engine.specs.Execution.{IsChecked, IsProgramRefusal}
 use Rattle.refusals.specs.declared.refusal.Refusal.TheVariants as refusals
-use Rattle.part_store.specs.Changes.{contents_tree, users_tree}
+use Rattle.part_store.specs.Tables.{contents_tree, users_tree}
 use Rattle.part_store.specs.Entries.{Entries, Listing, entries_of, listing_of}
 use Rattle.part_store.specs.Totals.{IsTotalOf}
 use Rattle.part_store.specs.UserLines.{AreUsersOf, UserLine}

@@ -1,4 +1,4 @@
--- Where the contents of actions come from.
+-- Private: where the contents of actions come from.
 use Rattle.std.specs.Prelude.{◌≡◌, ℕ, ◌<◌, List, Option, None, IfSome, length, slice_index_or}
 use Rattle.bytecode_format.specs.declared.action.Action.{Action}
 use Rattle.bytecode_format.specs.declared.action.Action.TheVariants.{Keep, File, Store}

@@ -13,7 +13,7 @@ ghost use Rattle.depot_actions.specs.Drafts.{drafts_of};
 ghost use Rattle.depot_actions.specs.Filing.{Adds, IsUnfiled, MayFile, MayUnfile};
 ghost use Rattle.part_store.specs.Calls.{Always, IfDone, IfRefused, MayCommit, OnRefused, StaysShut};
 
-use crate::checking::check_stored;
+use crate::checked_program::CheckedProgram;
 use crate::contents::shared_contents;
 use crate::entries::new_entries;
 use crate::kept_parts::kept_parts;
@@ -23,11 +23,11 @@ use bytecode_format::Action;
 use mime_decode::Message;
 use part_store::{EntryRow, NewEntry, PartStore, Shared};
 use refusals::Refusal;
-use sieve_vm::run;
 use sqlite::Alter;
 use std::alloc::{AllocError, Global};
 
-/// The final actions of a user's program on a message, or Keep where he has none.
+/// The final actions of a user's program on a message, or Keep where he has none. The program that was checked last isn't checked
+/// again, and a program that was run is then the last one.
 ///
 /// # Errors
 ///
@@ -35,6 +35,7 @@ use std::alloc::{AllocError, Global};
 pub(crate) fn actions_of(
     alloc: Global,
     program: Option<Vec<u8>>,
+    last: &mut Option<CheckedProgram>,
     message: &Message,
 ) -> Result<Vec<Action>, Refusal>
     ensures actions { IfOk result
@@ -44,13 +45,13 @@ pub(crate) fn actions_of(
     ensures cause { IfErr result
         (λ e. e ≡ Database → IsSpoilt (option_map (λ v. v.items) program)) }
 {
-    let Some(program) = program else {
+    let Some(octets) = program else {
         return Ok(keep_alone(alloc)?);
     };
-    let verified = check_stored(alloc, &program)?;
-    // What holds of every message is known where it is asked.
-    let _size = message.size();
-    Ok(run(alloc, &verified, message)?.actions)
+    let program = CheckedProgram::check(alloc, octets, last.take())?;
+    let actions = program.actions_on(alloc, message)?;
+    *last = Some(program);
+    Ok(actions)
 }
 
 // Keep and no other action.

@@ -17,6 +17,7 @@ ghost use Rattle.part_store.specs.Looking.{are_tables};
 ghost use Rattle.encodings.specs.Device.{HasBegun, HasBroken, HasTaken};
 ghost use Rattle.part_store.specs.Calls.{Always, CommitsNothing, IfDone, IfRefused, MayCommit, OnDone, OnRefused};
 
+use crate::checked_program::CheckedProgram;
 use crate::checking::check_code;
 use crate::delivery::{actions_of, file_all};
 use crate::inspecting::look_over;
@@ -39,6 +40,7 @@ use std::marker::Model;
 /// refused. A refused command changes nothing.
 pub struct Depot<S: Alter> {
     store: PartStore<S>,
+    last: Option<CheckedProgram>,
 }
 
 impl<S: Alter> Model for Depot<S> {
@@ -53,7 +55,7 @@ impl<S: Alter> Model for Depot<S> {
 
 impl<S: Alter + Drop> Drop for Depot<S> {
     fn drop(self) {
-        let Depot { store: _ } = self;
+        let Depot { store: _, last: _ } = self;
     }
 }
 
@@ -62,14 +64,14 @@ impl<S: Alter> Depot<S> {
     pub fn adopt(store: PartStore<S>) -> Depot<S>
         ensures { result ≡ store }
     {
-        Depot { store }
+        Depot { store, last: None }
     }
 
     /// Gives the store back.
     pub fn release(self) -> PartStore<S>
         ensures { result ≡ self }
     {
-        let Depot { store } = self;
+        let Depot { store, last: _ } = self;
         store
     }
 
@@ -153,7 +155,7 @@ impl<S: Alter> Depot<S> {
         }
         let mail = Message::read(alloc, message)?;
         let program = self.store.program_of(user).map_err(refused)?;
-        let actions = actions_of(alloc, program, &mail)?;
+        let actions = actions_of(alloc, program, &mut self.last, &mail)?;
         if actions.is_empty() {
             return Ok(Vec::new(alloc));
         }
@@ -328,7 +330,7 @@ impl Depot<MemStore> {
         ensures refused { IfErr result (λ e. (e ≡ Memory) ⊎ (e ≡ Database)) }
     {
         match PartStore::in_memory(alloc) {
-            Ok(store) => Ok(Depot { store }),
+            Ok(store) => Ok(Depot { store, last: None }),
             Err(error) => Err(refused(error)),
         }
     }
@@ -356,7 +358,7 @@ impl<B: Start> Depot<FileStore<FileFrom<B>>> {
         ensures refused { IfErr result (λ e. (e ≡ Memory) ⊎ (e ≡ Database)) }
     {
         match PartStore::open_from(rt, path, start) {
-            Ok(store) => Ok(Depot { store }),
+            Ok(store) => Ok(Depot { store, last: None }),
             Err(error) => Err(refused(error)),
         }
     }
@@ -379,7 +381,7 @@ impl<B: Start> Depot<FileStore<FileFrom<B>>> {
         ensures cause { TellsWhy (image_at B.Start) result }
     {
         match PartStore::look_from(rt, path, start) {
-            Ok(store) => Ok(Depot { store }),
+            Ok(store) => Ok(Depot { store, last: None }),
             Err(why) => Err(why),
         }
     }

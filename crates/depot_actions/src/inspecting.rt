@@ -2,7 +2,7 @@
 ghost use Rattle.std.specs.Prelude.{◌≡◌, ◌⊎◌, ◌^◌, ◌≤◌, IfErr, IfOk, IsTrue, map, option_map, string_bytes};
 ghost use Rattle.std.specs.List.{sum_by};
 ghost use Rattle.sqlite.specs.Held.{state};
-ghost use Rattle.part_store.specs.Changes.{contents_tree, users_tree};
+ghost use Rattle.part_store.specs.Tables.{contents_tree, users_tree};
 ghost use Rattle.part_store.specs.Entries.{Entries, Listing, entries_of, listing_of};
 ghost use Rattle.part_store.specs.Standing.{Spares, Stands, listed};
 ghost use Rattle.part_store.specs.Totals.{IsTotalOf};

@@ -1,5 +1,6 @@
 //! What holds of the definitions alone.
-ghost use Rattle.std.specs.Prelude.{◌≡◌, ℕ, List, IsTrue, Some};
+ghost use Rattle.std.specs.Prelude.{◌≡◌, ◌≤◌, ◌+◌, ◌*◌, ℕ, List, IsTrue, Some, length};
+ghost use Rattle.octets.specs.Limits.{max_depth};
 ghost use Rattle.bytecode_format.specs.declared.action.Action.{Action};
 ghost use Rattle.mime_decode.specs.Mail.{Mail};
 ghost use Rattle.sqlite.specs.Held.{Held, state};
@@ -10,8 +11,9 @@ ghost use Rattle.part_store.specs.Crashes.{IsCutOff, IsRefusedOpen};
 ghost use Rattle.part_store.specs.Entries.{Entries};
 ghost use Rattle.part_store.specs.Opening.{HoldsState};
 ghost use Rattle.part_store.specs.Standing.{Stands};
+ghost use Rattle.depot_actions.specs.Amounts.{AppendsWithin, IsLimit};
 ghost use Rattle.depot_actions.specs.Causes.{IsFull, NamesNone};
-ghost use Rattle.depot_actions.specs.DepotState.{Accepts, AreActions, Command, IsNamed, Migrate, Reply};
+ghost use Rattle.depot_actions.specs.DepotState.{Accepts, AreActions, Command, Deliver, IsNamed, Migrate, Reply};
 ghost use Rattle.depot_actions.specs.History.{AreAnswered, AreSteps, Call};
 ghost use Rattle.depot_actions.specs.Renewing.{RunsAs};
 ghost use Rattle.depot_actions.specs.Runs.{AreLed, HoldFold, IsRun, Leads, NotOpened, Past, Run, session_of};
@@ -85,4 +87,16 @@ pub fn migrated_programs_run_as_before()
     ensures { (before after : Entries) (reply : Reply) → Accepts before Migrate reply after
         → (user program : List ℕ) → before.programs user ≡ Some program
         → (renewed : List ℕ) × (after.programs user ≡ Some renewed) × RunsAs program renewed }
+{}
+
+/// A delivery appends at most as many entries as its limit says, and their contents have together, each
+/// content once, at most as many octets as the limit says: to a user without a program one entry with
+/// the message, else what the program's code allows at the message's octets and parts. Whatever the
+/// filter, that is at most 33 times the message: once itself, and once for each depth of a part.
+pub fn deliveries_stay_within_their_limit()
+    ensures { (before after : Entries) (user message : List ℕ) (reply : Reply)
+        → Accepts before (Deliver user message) reply after
+        → (entries octets : ℕ) × IsLimit (before.programs user) message entries octets
+        × (octets ≤ (1 + max_depth) * length message)
+        × AppendsWithin entries octets before after }
 {}

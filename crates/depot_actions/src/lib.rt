@@ -8,6 +8,7 @@
 //! [`Depot::inspect`] tells what a depot holds, user by user (`specs/Overviews`), to whoever keeps it.
 #![tactic(auto)]
 
+mod checked_program;
 mod checking;
 mod contents;
 mod delivery;

@@ -1,6 +1,6 @@
 // The errors of the store, as refusals.
 ghost use Rattle.std.specs.Prelude.{◌≡◌};
-ghost use Rattle.depot_actions.specs.Causes.{of_store};
+ghost use Rattle.depot_actions.specs.Private.{of_store};
 
 use part_store::StoreError;
 use refusals::Refusal;

@@ -9,7 +9,8 @@ use Rattle.encodings.specs.Supply.{HasGiven, Supply}
 use Rattle.refusals.specs.declared.refusal.Refusal.{Refusal}
 use Rattle.refusals.specs.declared.refusal.Refusal.TheVariants.{Database, Write}
 use Rattle.depot_jobs.specs.Jobs.{HasTold}
-use Rattle.depot_batch.specs.Batch.{AreAnswered, HasServed, HasServedLast, IsAnswered, IsBrokenOff, Office}
+use Rattle.depot_batch.specs.Batch.{AreAnswered, HasServed, IsAnswered, IsBrokenOff, Office}
+use Rattle.depot_batch.specs.Answers.{HasServedLast}
 use Rattle.depot_batch.specs.Lines.{HasNotTaken, HasTakenAll, IsLine, IsUnfinished}
 use Rattle.depot_batch.specs.declared.outcome.Outcome.{Outcome}
 use Rattle.depot_batch.specs.declared.outcome.Outcome.TheVariants.{Refused}

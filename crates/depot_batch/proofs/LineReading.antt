@@ -6,7 +6,8 @@ use Rattle.std.specs.List.{All}
 use Rattle.std.proofs.lemmas.List.{length-append}
 use Rattle.std.proofs.Math.Seq.{take-append_seam}
 use Rattle.std.proofs.lemmas.List.Elements.{All-push}
-use Rattle.depot_batch.specs.Lines.{EndsSo, IsLine, IsTaken, IsUnfinished}
+use Rattle.depot_batch.specs.Lines.{IsLine, IsUnfinished}
+use Rattle.depot_batch.specs.Private.{EndsSo, IsTaken}
 use Rattle.depot_batch.specs.declared.reading.Taken.{Taken}
 use Rattle.depot_batch.specs.declared.reading.Taken.TheVariants.{Line, Unfinished, Nothing}
 

@@ -7,7 +7,8 @@ use Rattle.std.specs.Borrow.{Bor}
 use Rattle.std.proofs.lemmas.Bool.Decides.{nat_tests}
 use Rattle.std.specs.Option.{option_map}
 use Rattle.octets.specs.Escapes.{escape_at, octet_of_digits, said_at}
-use Rattle.depot_batch.specs.Words.{Escape, Plain, before_first, ending, is_gap, is_quoted_after, parted, parted_at, said_before, said_from, texts_from, texts_of, with_word, word_in, words_in, words_of}
+use Rattle.depot_batch.specs.Words.{Escape, Plain, before_first, ending, is_gap, is_quoted_after, said_before, said_from, texts_from, texts_of, with_word, word_in, words_in, words_of}
+use Rattle.depot_batch.specs.Private.{parted, parted_at}
 
 -- octets that begin with what ends a text
 pub at_gap : (quoted : Bool) (octet : ℕ) (rest : List ℕ) → is_gap octet quoted ≡ true → texts_from quoted (octet ∷ rest) ≡ parted_at 0 (octet ∷ rest)

@@ -110,6 +110,54 @@ module _ {S : Type 0} (g : Ghosts S) where
   IsRefused name (Reply request) refusal old new host host2 = HasNotReplied request refusal old new host host2
   IsRefused name (IntoFile export) refusal old new host host2 = HasNotExported name export refusal old new host host2
 
+-- ---- line by line
+
+-- Lines are answered one after another, by what they are answered with before each and after it. How
+-- a line is answered with this outcome, and what it is that its answer broke off, is said elsewhere.
+module _ {T : Type 0} (Answered : List ℕ → Outcome → T → T → Type 0) (BrokenOff : List ℕ → T → T → Type 0) where
+  -- the last octets of the input were answered, in which no line break is; or the answer broke off
+  abbrev pub HasServedLastBy : ℕ → List ℕ → T → T → Output → Output → Type 0
+  HasServedLastBy status octets old new err err2 =
+      ((status ≡ 0) × (outcome : Outcome) × Answered octets outcome old new × (err2 ≡ err))
+      ⊎ ((status ≡ 1) × BrokenOff octets old new × HasTold Write err err2)
+
+  -- Why a batch ends, with this status, after so many lines and these last octets, of an input that
+  -- had so much left and has this left now: at the end of the input, or of counting; at the end of
+  -- the input within a line, which is answered as what it is; after a line that is refused
+  -- `Database`; after one whose answer broke off, which is told on standard error; or since no line
+  -- could be read, which is told there.
+  abbrev pub EndsBy : ℕ → ℕ → List ℕ → Supply → Supply → T → T → Output → Output → Type 0
+  EndsBy status lines last rest left old new err err2 =
+      ((status ≡ 0) × (last ≡ []) × (HasTakenAll [] rest left ⊎ ((lines ≡ 2 ^ 64 - 1) × (left ≡ rest)))
+      × (new ≡ old) × (err2 ≡ err))
+      ⊎ (IsUnfinished last × HasTakenAll last rest left × HasServedLastBy status last old new err err2)
+      ⊎ ((status ≡ 1) × IsLine last × HasGiven last rest left × Answered last (Refused Database) old new
+      × (err2 ≡ err))
+      ⊎ ((status ≡ 1) × IsLine last × HasGiven last rest left × BrokenOff last old new × HasTold Write err err2)
+      ⊎ ((status ≡ 1) × (refusal : Refusal) × HasNotTaken refusal last rest left × HasTold refusal err err2
+      × (new ≡ old))
+
+-- lines of a batch were answered, one after another; none was refused `Database`
+abbrev pub AreAnsweredBy : {T : Type 0} → (List ℕ → Outcome → T → T → Type 0) → List (List ℕ) → T → T → Type 0
+AreAnsweredBy Answered [] old new = new ≡ old
+AreAnsweredBy {T} Answered (octets ∷ lines) old new =
+    IsLine octets × (outcome : Outcome) × (mid : T) × Answered octets outcome old mid
+    × (outcome ≢ Refused Database)
+    × AreAnsweredBy Answered lines mid new
+
+-- a batch was served, with this status: lines were read and answered one after another, until it ended
+pub record HasServedBy {T : Type 0} (Answered : List ℕ → Outcome → T → T → Type 0) (BrokenOff : List ℕ → T → T → Type 0)
+    (status : ℕ) (input input2 : Supply) (old new : T) (err err2 : Output) : Type 0 where
+  pub lines : List (List ℕ)
+  pub rest : Supply
+  pub read : HasGiven (concat lines) input rest
+  pub mid : T
+  pub answered : AreAnsweredBy Answered lines old mid
+  pub last : List ℕ
+  pub ended : EndsBy Answered BrokenOff status (length lines) last rest input2 mid new err err2
+
+-- ---- on a depot
+
 -- what lines are answered with: the depot, the host and standard output
 pub record Office (S : Type 0) : Type 0 where
   pub depot : Held S
@@ -160,11 +208,7 @@ module _ {S : Type 0} (g : Ghosts S) where
 
   -- lines of a batch were answered, one after another; none was refused `Database`
   abbrev pub AreAnswered : Text → List (List ℕ) → Office S → Office S → Type 0
-  AreAnswered name [] old new = new ≡ old
-  AreAnswered name (octets ∷ lines) old new =
-      IsLine octets × (outcome : Outcome) × (mid : Office S) × IsAnswered name octets outcome old mid
-      × (outcome ≢ Refused Database)
-      × AreAnswered name lines mid new
+  AreAnswered name lines old new = AreAnsweredBy (IsAnswered name) lines old new
 
   -- the trees are what a command of one of the lines makes of what the lines before it left
   pub record IsMadeAtOne (name : Text) (lines : List (List ℕ)) (old : Office S) (trees : Trees) : Type 0 where
@@ -179,37 +223,10 @@ module _ {S : Type 0} (g : Ghosts S) where
     pub host : HostState
     pub made : MayMake asked (state g mid.depot) mid.host host trees
 
-  -- the last octets of the input were answered, in which no line break is; or the answer broke off
-  abbrev pub HasServedLast : Text → ℕ → List ℕ → Office S → Office S → Output → Output → Type 0
-  HasServedLast name status octets old new err err2 =
-      ((status ≡ 0) × (outcome : Outcome) × IsAnswered name octets outcome old new × (err2 ≡ err))
-      ⊎ ((status ≡ 1) × IsBrokenOff name octets old new × HasTold Write err err2)
-
-  -- Why a batch ends, with this status, after so many lines and these last octets, of an input that
-  -- had so much left and has this left now: at the end of the input, or of counting; at the end of
-  -- the input within a line, which is answered as what it is; after a line that is refused
-  -- `Database`; after one whose answer broke off, which is told on standard error; or since no line
-  -- could be read, which is told there.
-  abbrev pub Ends : Text → ℕ → ℕ → List ℕ → Supply → Supply → Office S → Office S → Output → Output → Type 0
-  Ends name status lines last rest left old new err err2 =
-      ((status ≡ 0) × (last ≡ []) × (HasTakenAll [] rest left ⊎ ((lines ≡ 2 ^ 64 - 1) × (left ≡ rest)))
-      × (new ≡ old) × (err2 ≡ err))
-      ⊎ (IsUnfinished last × HasTakenAll last rest left × HasServedLast name status last old new err err2)
-      ⊎ ((status ≡ 1) × IsLine last × HasGiven last rest left × IsAnswered name last (Refused Database) old new
-      × (err2 ≡ err))
-      ⊎ ((status ≡ 1) × IsLine last × HasGiven last rest left × IsBrokenOff name last old new × HasTold Write err err2)
-      ⊎ ((status ≡ 1) × (refusal : Refusal) × HasNotTaken refusal last rest left × HasTold refusal err err2
-      × (new ≡ old))
-
-  -- a batch was served, with this status: lines were read and answered one after another, until it ended
-  pub record HasServed (name : Text) (status : ℕ) (input input2 : Supply) (old new : Office S) (err err2 : Output) : Type 0 where
-    pub lines : List (List ℕ)
-    pub rest : Supply
-    pub read : HasGiven (concat lines) input rest
-    pub mid : Office S
-    pub answered : AreAnswered name lines old mid
-    pub last : List ℕ
-    pub ended : Ends name status (length lines) last rest input2 mid new err err2
+  -- a batch was served, with this status
+  abbrev pub HasServed : Text → ℕ → Supply → Supply → Office S → Office S → Output → Output → Type 0
+  HasServed name status input input2 old new err err2 =
+      HasServedBy (IsAnswered name) (IsBrokenOff name) status input input2 old new err err2
 
   -- What opening a depot gave was served a batch, with this status, and it is open still; or the
   -- refusal of opening was told, with status 1, and nothing else happened.

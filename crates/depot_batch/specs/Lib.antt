@@ -4,5 +4,6 @@ pub mod Lines
 pub mod Sentences
 pub mod Batch
 pub mod Closings
--- how a line's answer is put together; nothing public rests on this
+-- private: how the code goes; no public contract names these
 pub mod Answers
+pub mod Private

@@ -1,12 +1,10 @@
 -- The lines of an input.
-use Rattle.std.specs.Prelude.{◌≡◌, ◌≢◌, ℕ, List, [], ◌∷◌, ◌++◌, Option, IfSome, true}
+use Rattle.std.specs.Prelude.{◌≡◌, ◌≢◌, ℕ, List, [], ◌∷◌, ◌++◌, IfSome, true}
 use Rattle.std.specs.Io.{StopsAt}
 use Rattle.std.specs.List.{All}
 use Rattle.encodings.specs.Supply.{HasGiven, HasStoppedGiving, Supply}
 use Rattle.refusals.specs.declared.refusal.Refusal.{Refusal}
 use Rattle.refusals.specs.declared.refusal.Refusal.TheVariants.{Memory, Read}
-use Rattle.depot_batch.specs.declared.reading.Taken.{Taken}
-use Rattle.depot_batch.specs.declared.reading.Taken.TheVariants.{Line, Unfinished, Nothing}
 
 -- a line: octets with no line break among them, and one after them
 pub record IsLine (octets : List ℕ) : Type 0 where
@@ -25,29 +23,9 @@ pub record HasTakenAll (octets : List ℕ) (old new : Supply) : Type 0 where
   pub all : IfSome old.left (λ left. left ≡ octets)
   pub flag : new.has_ended ≡ true
 
--- what was taken of an input next: a line; what it ends with; or nothing, at its end
-abbrev pub HasTakenNext : Taken → List ℕ → Supply → Supply → Type 0
-HasTakenNext Line octets old new = IsLine octets × HasGiven octets old new
-HasTakenNext Unfinished octets old new = IsUnfinished octets × HasTakenAll octets old new
-HasTakenNext Nothing octets old new = (octets ≡ []) × HasTakenAll [] old new
-
 -- Why no line was taken: memory was refused, or a call failed; the octets that were given before
 -- have no line break among them but perhaps as the last.
 abbrev pub HasNotTaken : Refusal → List ℕ → Supply → Supply → Type 0
 HasNotTaken Memory octets old new = StopsAt octets 10 × HasGiven octets old new
 HasNotTaken Read octets old new = StopsAt octets 10 × HasStoppedGiving octets old new
 HasNotTaken _ octets old new = ⊥
-
--- ---- how the code reads; nothing public rests on this
-
--- how octets end
-abbrev pub EndsSo : Taken → List ℕ → Type 0
-EndsSo Line octets = (text : List ℕ) × (octets ≡ text ++ 10 ∷ [])
-EndsSo Unfinished octets = (octets ≢ []) × ((text : List ℕ) → octets ≡ text ++ 10 ∷ [] → ⊥)
-EndsSo Nothing octets = octets ≡ []
-
--- what was taken of a reader that had so much left
-abbrev pub IsTaken : Taken → List ℕ → Option (List ℕ) → Type 0
-IsTaken Line octets left = IsLine octets
-IsTaken Unfinished octets left = IsUnfinished octets × IfSome left (λ all. all ≡ octets)
-IsTaken Nothing octets left = (octets ≡ []) × IfSome left (λ all. all ≡ octets)

@@ -1,5 +1,5 @@
 -- The words of a line.
-use Rattle.std.specs.Prelude.{ℕ, ◌==◌, ◌&&◌, ◌≡◌, ◌≢◌, ◌⊎◌, Bool, false, not, List, [], ◌∷◌, ◌++◌, take, drop, Option, Some, None, if◌then◌else◌}
+use Rattle.std.specs.Prelude.{ℕ, ◌==◌, ◌&&◌, ◌≡◌, ◌≢◌, ◌⊎◌, Bool, false, not, List, [], ◌∷◌, ◌++◌, Option, Some, None, if◌then◌else◌}
 use Rattle.std.specs.Option.{option_map}
 use Rattle.std.specs.List.{All, list_any}
 use Rattle.depot_jobs.specs.Printed.{quoted}
@@ -34,15 +34,6 @@ texts_from quoted (octet ∷ rest) =
 -- the texts of a line's words
 abbrev pub texts_of : List ℕ → List (List ℕ)
 texts_of line = texts_from false line
-
--- the texts of a line: the first, and those after its space; nothing public rests on this
-abbrev pub parted : List ℕ → List ℕ → List (List ℕ)
-parted text [] = text ∷ []
-parted text (space ∷ rest) = text ∷ texts_of rest
-
--- the same, where the first has so many octets
-abbrev pub parted_at : ℕ → List ℕ → List (List ℕ)
-parted_at len line = parted (take len line) (drop len line)
 
 -- ---- what they say
 

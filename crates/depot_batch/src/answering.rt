@@ -1,8 +1,9 @@
 // What comes of what a line asks for.
-ghost use Rattle.std.specs.Prelude.{List, IfErr, IfOk, OnErr, OnOk};
+ghost use Rattle.std.specs.Prelude.{◌≡◌, List, IfErr, IfOk, OnErr, OnOk};
 ghost use Rattle.sqlite.specs.Held.{state};
 ghost use Rattle.sqlite.specs.State.{Survives};
 ghost use Rattle.encodings.specs.Device.{HasBroken, HasTaken};
+ghost use Rattle.depot_jobs.specs.Host.{with_faults};
 ghost use Rattle.depot_cli.specs.Tasks.{text_in as reply_text};
 ghost use Rattle.depot_batch.specs.Answers.{text_in};
 ghost use Rattle.depot_batch.specs.Asked.{Asks, Text};
@@ -114,11 +115,18 @@ fn export<S: Alter, H: Host>(
             Ok(()) => Ok(()),
             Err(DeviceFailed) => Err(Refusal::Write),
         },
-        Err(refusal) => {
-            host.discard(file);
-            Err(refusal)
-        }
+        Err(refusal) => Err(give_up(host, file, refusal)),
     }
+}
+
+// Takes away the file of what was refused, and gives the refusal.
+fn give_up<H: Host>(host: &mut H, file: H::Writer, refusal: Refusal) -> Refusal
+    ensures gone { H.state host.new ≡ with_faults (H.Writer.output file).faults
+        (H.state host.old) }
+    ensures same { result ≡ refusal }
+{
+    host.discard(file);
+    refusal
 }
 
 /// Writes the lines of an answer.

@@ -3,7 +3,8 @@ ghost use Rattle.std.specs.Prelude.{◌≡◌, ◌⊎◌, IfErr, IfOk, true, fal
 ghost use Rattle.std.specs.Io.{StopsAt};
 ghost use Rattle.std.specs.Io.KnownBytes.{Consumes};
 ghost use Rattle.refusals.specs.declared.refusal.Refusal.TheVariants.{Memory, Read};
-ghost use Rattle.depot_batch.specs.Lines.{EndsSo, HasNotTaken, HasTakenNext, IsTaken};
+ghost use Rattle.depot_batch.specs.Lines.{HasNotTaken};
+ghost use Rattle.depot_batch.specs.Private.{EndsSo, HasTakenNext, IsTaken};
 ghost use Rattle.depot_batch.specs.declared.reading.Taken.TheVariants.{Line};
 
 use encodings::{OfRead, Source};

@@ -1,7 +1,8 @@
 // The lines of a batch.
 ghost use Rattle.std.specs.Prelude.{◌≡◌, true, false};
 ghost use Rattle.refusals.specs.declared.refusal.Refusal.TheVariants.{Database};
-ghost use Rattle.depot_batch.specs.Batch.{HasServed, HasServedLast, IsServed, office};
+ghost use Rattle.depot_batch.specs.Batch.{HasServed, IsServed, office};
+ghost use Rattle.depot_batch.specs.Answers.{HasServedLast};
 ghost use Rattle.depot_batch.specs.declared.outcome.Outcome.TheVariants.{Refused};
 
 use crate::line::serve;

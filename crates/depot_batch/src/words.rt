@@ -1,7 +1,8 @@
 // The words of a line.
 ghost use Rattle.std.specs.Prelude.{◌≡◌, IfOk, length, ◌≤◌, map, option_map};
 ghost use Rattle.std.specs.List.{list_any};
-ghost use Rattle.depot_batch.specs.Words.{Plain, is_gap, is_quoted_after, parted_at, is_quote, said_from, texts_of, word_in, words_of};
+ghost use Rattle.depot_batch.specs.Words.{Plain, is_gap, is_quoted_after, is_quote, said_from, texts_of, word_in, words_of};
+ghost use Rattle.depot_batch.specs.Private.{parted_at};
 
 use octets::{first, said_of};
 use std::alloc::{AllocError, Global};

@@ -48,7 +48,7 @@ pub fn run<'a, H: Host, O: Sink, E: Sink>(
 {
     match line_of(alloc, words) {
         Ok(line) => lead(alloc, line, host, out, err),
-        Err(fault) => Next::Exit(tell_fault(alloc, fault, err)),
+        Err(fault) => Next::Exit(tell_fault(alloc, words, fault, err)),
     }
 }
 

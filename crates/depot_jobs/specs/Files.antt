@@ -1,11 +1,6 @@
 -- Files that are made.
-use Rattle.std.specs.Prelude.{◌≡◌, ℕ, List, [], ◌∷◌, ◌++◌, codes}
-use Rattle.std.specs.Fmt.{decimal}
+use Rattle.std.specs.Prelude.{◌≡◌, ℕ, List, [], ◌∷◌}
 use Rattle.std.specs.Path.{path_with_file_name}
-
--- the name of a file that is being made, by the number of the process and by how many names were taken
-abbrev pub new_name : ℕ → ℕ → List ℕ
-new_name number n = codes ".depot-" ++ (decimal number ++ (codes "-" ++ decimal n))
 
 -- what symbolic links lead to from a name, the last of them first; each stands for a name in the folder
 -- of the link, or for a path from the top

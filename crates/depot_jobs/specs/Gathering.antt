@@ -1,4 +1,4 @@
--- Lines that are gathered before they go out.
+-- Private: lines that are gathered before they go out.
 use Rattle.std.specs.Prelude.{◌≡◌, ℕ, List, ◌++◌}
 use Rattle.encodings.specs.Device.{HasTaken, Output}
 

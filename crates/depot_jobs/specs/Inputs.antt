@@ -4,14 +4,12 @@ use Rattle.clap.specs.Words.{Text}
 use Rattle.encodings.specs.Device.{counted}
 use Rattle.refusals.specs.declared.refusal.Refusal.{Refusal}
 use Rattle.refusals.specs.declared.refusal.Refusal.TheVariants.{Memory, MessageTooLarge, Read}
-use Rattle.depot_jobs.specs.Host.{HostState, Origin, file, opens, origin_of, standard, with_call, with_faults}
+use Rattle.depot_jobs.specs.Host.{HostState, Origin, file, opens, standard, with_call, with_faults}
 use Rattle.depot_jobs.specs.Limits.{max_input}
-use Rattle.depot_jobs.specs.declared.inputs.Inputs.{Inputs}
-use Rattle.depot_jobs.specs.declared.inputs.Inputs.TheVariants.{One, Two}
 use Rattle.depot_jobs.specs.declared.request.Request.{Request}
 use Rattle.depot_jobs.specs.declared.request.Request.TheVariants.{Script, Code, Deliver, List as ListEntries, Export, Remove, Migrate}
 use Rattle.depot_jobs.specs.declared.work.Work.{Work}
-use Rattle.depot_jobs.specs.declared.work.Work.TheVariants.{NoWords, Check, Explain, Compile, Verify, Run, Disassemble, Assemble, Eval, Parts, Encode, Decode}
+use Rattle.depot_jobs.specs.declared.work.Work.TheVariants.{NoWords, Check, Explain, Compile, Verify, Limit, Run, Disassemble, Assemble, Eval, Parts, Encode, Decode}
 
 -- what work reads, in the order of its words
 abbrev pub origins_of : Work → List Origin
@@ -20,6 +18,7 @@ origins_of (Check script) = file script.now ∷ []
 origins_of (Explain script) = file script.now ∷ []
 origins_of (Compile script out) = file script.now ∷ []
 origins_of (Verify program) = file program.now ∷ []
+origins_of (Limit program octets parts) = file program.now ∷ []
 origins_of (Run program message) = file program.now ∷ file message.now ∷ []
 origins_of (Disassemble program) = file program.now ∷ []
 origins_of (Assemble listing out) = file listing.now ∷ []
@@ -27,11 +26,6 @@ origins_of (Eval script message) = file script.now ∷ file message.now ∷ []
 origins_of (Parts message) = file message.now ∷ []
 origins_of (Encode encoding) = standard ∷ []
 origins_of (Decode encoding) = standard ∷ []
-
--- the same of what the code says that it reads; nothing public rests on this
-abbrev pub origins_in : Inputs → List Origin
-origins_in (One first) = origin_of first ∷ []
-origins_in (Two first second) = origin_of first ∷ origin_of second ∷ []
 
 -- the file that a request reads
 abbrev pub file_of : Request → Option (List ℕ)

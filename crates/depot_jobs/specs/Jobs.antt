@@ -17,16 +17,17 @@ use Rattle.sieve_check.specs.Typed.{CommandForms}
 use Rattle.sieve_engine.specs.Evaluation.{IsCompiled, IsEvaluation, IsEvaluationRefusal, IsScript}
 use Rattle.sieve_engine.specs.Execution as engine
 use Rattle.sieve_engine.specs.Execution.{IsChecked, IsExecution, IsProgramRefusal, IsRefusal, Spells}
-use Rattle.sieve_explain.specs.Explaining.{Explains, listing_told}
+use Rattle.sieve_explain.specs.Explaining.{Explains, IsRemarked, listing_told}
 use Rattle.mime_decode.specs.Mail.{IsReadable, mail_of}
 use Rattle.depot_jobs.specs.Host.{HasMade, HasNotMade, HostState}
+use Rattle.depot_jobs.specs.Limit.{limit_text}
 use Rattle.depot_jobs.specs.Printed.{line, ok_text, parts_text, refusal_line, report_text, wrote_text}
 use Rattle.refusals.specs.Causes.{of_verifier}
 use Rattle.refusals.specs.Scripts.{IsScriptRefusal}
 use Rattle.refusals.specs.declared.refusal.Refusal.{Refusal}
 use Rattle.refusals.specs.declared.refusal.Refusal.TheVariants as refusals
 use Rattle.depot_jobs.specs.declared.job.Job.{Job}
-use Rattle.depot_jobs.specs.declared.job.Job.TheVariants.{Check, Explain, Compile, Verify, Run, Disassemble, Assemble, Eval, Parts, Encode, Decode}
+use Rattle.depot_jobs.specs.declared.job.Job.TheVariants.{Check, Explain, Compile, Verify, Limit, Run, Disassemble, Assemble, Eval, Parts, Encode, Decode}
 
 -- what a program's listing is followed by: a comment with what the verifier says of the program
 abbrev pub commented : List ℕ → List ℕ
@@ -41,21 +42,27 @@ IsListing octets text =
     ⊎ ((code : Code) × (rule : BrokenRule) × Spells octets code × (refusal_of code ≡ Some rule)
     × (text ≡ refused_listing rule code ++ commented (refusal_line (of_verifier rule))))
 
+-- that a script has no fault, and what is remarked of it
+abbrev pub IsFaultless : List ℕ → List ℕ → List ℕ → Type 0
+IsFaultless name script text = (remarks : List ℕ) × IsRemarked name script remarks × (text ≡ line ok_text ++ remarks)
+
 -- The text of a job's answer: that the script has no fault, how many octets the program of the
--- script or the listing has, the budget of the accepted program, the program's listing and what the
--- verifier says of it, the lines of the run, those of the message's parts, or the octets and
+-- script or the listing has, the budget of the accepted program, how much it may charge and file, the
+-- program's listing and what the verifier says of it, the lines of the run, those of the message's parts, or the octets and
 -- nothing else. The program of a script or a listing was made a file; no other job asks anything of
 -- the host.
 abbrev pub IsAnswer : Job → List ℕ → HostState → HostState → Type 0
 IsAnswer (Check script) text old new = (form : CommandForms) × IsScript script.now form × (text ≡ line ok_text)
     × (new ≡ old)
-IsAnswer (Explain script name) text old new = (form : CommandForms) × IsScript script.now form × (text ≡ line ok_text)
-    × (new ≡ old)
+IsAnswer (Explain script name) text old new = (form : CommandForms) × IsScript script.now form
+    × IsFaultless name.now script.now text × (new ≡ old)
 IsAnswer (Compile script name out) text old new =
     (code : Code) × IsCompiled script.now code × (text ≡ line (wrote_text (length (spelling code))))
     × HasMade out.now name.now (spelling code) old new
 IsAnswer (Verify program) text old new = (code : Code) × IsChecked program.now code
     × (text ≡ line (budget_text (budget_of code))) × (new ≡ old)
+IsAnswer (Limit program octets parts) text old new = (code : Code) × IsChecked program.now code
+    × (text ≡ line (limit_text code octets parts)) × (new ≡ old)
 IsAnswer (Run program message) text old new =
     (actions : List Action) × (charged : ℕ) × (limit : ℕ) × IsExecution program.now message.now actions charged limit
     × (text ≡ report_text actions charged limit) × (new ≡ old)
@@ -100,6 +107,7 @@ IsJobRefusal (Compile script name out) refusal old new =
     (IsScriptRefusal script.now refusal × (new ≡ old))
     ⊎ ((code : Code) × IsCompiled script.now code × HasNotMade refusal out.now name.now old new)
 IsJobRefusal (Verify program) refusal old new = IsProgramRefusal program.now refusal × (new ≡ old)
+IsJobRefusal (Limit program octets parts) refusal old new = IsProgramRefusal program.now refusal × (new ≡ old)
 IsJobRefusal (Run program message) refusal old new = IsRefusal program.now message.now refusal × (new ≡ old)
 IsJobRefusal (Disassemble program) refusal old new = IsUnspelled program.now refusal × (new ≡ old)
 IsJobRefusal (Assemble listing name out) refusal old new =
@@ -120,6 +128,7 @@ HasLongScript _ = ⊥
 
 abbrev pub HasLongProgram : Job → Type 0
 HasLongProgram (Verify program) = max_program < length program.now
+HasLongProgram (Limit program octets parts) = max_program < length program.now
 HasLongProgram (Run program message) = max_program < length program.now
 HasLongProgram (Disassemble program) = max_program < length program.now
 HasLongProgram _ = ⊥

@@ -2,6 +2,7 @@ pub mod Limits
 pub mod LimitedReading
 pub mod Host
 pub mod Printed
+pub mod Limit
 pub mod Jobs
 pub mod Words
 pub mod Statuses
@@ -10,6 +11,8 @@ pub mod Working
 pub mod Usage
 -- what lines are made of
 pub mod Pieces
--- how lines are gathered, and how files that are being made are named; nothing public rests on these
-pub mod Gathering
+-- where names of files lead
 pub mod Files
+-- private: how the code goes; no public contract names these
+pub mod Gathering
+pub mod Private

@@ -2,9 +2,10 @@
 use Rattle.std.specs.Prelude.{◌≡◌, ◌≢◌, ℕ, ◌<◌, ◌^◌, List, [], Option, Some, IfSome, codes, if◌then◌else◌, unwrap_or, ⊤}
 use Rattle.std.specs.Str.{bytes_eq}
 use Rattle.std.specs.Str.Parse.{IsNumeral, digits_value, without_leading_plus}
+use Rattle.octets.specs.Limits.{max_message, max_parts}
 use Rattle.clap.specs.Words.{App, Row, Text, fault_of, first_of, subcommand_of}
 use Rattle.depot_words.specs.Commands.{IsDepot}
-use Rattle.depot_words.specs.Ranges.{AreComplete, IsEntryNumber, commands}
+use Rattle.depot_words.specs.Ranges.{AreComplete, IsEntryNumber, IsNumberFrom, commands}
 use Rattle.encodings.specs.declared.encoding.Encoding.{Encoding}
 use Rattle.encodings.specs.declared.encoding.Encoding.TheVariants.{Raw, Base64, Base64Mime, Base32, Base32Hex, Base16, Qp}
 use Rattle.depot_jobs.specs.declared.line.CommandLine.{CommandLine}
@@ -12,7 +13,7 @@ use Rattle.depot_jobs.specs.declared.line.CommandLine.TheVariants.{Alone, OnDepo
 use Rattle.depot_jobs.specs.declared.request.Request.{Request}
 use Rattle.depot_jobs.specs.declared.request.Request.TheVariants.{Script, Code, Deliver, List as ListAll, Export, Remove, Migrate}
 use Rattle.depot_jobs.specs.declared.work.Work.{Work}
-use Rattle.depot_jobs.specs.declared.work.Work.TheVariants.{NoWords, Check, Explain, Compile, Verify, Run, Disassemble, Assemble, Eval, Parts, Encode, Decode}
+use Rattle.depot_jobs.specs.declared.work.Work.TheVariants.{NoWords, Check, Explain, Compile, Verify, Limit, Run, Disassemble, Assemble, Eval, Parts, Encode, Decode}
 
 -- the text of an argument, empty where it has none
 abbrev pub argument : Text → List Row → Text
@@ -46,7 +47,7 @@ pub record IsNumber (text : Text) (number : ℕ) : Type 0 where
 abbrev pub IsNoWork : Text → Type 0
 IsNoWork name =
     (name ≢ codes "check") × (name ≢ codes "explain") × (name ≢ codes "compile") × (name ≢ codes "verify")
-    × (name ≢ codes "run")
+    × (name ≢ codes "limit") × (name ≢ codes "run")
     × (name ≢ codes "disassemble") × (name ≢ codes "assemble") × (name ≢ codes "eval") × (name ≢ codes "parts")
     × (name ≢ codes "encode") × (name ≢ codes "decode")
 
@@ -76,6 +77,9 @@ SaysWork (Eval script message) matches =
     × (message.now ≡ argument (codes "MESSAGE") rows)
 SaysWork (Verify program) matches = (rows : List Row) × IsCommand (codes "verify") matches rows
     × (program.now ≡ argument (codes "PROGRAM") rows)
+SaysWork (Limit program octets parts) matches =
+    (rows : List Row) × IsCommand (codes "limit") matches rows × (program.now ≡ argument (codes "PROGRAM") rows)
+    × IsNumber (argument (codes "OCTETS") rows) octets × IsNumber (argument (codes "PARTS") rows) parts
 SaysWork (Run program message) matches =
     (rows : List Row) × IsCommand (codes "run") matches rows × (program.now ≡ argument (codes "PROGRAM") rows)
     × (message.now ≡ argument (codes "MESSAGE") rows)
@@ -157,8 +161,16 @@ WritesNumber number matches =
     IfSome matches (λ m. (text : Text) × (first_of (codes "NUMBER") m.1 ≡ Some text) × IsEntryNumber text
     × (number ≡ digits_value 10 (without_leading_plus text)))
 
--- the number and the encoding of a command are those that the matches have
+-- the matches have a text of this number for an argument, from the least to the most
+abbrev pub WritesFrom : Text → ℕ → ℕ → ℕ → Option (Text × List Row) → Type 0
+WritesFrom name least most number matches =
+    IfSome matches (λ m. (text : Text) × (first_of name m.1 ≡ Some text) × IsNumberFrom least most text
+    × (number ≡ digits_value 10 (without_leading_plus text)))
+
+-- the numbers and the encoding of a command are those that the matches have
 abbrev pub AreSaid : CommandLine → Option (Text × List Row) → Type 0
+AreSaid (Alone (Limit program octets parts)) matches =
+    WritesFrom (codes "OCTETS") 0 max_message octets matches × WritesFrom (codes "PARTS") 1 max_parts parts matches
 AreSaid (Alone (Encode encoding)) matches = NamesEncoding encoding matches
 AreSaid (Alone (Decode encoding)) matches = NamesEncoding encoding matches
 AreSaid (OnDepot depot (Export user number encoding)) matches =

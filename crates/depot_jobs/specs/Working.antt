@@ -14,7 +14,7 @@ use Rattle.depot_jobs.specs.Statuses.{refused, success}
 use Rattle.depot_jobs.specs.declared.job.Job.{Job}
 use Rattle.depot_jobs.specs.declared.job.Job.TheVariants as jobs
 use Rattle.depot_jobs.specs.declared.work.Work.{Work}
-use Rattle.depot_jobs.specs.declared.work.Work.TheVariants.{NoWords, Check, Explain, Compile, Verify, Run, Disassemble, Assemble, Eval, Parts, Encode, Decode}
+use Rattle.depot_jobs.specs.declared.work.Work.TheVariants.{NoWords, Check, Explain, Compile, Verify, Limit, Run, Disassemble, Assemble, Eval, Parts, Encode, Decode}
 
 -- ---- what is done
 
@@ -40,6 +40,8 @@ IsJobOf (Compile name out) inputs job =
     (script : Bor (List ℕ)) × (from to : Bor Text) × (job ≡ jobs.Compile script from to) × (script.now ≡ input inputs 0)
     × (from.now ≡ name.now) × (to.now ≡ out.now)
 IsJobOf (Verify name) inputs job = (program : Bor (List ℕ)) × (job ≡ jobs.Verify program)
+    × (program.now ≡ input inputs 0)
+IsJobOf (Limit name octets parts) inputs job = (program : Bor (List ℕ)) × (job ≡ jobs.Limit program octets parts)
     × (program.now ≡ input inputs 0)
 IsJobOf (Run name other) inputs job = (program message : Bor (List ℕ)) × (job ≡ jobs.Run program message)
     × (program.now ≡ input inputs 0) × (message.now ≡ input inputs 1)

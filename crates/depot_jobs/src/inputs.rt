@@ -1,7 +1,8 @@
 // What is read: by work and by requests, of files and of standard input.
 ghost use Rattle.std.specs.Prelude.{◌≡◌, List, ℕ, IfErr, IfOk};
 ghost use Rattle.depot_jobs.specs.Host.{origin_of};
-ghost use Rattle.depot_jobs.specs.Inputs.{HasNotRead, HasNotReadFile, HasRead, HasReadFile, HaveNotRead, HaveRead, file_of, input, origins_in, origins_of};
+ghost use Rattle.depot_jobs.specs.Inputs.{HasNotRead, HasNotReadFile, HasRead, HasReadFile, HaveNotRead, HaveRead, file_of, input, origins_of};
+ghost use Rattle.depot_jobs.specs.Private.{origins_in};
 
 use crate::host::{Host, Input};
 use crate::reading::read_limited;
@@ -29,7 +30,7 @@ pub fn inputs_of<'a>(work: Work<'a>) -> Inputs<'a>
         Work::Check { script } | Work::Explain { script } | Work::Compile { script, .. } => {
             Inputs::One(Input::File(script))
         }
-        Work::Verify { program } | Work::Disassemble { program } => {
+        Work::Verify { program } | Work::Limit { program, .. } | Work::Disassemble { program } => {
             Inputs::One(Input::File(program))
         }
         Work::Assemble { listing, .. } => Inputs::One(Input::File(listing)),

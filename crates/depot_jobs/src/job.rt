@@ -17,11 +17,12 @@ ghost use Rattle.refusals.specs.declared.refusal.Refusal.TheVariants.{Listing, M
 ghost use Rattle.sieve_engine.specs.Execution.{IsChecked, IsProgramRefusal};
 ghost use Rattle.depot_jobs.specs.Host.{HasMade, HasNotMade};
 ghost use Rattle.encodings.specs.Device.{HasBroken, HasTaken};
-ghost use Rattle.depot_jobs.specs.Jobs.{HasAnswered, HasFound, HasLongProgram, HasLongScript, HasRefused, HasStopped, HasTold, IsJobRefusal, IsListing, IsShown, IsUnspelled, commented, world};
-ghost use Rattle.depot_jobs.specs.Pieces.{lines_text, refusal_in, verdict_line};
+ghost use Rattle.depot_jobs.specs.Jobs.{HasAnswered, HasFound, HasLongProgram, HasLongScript, HasRefused, HasStopped, HasTold, IsFaultless, IsJobRefusal, IsListing, IsShown, IsUnspelled, commented, world};
+ghost use Rattle.depot_jobs.specs.Private.{lines_text, refusal_in, verdict_line};
 ghost use Rattle.depot_jobs.specs.Printed.{line, ok_text, refusal_line, wrote_text};
 
 use crate::host::Host;
+use crate::limit::limit_lines;
 use crate::listing::parts_lines;
 use crate::making::make_file;
 use crate::printing::{put_line, put_refusal, put_report, put_wrote};
@@ -32,7 +33,7 @@ use encodings::{DeviceFailed, Encoding, Sink, decode, encode, put};
 use refusals::Refusal;
 use sieve_check::laws::faultless_scripts_have_a_form;
 use sieve_engine::{Report, check_program, check_script, code_octets, evaluate, execute};
-use sieve_explain::{explain, listing_explanation};
+use sieve_explain::{explain, listing_explanation, remarks_on};
 use std::alloc::Global;
 
 /// The status of a command that was done and whose answer was written whole.
@@ -65,6 +66,12 @@ pub enum Job<'a> {
     /// Whether a program is accepted, and what it may charge.
     Verify {
         program: &'a [u8],
+    },
+    /// How much a program may charge and file, where messages have at most so many octets and parts.
+    Limit {
+        program: &'a [u8],
+        octets: u32,
+        parts: u32,
     },
     /// What a program does with a message.
     Run {
@@ -118,11 +125,13 @@ pub enum Verdict {
 pub enum Lines {
     /// A script has no fault.
     NoFault,
+    /// A script has no fault, and what is remarked of it.
+    Remarks(Vec<u8>),
     /// The fault of a script, or of a listing, in words, and its refusal.
     Fault(Vec<u8>, Refusal),
     /// So many octets were written to a file.
     Wrote(usize),
-    /// The text of an accepted program's budget.
+    /// The text of an accepted program's budget, or of what that comes to.
     Budget(String),
     /// The listing of a program, and what the verifier says of it.
     Listing(Vec<u8>, Verdict),
@@ -193,6 +202,7 @@ fn tell_found<E: Sink>(err: &mut E, lines: &Lines) -> u8
     match lines {
         Lines::Fault(_, refusal) => tell(err, refusal),
         Lines::NoFault
+        | Lines::Remarks(_)
         | Lines::Wrote(_)
         | Lines::Budget(_)
         | Lines::Listing(..)
@@ -231,6 +241,11 @@ fn carry_out<H: Host>(alloc: Global, job: Job<'_>, host: &mut H) -> Result<Lines
             Ok(Lines::Wrote(program.len()))
         }
         Job::Verify { program } => Ok(Lines::Budget(budget_line(alloc, program)?)),
+        Job::Limit {
+            program,
+            octets,
+            parts,
+        } => Ok(Lines::Budget(limit_lines(alloc, program, octets, parts)?)),
         Job::Run { program, message } => Ok(Lines::Report(execute(alloc, program, message)?)),
         Job::Disassemble { program } => list_program(alloc, program),
         Job::Assemble { listing, name, out } => assemble_program(alloc, listing, name, out, host),
@@ -241,10 +256,11 @@ fn carry_out<H: Host>(alloc: Global, job: Job<'_>, host: &mut H) -> Result<Lines
     }
 }
 
-// Whether a script has a fault, and what it is, in words.
+// Whether a script has a fault, and what it is, in words; or what is remarked of it.
 fn explain_script(alloc: Global, script: &[u8], name: &str) -> Result<Lines, Refusal>
     ensures shown { IfOk result (λ lines. MatchOption (refusal_in lines)
-        ((form : CommandForms) × IsScript script.now form × (lines_text lines ≡ line ok_text))
+        ((form : CommandForms) × IsScript script.now form
+        × IsFaultless name.now script.now (lines_text lines))
         (λ refusal. (refusal ≢ Memory) × IsScriptRefusal script.now refusal
         × Explains name.now script.now refusal (lines_text lines))) }
     ensures refused { IfErr result (λ e. e ≡ Memory) }
@@ -253,7 +269,7 @@ fn explain_script(alloc: Global, script: &[u8], name: &str) -> Result<Lines, Ref
         Some(found) => Ok(Lines::Fault(found.text, found.refusal)),
         None => {
             faultless_scripts_have_a_form();
-            Ok(Lines::NoFault)
+            Ok(Lines::Remarks(remarks_on(alloc, name, script)?))
         }
     }
 }
@@ -352,6 +368,7 @@ fn put_lines<O: Sink>(out: &mut O, lines: &Lines) -> Result<(), DeviceFailed>
 {
     match lines {
         Lines::NoFault => put_line(out, "ok"),
+        Lines::Remarks(text) => put_remarks(out, text),
         Lines::Fault(text, _) => put(out, text),
         Lines::Wrote(octets) => put_wrote(out, *octets),
         Lines::Budget(text) => put_line(out, text.as_str()),
@@ -359,6 +376,17 @@ fn put_lines<O: Sink>(out: &mut O, lines: &Lines) -> Result<(), DeviceFailed>
         Lines::Report(report) => put_report(out, report),
         Lines::Octets(octets) => put(out, octets),
     }
+}
+
+// Writes that a script has no fault, and what is remarked of it.
+fn put_remarks<O: Sink>(out: &mut O, text: &[u8]) -> Result<(), DeviceFailed>
+    ensures ok { OnOk result (HasTaken (line ok_text ++ text.now) (O.output out.old)
+        (O.output out.new)) }
+    ensures err { OnErr result (HasBroken (line ok_text ++ text.now) (O.output out.old)
+        (O.output out.new)) }
+{
+    put_line(out, "ok")?;
+    put(out, text)
 }
 
 // Writes a listing, and behind it as a comment what the verifier says of its program.

@@ -4,8 +4,9 @@ ghost use Rattle.clap.specs.Words.{Text, subcommand_of};
 ghost use Rattle.depot_jobs.specs.Words.{AreSaid, IsLine};
 ghost use Rattle.depot_jobs.specs.declared.line.CommandLine.{CommandLine};
 
-/// The number of a command is written in its words, and is one that an entry may have; and its
-/// encoding is the one whose name stands there. So neither 0 nor `raw` stands for anything else.
+/// The number of a command is written in its words, and is one that an entry may have, or as many
+/// octets or parts as a message may have; and its encoding is the one whose name stands there. So
+/// neither 0 nor `raw` stands for anything else.
 pub fn numbers_and_encodings_are_said()
     ensures { (words : List Text) (line : CommandLine) → (is : IsLine words line)
         → AreSaid line (subcommand_of is.app words) }

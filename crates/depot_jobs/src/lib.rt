@@ -18,6 +18,7 @@ mod host;
 mod inputs;
 mod job;
 pub mod laws;
+mod limit;
 mod line;
 mod listing;
 mod making;

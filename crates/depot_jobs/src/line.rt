@@ -100,6 +100,11 @@ fn work_in<'a>(name: &str, found: &ArgMatches<'a>) -> Option<Work<'a>>
         "explain" => Some(Work::Explain { script }),
         "compile" => Some(Work::Compile { script, out }),
         "verify" => Some(Work::Verify { program }),
+        "limit" => Some(Work::Limit {
+            program,
+            octets: number(argument(found, "OCTETS")),
+            parts: number(argument(found, "PARTS")),
+        }),
         "run" => Some(Work::Run { program, message }),
         "disassemble" => Some(Work::Disassemble { program }),
         "assemble" => Some(Work::Assemble {
@@ -170,7 +175,7 @@ fn request_in<'a>(name: &str, found: &ArgMatches<'a>) -> Option<Request<'a>>
     }
 }
 
-// The number that a text is. Only numbers of entries come here.
+// The number that a text is. Only numbers of entries, and those of octets and parts, come here.
 fn number(text: &str) -> u32
     ensures { IsNumber text.now result }
 {

@@ -1,7 +1,8 @@
 // A file that is being made, beside the one whose name it is to have.
 ghost use Rattle.std.specs.Prelude.{◌≡◌, false, IfOk, IfSome, OnOk};
 ghost use Rattle.std.specs.Path.{path_buf_bytes, path_with_file_name};
-ghost use Rattle.depot_jobs.specs.Files.{IsReached, new_name};
+ghost use Rattle.depot_jobs.specs.Files.{IsReached};
+ghost use Rattle.depot_jobs.specs.Private.{new_name};
 ghost use Rattle.depot_jobs.specs.Host.{is_beside};
 
 use crate::beside::is_beside;

@@ -7,7 +7,10 @@ use encodings::{DeviceFailed, Source};
 use refusals::Refusal;
 use std::alloc::{AllocError, Global};
 
-/// How many octets are asked for at a time.
+/// How many octets are asked for first. Most messages are no longer.
+const FIRST_PIECE: usize = 4_096;
+
+/// How many octets are asked for at most at a time.
 const PIECE: usize = 65_536;
 
 /// All octets of a source, if they are no more than the limit.
@@ -45,8 +48,8 @@ pub fn read_limited<R: Source>(
     }
 }
 
-// Makes room after the octets that are filled: for a piece, or for one octet more than the limit.
-// So no octet is taken that memory is refused for.
+// Makes room after the octets that are filled: for a piece, as much again as there is, or for one
+// octet more than the limit. So no octet is taken that memory is refused for.
 fn make_room(octets: &mut Vec<u8>, filled: usize, limit: usize) -> Result<(), AllocError>
     requires filled { filled ≤ vec_len octets.old }
     requires more { filled ≤ limit }
@@ -55,7 +58,8 @@ fn make_room(octets: &mut Vec<u8>, filled: usize, limit: usize) -> Result<(), Al
     ensures some { OnOk result (filled < vec_len octets.new) }
     ensures small { OnOk result (vec_len octets.new ≤ limit + 1) }
 {
-    let end = limit.saturating_add(1).min(filled + PIECE);
+    let piece = filled.max(FIRST_PIECE).min(PIECE);
+    let end = limit.saturating_add(1).min(filled + piece);
     if octets.len() < end {
         octets.resize(end, 0)?;
     }

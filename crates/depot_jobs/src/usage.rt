@@ -11,6 +11,7 @@ use crate::job::tell;
 use crate::printing::put_text;
 use clap::Error;
 use clap::error::ErrorKind;
+use depot_words::asked_text;
 use encodings::Sink;
 use refusals::Refusal;
 use std::alloc::Global;
@@ -28,15 +29,19 @@ pub fn tell_usage<E: Sink>(err: &mut E, text: &str) -> u8
     USAGE
 }
 
-/// Writes why the words aren't those of a command, or the help that they ask for, and gives the
-/// status: that of a refusal where memory was refused.
-pub fn tell_fault<E: Sink>(alloc: Global, fault: Error, err: &mut E) -> u8
+/// Writes why the words aren't those of a command, or the help that they ask for, that on a refusal
+/// and the line of the version among it, and gives the status: that of a refusal where memory was
+/// refused.
+pub fn tell_fault<E: Sink>(alloc: Global, words: &[&str], fault: Error, err: &mut E) -> u8
     ensures { ((result ≡ refused) × HasTold Memory (E.output err.old) (E.output err.new))
         ⊎ ((kind_of fault ≢ OutOfMemory) × (result ≡ usage)
         × HasToldUsage (E.output err.old) (E.output err.new)) }
 {
     if fault.kind() == ErrorKind::OutOfMemory {
         return tell(err, &Refusal::Memory);
+    }
+    if let Some(text) = asked_text(words) {
+        return tell_usage(err, text);
     }
     match format!(in alloc; "{fault}") {
         Ok(text) => tell_usage(err, text.as_str()),

@@ -68,6 +68,11 @@ fn job_of<'a>(work: Work<'a>, first: &'a [u8], second: &'a [u8]) -> Job<'a>
             out,
         },
         Work::Verify { .. } => Job::Verify { program: first },
+        Work::Limit { octets, parts, .. } => Job::Limit {
+            program: first,
+            octets,
+            parts,
+        },
         Work::Run { .. } => Job::Run {
             program: first,
             message: second,

@@ -1,4 +1,4 @@
--- What a shelf tells.
+-- Private: what a shelf tells.
 use Rattle.std.specs.Prelude.{List, ℕ, Option, None, Some, if◌then◌else◌, map, string_bytes}
 use Rattle.std.specs.Str.{bytes_eq}
 use Rattle.depot_jobs.specs.Host.{Call, HostState, Origin, file, keeps, makes, opens, standard}

@@ -11,15 +11,15 @@ use Rattle.clap.proofs.OnLiterals.{clap_on_literals}
 use Rattle.clap.proofs.ValueTestLemmas.{accepts-Accepts}
 use Rattle.clap.proofs.WalkLemmas.{list_any-map}
 use Rattle.clap.specs.Facts.{parser_of_value}
-use Rattle.clap.specs.Values.{Accepts, IsSignedIn}
+use Rattle.clap.specs.Values.{Accepts, IsSignedIn, IsUnsignedIn}
 use Rattle.clap.specs.Walk.{Held, Names, Row, Rule, Text, answers_to, arg_by_id, is_empty, nothing_held, stop_after}
 use Rattle.clap.specs.Simple.{App, Shape, argument_words, built, entered, label_of, names_of, rows_at, subcommand_of}
 use Rattle.clap.specs.Kinds.{Kinds}
 use Rattle.clap.specs.Faults.{entered_fault, fault_of, level_fault}
 use Rattle.clap.specs.declared.builder.value_parser.ValueParser.TheVariants as parsers
 use Rattle.depot_words.specs.Commands.{AreEncodings, IsDepot, Texts, depot_app, encoding_names}
-use Rattle.depot_words.specs.Ranges.{AreComplete, HasArgument, IsEntryNumber, IsOneOf, any_text, commands, encoding_name, entry_number}
-use Rattle.octets.specs.Limits.{max_entry_number}
+use Rattle.depot_words.specs.Ranges.{AreComplete, HasArgument, IsEntryNumber, IsNumberFrom, IsOneOf, any_text, commands, encoding_name, entry_number, number_from}
+use Rattle.octets.specs.Limits.{max_entry_number, max_message, max_parts}
 use Rattle.depot_words.proofs.Taking.{HasRequired, found, is_plain_shape, neither, required}
 
 -- ---- the range of a text
@@ -42,6 +42,10 @@ number_in_range text h = go (starts_with_minus text) refl
     go false is =
         let h = rw is at h in
         (h.0, leb-true _ _ (passed _ h.2.le), leb-true _ _ (passed _ h.3.le))
+
+-- and so is its test of one between two others
+pub number_between : (least most : ℕ) (text : Text) → IsUnsignedIn least most text → IsNumberFrom least most text
+number_between least most text h = (h.0, h.2, h.3)
 
 one_of : (text : Text) (names : List Text) → list_any (λ name. bytes_eq name text) names ≡ true → IsOneOf text names
 one_of text [] e = true≢false (sym e)
@@ -111,6 +115,12 @@ module _ (rows : List Row) (s : Shape) (has : HasRequired s rows) where
       let it = has.passing id a at wanted in
       (it.0, it.1, number_in_range it.0 (subst (λ p. Accepts a.ignore_case p it.0) parser (accepts-Accepts a.ignore_case _ it.0 it.2)))
 
+  between : (least most : ℕ) (id : Text) (a : Rule) → arg_by_id s.rules id ≡ Some a → a.required ≡ true → parser_of_value a.parser ≡ parsers.Unsigned least most
+      → HasArgument rows id (number_from least most)
+  between least most id a at wanted parser =
+      let it = has.passing id a at wanted in
+      (it.0, it.1, number_between least most it.0 (subst (λ p. Accepts a.ignore_case p it.0) parser (accepts-Accepts a.ignore_case _ it.0 it.2)))
+
   encoding : (names : Texts) → AreEncodings names → (id : Text) (a : Rule) → arg_by_id s.rules id ≡ Some a → a.required ≡ true → a.ignore_case ≡ false
       → parser_of_value a.parser ≡ parsers.Names names → HasArgument rows id encoding_name
   encoding names are id a at wanted exact parser =
@@ -136,6 +146,7 @@ each names are name rows e =
     ▸ asked names name rows e (codes "explain") _ refl refl (λ has. any rows _ has (codes "SCRIPT") _ refl refl ▸ tt)
     ▸ asked names name rows e (codes "compile") _ refl refl (λ has. any rows _ has (codes "SCRIPT") _ refl refl ▸ any rows _ has (codes "OUT") _ refl refl ▸ tt)
     ▸ asked names name rows e (codes "verify") _ refl refl (λ has. any rows _ has (codes "PROGRAM") _ refl refl ▸ tt)
+    ▸ asked names name rows e (codes "limit") _ refl refl (λ has. any rows _ has (codes "PROGRAM") _ refl refl ▸ between rows _ has 0 max_message (codes "OCTETS") _ refl refl refl ▸ between rows _ has 1 max_parts (codes "PARTS") _ refl refl refl ▸ tt)
     ▸ asked names name rows e (codes "run") _ refl refl (λ has. any rows _ has (codes "PROGRAM") _ refl refl ▸ any rows _ has (codes "MESSAGE") _ refl refl ▸ tt)
     ▸ asked names name rows e (codes "disassemble") _ refl refl (λ has. any rows _ has (codes "PROGRAM") _ refl refl ▸ tt)
     ▸ asked names name rows e (codes "assemble") _ refl refl (λ has. any rows _ has (codes "LISTING") _ refl refl ▸ any rows _ has (codes "OUT") _ refl refl ▸ tt)

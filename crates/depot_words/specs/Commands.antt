@@ -1,9 +1,9 @@
 -- The commands of the program, and their arguments.
-use Rattle.std.specs.Prelude.{◌≡◌, pos, List, [], ◌∷◌, Some, codes, map, true}
+use Rattle.std.specs.Prelude.{◌≡◌, ℕ, pos, List, [], ◌∷◌, Some, codes, map, true}
 use Rattle.std.specs.Borrow.{Bor}
 use Rattle.clap.specs.Words.{App, Rule, Text, new_app, new_rule, with_rule, with_subcommand}
 use Rattle.clap.specs.declared.builder.value_parser.ValueParser.TheVariants as parsers
-use Rattle.octets.specs.Limits.{max_entry_number}
+use Rattle.octets.specs.Limits.{max_entry_number, max_message, max_parts}
 
 -- an argument that has to be there
 abbrev pub required_rule : Text → Rule
@@ -30,6 +30,16 @@ eval_app = with_rule (with_rule (new_app (codes "eval")) (required_rule (codes "
 -- verify PROGRAM
 abbrev pub verify_app : App
 verify_app = with_rule (new_app (codes "verify")) (required_rule (codes "PROGRAM"))
+
+-- an argument that has to be there, and to be a number from the least to the most
+abbrev pub between_rule : Text → ℕ → ℕ → Rule
+between_rule name least most = record (required_rule name) { parser = Some (parsers.Unsigned least most) }
+
+-- limit PROGRAM OCTETS PARTS
+abbrev pub limit_app : App
+limit_app =
+    with_rule (with_rule (with_rule (new_app (codes "limit")) (required_rule (codes "PROGRAM"))) (between_rule (codes "OCTETS") 0 max_message))
+    (between_rule (codes "PARTS") 1 max_parts)
 
 -- run PROGRAM MESSAGE
 abbrev pub run_app : App
@@ -118,9 +128,13 @@ checks_app = with_subcommand (with_subcommand (new_app (codes "depot")) check_ap
 abbrev pub scripts_app : App
 scripts_app = with_subcommand checks_app compile_app.top
 
--- the program with those, and the commands that take filter programs
+-- the program with those, and the commands that take a filter program alone
+abbrev pub bounds_app : App
+bounds_app = with_subcommand (with_subcommand scripts_app verify_app.top) limit_app.top
+
+-- the program with those, and the command that runs a filter program
 abbrev pub filters_app : App
-filters_app = with_subcommand (with_subcommand scripts_app verify_app.top) run_app.top
+filters_app = with_subcommand bounds_app run_app.top
 
 -- the program with those, and the commands on listings of filter programs
 abbrev pub listings_app : App

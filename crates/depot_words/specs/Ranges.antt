@@ -1,8 +1,8 @@
 -- Which arguments each command has, and what the text of each has to be.
-use Rattle.std.specs.Prelude.{◌≡◌, ◌⊎◌, ◌≤◌, List, [], ◌∷◌, Some, codes, ⊤}
+use Rattle.std.specs.Prelude.{◌≡◌, ◌⊎◌, ◌≤◌, ℕ, List, [], ◌∷◌, Some, codes, ⊤}
 use Rattle.std.specs.Str.Parse.{IsNumeral, digits_value, without_leading_plus}
 use Rattle.clap.specs.Words.{Row, Text, first_of}
-use Rattle.octets.specs.Limits.{max_entry_number}
+use Rattle.octets.specs.Limits.{max_entry_number, max_message, max_parts}
 use Rattle.depot_words.specs.Commands.{encoding_names}
 
 -- the text is the number of an entry: decimal digits, perhaps after a plus sign, of 1 to the most
@@ -11,19 +11,27 @@ IsEntryNumber text =
     IsNumeral 10 (without_leading_plus text) × (1 ≤ digits_value 10 (without_leading_plus text))
     × (digits_value 10 (without_leading_plus text) ≤ max_entry_number)
 
+-- the text is a number from the least to the most, in decimal digits, perhaps after a plus sign
+abbrev pub IsNumberFrom : ℕ → ℕ → Text → Type 0
+IsNumberFrom least most text =
+    IsNumeral 10 (without_leading_plus text) × (least ≤ digits_value 10 (without_leading_plus text))
+    × (digits_value 10 (without_leading_plus text) ≤ most)
+
 abbrev pub IsOneOf : Text → List Text → Type 0
 IsOneOf text [] = ⊥
 IsOneOf text (name ∷ names) = (text ≡ name) ⊎ IsOneOf text names
 
--- what the text of an argument has to be: any, the number of an entry, or the name of an encoding
+-- what the text of an argument has to be: any, the number of an entry, a number from the least to the most, or the name of an encoding
 pub data Range : Type 0 where
   any_text : Range
   entry_number : Range
+  number_from : ℕ → ℕ → Range
   encoding_name : Range
 
 abbrev pub IsInRange : Range → Text → Type 0
 IsInRange any_text text = ⊤
 IsInRange entry_number text = IsEntryNumber text
+IsInRange (number_from least most) text = IsNumberFrom least most text
 IsInRange encoding_name text = IsOneOf text encoding_names
 
 -- the names of a command's arguments, each with its range
@@ -37,6 +45,11 @@ commands =
     ∷ (codes "explain", (codes "SCRIPT", any_text) ∷ [])
     ∷ (codes "compile", (codes "SCRIPT", any_text) ∷ (codes "OUT", any_text) ∷ [])
     ∷ (codes "verify", (codes "PROGRAM", any_text) ∷ [])
+    ∷ (
+      codes "limit",
+      (codes "PROGRAM", any_text) ∷ (codes "OCTETS", number_from 0 max_message)
+          ∷ (codes "PARTS", number_from 1 max_parts) ∷ [],
+    )
     ∷ (codes "run", (codes "PROGRAM", any_text) ∷ (codes "MESSAGE", any_text) ∷ [])
     ∷ (codes "disassemble", (codes "PROGRAM", any_text) ∷ [])
     ∷ (codes "assemble", (codes "LISTING", any_text) ∷ (codes "OUT", any_text) ∷ [])

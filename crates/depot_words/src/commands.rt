@@ -2,13 +2,14 @@
 ghost use Rattle.std.specs.Prelude.{◌≡◌, IfOk, codes, false};
 ghost use Rattle.clap.specs.Words.{app_of, new_app, with_subcommand};
 ghost use Rattle.clap.specs.declared.builder.command.Command.TheViews.{out-Command as fields_of};
-ghost use Rattle.depot_words.specs.Commands.{assemble_app, batch_app, check_app, checks_app, code_app, codecs_app, compile_app, decode_app, deliver_app, delivery_app, depot_app, disassemble_app, encode_app, entries_app, eval_app, explain_app, export_app, filing_app, filters_app, inspect_app, keeper_app, keeping_app, list_app, listings_app, mail_app, migrate_app, parts_app, program_app, remove_app, run_app, script_app, scripts_app, user_app, verify_app};
+ghost use Rattle.depot_words.specs.Commands.{assemble_app, batch_app, bounds_app, check_app, checks_app, code_app, codecs_app, compile_app, decode_app, deliver_app, delivery_app, depot_app, disassemble_app, encode_app, entries_app, eval_app, explain_app, export_app, filing_app, filters_app, inspect_app, keeper_app, keeping_app, list_app, listings_app, mail_app, migrate_app, parts_app, program_app, remove_app, run_app, script_app, scripts_app, user_app, verify_app};
 
 use crate::arguments::{
     any_file, depot_file, encoding_name, entry_number, listing_file, message_file, out_file,
     program_file, script_file, user_name,
 };
 use crate::help;
+use crate::limit::limit_command;
 use clap::Command;
 use std::alloc::{AllocError, Global};
 
@@ -152,7 +153,15 @@ fn filters_command<'a>(alloc: Global) -> Result<Command<'a>, AllocError>
     ensures app { IfOk result (λ c. app_of c ≡ filters_app) }
     ensures local { IfOk result (λ c. (fields_of c).has_globals ≡ false) }
 {
-    with_verify(alloc)?.subcommand(run_command(alloc)?)
+    bounds_command(alloc)?.subcommand(run_command(alloc)?)
+}
+
+// The program with the commands that take a script alone, or a filter program alone.
+fn bounds_command<'a>(alloc: Global) -> Result<Command<'a>, AllocError>
+    ensures app { IfOk result (λ c. app_of c ≡ bounds_app) }
+    ensures local { IfOk result (λ c. (fields_of c).has_globals ≡ false) }
+{
+    with_verify(alloc)?.subcommand(limit_command(alloc)?)
 }
 
 // The program as far as the command verify.

@@ -1,13 +1,15 @@
 -- Worked values.
 use Rattle.std.proofs.Common.{◌≡◌, [], ◌∷◌, Some, None, true, false, refl}
-use Rattle.std.specs.Prelude.{codes}
+use Rattle.std.specs.Prelude.{ℕ, Bool, List, is_some, codes}
 use Rattle.glob_match.specs.declared.comparator.Comparator.TheVariants.{Octet, Casemap}
 use Rattle.glob_match.specs.declared.token.Token.TheVariants.{Literal, AnyOctet, Star}
 use Rattle.glob_match.specs.Captures.{places_of_match}
 use Rattle.glob_match.specs.Comparison.{is_match}
 use Rattle.glob_match.specs.Tokens.{tokens_of, literals}
 use Rattle.glob_match.specs.Matching.{match_of}
-use Rattle.glob_match.specs.Containment.{contains_match, matched}
+use Rattle.glob_match.specs.Containment.{contains_match}
+use Rattle.glob_match.specs.declared.comparator.Comparator.{Comparator}
+use Rattle.glob_match.specs.declared.match_type.MatchType.{MatchType}
 use Rattle.glob_match.specs.declared.match_type.MatchType.TheVariants.{Is, Contains, Matches}
 
 shortest_first : match_of Octet (codes "aXbXb") (codes "*X*b") ≡ Some (codes "aXbXb" ∷ codes "a" ∷ codes "bX" ∷ [])
@@ -69,6 +71,12 @@ empty_contained = refl
 -- the key of `:contains` has no wildcards
 star_contained : contains_match Octet (codes "abc") (codes "a*c") ≡ false
 star_contained = refl
+
+-- whether the value matches the key in each of the three ways (RFC 5228, section 2.7.1)
+abbrev matched : MatchType → Comparator → List ℕ → List ℕ → Bool
+matched Is = is_match
+matched Contains = contains_match
+matched Matches = λ comparator value key. is_some (match_of comparator value key)
 
 -- the three match types
 matched_is : matched Is Casemap (codes "Key") (codes "kEY") ≡ true

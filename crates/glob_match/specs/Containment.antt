@@ -2,12 +2,9 @@
 use Rattle.std.specs.Prelude.{◌≡◌, ℕ, ◌+◌, Bool, true, false, ◌&&◌, List, [], ◌∷◌, ◌++◌, map, Option, Some, None, is_some, if◌then◌else◌}
 use Rattle.std.specs.Option.{option_map}
 use Rattle.glob_match.specs.declared.comparator.Comparator.{Comparator}
-use Rattle.glob_match.specs.declared.match_type.MatchType.{MatchType}
-use Rattle.glob_match.specs.declared.match_type.MatchType.TheVariants.{Is, Contains, Matches}
 use Rattle.glob_match.specs.declared.token.Token.{Token}
 use Rattle.glob_match.specs.declared.token.Token.TheVariants.{Literal, AnyOctet, Star}
-use Rattle.glob_match.specs.Comparison.{compared, same_octet, is_match}
-use Rattle.glob_match.specs.Matching.{match_of}
+use Rattle.glob_match.specs.Comparison.{compared, same_octet}
 
 -- a stretch of the value is equal to the key under the comparator
 abbrev pub HasStretch : Comparator → List ℕ → List ℕ → Type 0
@@ -34,9 +31,3 @@ first_place test (x ∷ xs) = if test (x ∷ xs) then Some 0 else option_map (λ
 -- whether a stretch of the value is the key under the comparator
 abbrev pub contains_match : Comparator → List ℕ → List ℕ → Bool
 contains_match comparator value key = is_some (first_place (begins_with comparator (map Literal key)) value)
-
--- whether the value matches the key in each of the three ways (RFC 5228, section 2.7.1)
-abbrev pub matched : MatchType → Comparator → List ℕ → List ℕ → Bool
-matched Is = is_match
-matched Contains = contains_match
-matched Matches = λ comparator value key. is_some (match_of comparator value key)

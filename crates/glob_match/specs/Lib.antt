@@ -2,6 +2,6 @@ pub mod Captures
 pub mod Comparison
 pub mod Containment
 pub mod Matching
--- private: how the search goes
-pub mod Segments
 pub mod Tokens
+-- private: how the code goes; no public contract names these
+pub mod Segments

@@ -1,4 +1,4 @@
--- How the search goes: segments of a key between its stars, marks of places, and captures one after another.
+-- Private: how the search goes. Segments of a key between its stars, marks of places, and captures one after another.
 use Rattle.std.specs.Prelude.{ℕ, ◌+◌, ◌==◌, Bool, List, [], ◌∷◌, ◌++◌, drop, map, take, Option, if◌then◌else◌}
 use Rattle.std.specs.Option.{option_map}
 use Rattle.glob_match.specs.declared.captures.Stretch.{Stretch}

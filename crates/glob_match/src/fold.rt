@@ -6,6 +6,9 @@ ghost use Rattle.glob_match.specs.declared.comparator.Comparator.TheVariants.{Ca
 
 use octet_lanes::ascii_upper_lanes;
 
+/// How many octets are folded at once.
+pub(crate) const BLOCK: usize = 32;
+
 /// Writes the text with `a` to `z` as `A` to `Z`.
 pub(crate) fn fold(text: &[u8], folded: &mut [u8])
     requires { length folded.old ≡ length text.now }
@@ -50,9 +53,9 @@ fn begins_with_block(text: &[u8], lanes: &[u8; 32]) -> bool
     }
 }
 
-// Less than a block and zeros after it, in upper case.
+/// Less than a block and zeros after it, in upper case.
 #[inline(always)]
-fn fold_block(text: &[u8]) -> [u8; 32]
+pub(crate) fn fold_block(text: &[u8]) -> [u8; 32]
     requires { length text.now < 32 }
     ensures { result ≡ map to_ascii_uppercase (text.now ++ replicate (32 - length text.now) 0) }
 {

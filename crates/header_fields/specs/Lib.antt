@@ -1,5 +1,5 @@
 pub mod Fields
 pub mod Header
 pub mod Extent
--- what private functions of the reader are about
+-- private: how the code goes; no public contract names these
 pub mod Reading

@@ -1,4 +1,4 @@
--- A header that is read field by field.
+-- Private: a header that is read field by field.
 use Rattle.std.specs.Prelude.{◌≡◌, ℕ, ◌+◌, ◌-◌, ◌≤◌, Bool, List, [], ◌∷◌, ◌++◌, ◌||◌, length, drop, slice_range, true, false, Option, MatchOption}
 use Rattle.octets.specs.Blank.{without_outer_blanks}
 use Rattle.text_lines.specs.Unread.{Unread}

@@ -5,7 +5,7 @@ ghost use Rattle.octets.specs.Ascii.{EqualIgnoringCase};
 ghost use Rattle.octets.specs.Blank.{without_outer_blanks, without_trailing_blanks};
 ghost use Rattle.header_fields.specs.Header.{after_colon, beginning_of, field_written, without_breaks};
 
-use crate::field_line::{after_colon, name_length, name_of_length};
+use crate::field_line::{after_colon, has_name_of_length, name_length};
 use crate::unfolding::joined_length;
 use octets::{equal_ignoring_case, trim_blanks, trim_leading_blanks, trim_trailing_blanks};
 use std::alloc::{AllocError, Global};
@@ -51,10 +51,10 @@ impl<'a> Field<'a> {
 pub fn name_is(field: &Field, name: &[u8]) -> bool
     ensures { IsTrue result ↔ EqualIgnoringCase field.now.name name.now }
 {
-    match name_of_length(field.lines, name.len()) {
-        Some(own) => equal_ignoring_case(own, name),
-        None => false,
-    }
+    let Some(start) = field.lines.get(..name.len()) else {
+        return false;
+    };
+    equal_ignoring_case(start, name) && has_name_of_length(field.lines, name.len())
 }
 
 /// The field's value: what follows its colon, unfolded, without outer SP and TAB (RFC 5322, section 2.2.3).

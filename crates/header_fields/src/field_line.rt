@@ -1,5 +1,5 @@
 // The line that begins a field.
-ghost use Rattle.std.specs.Prelude.{◌≡◌, ◌≢◌, length, MatchOption};
+ghost use Rattle.std.specs.Prelude.{◌≡◌, ◌↔◌, IsTrue, length};
 ghost use Rattle.header_fields.specs.Header.{after_colon, begins_with_colon, is_field_line, is_name_octet, name_of};
 ghost use Rattle.header_fields.specs.Reading.{begins_with_name};
 
@@ -21,22 +21,15 @@ pub(crate) fn name_length(line: &[u8]) -> usize
         .count()
 }
 
-/// The name that the line begins with, if it has this length. No more octets are looked at than one beyond it.
-pub(crate) fn name_of_length(line: &[u8], most: usize) -> Option<&[u8]>
-    ensures { MatchOption result (length (name_of line.now) ≢ most)
-        (λ name. (name.now ≡ name_of line.now) × (length name.now ≡ most)) }
+/// Whether the name that the line begins with has this length. No more octets are looked at than one beyond it.
+pub(crate) fn has_name_of_length(line: &[u8], len: usize) -> bool
+    ensures { IsTrue result ↔ (length (name_of line.now) ≡ len) }
 {
-    if line.len() < most {
-        return None;
+    if line.len() < len {
+        return false;
     }
-    let (start, after) = line.split_at(most);
-    if begins_with_name(after) {
-        return None;
-    }
-    if name_length(start) < most {
-        return None;
-    }
-    Some(start)
+    let (start, after) = line.split_at(len);
+    !begins_with_name(after) && name_length(start) >= len
 }
 
 // Whether the text begins with an octet that may stand in a field's name.

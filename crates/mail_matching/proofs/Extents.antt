@@ -21,8 +21,8 @@ use Rattle.hex.proofs.HexLemmas.{length-encode_with}
 use Rattle.mime_decode.specs.Content.{digest_of}
 use Rattle.mime_decode.specs.Scope.{Scope, Root, Current, CurrentAndBelow, Selector, Value, Main, Sub, ContentType, Param, content_type_of, current_or_root, first_and_below, given, main_of, params_of, parts_in_scope, reading_of, selected_of, selected_values, sub_of}
 use Rattle.mail_matching.specs.Costs.{extent_of, names_cost, values_cost}
-use Rattle.mail_matching.specs.Headers.{AreWithin, headers_in_scope, selected_among, selected_in_all, selected_named, values_of_params}
-use Rattle.mail_matching.specs.HeaderTests.{fields_in_scope}
+use Rattle.mail_matching.specs.Headers.{AreWithin, selected_among, selected_in_all, selected_named, values_of_params}
+use Rattle.mail_matching.specs.HeaderTests.{fields_in_scope, headers_in_scope}
 use Rattle.mail_matching.specs.PartTests.{body_cost, digest_cost}
 use Rattle.mail_matching.specs.Selection.{selector_of, values_of_a_field}
 use Rattle.bytecode_format.specs.declared.selection.Selector as declared

@@ -10,7 +10,8 @@ use Rattle.mail_matching.specs.FirstMatch.{first_key, first_match}
 use Rattle.header_fields.specs.Fields.{Field}
 use Rattle.mime_decode.specs.Scope.{Selector}
 use Rattle.mail_matching.specs.Headers.{selected_among, values_of_params}
-use Rattle.mail_matching.specs.Outcomes.{GoesOn, after}
+use Rattle.mail_matching.specs.Outcomes.{after}
+use Rattle.mail_matching.specs.Private.{GoesOn}
 use Rattle.mail_matching.specs.declared.progress.Progress.{Progress}
 use Rattle.mail_matching.proofs.Extents.{extent-append, extent_flat_map}
 

@@ -14,8 +14,8 @@ use Rattle.mime_tree.specs.PartTree as tree
 use Rattle.mime_decode.specs.Mail.{IsMail, Mail, Part, mail_of, part_of}
 use Rattle.mime_decode.specs.Scope.{Scope, current_or_root, first_and_below, parts_in_scope}
 use Rattle.mime_decode.proofs.MailLemmas.{at_part, tree_number}
-use Rattle.mail_matching.specs.Headers.{all_fields, headers_from, headers_in_scope}
-use Rattle.mail_matching.specs.HeaderTests.{fields_in_scope, has_field}
+use Rattle.mail_matching.specs.Headers.{all_fields, headers_from}
+use Rattle.mail_matching.specs.HeaderTests.{fields_in_scope, has_field, headers_in_scope}
 use Rattle.mail_matching.proofs.Extents.{dropped_within, fields_few, headers_extent}
 
 -- ---- an element that is there

@@ -2,8 +2,7 @@
 use Rattle.std.proofs.Common.{◌≡◌, ℕ, List, ◌++◌, sym, ap, ◌∙◌}
 use Rattle.header_fields.specs.Header.{beginning_of}
 use Rattle.header_fields.proofs.Starts.{beginning_rest}
-use Rattle.mime_params.specs.MediaValue.{disposition_name, type_names}
-use Rattle.mime_params.specs.Reading.{SettlesDisposition, SettlesType}
+use Rattle.mime_params.specs.MediaValue.{disposition_name, type_names, SettlesDisposition, SettlesType}
 
 pub settled_media : (most : ℕ) (value text : List ℕ) → text ≡ beginning_of most value → SettlesType text → type_names text ≡ type_names value
 settled_media most value text is settles =

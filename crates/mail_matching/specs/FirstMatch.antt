@@ -14,11 +14,6 @@ use Rattle.glob_match.specs.declared.match_type.MatchType.TheVariants.{Is, Conta
 abbrev pub no_captures : List (List ℕ)
 no_captures = replicate max_captures []
 
--- the captures that were set last, and ten empty ones as long as none were
-abbrev pub captures_of : Option (List (List ℕ)) → List (List ℕ)
-captures_of None = no_captures
-captures_of (Some captures) = captures
-
 -- captures with empty ones after them, so that there are ten
 abbrev pub ten_of : List (List ℕ) → List (List ℕ)
 ten_of captures = captures ++ replicate (max_captures - length captures) []

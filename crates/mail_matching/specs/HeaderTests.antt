@@ -1,5 +1,5 @@
 -- The tests `header` and `exists` (RFC 5228, sections 5.5 and 5.7; RFC 5703, section 4).
-use Rattle.std.specs.Prelude.{ℕ, ◌+◌, Bool, List, flat_map, Option}
+use Rattle.std.specs.Prelude.{ℕ, ◌+◌, Bool, List, flat_map, Option, ◌≡◌, false, true, All, map}
 use Rattle.std.specs.List.{list_all, list_any}
 use Rattle.glob_match.specs.declared.match_type.Match.{Match}
 use Rattle.header_fields.specs.Fields.{Field}
@@ -34,3 +34,15 @@ abbrev pub header_cost : Scope → Option ℕ → Selector → List (List ℕ) �
 header_cost scope current selector names keys mail =
     names_cost (fields_in_scope scope current mail) names + values_cost
     (selected_values scope current selector names mail) keys
+
+-- the fields of each part in scope
+abbrev pub headers_in_scope : Scope → Option ℕ → Mail → List (List Field)
+headers_in_scope scope current mail = map (λ (part : Part). part.fields) (parts_in_scope scope current mail)
+
+-- a field isn't folded, if it has the name
+abbrev pub IsUnfolded : List ℕ → Field → Type 0
+IsUnfolded name field = is_word field.name name ≡ true → field.folded ≡ false
+
+-- no field of one of the names is folded
+abbrev pub AreUnfolded : List (List ℕ) → List Field → Type 0
+AreUnfolded names fields = All (λ name. All (IsUnfolded name) fields) names

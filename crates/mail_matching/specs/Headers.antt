@@ -1,20 +1,16 @@
--- The headers of the parts in scope.
-use Rattle.std.specs.Prelude.{◌≡◌, ℕ, ◌≤◌, ◌&&◌, Bool, false, true, is_none, All, List, length, map, flat_map, take, drop, Option}
+-- Private: the headers of the parts in scope.
+use Rattle.std.specs.Prelude.{◌≡◌, ℕ, ◌≤◌, ◌&&◌, Bool, is_none, All, List, length, map, flat_map, take, drop}
 use Rattle.std.specs.List.{list_any}
 use Rattle.header_fields.specs.Fields.{Field}
 use Rattle.octets.specs.Ascii.{is_word}
 use Rattle.mime_decode.specs.Mail.{Mail, Part}
 use Rattle.mime_params.specs.MediaValue.{value_named}
 use Rattle.mime_params.specs.declared.params.Parameter.{Parameter}
-use Rattle.mime_decode.specs.Scope.{Scope, Selector, fields_named, given, parts_in_scope, selected_of}
+use Rattle.mime_decode.specs.Scope.{Selector, fields_named, given, selected_of}
 
 -- the fields of each of so many parts, from one on
 abbrev pub headers_from : ℕ → ℕ → Mail → List (List Field)
 headers_from first number mail = map (λ (part : Part). part.fields) (take number (drop first mail.parts))
-
--- the fields of each part in scope
-abbrev pub headers_in_scope : Scope → Option ℕ → Mail → List (List Field)
-headers_in_scope scope current mail = map (λ (part : Part). part.fields) (parts_in_scope scope current mail)
 
 -- all fields of some headers
 abbrev pub all_fields : List (List Field) → List Field
@@ -35,14 +31,6 @@ selected_in_all selector names headers = flat_map (selected_among selector names
 -- the values of the parameters of these names
 abbrev pub values_of_params : List Parameter → List (List ℕ) → List (List ℕ)
 values_of_params params names = flat_map (λ name. given (value_named name params)) names
-
--- a field isn't folded, if it has the name
-abbrev pub IsUnfolded : List ℕ → Field → Type 0
-IsUnfolded name field = is_word field.name name ≡ true → field.folded ≡ false
-
--- no field of one of the names is folded
-abbrev pub AreUnfolded : List (List ℕ) → List Field → Type 0
-AreUnfolded names fields = All (λ name. All (IsUnfolded name) fields) names
 
 -- no parameter's value is longer than this
 abbrev pub AreWithin : ℕ → List Parameter → Type 0

@@ -12,6 +12,7 @@ pub mod Texts
 pub mod Outcomes
 -- what is kept of a value
 pub mod Kept
--- how the tests of headers go; of what is public only that `header` takes no memory rests on it
+-- private: how the code goes; no public contract names these
 pub mod Headers
 pub mod Readings
+pub mod Private

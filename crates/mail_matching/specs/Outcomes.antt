@@ -1,13 +1,5 @@
 -- What the code's answers stand for.
-use Rattle.std.specs.Prelude.{◌≡◌, ℕ, ◌+◌, Bool, false, true, List, Option, None, Some}
-use Rattle.std.specs.Option.{option_or}
-use Rattle.glob_match.specs.Captures.{texts}
-use Rattle.glob_match.specs.declared.match_type.Match.{Match}
-use Rattle.mail_matching.specs.Costs.{extent_of}
-use Rattle.mail_matching.specs.FirstMatch.{first_match, ten_of}
-use Rattle.mail_matching.specs.declared.comparing.Compared.{Compared}
-use Rattle.mail_matching.specs.declared.comparing.Compared.TheVariants.{Differs, Matches, Sets}
-use Rattle.mail_matching.specs.declared.progress.Progress.{Progress}
+use Rattle.std.specs.Prelude.{ℕ, Bool, false, true, List, Option, None, Some}
 use Rattle.mail_matching.specs.declared.outcome.Outcome.{Outcome}
 use Rattle.mail_matching.specs.declared.outcome.Outcome.TheVariants.{Fails, Holds, Captures}
 
@@ -22,16 +14,3 @@ abbrev pub holds : Outcome → Bool
 holds Fails = false
 holds Holds = true
 holds (Captures set) = true
-
--- the captures after a value was compared with a key; None where they differ
-abbrev pub after_compared : List ℕ → Compared → List (List ℕ) → Option (List (List ℕ))
-after_compared value Differs captures = None
-after_compared value Matches captures = Some captures
-after_compared value (Sets stretches) captures = Some (ten_of (texts value stretches))
-
--- after the values that were taken before, these were: they are compared where none of the former
--- matched, and they count in any case
-pub record GoesOn (how : Match) (values keys : List (List ℕ)) (old new : Progress) : Type 0 where
-  pub outcome : (captures : List (List ℕ))
-      → after new.outcome captures ≡ option_or (after old.outcome captures) (first_match how values keys captures)
-  pub extent : new.extent ≡ old.extent + extent_of values

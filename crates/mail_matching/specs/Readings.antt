@@ -1,4 +1,4 @@
--- The text that a field's type is read in.
+-- Private: the text that a field's type is read in.
 use Rattle.std.specs.Prelude.{◌≡◌, ℕ, true, List, codes}
 use Rattle.header_fields.specs.Fields.{Field}
 use Rattle.mime_params.specs.MediaValue.{disposition_name, type_names}

@@ -3,7 +3,8 @@ ghost use Rattle.std.specs.Prelude.{◌≡◌, ◌≤◌, ℕ, List, IfOk, IsOk,
 ghost use Rattle.std.specs.Cow.{IsBorrowedSlice, cow_slice_items};
 ghost use Rattle.octets.specs.Limits.{max_message, max_string};
 ghost use Rattle.mail_matching.specs.FirstMatch.{KeepsCaptures, after_match, first_key};
-ghost use Rattle.mail_matching.specs.Outcomes.{after, after_compared};
+ghost use Rattle.mail_matching.specs.Outcomes.{after};
+ghost use Rattle.mail_matching.specs.Private.{after_compared};
 ghost use Rattle.mail_matching.specs.Texts.{AreTexts};
 
 use crate::outcome::{Captured, Outcome};

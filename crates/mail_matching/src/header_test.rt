@@ -1,8 +1,9 @@
 // The test `header`.
 ghost use Rattle.std.specs.Prelude.{◌≡◌, ◌<◌, ℕ, All, List, IfOk, IfSome, IsOk, OnOk, length};
-ghost use Rattle.mail_matching.specs.Headers.{AreUnfolded, headers_in_scope, selected_in_all};
-ghost use Rattle.mail_matching.specs.HeaderTests.{header_cost, header_match};
-ghost use Rattle.mail_matching.specs.Outcomes.{GoesOn, after};
+ghost use Rattle.mail_matching.specs.Headers.{selected_in_all};
+ghost use Rattle.mail_matching.specs.HeaderTests.{header_cost, header_match, AreUnfolded, headers_in_scope};
+ghost use Rattle.mail_matching.specs.Outcomes.{after};
+ghost use Rattle.mail_matching.specs.Private.{GoesOn};
 ghost use Rattle.mail_matching.specs.Selection.{scope_of, selector_of};
 ghost use Rattle.mail_matching.specs.Texts.{AreTexts};
 ghost use Rattle.mail_matching.specs.declared.outcome.Outcome.TheVariants.{Fails};

@@ -4,7 +4,8 @@ ghost use Rattle.octets.specs.Limits.{max_message};
 ghost use Rattle.header_fields.specs.Extent.{fields_extent};
 ghost use Rattle.mime_decode.specs.Mail.{IsMail};
 ghost use Rattle.mime_decode.specs.Scope.{parts_in_scope};
-ghost use Rattle.mail_matching.specs.Headers.{all_fields, headers_in_scope};
+ghost use Rattle.mail_matching.specs.Headers.{all_fields};
+ghost use Rattle.mail_matching.specs.HeaderTests.{headers_in_scope};
 ghost use Rattle.mail_matching.specs.Selection.{scope_of};
 
 use crate::selection::Reach;

@@ -3,3 +3,4 @@ mod Examples
 pub mod MailLemmas
 mod Feeding
 pub mod Visited
+pub mod Together

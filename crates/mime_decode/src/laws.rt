@@ -1,8 +1,10 @@
 //! What holds of the definitions alone.
-ghost use Rattle.std.specs.Prelude.{◌≤◌, ℕ, List, length};
+ghost use Rattle.std.specs.Prelude.{◌≤◌, ◌*◌, ℕ, List, length};
+ghost use Rattle.octets.specs.Limits.{max_depth};
 ghost use Rattle.mime_params.specs.declared.encoding.TransferEncoding.{TransferEncoding};
 ghost use Rattle.mime_decode.specs.Content.{content_of};
 ghost use Rattle.mime_decode.specs.Mail.{IsMail, IsReadable, mail_of};
+ghost use Rattle.mime_decode.specs.Together.{contents_together};
 
 /// In no encoding does a body stand for more octets than it has.
 pub fn content_is_no_longer_than_its_body()
@@ -13,4 +15,11 @@ pub fn content_is_no_longer_than_its_body()
 /// Whatever can be read is a mail.
 pub fn what_is_read_is_a_mail()
     ensures { (octets : List ℕ) → IsReadable octets → IsMail (mail_of octets) }
+{}
+
+/// The contents of all parts of a message have together at most as many octets as the message has
+/// for each depth that a part may have.
+pub fn contents_fit_once_at_each_depth()
+    ensures { (octets : List ℕ) → contents_together (mail_of octets).parts
+        ≤ max_depth * length octets }
 {}

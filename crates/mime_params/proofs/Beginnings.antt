@@ -8,8 +8,8 @@ use Rattle.octets.specs.Blank.{is_blank}
 use Rattle.mime_params.specs.declared.media.Disposition.{Disposition}
 use Rattle.mime_params.specs.Gaps.{after_comment, after_gap}
 use Rattle.mime_params.specs.Words.{Word, word, is_token_octet}
-use Rattle.mime_params.specs.MediaValue.{◌>>=◌, after_octet, disposition_name, disposition_of, media_type_of, names_of, params_in, token, type_names}
-use Rattle.mime_params.specs.Reading.{GapEnds, SettlesDisposition, SettlesType, TokenEnds, with_rest}
+use Rattle.mime_params.specs.MediaValue.{◌>>=◌, after_octet, disposition_name, disposition_of, media_type_of, names_of, params_in, token, type_names, SettlesDisposition, SettlesType}
+use Rattle.mime_params.specs.Reading.{GapEnds, TokenEnds, with_rest}
 use Rattle.mime_params.proofs.Gaps.{closed_shorter, comment_ends, gap_blank, gap_comment, gap_none, gap_open}
 
 -- ---- gaps

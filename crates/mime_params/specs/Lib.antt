@@ -2,5 +2,5 @@ pub mod Gaps
 pub mod Words
 pub mod MediaValue
 pub mod Encodings
--- how the readers go, and which beginnings settle what a value is
+-- private: how the code goes; no public contract names these
 pub mod Reading

@@ -1,5 +1,5 @@
 -- Media types, dispositions and parameters (RFC 2045, section 5.1; RFC 2183, section 2).
-use Rattle.std.specs.Prelude.{ℕ, zero, suc, Bool, not, ◌==◌, List, [], ◌∷◌, ◌++◌, codes, Option, Some, None, option_map, length, drop, if◌then◌else◌}
+use Rattle.std.specs.Prelude.{ℕ, zero, suc, Bool, not, ◌==◌, List, [], ◌∷◌, ◌++◌, codes, Option, Some, None, option_map, length, drop, if◌then◌else◌, ◌≡◌}
 use Rattle.std.specs.List.{take_while, find}
 use Rattle.std.specs.Option.{option_map_or}
 use Rattle.octets.specs.Ascii.{lowercase_of}
@@ -114,3 +114,11 @@ disposition_params text = option_map_or (λ (disposition : Disposition). disposi
 -- a media type without its parameters, in lower case
 abbrev pub media_text : MediaType → List ℕ
 media_text media = lowercase_of media.main ++ codes "/" ++ lowercase_of media.sub
+
+-- a text has the same type and subtype, as the beginning of a value, whatever follows it
+abbrev pub SettlesType : List ℕ → Type 0
+SettlesType text = (more : List ℕ) → type_names (text ++ more) ≡ type_names text
+
+-- the same of a disposition
+abbrev pub SettlesDisposition : List ℕ → Type 0
+SettlesDisposition text = (more : List ℕ) → disposition_name (text ++ more) ≡ disposition_name text

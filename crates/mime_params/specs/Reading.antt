@@ -1,9 +1,9 @@
--- What the readers give.
+-- Private: what the readers give.
 use Rattle.std.specs.Prelude.{◌≡◌, ◌≢◌, ℕ, List, [], ◌∷◌, ◌++◌, Option, Some, None, MatchOption, option_map, Bool, true, ◌==◌}
 use Rattle.std.specs.Borrow.{Bor}
 use Rattle.mime_params.specs.Gaps.{after_gap}
-use Rattle.mime_params.specs.MediaValue.{disposition_name, token, type_names}
-use Rattle.mime_params.specs.Words.{Word, value}
+use Rattle.mime_params.specs.MediaValue.{token}
+use Rattle.mime_params.specs.Words.{Word}
 
 -- a word that was read with what follows it, or nothing where none begins
 abbrev pub GivesWord : Option Word → Option (List ℕ × Bor (List ℕ)) → Type 0
@@ -22,15 +22,6 @@ is_empty_param (c ∷ rest) = c == 59
 abbrev pub after_word : Option Word → Option (List ℕ)
 after_word word = option_map (λ w. w.rest) word
 
--- the octets of a word, or none
-abbrev pub octets_of : Option Word → List ℕ
-octets_of None = []
-octets_of (Some w) = w.octets
-
--- those of the value that a text begins with
-abbrev pub value_octets : List ℕ → List ℕ
-value_octets text = octets_of (value text)
-
 -- ---- texts that may go on
 
 -- a word with more after what follows it
@@ -45,11 +36,3 @@ pub record GapEnds (text rest : List ℕ) : Type 0 where
 -- the token that a text begins with ends in the text, or there is none, whatever follows the text
 abbrev pub TokenEnds : List ℕ → Type 0
 TokenEnds text = (more : List ℕ) → token (text ++ more) ≡ option_map (with_rest more) (token text)
-
--- a text has the same type and subtype, as the beginning of a value, whatever follows it
-abbrev pub SettlesType : List ℕ → Type 0
-SettlesType text = (more : List ℕ) → type_names (text ++ more) ≡ type_names text
-
--- the same of a disposition
-abbrev pub SettlesDisposition : List ℕ → Type 0
-SettlesDisposition text = (more : List ℕ) → disposition_name (text ++ more) ≡ disposition_name text

@@ -41,3 +41,12 @@ quoted (c ∷ d ∷ rest) =
 abbrev pub value : List ℕ → Option Word
 value [] = None
 value (c ∷ rest) = if c == 34 then quoted rest else word is_value_octet (c ∷ rest)
+
+-- the octets of a word, or none
+abbrev pub octets_of : Option Word → List ℕ
+octets_of None = []
+octets_of (Some w) = w.octets
+
+-- those of the value that a text begins with
+abbrev pub value_octets : List ℕ → List ℕ
+value_octets text = octets_of (value text)

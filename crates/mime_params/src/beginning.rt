@@ -1,7 +1,7 @@
 // Values of which only the beginning is at hand.
 ghost use Rattle.std.specs.Prelude.{◌≡◌, IsTrue, MatchOption, None, Some};
-ghost use Rattle.mime_params.specs.MediaValue.{after_octet};
-ghost use Rattle.mime_params.specs.Reading.{GapEnds, SettlesDisposition, SettlesType, TokenEnds};
+ghost use Rattle.mime_params.specs.MediaValue.{after_octet, SettlesDisposition, SettlesType};
+ghost use Rattle.mime_params.specs.Reading.{GapEnds, TokenEnds};
 
 use crate::gap::after_gap;
 use crate::words::token;

@@ -23,8 +23,7 @@ pub struct LentParameter<'t> {
 
 impl<'t> Model for LentParameter<'t> {
     ghost use Rattle.std.specs.Prelude.{IsSome};
-    ghost use Rattle.mime_params.specs.Reading.{value_octets};
-    ghost use Rattle.mime_params.specs.Words.{value};
+    ghost use Rattle.mime_params.specs.Words.{value, value_octets};
     ghost use Rattle.mime_params.specs.declared.params.Parameter.{Parameter};
 
     ghost Value = { Parameter };

@@ -5,10 +5,10 @@ use Rattle.std.proofs.lemmas.List.{length-append, take-append-drop}
 use Rattle.octets.specs.Limits.{max_depth}
 use Rattle.mime_params.specs.declared.media.MediaType.{MediaType}
 use Rattle.text_lines.specs.Lines.{TextLine}
-use Rattle.mime_tree.specs.PartTree.{Part, Stretch, part_at, with_below, default_below, children_of, parts_of}
+use Rattle.mime_tree.specs.PartTree.{Part, Stretch, part_at, with_below, default_below, children_of, parts_of, default_media}
 use Rattle.mime_tree.specs.Enclosing.{octets_before}
 use Rattle.mime_tree.specs.OpenParts.{OpenPart, boundaries_with, boundaries_in, end_from, is_last, lines_at, parts_ahead, first_ended, ended_at, finished}
-use Rattle.mime_tree.specs.Reading.{default_media, wanted_from}
+use Rattle.mime_tree.specs.Reading.{wanted_from}
 use Rattle.mime_tree.specs.declared.reader.Beginning.{Beginning}
 
 pub ended_set : (parts : List Part) (at end : ℕ) (old new : Part) → at < length parts → old ≡ get_or parts at old

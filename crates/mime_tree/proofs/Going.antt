@@ -7,10 +7,10 @@ use Rattle.std.proofs.Math.Seq.{take-append_seam, drop-append_seam}
 use Rattle.text_lines.specs.Lines.{TextLine, lines_of, AreLines}
 use Rattle.text_lines.proofs.Broken.{lines_of-octets_of, AreLines-lines_of}
 use Rattle.header_fields.specs.Header.{line_length}
-use Rattle.mime_tree.specs.PartTree.{Part}
+use Rattle.mime_tree.specs.PartTree.{Part, default_media}
 use Rattle.mime_tree.specs.Enclosing.{first_ends_any}
 use Rattle.mime_tree.specs.OpenParts.{OpenPart, boundaries_in, is_last, all_ended, finished, lines_at, parts_begun, break_alone}
-use Rattle.mime_tree.specs.Reading.{IsMark, IsMet, IsHit, BeginsChild, default_media, wanted_from}
+use Rattle.mime_tree.specs.Reading.{IsMark, IsMet, IsHit, BeginsChild, wanted_from}
 use Rattle.mime_tree.specs.declared.delimiter.Mark.TheVariants.{Delimiter, Closing}
 use Rattle.mime_tree.specs.declared.hit.Hit.{Hit}
 use Rattle.mime_tree.specs.declared.reader.Beginning.{Beginning}

@@ -15,3 +15,4 @@ pub mod Places
 pub mod Quiet
 pub mod Ranges
 pub mod Runs
+pub mod Together

@@ -15,10 +15,10 @@ use Rattle.octets.specs.Blank.{without_trailing_blanks}
 use Rattle.mime_params.specs.MediaValue.{value_named}
 use Rattle.mime_params.specs.declared.media.MediaType.{MediaType}
 use Rattle.header_fields.specs.Fields.{first_value}
-use Rattle.mime_tree.specs.PartTree.{Part, Stretch, is_plain, media_or, encoding_or_7bit, text_plain, part_at, with_below, default_below, children_between, children_of, body_of, body_stretch, multipart_children, parts_of}
+use Rattle.mime_tree.specs.PartTree.{Part, Stretch, is_plain, media_or, encoding_or_7bit, text_plain, part_at, with_below, default_below, children_between, children_of, body_of, body_stretch, multipart_children, parts_of, default_media}
 use Rattle.mime_tree.specs.Enclosing.{octets_before}
 use Rattle.mime_tree.specs.OpenParts.{OpenPart, boundaries_with, boundaries_in, cut, end_from, children_ahead, parts_ahead, ended_at, finished, parts_begun, part_read, named_boundary, boundary_inside, boundary_of_child, holds_message, lines_at, message_below, opening}
-use Rattle.mime_tree.specs.Reading.{IsBeginning, default_media, wanted_from}
+use Rattle.mime_tree.specs.Reading.{IsBeginning, wanted_from}
 use Rattle.mime_tree.specs.declared.media.DefaultType.TheVariants.{Text}
 use Rattle.mime_tree.specs.declared.reader.Beginning.{Beginning}
 use Rattle.mime_tree.proofs.Enclosing.{body_cut}

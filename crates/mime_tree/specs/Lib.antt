@@ -1,10 +1,11 @@
 pub mod PartTree
 pub mod Readable
 pub mod Refusals
-pub mod Runs
 -- where parts stand
 pub mod Order
+pub mod Together
 pub mod Enclosing
--- what private functions of the reader are about
+-- private: how the code goes; no public contract names these
+pub mod Runs
 pub mod OpenParts
 pub mod Reading

@@ -1,4 +1,4 @@
--- The parts of a message that haven't ended where its reader stands, and what is still to come in them.
+-- Private: the parts of a message that haven't ended where its reader stands, and what is still to come in them.
 use Rattle.std.specs.Prelude.{ℕ, ◌+◌, ◌-◌, ◌==◌, ◌&&◌, ◌||◌, Bool, true, false, List, [], ◌∷◌, ◌++◌, length, take, drop, flat_map, Option, None, Some, codes, nat_lt, if◌then◌else◌}
 use Rattle.octets.specs.Blank.{without_trailing_blanks}
 use Rattle.text_lines.specs.Lines.{TextLine, lines_of}

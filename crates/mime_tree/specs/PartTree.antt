@@ -11,6 +11,8 @@ use Rattle.mime_params.specs.Encodings.{encoding_of}
 use Rattle.mime_params.specs.declared.media.MediaType.{MediaType}
 use Rattle.mime_params.specs.declared.encoding.TransferEncoding.{TransferEncoding}
 use Rattle.mime_params.specs.declared.encoding.TransferEncoding.TheVariants.{SevenBit, EightBit, Binary, QuotedPrintable, Base64, Unknown}
+use Rattle.mime_tree.specs.declared.media.DefaultType.{DefaultType}
+use Rattle.mime_tree.specs.declared.media.DefaultType.TheVariants.{Text, Message}
 
 -- a stretch of the message: the place where it begins, and its octets
 pub record Stretch : Type 0 where
@@ -164,3 +166,8 @@ parts_of (suc levels) default stretch =
 -- the parts of a message
 abbrev pub tree_of : List ℕ → List Part
 tree_of octets = parts_of (max_depth - 1) text_plain (record { place = 0; octets = octets })
+
+-- the media type of a part that has no Content-Type
+abbrev pub default_media : DefaultType → MediaType
+default_media Text = text_plain
+default_media Message = message_rfc822

@@ -1,10 +1,9 @@
--- What private functions of the reader are about.
+-- Private: what functions of the reader are about.
 use Rattle.std.specs.Prelude.{◌≡◌, ℕ, ◌+◌, ◌<◌, ◌≤◌, ◌&&◌, Bool, true, false, not, List, [], ◌∷◌, ◌++◌, length, take, slice_get, Option, None, Some, MatchOption, bytes_eq, codes, if◌then◌else◌}
-use Rattle.octets.specs.Limits.{max_depth}
+use Rattle.octets.specs.Limits.{max_depth, max_parts}
 use Rattle.text_lines.specs.Lines.{TextLine}
 use Rattle.header_fields.specs.Header.{line_length}
-use Rattle.mime_params.specs.declared.media.MediaType.{MediaType}
-use Rattle.mime_tree.specs.PartTree.{Part, is_delimiter, is_closing, text_plain, message_rfc822}
+use Rattle.mime_tree.specs.PartTree.{Part, is_delimiter, is_closing, default_media}
 use Rattle.mime_tree.specs.Enclosing.{first_ends_any}
 use Rattle.mime_tree.specs.OpenParts.{OpenPart, boundaries_in, finished, is_last, lines_at, meets_any, parts_begun}
 use Rattle.mime_tree.specs.declared.delimiter.Mark.{Mark}
@@ -12,13 +11,8 @@ use Rattle.mime_tree.specs.declared.delimiter.Mark.TheVariants.{Delimiter, Closi
 use Rattle.mime_tree.specs.declared.hit.Met.{Met}
 use Rattle.mime_tree.specs.declared.hit.Hit.{Hit}
 use Rattle.mime_tree.specs.declared.reader.Beginning.{Beginning}
-use Rattle.mime_tree.specs.declared.media.DefaultType.{DefaultType}
-use Rattle.mime_tree.specs.declared.media.DefaultType.TheVariants.{Text, Message}
-
--- the media type of a part that has no Content-Type
-abbrev pub default_media : DefaultType → MediaType
-default_media Text = text_plain
-default_media Message = message_rfc822
+use Rattle.mime_tree.specs.declared.error.MessageError.{MessageError}
+use Rattle.mime_tree.specs.declared.error.MessageError.TheVariants.{Memory, MessageTooLarge, TooManyParts}
 
 -- ---- lines that end parts
 
@@ -119,3 +113,9 @@ pub record BeginsChild (text : List ℕ) (hit : Hit) (opened : List OpenPart) (b
   pub few : beginning.levels < max_depth
   pub default : default_media beginning.default ≡ part.default
   pub place : beginning.place ≡ (if first_ends_any (boundaries_in [] (take hit.met.place opened)) (lines_at text hit.line.stop) then hit.line.end else hit.line.stop)
+
+-- of a function that finds so many parts or more: they are too many, or memory was refused
+abbrev pub IsRefusedFor : MessageError → ℕ → Type 0
+IsRefusedFor Memory parts = Unit {0}
+IsRefusedFor MessageTooLarge parts = ⊥
+IsRefusedFor TooManyParts parts = max_parts < parts

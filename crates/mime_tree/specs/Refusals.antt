@@ -10,9 +10,3 @@ abbrev pub IsTreeRefusal : List ℕ → MessageError → Type 0
 IsTreeRefusal octets Memory = Unit {0}
 IsTreeRefusal octets MessageTooLarge = max_message < length octets
 IsTreeRefusal octets TooManyParts = (length octets ≤ max_message) × (max_parts < length (tree_of octets))
-
--- of a function that finds so many parts or more: they are too many, or memory was refused
-abbrev pub IsRefusedFor : MessageError → ℕ → Type 0
-IsRefusedFor Memory parts = Unit {0}
-IsRefusedFor MessageTooLarge parts = ⊥
-IsRefusedFor TooManyParts parts = max_parts < parts

@@ -1,4 +1,4 @@
--- Lines taken together: a line that begins with two dashes alone, and others up to the next such line.
+-- Private: lines taken together. A line that begins with two dashes alone, and others up to the next such line.
 use Rattle.std.specs.Prelude.{◌≡◌, ◌≢◌, ◌⊎◌, ℕ, ◌+◌, ◌<◌, ◌≤◌, List, [], ◌∷◌, ◌++◌, length, take, drop, slice_index, slice_range, Option, MatchOption}
 use Rattle.text_lines.specs.Unread.{Unread}
 use Rattle.text_lines.specs.Lines.{TextLine, lines_of, lines_left, line_octets, octets_of, IsAtEnd}

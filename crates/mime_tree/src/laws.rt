@@ -1,8 +1,10 @@
 //! The laws of the tree: where the parts of a message stand.
-ghost use Rattle.std.specs.Prelude.{◌≡◌, ◌≤◌, ℕ, All, List, length, map, slice_get, Some};
+ghost use Rattle.std.specs.Prelude.{◌≡◌, ◌==◌, ◌≤◌, ◌*◌, ℕ, All, List, filter, length, map, slice_get, Some};
+ghost use Rattle.octets.specs.Limits.{max_depth};
 ghost use Rattle.mime_tree.specs.PartTree.{Part, tree_of};
 ghost use Rattle.mime_tree.specs.Enclosing.{Enclosed, IsEnded, enclosed_in};
 ghost use Rattle.mime_tree.specs.Order.{AreApart, IsInMessage, IsWhole, Nests, below_of, parts_extent};
+ghost use Rattle.mime_tree.specs.Together.{AreOneByOne, octets_together};
 
 /// The headers of different parts are disjoint.
 pub fn headers_are_apart()
@@ -39,4 +41,15 @@ pub fn any_multipart_around_ends_a_part()
     ensures parts { (octets : List ℕ) → map (λ (e : Enclosed). e.part) (enclosed_in octets)
         ≡ tree_of octets }
     ensures ends { (octets : List ℕ) → All (IsEnded octets) (enclosed_in octets) }
+{}
+
+/// Different parts at one depth share no octet: each begins where the one before it has ended, or later.
+pub fn parts_at_one_depth_are_apart()
+    ensures { (octets : List ℕ) (depth : ℕ) → AreOneByOne 0 (length octets)
+        (filter (λ (part : Part). part.depth == depth) (tree_of octets)) }
+{}
+
+/// So all parts together have at most as many octets as the message has for each depth that a part may have.
+pub fn parts_fit_once_at_each_depth()
+    ensures { (octets : List ℕ) → octets_together (tree_of octets) ≤ max_depth * length octets }
 {}

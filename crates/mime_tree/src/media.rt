@@ -4,8 +4,7 @@ ghost use Rattle.std.specs.Option.{option_map};
 ghost use Rattle.std.specs.Cow.{cow_slice_items};
 ghost use Rattle.octets.specs.Ascii.{is_word};
 ghost use Rattle.header_fields.specs.Fields.{first_value};
-ghost use Rattle.mime_tree.specs.PartTree.{is_plain, media_or, encoding_or_7bit, without_params};
-ghost use Rattle.mime_tree.specs.Reading.{default_media};
+ghost use Rattle.mime_tree.specs.PartTree.{is_plain, media_or, encoding_or_7bit, without_params, default_media};
 ghost use Rattle.mime_tree.specs.declared.media.DefaultType.{DefaultType};
 ghost use Rattle.mime_params.specs.MediaValue.{value_named};
 

@@ -2,6 +2,7 @@
 ghost use Rattle.std.specs.Prelude.{◌≡◌, ◌<◌, false, IfOk, None};
 ghost use Rattle.octets.specs.Limits.{max_depth};
 ghost use Rattle.mime_tree.specs.OpenParts.{opening};
+ghost use Rattle.mime_tree.specs.PartTree.{default_media};
 ghost use Rattle.mime_tree.specs.Reading.{mark_in};
 
 use crate::delimiter::{Mark, mark_of};
@@ -25,7 +26,7 @@ pub(crate) struct OpenPart {
 
 impl Model for OpenPart {
     ghost use Rattle.std.specs.Option.{option_map};
-    ghost use Rattle.mime_tree.specs.Reading.{default_media};
+    ghost use Rattle.mime_tree.specs.PartTree.{default_media};
     ghost use Rattle.mime_tree.specs.OpenParts.{OpenPart};
 
     ghost Value = { OpenPart };
@@ -44,8 +45,6 @@ impl Model for OpenPart {
 }
 
 impl OpenPart {
-    ghost use Rattle.mime_tree.specs.Reading.{default_media};
-
     /// A part that was read and has this place among the parts, where so many levels of parts may be below it.
     pub(crate) fn new(
         alloc: Global,

@@ -2,9 +2,8 @@
 ghost use Rattle.std.specs.Prelude.{◌≡◌, ◌-◌, ◌≤◌, length, take, IfOk, IfErr};
 ghost use Rattle.std.specs.Option.{option_map};
 ghost use Rattle.mime_params.specs.MediaValue.{value_named};
-ghost use Rattle.mime_tree.specs.PartTree.{body_of, default_below, without_params};
+ghost use Rattle.mime_tree.specs.PartTree.{body_of, default_below, without_params, default_media};
 ghost use Rattle.mime_tree.specs.OpenParts.{boundary_inside, holds_message, part_read};
-ghost use Rattle.mime_tree.specs.Reading.{default_media};
 
 use crate::error::MessageError;
 use crate::media::{
@@ -36,8 +35,7 @@ pub(crate) struct Part<'a> {
 impl<'a> Model for Part<'a> {
     ghost use Rattle.std.specs.Prelude.{◌≡◌, codes};
     ghost use Rattle.header_fields.specs.Fields.{first_value};
-    ghost use Rattle.mime_tree.specs.PartTree.{Part, media_or};
-    ghost use Rattle.mime_tree.specs.Reading.{default_media};
+    ghost use Rattle.mime_tree.specs.PartTree.{Part, media_or, default_media};
 
     ghost Value = { Part };
 

@@ -2,10 +2,9 @@
 ghost use Rattle.std.specs.Prelude.{◌≡◌, ◌+◌, ◌-◌, ◌<◌, ◌≤◌, [], ◌∷◌, ◌++◌, true, length, take, drop, vec_len, IfOk, IfErr, OnOk};
 ghost use Rattle.octets.specs.Limits.{max_depth, max_message, max_parts};
 ghost use Rattle.header_fields.specs.Header.{header_length};
-ghost use Rattle.mime_tree.specs.PartTree.{tree_of};
+ghost use Rattle.mime_tree.specs.PartTree.{tree_of, default_media};
 ghost use Rattle.mime_tree.specs.OpenParts.{all_ended, boundaries_in, cut, ended_at, finished, lines_at, message_below, opening, part_read};
-ghost use Rattle.mime_tree.specs.Reading.{AreAmong, BeginsChild, GivesPart, IsBeginning, default_media, wanted, wanted_from};
-ghost use Rattle.mime_tree.specs.Refusals.{IsRefusedFor};
+ghost use Rattle.mime_tree.specs.Reading.{AreAmong, BeginsChild, GivesPart, IsBeginning, wanted, wanted_from, IsRefusedFor};
 
 use crate::delimiter::Mark;
 use crate::error::MessageError;

@@ -9,7 +9,7 @@ use Rattle.std.proofs.lemmas.List.Sums.{length-filter, count_by-le-length}
 use Rattle.std.proofs.lemmas.List.Elements.{filter-append}
 use Rattle.std.proofs.Math.Seq.{take-append_seam, take-append-add, take-add, drop-append-add}
 use Rattle.octet_lanes.specs.Encoding.{stray, values_among}
-use Rattle.octet_lanes.specs.Lanes.{bits_set, order_of}
+use Rattle.octet_lanes.specs.Private.{bits_set, order_of}
 use Rattle.octet_lanes.specs.declared.close.TheConstants.{ORDERS}
 use Rattle.octet_lanes.proofs.Symbols.{every_below}
 use Rattle.std.proofs.Math.Facts.{leb_yes}

@@ -8,7 +8,8 @@ use Rattle.std.proofs.lemmas.Bool.{cases_lt, false≢true, ne_eqb}
 use Rattle.std.proofs.lemmas.List.{ext_get_or, get_or-drop, get_or-take, get_or-map, length-map}
 use Rattle.std.proofs.Math.Dec.{eqb-suc-zero}
 use Rattle.octet_lanes.specs.Encoding.{stray, values_among}
-use Rattle.octet_lanes.specs.Lanes.{if_below, if_equal, if_from}
+use Rattle.octet_lanes.specs.Lanes.{if_equal, if_from}
+use Rattle.octet_lanes.specs.Private.{if_below}
 
 kept : (n m : ℕ) (xs ys : List ℕ) → length xs ≡ m → length ys ≡ m → sel_l (zip2 ltb xs (replicate m n)) ys (replicate m 0) ≡ zip2 (if_below n) xs ys
 kept n zero [] ys p q = refl

@@ -6,7 +6,7 @@ use Rattle.std.proofs.lemmas.List.{append_assoc}
 use Rattle.std.proofs.lemmas.Nat.{and_mask, pow-add, shr_below, shr_split}
 use Rattle.std.proofs.Math.Nat.{mod-lt, mod-eq_of_lt, div-eq_of_lt, mul-le-mul_right, pow-le-pow_right, one-le-pow, add-mul-mod_self_right, add-mul-div_right}
 use Rattle.octet_lanes.specs.Encoding.{bits_of, all_bits}
-use Rattle.octet_lanes.specs.Lanes.{halves_of, whole_of, parts_of}
+use Rattle.octet_lanes.specs.Private.{halves_of, whole_of, parts_of}
 use Rattle.octet_lanes.proofs.Bits.{bits_pair}
 
 -- ---- two groups in two halves

@@ -18,7 +18,7 @@ use Rattle.std.proofs.Math.Nat.{mod-eq_of_lt}
 use Rattle.octet_lanes.specs.declared.alphabet.Alphabet.{Alphabet}
 use Rattle.octet_lanes.specs.declared.alphabet.Alphabet.TheVariants.{Base64, Base32, Base32Hex}
 use Rattle.octet_lanes.specs.Encoding.{width, quantum, table, class_of, stray, padding, bits_of, all_bits, groups_of, values_among, values_of, before_padding, contains_padding, text_bits, whole, left_over, octets_of}
-use Rattle.octet_lanes.specs.Held.{IsRead}
+use Rattle.octet_lanes.specs.Private.{IsRead}
 use Rattle.octet_lanes.proofs.Bits.{length-bits_of, length-all_bits, take-all_bits}
 use Rattle.octet_lanes.proofs.Lanes.{all_values}
 use Rattle.octet_lanes.proofs.Pieces.{groups_of_bits}

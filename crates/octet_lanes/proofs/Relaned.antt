@@ -4,7 +4,7 @@ use Rattle.std.specs.Simd.Lanes.{Each1, number_l, digits_l}
 use Rattle.std.specs.List.{flat_map}
 use Rattle.std.proofs.lemmas.Nat.{div_below, div-add-mod'}
 use Rattle.std.proofs.Math.Nat.{mod-eq_of_lt, div-eq_of_lt, mul-le-mul_left, one-le-pow, pow-zero, pow-suc, pow-succ', add-mul-mod_self_left, add-mul-div_left}
-use Rattle.octet_lanes.specs.Lanes.{parts_of}
+use Rattle.octet_lanes.specs.Private.{parts_of}
 use Rattle.octet_lanes.proofs.Pairs.{pair_below}
 
 -- the number of a vector's lanes is that of its digits

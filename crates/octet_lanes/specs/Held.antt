@@ -1,9 +1,9 @@
 -- What a reader keeps of a text between its pieces.
-use Rattle.std.specs.Prelude.{◌≡◌, Bool, false, ℕ, ◌<◌, ◌^◌, List, [], ◌++◌, length, take, if◌then◌else◌}
+use Rattle.std.specs.Prelude.{◌≡◌, Bool, ℕ, ◌<◌, ◌^◌, List, [], length, take, if◌then◌else◌}
 use Rattle.std.specs.List.{All}
 use Rattle.octet_lanes.specs.declared.alphabet.Alphabet.{Alphabet}
 use Rattle.octet_lanes.specs.declared.reader.Held.{Held}
-use Rattle.octet_lanes.specs.Encoding.{all_bits, contains_padding, left_over, quantum, text_bits, values_of, width}
+use Rattle.octet_lanes.specs.Encoding.{all_bits, left_over, quantum, text_bits, width}
 
 -- the bits of the values that are held
 abbrev pub held_bits : Alphabet → Held → List ℕ
@@ -22,11 +22,6 @@ pub record IsHeld (alphabet : Alphabet) (held : Held) : Type 0 where
   pub long : length held.values ≡ 32
   pub few : held.n < quantum alphabet
   pub small : All (λ value. value < 2 ^ width alphabet) held.values
-
--- What was appended are the bits of a first part of a text, in which no `=` stands.
-pub record IsRead (alphabet : Alphabet) (prefix was now : List ℕ) : Type 0 where
-  pub free : contains_padding prefix ≡ false
-  pub bits : all_bits 8 now ≡ all_bits 8 was ++ all_bits (width alphabet) (values_of alphabet prefix)
 
 -- what was appended to stands as it was
 abbrev pub IsGrown : List ℕ → List ℕ → Type 0

@@ -2,7 +2,7 @@
 ghost use Rattle.std.specs.Prelude.{◌≡◌, ◌<◌, ◌%◌, ◌^◌, ◌==◌, map};
 ghost use Rattle.std.specs.List.{All, list_any, position_or_len};
 ghost use Rattle.octet_lanes.specs.Encoding.{class_of, stray, symbol_of, upper_of, width};
-ghost use Rattle.octet_lanes.specs.Lanes.{in_run};
+ghost use Rattle.octet_lanes.specs.Private.{in_run};
 ghost use Rattle.octet_lanes.specs.declared.alphabet.Alphabet.TheVariants.{Base32, Base32Hex, Base64};
 
 use crate::alphabet::{Alphabet, STRAY};

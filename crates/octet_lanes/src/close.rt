@@ -2,7 +2,7 @@
 ghost use Rattle.std.specs.Prelude.{◌≡◌, ◌++◌, ◌+◌, ◌-◌, ◌*◌, ◌<◌, ◌≤◌, ◌==◌, [], ◌∷◌, drop, length, map, not, replicate, slice_index, take};
 ghost use Rattle.std.specs.Simd.Lanes.{mask_l};
 ghost use Rattle.octet_lanes.specs.Encoding.{stray, values_among};
-ghost use Rattle.octet_lanes.specs.Lanes.{order_of};
+ghost use Rattle.octet_lanes.specs.Private.{order_of};
 
 use crate::alphabet::STRAY;
 use std::simd::prelude::*;

@@ -3,7 +3,7 @@ ghost use Rattle.std.specs.Prelude.{◌≡◌, ◌+◌, ◌*◌, ◌<◌, ◌≤
 ghost use Rattle.std.specs.List.{All, flat_map};
 ghost use Rattle.std.specs.Simd.Lanes.{Each1};
 ghost use Rattle.octet_lanes.specs.Encoding.{all_bits, width};
-ghost use Rattle.octet_lanes.specs.Lanes.{halves_of, parts_of, whole_of};
+ghost use Rattle.octet_lanes.specs.Private.{halves_of, parts_of, whole_of};
 ghost use Rattle.octet_lanes.specs.declared.alphabet.Alphabet.TheVariants.{Base32, Base32Hex, Base64};
 
 use crate::alphabet::Alphabet;

@@ -1,7 +1,8 @@
 // The vector operations that the kernels are made of, lane by lane.
 ghost use Rattle.std.specs.Prelude.{◌≡◌, ◌<◌, ◌/◌, bit_and, bit_or, drop, map, slice_index, take};
 ghost use Rattle.std.specs.Simd.Lanes.{Each1, zip2};
-ghost use Rattle.octet_lanes.specs.Lanes.{added, if_below, if_equal, if_from, taken};
+ghost use Rattle.octet_lanes.specs.Lanes.{added, if_equal, if_from};
+ghost use Rattle.octet_lanes.specs.Private.{if_below, taken};
 
 use std::simd::prelude::*;
 

@@ -2,7 +2,8 @@
 ghost use Rattle.std.specs.Prelude.{◌≡◌, ◌≢◌, ◌==◌, ◌||◌, false, ℕ, ◌+◌, ◌-◌, ◌*◌, ◌/◌, ◌++◌, ◌<◌, ◌≤◌, ◌^◌, List, [], IfOk, OnErr, OnOk, drop, length, map, replicate, slice_index, take};
 ghost use Rattle.std.specs.List.{All, list_any, position};
 ghost use Rattle.octet_lanes.specs.Encoding.{all_bits, before_padding, class_of, contains_padding, left_over, octets_of, padding, quantum, stray, text_bits, values_among, values_of, whole, width};
-ghost use Rattle.octet_lanes.specs.Held.{IsGrown, IsHeld, IsRead, held_bits, kept_bits, taken_bits};
+ghost use Rattle.octet_lanes.specs.Held.{IsGrown, IsHeld, held_bits, kept_bits, taken_bits};
+ghost use Rattle.octet_lanes.specs.Private.{IsRead};
 ghost use Rattle.octet_lanes.specs.declared.alphabet.Alphabet.{Alphabet};
 
 use crate::alphabet::{Alphabet, PADDING, STRAY};
@@ -96,7 +97,7 @@ impl Held {
             || contains_padding piece.now)) }
         ensures grown { IsGrown out.old.items out.new.items }
     {
-        let mut rest = piece;
+        let mut rest = after_strays(piece, alphabet);
         'quanta: while !self.ended && !rest.is_empty() {
             // blocks go whole only from a quantum's edge on
             if self.n == 0 {
@@ -168,6 +169,22 @@ impl Held {
         }
         rest
     }
+}
+
+// What follows the stray characters that a text begins with, up to a `=`. No block is made of an empty line.
+#[inline(always)]
+fn after_strays(text: &[u8], alphabet: Alphabet) -> &[u8]
+    ensures bits { text_bits alphabet result.now ≡ text_bits alphabet text.now }
+    ensures ended { contains_padding result.now ≡ contains_padding text.now }
+{
+    let mut rest = text;
+    'strays: while let Some((octet, after)) = rest.split_first() {
+        if *octet == PADDING || class(*octet, alphabet) != STRAY {
+            break;
+        }
+        rest = after;
+    }
+    rest
 }
 
 // Appends the octets of whole quanta from the start, a block at a time, and gives what follows them: a quantum that the end, a

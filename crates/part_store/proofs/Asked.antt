@@ -10,9 +10,9 @@ use Rattle.sqlite.specs.Listing.{understood}
 use Rattle.sqlite.specs.State.{State, FailsToQuery, IsTooLate}
 use Rattle.sqlite.specs.declared.error.Error.{Error}
 use Rattle.part_store.specs.Tables.{store_schema}
-use Rattle.part_store.specs.Refusals.{Faults}
-use Rattle.part_store.specs.Statements.{find_user_text, list_programs_text, list_users_text, find_content_text, size_content_text, list_contents_text, list_entries_text, find_entry_text}
-use Rattle.part_store.proofs.Meaning.{alone, find_user_query, find_user_is, list_programs_query, list_programs_is, list_users_query, list_users_is, find_content_query, find_content_is, size_content_query, size_content_is, list_contents_query, list_contents_is, list_entries_query, list_entries_is, find_entry_query, find_entry_is}
+use Rattle.part_store.specs.Causes.{Faults}
+use Rattle.part_store.specs.Statements.{find_user_text, find_last_text, list_programs_text, list_users_text, find_content_text, size_content_text, list_contents_text, list_entries_text, find_entry_text}
+use Rattle.part_store.proofs.Meaning.{alone, find_user_query, find_user_is, find_last_query, find_last_is, list_programs_query, list_programs_is, list_users_query, list_users_is, find_content_query, find_content_is, size_content_query, size_content_is, list_contents_query, list_contents_is, list_entries_query, list_entries_is, find_entry_query, find_entry_is}
 use Rattle.part_store.proofs.Faults.{IsAsked, IsAnswered, query_faults}
 
 abbrev Refused : List ℕ → Row → State → State → Error → Type 0
@@ -36,6 +36,21 @@ find_user_answered user limit db e has h = elim (over limit db find_user_query (
 
 pub find_user_faults : (old new : State) (user : List ℕ) (e : Error) → Refused find_user_text (Text user ∷ []) old new e → Faults old new e
 find_user_faults old new user e = query_faults find_user_text (Text user ∷ []) find_user_query _ find_user_is find_user_asked (find_user_answered user) old new e
+
+find_last_asked : IsAsked (understood store_schema find_last_text) find_last_text 1
+unfolding understood everything
+find_last_asked = (omega arith, refl)
+
+find_last_answered : (user : List ℕ) → IsAnswered find_last_query (Text user ∷ [])
+unfolding everything
+find_last_answered user limit db e has h = elim (over limit db find_last_query (Text user ∷ []) e has h) [
+  | inl untyped ↦ absurd (true≢false untyped.1)
+  | inr (inl sum) ↦ elim sum.1 [ inl none ↦ absurd none | inr more ↦ absurd more.4 ]
+  | inr (inr steps) ↦ steps.1
+]
+
+pub find_last_faults : (old new : State) (user : List ℕ) (e : Error) → Refused find_last_text (Text user ∷ []) old new e → Faults old new e
+find_last_faults old new user e = query_faults find_last_text (Text user ∷ []) find_last_query _ find_last_is find_last_asked (find_last_answered user) old new e
 
 list_programs_asked : IsAsked (understood store_schema list_programs_text) list_programs_text 0
 unfolding understood everything

@@ -4,11 +4,13 @@ use Rattle.sqlite_trees.specs.Tree.{Trees}
 use Rattle.sqlite.specs.State.{State, HasCleanDisk, Survives}
 use Rattle.sqlite.specs.declared.error.Error.{Error}
 use Rattle.sqlite.proofs.StateLemmas.{survives_then}
-use Rattle.part_store.specs.Changes.{contents_tree, entries_tree, is_entry, IsTaken, Steps}
+use Rattle.part_store.specs.Tables.{contents_tree, entries_tree, store_schema}
+use Rattle.part_store.specs.Changes.{is_entry, IsTaken, Steps, IsTableIn}
 use Rattle.part_store.specs.Entries.{Entries}
-use Rattle.part_store.specs.Refusals.{refusal_of, Blames, IsTableIn, IsWritable, WriteFaults}
-use Rattle.part_store.specs.Standing.{IsContentRow, Stands, Stays}
-use Rattle.part_store.specs.Tables.{store_schema}
+use Rattle.part_store.specs.Refusals.{refusal_of, Blames}
+use Rattle.part_store.specs.Causes.{IsWritable, WriteFaults}
+use Rattle.part_store.specs.Standing.{IsContentRow, Stands}
+use Rattle.part_store.specs.Inside.{Stays}
 use Rattle.part_store.proofs.Failing.{later_failed}
 use Rattle.part_store.proofs.Gaining.{keyed_all}
 use Rattle.part_store.proofs.Stored.{still_listed}

@@ -5,9 +5,9 @@ use Rattle.sqlite_value.specs.Order.{Row}
 use Rattle.sqlite_sql.specs.Term.{lit, col, op1}
 use Rattle.sqlite_sql.specs.declared.ops.UnaryOp.TheVariants.{Length}
 use Rattle.sqlite.specs.State.{State, ExecutesInside, Shown}
-use Rattle.part_store.specs.Tables.{content_columns}
+use Rattle.part_store.specs.Tables.{content_columns, contents_tree, equals}
 use Rattle.part_store.specs.Statements.{find_content_text, size_content_text, list_contents_text, add_content_text, drop_content_text}
-use Rattle.part_store.specs.Changes.{Steps, Reads, IsFound, IsAdded, IsTaken, contents_tree, IsListed, equals, every, columns, length_at, sized}
+use Rattle.part_store.specs.Changes.{Steps, Reads, IsFound, IsAdded, IsTaken, IsListed, every, columns, length_at, sized}
 use Rattle.part_store.proofs.Meaning.{is_given, find_content_query, find_content_is, size_content_query, size_content_is, list_contents_query, list_contents_is, add_content_is, drop_content_is}
 use Rattle.part_store.proofs.Ordered.{ordered}
 use Rattle.part_store.proofs.Writes.{inserted, deleted, cast_null}

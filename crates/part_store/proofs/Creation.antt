@@ -11,7 +11,7 @@ use Rattle.sqlite.specs.Does.{Tally, lacks_sequence}
 use Rattle.sqlite.specs.Listing.{understood}
 use Rattle.sqlite.specs.State.{State, Writes, ExecutesInside}
 use Rattle.sqlite.proofs.Callers.{statement_of, runs_as}
-use Rattle.part_store.specs.Tables.{IsMade}
+use Rattle.part_store.specs.Changes.{IsMade}
 use Rattle.part_store.proofs.Meaning.{Means}
 use Rattle.part_store.proofs.Writes.{same_value, went}
 

@@ -31,11 +31,11 @@ use Rattle.sqlite.specs.Rows.{Queried, Edited, Written}
 use Rattle.sqlite.specs.State.{State, mode_of, ExecutesInside}
 use Rattle.sqlite.specs.declared.error.Error.{Error}
 use Rattle.sqlite.proofs.Callers.{one_step}
-use Rattle.part_store.specs.Refusals.{refusal_of, still_named, HasFailed, IsTableIn, IsWritable}
-use Rattle.part_store.specs.Standing.{IsTidied}
-use Rattle.part_store.specs.Tables.{store_schema, users_table, contents_table, entries_table, content_columns}
+use Rattle.part_store.specs.Refusals.{refusal_of, HasFailed}
+use Rattle.part_store.specs.Causes.{still_named, IsWritable}
+use Rattle.part_store.specs.Changes.{IsTidied, IsTaken, IsTableIn}
+use Rattle.part_store.specs.Tables.{store_schema, users_table, contents_table, entries_table, content_columns, contents_tree, entries_tree, equals}
 use Rattle.part_store.specs.Statements.{drop_user_text, drop_content_text, drop_entry_text}
-use Rattle.part_store.specs.Changes.{contents_tree, entries_tree, equals, IsTaken}
 use Rattle.part_store.specs.declared.error.StoreError.TheVariants.{Database as refused}
 use Rattle.part_store.proofs.Faults.{IsAsked, IsAnswered}
 use Rattle.part_store.proofs.Asked.{over}

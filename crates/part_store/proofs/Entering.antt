@@ -5,10 +5,12 @@ use Rattle.sqlite_rules.specs.Lists.{Has}
 use Rattle.sqlite_rules.proofs.ListLemmas.{all_has}
 use Rattle.sqlite.specs.Effect.{Database}
 use Rattle.sqlite.specs.State.{State, KeepsCommit}
-use Rattle.part_store.specs.Changes.{contents_tree}
+use Rattle.part_store.specs.Tables.{contents_tree}
 use Rattle.part_store.specs.Entries.{Draft, Entry, Entries, numbered, with_entries, with_last}
-use Rattle.part_store.specs.Filing.{CanFile, Claims, Collides, Enters, FilesAll, HasDraft}
-use Rattle.part_store.specs.Standing.{HasContent, Stands, StandsFor, Stays}
+use Rattle.part_store.specs.Additions.{CanFile, Claims, Enters, FilesAll, HasDraft}
+use Rattle.part_store.specs.Filing.{Collides}
+use Rattle.part_store.specs.Standing.{HasContent, Stands, StandsFor}
+use Rattle.part_store.specs.Inside.{Stays}
 use Rattle.part_store.proofs.FiledAll.{has_left, has_right}
 use Rattle.part_store.proofs.Programs.{bytes_same}
 use Rattle.part_store.proofs.Stored.{still_listed}

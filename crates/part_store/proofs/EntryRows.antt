@@ -4,9 +4,9 @@ use Rattle.sqlite_value.specs.declared.value.Value.TheVariants.{Null, Int, Text,
 use Rattle.sqlite_value.specs.Order.{Row}
 use Rattle.sqlite_sql.specs.Term.{lit, col}
 use Rattle.sqlite.specs.State.{State, ExecutesInside, Shown}
-use Rattle.part_store.specs.Tables.{entry_columns, entry_references}
+use Rattle.part_store.specs.Tables.{entry_columns, entry_references, entries_tree, equals}
 use Rattle.part_store.specs.Statements.{list_entries_text, find_entry_text, add_entry_text, drop_entry_text}
-use Rattle.part_store.specs.Changes.{Steps, Reads, IsFound, IsListed, IsAdded, IsTaken, entries_tree, equals, is_entry, columns}
+use Rattle.part_store.specs.Changes.{Steps, Reads, IsFound, IsListed, IsAdded, IsTaken, is_entry, columns}
 use Rattle.part_store.proofs.Meaning.{is_given, list_entries_query, list_entries_is, find_entry_query, find_entry_is, add_entry_is, drop_entry_is}
 use Rattle.part_store.proofs.Ordered.{ordered}
 use Rattle.part_store.proofs.Writes.{inserted, deleted, cast_null, cast_int}

@@ -11,7 +11,8 @@ use Rattle.sqlite_trees.specs.declared.store.Store as store
 use Rattle.sqlite.specs.Held.{Held, state}
 use Rattle.sqlite.specs.State.{State, HasCleanDisk, Survives}
 use Rattle.part_store.specs.Entries.{Entries}
-use Rattle.part_store.specs.Refusals.{refusal_of, HasFailed, Blames, BlamesOr, Faults}
+use Rattle.part_store.specs.Refusals.{refusal_of, HasFailed, Blames, BlamesOr}
+use Rattle.part_store.specs.Causes.{Faults}
 use Rattle.part_store.specs.declared.error.StoreError.{StoreError}
 use Rattle.part_store.specs.declared.error.StoreError.TheVariants.{Database}
 use Rattle.part_store.proofs.Faults.{failed, never}

@@ -13,7 +13,8 @@ use Rattle.sqlite.specs.Effect.{Database, RefusesQuery, RefusesToRead}
 use Rattle.sqlite.specs.Listing.{understood, reads_listing, IsSourceOf}
 use Rattle.sqlite.specs.State.{State, store_error, HasCause, Fails, FailsToQuery, FailsToShow, IsNotRun, IsNoStatement, IsStatement, IsTooLate}
 use Rattle.sqlite.proofs.Callers.{IsPlain, command_of}
-use Rattle.part_store.specs.Refusals.{refusal_of, HasFailed, Faults}
+use Rattle.part_store.specs.Refusals.{refusal_of, HasFailed}
+use Rattle.part_store.specs.Causes.{Faults}
 use Rattle.part_store.specs.Tables.{store_schema}
 use Rattle.part_store.specs.declared.error.StoreError.TheVariants.{Database as refused}
 use Rattle.part_store.proofs.Meaning.{Means, alone}

@@ -13,13 +13,14 @@ use Rattle.sqlite_rules.specs.Lists.{Has}
 use Rattle.sqlite_rules.specs.Edit.{id_in, next_rowid}
 use Rattle.sqlite_rules.proofs.ListLemmas.{all_has, all_from}
 use Rattle.sqlite_rules.proofs.TableLemmas.{int_is, next_after}
-use Rattle.part_store.specs.Changes.{users_tree, contents_tree, entries_tree, equals, columns, IsFound, Steps, Reads, IsAdded, new_row}
+use Rattle.part_store.specs.Tables.{users_tree, contents_tree, entries_tree, equals, store_schema}
+use Rattle.part_store.specs.Changes.{columns, IsFound, Steps, Reads, IsAdded, new_row}
 use Rattle.part_store.specs.Entries.{Entry, Entries}
-use Rattle.part_store.specs.Filing.{IsStocked, IsNext, with_entry, entry_values, Stocks, IsOther, Files, RisesBy, RisesWithin}
+use Rattle.part_store.specs.Additions.{IsStocked, IsNext, with_entry, Stocks, Files, RisesBy, RisesWithin}
+use Rattle.part_store.specs.Filing.{entry_values, IsOther}
 use Rattle.part_store.specs.Standing.{Stands, IsUserRow, IsEntryRow, IsContentRow, HasContent, content_row, StandsFor, HaveOneRow}
 use Rattle.part_store.proofs.Gaining.{added_rises, added_has, has_added, added_keeps, keyed_all}
 use Rattle.sqlite.specs.State.{State, KeepsCommit}
-use Rattle.part_store.specs.Tables.{store_schema}
 use Rattle.part_store.proofs.Finding.{content_there, content_test, same_blob}
 use Rattle.part_store.proofs.Programs.{bytes_same}
 

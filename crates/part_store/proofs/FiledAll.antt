@@ -8,10 +8,10 @@ use Rattle.sqlite_rules.specs.Edit.{next_rowid}
 use Rattle.sqlite_rules.specs.Lists.{Has}
 use Rattle.sqlite.specs.State.{State, HasCleanDisk, KeepsCommit, Survives}
 use Rattle.sqlite.proofs.StateLemmas.{survives_then}
-use Rattle.part_store.specs.Tables.{store_schema}
-use Rattle.part_store.specs.Changes.{contents_tree, entries_tree}
+use Rattle.part_store.specs.Tables.{store_schema, contents_tree, entries_tree}
 use Rattle.part_store.specs.Entries.{Draft, Entry, Entries, entry_of, numbered}
-use Rattle.part_store.specs.Filing.{CanFile, Collides, Files, FilesAll, HasDraft, IsNext, IsOther, RisesBy}
+use Rattle.part_store.specs.Additions.{CanFile, Files, FilesAll, HasDraft, IsNext, RisesBy}
+use Rattle.part_store.specs.Filing.{Collides, IsOther}
 use Rattle.part_store.specs.Sharing.{octets_at}
 use Rattle.part_store.specs.Standing.{HasContent, Stands, draft_of}
 use Rattle.part_store.proofs.Filed.{same_rowids}

@@ -8,9 +8,11 @@ use Rattle.sqlite_trees.specs.Tree.{Trees}
 use Rattle.sqlite_rules.specs.Lists.{Has}
 use Rattle.sqlite_rules.proofs.ListLemmas.{all_has}
 use Rattle.sqlite.specs.State.{State}
-use Rattle.part_store.specs.Changes.{contents_tree, entries_tree, equals, is_entry, columns, length_at, IsFound, Steps, Reads}
+use Rattle.part_store.specs.Tables.{contents_tree, entries_tree, equals}
+use Rattle.part_store.specs.Changes.{is_entry, columns, length_at, IsFound, Steps, Reads}
 use Rattle.part_store.specs.Entries.{Entry, Entries, is_at}
-use Rattle.part_store.specs.Standing.{IsEntryRow, IsContentRow, HasContent, content_row, StandsFor, Stands, IsEntryAt, HasNone, NamesDigest}
+use Rattle.part_store.specs.Standing.{IsEntryRow, IsContentRow, HasContent, content_row, StandsFor, Stands, IsEntryAt, HasNone}
+use Rattle.part_store.specs.Readings.{NamesDigest}
 use Rattle.part_store.proofs.Equals.{blob_length, equal_texts, equal_blobs, equal_numbers, same_number}
 use Rattle.part_store.proofs.Programs.{same_bytes, bytes_same}
 

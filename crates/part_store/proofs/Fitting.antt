@@ -25,10 +25,11 @@ use Rattle.sqlite.specs.Listing.{understood}
 use Rattle.sqlite.specs.State.{State, ExecutesInside}
 use Rattle.sqlite.specs.Values.{or_null}
 use Rattle.sqlite.specs.declared.error.Error.{Error}
-use Rattle.part_store.specs.Refusals.{refusal_of, HasFailed, HasNoRoom, IsTableIn, IsWritable}
-use Rattle.part_store.specs.Tables.{store_schema, users_table, contents_table, entries_table, user_columns, content_columns, entry_columns, entry_references}
+use Rattle.part_store.specs.Refusals.{refusal_of, HasFailed}
+use Rattle.part_store.specs.Causes.{HasNoRoom, IsWritable}
+use Rattle.part_store.specs.Tables.{store_schema, users_table, contents_table, entries_table, user_columns, content_columns, entry_columns, entry_references, users_tree, contents_tree, entries_tree, equals}
 use Rattle.part_store.specs.Statements.{add_user_text, add_content_text, add_entry_text}
-use Rattle.part_store.specs.Changes.{users_tree, contents_tree, entries_tree, equals, is_entry, new_row}
+use Rattle.part_store.specs.Changes.{is_entry, new_row, IsTableIn}
 use Rattle.part_store.specs.Standing.{HasContent, content_row}
 use Rattle.part_store.specs.declared.error.StoreError.TheVariants.{Database as refused}
 use Rattle.part_store.proofs.Apart.{bytes_same}
@@ -80,11 +81,11 @@ unfolding everything
 user_typed db user last None = refl
 user_typed db user last (Some octets) = refl
 
-users_unique : (next : Trees) (new : Row) → clashes plain (1 ∷ []) (next users_tree) new ≡ false → are_unique store_schema.indexes next users_table (new ∷ []) ≡ true
+pub users_unique : (next : Trees) (new : Row) → clashes plain (1 ∷ []) (next users_tree) new ≡ false → are_unique store_schema.indexes next users_table (new ∷ []) ≡ true
 unfolding everything
 users_unique next new free = rw free
 
-one_key : (r : Row) (new : Row) (value : _) → column new 1 ≡ value → equals 1 value r ≡ false → agree plain (1 ∷ []) r (1 ∷ []) new ≡ false
+pub one_key : (r : Row) (new : Row) (value : _) → column new 1 ≡ value → equals 1 value r ≡ false → agree plain (1 ∷ []) r (1 ∷ []) new ≡ false
 unfolding binary first_key
 one_key r new value is none = and_left _ _ (ap (λ v. equals 1 v r) is ∙ none)
 

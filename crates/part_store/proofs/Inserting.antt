@@ -38,7 +38,7 @@ use Rattle.sqlite.specs.Effect.{Database, IsSource, RefusesSource, value_rows}
 use Rattle.sqlite.specs.Rows.{Edited, Sourced, Written}
 use Rattle.sqlite.specs.declared.error.Error.{Error}
 use Rattle.sqlite.proofs.Callers.{one_step}
-use Rattle.part_store.specs.Refusals.{HasNoRoom}
+use Rattle.part_store.specs.Causes.{HasNoRoom}
 use Rattle.part_store.specs.Tables.{keyed, store_schema}
 use Rattle.part_store.specs.Changes.{new_row}
 use Rattle.part_store.proofs.Equals.{truth_of}

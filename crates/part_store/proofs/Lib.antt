@@ -39,6 +39,8 @@ mod Shown
 mod Stopped
 mod Parents
 mod Deleting
+mod Updating
+mod Renewing
 mod Causes
 mod Inserting
 mod Fitting

@@ -9,10 +9,12 @@ use Rattle.sqlite_rules.proofs.ListLemmas.{all_has, has_filtered}
 use Rattle.sqlite.specs.State.{State, HasCleanDisk, Survives}
 use Rattle.sqlite.proofs.StateLemmas.{survives_then}
 use Rattle.octets.specs.Limits.{max_entry_number}
-use Rattle.part_store.specs.Changes.{entries_tree, columns, equals, IsListed, Reads, Steps}
+use Rattle.part_store.specs.Tables.{entries_tree, equals}
+use Rattle.part_store.specs.Changes.{columns, IsListed, Reads, Steps}
 use Rattle.part_store.specs.Entries.{Entry, entries_of}
 use Rattle.part_store.specs.Refusals.{Blames}
-use Rattle.part_store.specs.Standing.{Shows, Stands, StandsFor}
+use Rattle.part_store.specs.Readings.{Shows}
+use Rattle.part_store.specs.Standing.{Stands, StandsFor}
 use Rattle.part_store.specs.declared.entry.EntryRow.{EntryRow}
 use Rattle.part_store.specs.declared.error.StoreError.{StoreError}
 use Rattle.part_store.proofs.Entering.{stands_still}

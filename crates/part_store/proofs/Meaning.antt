@@ -13,13 +13,13 @@ use Rattle.sqlite_schema.specs.declared.program.Program.{Program}
 use Rattle.sqlite_schema.specs.declared.schema.Schema.{Schema}
 use Rattle.sqlite_schema.specs.declared.command.Command.{Command}
 use Rattle.sqlite_schema.specs.declared.command.Source.TheVariants.{Values}
-use Rattle.sqlite_schema.specs.declared.command.Command.TheVariants.{Insert, Select, Delete, CreateTable}
+use Rattle.sqlite_schema.specs.declared.command.Command.TheVariants.{Insert, Select, Update, Delete, CreateTable}
 use Rattle.sqlite_resolve.specs.Compile.{table_defined_by}
 use Rattle.sqlite_tied.specs.Compute.{everything}
 use Rattle.sqlite.specs.Listing.{understood, reads_listing}
 use Rattle.sqlite.proofs.Callers.{IsPlain, command_of, statement_of}
-use Rattle.part_store.specs.Tables.{users, contents, entries, no_schema, with_users, with_contents, store_schema, users_text, contents_text, entries_text}
-use Rattle.part_store.specs.Statements.{find_user_text, drop_user_text, add_user_text, list_programs_text, list_users_text, find_content_text, size_content_text, list_contents_text, add_content_text, drop_content_text, list_entries_text, find_entry_text, add_entry_text, drop_entry_text}
+use Rattle.part_store.specs.Tables.{users, contents, entries, no_schema, with_users, with_contents, store_schema}
+use Rattle.part_store.specs.Statements.{users_text, contents_text, entries_text, find_user_text, find_last_text, renew_user_text, drop_user_text, add_user_text, list_programs_text, list_users_text, find_content_text, size_content_text, list_contents_text, add_content_text, drop_content_text, list_entries_text, find_entry_text, add_entry_text, drop_entry_text}
 
 -- a column of the table equals a parameter
 abbrev pub is_given : ℕ → ℕ → Term
@@ -64,6 +64,21 @@ find_user_query = picked 0 (is_given 1 0 ∷ []) (col 1 2 ∷ col 1 3 ∷ []) []
 pub find_user_is : Means store_schema find_user_text (Select (alone find_user_query) (codes "last" ∷ codes "program" ∷ []))
 unfolding understood everything
 find_user_is = (refl, (refl, refl), refl)
+
+abbrev pub find_last_query : Query
+find_last_query = picked 0 (is_given 1 0 ∷ []) (col 1 2 ∷ []) []
+
+pub find_last_is : Means store_schema find_last_text (Select (alone find_last_query) (codes "last" ∷ []))
+unfolding understood everything
+find_last_is = (refl, (refl, refl), refl)
+
+-- the rowid of the user's row, and the row with another last number
+abbrev pub renew_user_query : Query
+renew_user_query = picked 0 (is_given 1 0 ∷ []) (col 1 0 ∷ col 1 0 ∷ col 1 1 ∷ col 0 1 ∷ col 1 3 ∷ []) []
+
+pub renew_user_is : Means store_schema renew_user_text (Update 0 (alone renew_user_query))
+unfolding understood everything
+renew_user_is = (refl, (refl, refl), refl)
 
 abbrev pub list_programs_query : Query
 list_programs_query = picked 0 (op1 Not (op2 (Is Binary) (col 1 3) (lit Null)) ∷ []) (col 1 1 ∷ col 1 3 ∷ []) ((col 1 1, ascending Binary) ∷ [])

@@ -14,7 +14,8 @@ use Rattle.sqlite_value.proofs.OrderLemmas.{value_cmp_total, value_cmp-Text}
 use Rattle.sqlite_trees.specs.Tree.{Trees, rowid, IsAscending, IsTable}
 use Rattle.sqlite_rules.specs.Lists.{Has}
 use Rattle.sqlite_rules.proofs.ListLemmas.{all_has, has_filtered}
-use Rattle.part_store.specs.Changes.{users_tree, columns, equals, IsListed}
+use Rattle.part_store.specs.Tables.{users_tree, equals}
+use Rattle.part_store.specs.Changes.{columns, IsListed}
 use Rattle.part_store.specs.Entries.{Entries}
 use Rattle.part_store.specs.Standing.{HaveOneRow, StandsFor}
 use Rattle.part_store.proofs.Apart.{bytes_same}

@@ -12,12 +12,15 @@ use Rattle.sqlite_rules.specs.Edit.{next_rowid, IsOversized}
 use Rattle.sqlite_rules.specs.Lists.{Has}
 use Rattle.sqlite.specs.State.{State, HasCleanDisk, Survives}
 use Rattle.sqlite.specs.declared.error.Error.{Error}
-use Rattle.part_store.specs.Tables.{store_schema, contents_table, entries_table}
-use Rattle.part_store.specs.Changes.{contents_tree, entries_tree, columns, equals, new_row, IsFound, Reads, Steps}
+use Rattle.part_store.specs.Tables.{store_schema, contents_table, entries_table, contents_tree, entries_tree, equals}
+use Rattle.part_store.specs.Changes.{columns, new_row, IsFound, Reads, Steps, IsTableIn}
 use Rattle.part_store.specs.Entries.{Draft, Entries, Entry, entry_of, numbered, with_entries, with_last}
-use Rattle.part_store.specs.Filing.{entry_values, CanFile, Claims, HasDraft, HasRoom, IsNext, RisesWithin, Stocks}
-use Rattle.part_store.specs.Refusals.{content_values, refusal_of, AddFaults, Blames, BlamesEntries, BlamesRows, HasFailed, HasNoContent, HasNoRoom, HasNoUserRoom, HasSome, HaveNoRoom, IsFree, IsTableIn, LacksRoom, RunsOut}
-use Rattle.part_store.specs.Standing.{IsEntryRow, Stands, StandsFor, Stays}
+use Rattle.part_store.specs.Filing.{entry_values, HasRoom}
+use Rattle.part_store.specs.Additions.{CanFile, Claims, HasDraft, IsNext, RisesWithin, Stocks}
+use Rattle.part_store.specs.Refusals.{content_values, refusal_of, Blames, BlamesEntries, HasFailed, HasNoUserRoom, HaveNoRoom, RunsOut}
+use Rattle.part_store.specs.Causes.{AddFaults, BlamesRows, HasNoContent, HasNoRoom, HasSome, IsFree, LacksRoom}
+use Rattle.part_store.specs.Standing.{IsEntryRow, Stands, StandsFor}
+use Rattle.part_store.specs.Inside.{Stays}
 use Rattle.part_store.specs.declared.error.StoreError.TheVariants.{Database}
 use Rattle.part_store.proofs.Apart.{same_bytes}
 use Rattle.part_store.proofs.Causes.{contents_table_in, stands_writable, writable_then}

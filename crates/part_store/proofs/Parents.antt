@@ -13,8 +13,7 @@ use Rattle.sqlite_schema.specs.Rules.{agree, has_null, has_parent, Obeys, Refers
 use Rattle.sqlite_rules.specs.Lists.{Has}
 use Rattle.sqlite_rules.proofs.ListLemmas.{all_has, all_from, some_has, some_from}
 use Rattle.sqlite_rules.proofs.KeyLemmas.{agree_back, agree_chain, agree_whole}
-use Rattle.part_store.specs.Tables.{entry_reference, store_schema}
-use Rattle.part_store.specs.Changes.{users_tree, contents_tree, entries_tree, equals}
+use Rattle.part_store.specs.Tables.{entry_reference, store_schema, users_tree, contents_tree, entries_tree, equals}
 
 -- the row's digest is that of a content
 abbrev pub HasParent : Trees → Row → Type 0

@@ -13,9 +13,11 @@ use Rattle.sqlite_rules.proofs.ListLemmas.{all_has, all_from, has_filtered, has_
 use Rattle.sqlite_rules.proofs.ProbeLemmas.{has_mapped, mapped_has}
 use Rattle.sqlite.specs.Values.{or_null}
 use Rattle.sqlite.specs.State.{State}
-use Rattle.part_store.specs.Changes.{users_tree, columns, equals, has_program, IsListed, Reads, Steps}
+use Rattle.part_store.specs.Tables.{users_tree, equals}
+use Rattle.part_store.specs.Changes.{columns, has_program, IsListed, Reads, Steps}
 use Rattle.part_store.specs.Entries.{AreProgramsOf, Entries, UserProgram}
-use Rattle.part_store.specs.Standing.{IsUserRow, Stands, StandsFor, pair_of, row_of}
+use Rattle.part_store.specs.Standing.{IsUserRow, Stands, StandsFor, pair_of}
+use Rattle.part_store.specs.Readings.{row_of}
 use Rattle.part_store.proofs.NameOrder.{names_rise}
 use Rattle.part_store.proofs.Programs.{found_user, this_program}
 use Rattle.part_store.proofs.Rows.{has_permuted}

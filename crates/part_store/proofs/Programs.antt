@@ -12,13 +12,18 @@ use Rattle.sqlite_rules.specs.Edit.{next_rowid}
 use Rattle.sqlite_rules.proofs.ListLemmas.{all_has, all_from, has_filtered, has_kept}
 use Rattle.sqlite.specs.Values.{or_null}
 use Rattle.sqlite.specs.State.{State}
-use Rattle.part_store.specs.Changes.{users_tree, contents_tree, entries_tree, equals, columns, Steps, Reads, IsFound, IsAdded, IsTaken}
+use Rattle.part_store.specs.Tables.{users_tree, contents_tree, entries_tree, equals}
+use Rattle.part_store.specs.Changes.{columns, Steps, Reads, IsFound, IsAdded, IsPut, IsTaken}
+use Rattle.part_store.specs.Causes.{HasNoRow}
+use Rattle.part_store.specs.UserLines.{HasRow}
 use Rattle.part_store.specs.Entries.{Entries, with_program}
-use Rattle.part_store.specs.Standing.{last_in, Brings, Stands, IsUserRow, IsContentRow, IsNumbered, HasContent, StandsFor, IsEntryRow}
+use Rattle.part_store.specs.Readings.{last_in}
+use Rattle.part_store.specs.Inside.{Brings}
+use Rattle.part_store.specs.Standing.{Stands, IsUserRow, IsContentRow, IsNumbered, HasContent, StandsFor, IsEntryRow}
 pub use Rattle.part_store.proofs.Apart.{bytes_same, same_bytes}
 use Rattle.part_store.proofs.Apart.{apart_put}
 use Rattle.part_store.proofs.Equals.{equal_texts, same_number}
-use Rattle.part_store.proofs.Gaining.{filter_rises, added_rises, added_has, has_added, added_keeps, keyed_all}
+use Rattle.part_store.proofs.Gaining.{filter_rises, has_put_row, keyed_all, put_or_was, rises_with, stays_beside}
 
 pub user_key : (e : Entries) (r : Row) → IsUserRow e r → is_int (rowid r) ≡ true
 user_key e r h = rw h.2
@@ -44,12 +49,12 @@ module _ (db : Trees) (e : Entries) (stands : StandsFor db e) (user : List ℕ) 
 -- The user's row is put anew, with this number and this value for his program. So a state stands there that has these of
 -- him, and of all others what there was.
 module _ (db mid new : Trees) (user : List ℕ) (n : ℕ) (value : Value) (taken : IsTaken users_tree (equals 1 (Text user)) db mid)
-    (added : IsAdded users_tree (Text user ∷ Int (pos n) ∷ value ∷ []) mid new) where
+    (id : ℤ) (put_in : IsPut users_tree (Int id ∷ Text user ∷ Int (pos n) ∷ value ∷ []) mid new) where
   pub contents_stay : new contents_tree ≡ db contents_tree
-  contents_stay = added.others.1.0 (λ h. absurd (omega (arith, h))) ∙ taken.others.1.0 (λ h. absurd (omega (arith, h)))
+  contents_stay = put_in.others.1.0 (λ h. absurd (omega (arith, h))) ∙ taken.others.1.0 (λ h. absurd (omega (arith, h)))
 
   pub entries_stay : new entries_tree ≡ db entries_tree
-  entries_stay = added.others.1.1.0 (λ h. absurd (omega (arith, h))) ∙ taken.others.1.1.0 (λ h. absurd (omega (arith, h)))
+  entries_stay = put_in.others.1.1.0 (λ h. absurd (omega (arith, h))) ∙ taken.others.1.1.0 (λ h. absurd (omega (arith, h)))
 
   module _ (e after : Entries) (stands : StandsFor db e) (number : n ≡ after.lasts user) (program : value ≡ or_null Blob (after.programs user))
       (beside : (name : List ℕ) → bytes_eq name user ≡ false → (after.lasts name ≡ e.lasts name) × (after.programs name ≡ e.programs name)) where
@@ -62,11 +67,11 @@ module _ (db mid new : Trees) (user : List ℕ) (n : ℕ) (value : Value) (taken
     -- a row of another user stays
     others_stay : (r : Row) → Has (db users_tree) r → equals 1 (Text user) r ≡ false → Has (new users_tree) r
     others_stay r there other =
-        added_keeps users_tree _ mid new r added (subst (λ rows. Has rows r) (sym rest) (has_kept _ (db users_tree) r there (ap not other)))
+        stays_beside users_tree _ mid new put_in r (subst (λ rows. Has rows r) (sym rest) (has_kept _ (db users_tree) r there (ap not other)))
 
     each_user : (r : Row) → Has (new users_tree) r → IsUserRow after r
-    each_user r there = elim (added_has users_tree _ mid new r added there) [
-      | inl is ↦ (next_rowid (mid users_tree), user, is ∙ rw (number, program))
+    each_user r there = elim (put_or_was users_tree _ mid new put_in r there) [
+      | inl is ↦ (id, user, is ∙ rw (number, program))
       | inr was ↦
           let kept = has_filtered _ (db users_tree) r (subst (λ rows. Has rows r) rest was) in
           let h = all_has (IsUserRow e) (db users_tree) r stands.users kept.0 in
@@ -76,7 +81,7 @@ module _ (db mid new : Trees) (user : List ℕ) (n : ℕ) (value : Value) (taken
 
     strangers_too : (name : List ℕ) → ((r : Row) → Has (new users_tree) r → equals 1 (Text name) r ≡ false) → (after.lasts name ≡ 0) × (after.programs name ≡ None)
     strangers_too name none =
-        let here = none _ (has_added users_tree _ mid new added) in
+        let here = none _ (has_put_row users_tree _ mid new put_in) in
         let other : bytes_eq user name ≡ false = sym (equal_texts user name) ∙ here in
         let same = beside name (false_from_ne_true _ (λ is. absurd (true≢false (sym (bytes_same user) ∙ ap (bytes_eq user) (sym (same_bytes name user is)) ∙ other)))) in
         let was = stands.strangers name (λ r there. elim (cases_Bool (equals 1 (Text user) r)) [
@@ -87,11 +92,11 @@ module _ (db mid new : Trees) (user : List ℕ) (n : ℕ) (value : Value) (taken
 
     pub user_put : after.entries ≡ e.entries → IsNumbered after → StandsFor new after
     user_put entries numbers = record {
-      users_rise = added_rises users_tree _ mid new added mid_rises;
+      users_rise = rises_with users_tree _ mid new put_in mid_rises;
       contents_rise = subst IsTable (sym contents_stay) stands.contents_rise;
       entries_rise = subst IsTable (sym entries_stay) stands.entries_rise;
       users = all_from (IsUserRow after) (new users_tree) each_user;
-      apart = apart_put db mid new user _ stands.apart rest added;
+      apart = apart_put db mid new user _ stands.apart rest id put_in;
       strangers = strangers_too;
       contents = subst (AllByRecursion IsContentRow) (sym contents_stay) stands.contents;
       single = subst (λ rows. (digest one other : List ℕ) → HasContent rows digest one → HasContent rows digest other → one ≡ other) (sym contents_stay) stands.single;
@@ -104,7 +109,7 @@ module _ (db mid new : Trees) (user : List ℕ) (n : ℕ) (value : Value) (taken
 program_put : (db mid new : Trees) (e : Entries) → StandsFor db e → (user program : List ℕ) (n : ℕ) → n ≡ e.lasts user → IsTaken users_tree (equals 1 (Text user)) db mid
     → IsAdded users_tree (Text user ∷ Int (pos n) ∷ Blob program ∷ []) mid new → StandsFor new (with_program user program e)
 program_put db mid new e stands user program n last taken added =
-    user_put db mid new user n (Blob program) taken added e (with_program user program e) stands last (rw (bytes_same user)) (λ name other. (refl, rw other)) refl
+    user_put db mid new user n (Blob program) taken (next_rowid (mid users_tree)) added e (with_program user program e) stands last (rw (bytes_same user)) (λ name other. (refl, rw other)) refl
     (record { limit = stands.numbers.limit; given = stands.numbers.given; rising = stands.numbers.rising })
 
 pub program_brought : (old one two new : State) (user program : List ℕ) (n : ℕ) (found : Option Row)
@@ -147,16 +152,16 @@ pub program_read : {A E : Type 0} (old new : State) (user : List ℕ) (row : Row
 program_read old new user row items (Err e) reads got = tt
 program_read old new user row items (Ok found) reads got = λ before stands. program_shown old new user row items before stands reads found got.1
 
--- a user's last number and program that were read
-pub user_read : {A : Type 0} (old new : State) (user : List ℕ) (row : Row) (items : A → List ℕ) (n : ℕ) (program : Option A)
-    → Steps (Reads (λ db. IsFound users_tree (equals 1 (Text user)) (columns (2 ∷ 3 ∷ [])) db (Some row))) old new → column row 0 ≡ Int (pos n)
-    → MatchOption program (column row 1 ≡ Null) (λ v. (column row 1 ≢ Null) × (column row 1 ≡ Blob (items v))) → (before : Entries) → Stands old.now before
-    → (n ≡ before.lasts user) × (option_map items program ≡ before.programs user)
-user_read old new user row items n program reads last shown before stands =
-    (last_read old.now.trees before stands.tables user (Some row) n (reads stands.schema).change.1 last, program_shown old new user row items before stands reads program shown)
+-- a user's last number that was read, and that he has a row
+pub number_read : (old new : State) (user : List ℕ) (row : Row) (n : ℕ) → Steps (Reads (λ db. IsFound users_tree (equals 1 (Text user)) (columns (2 ∷ [])) db (Some row))) old new → column row 0 ≡ Int (pos n)
+    → (before : Entries) → Stands old.now before → (n ≡ before.lasts user) × HasRow (old.now.trees users_tree) user
+number_read old new user row n reads last before stands =
+    let found = (reads stands.schema).change.1 in
+    let r = found_user old.now.trees before stands.tables user found.0 found.1 found.2 in
+    (same_number n (before.lasts user) (sym last ∙ ap (λ (x : Row). column x 0) found.3 ∙ ap (λ (x : Row). column x 2) r.1), (found.0, found.1, found.2))
 
 -- the user has no row
-pub no_user_read : {A : Type 0} (old new : State) (user : List ℕ) (items : A → List ℕ) → Steps (Reads (λ db. IsFound users_tree (equals 1 (Text user)) (columns (2 ∷ 3 ∷ [])) db None)) old new
-    → (before : Entries) → Stands old.now before → (0 ≡ before.lasts user) × (option_map {T = A} items None ≡ before.programs user)
-no_user_read old new user items reads before stands =
-    let none = stands.tables.strangers user (reads stands.schema).change.1 in (sym none.0, sym none.1)
+pub no_number_read : (old new : State) (user : List ℕ) → Steps (Reads (λ db. IsFound users_tree (equals 1 (Text user)) (columns (2 ∷ [])) db None)) old new
+    → (before : Entries) → Stands old.now before → (0 ≡ before.lasts user) × HasNoRow user old.now.trees
+no_number_read old new user reads before stands =
+    let none = (reads stands.schema).change.1 in (sym (stands.tables.strangers user none).0, none)

@@ -6,7 +6,8 @@ use Rattle.sqlite_value.specs.Order.{Row, column}
 use Rattle.sqlite_rules.proofs.ListLemmas.{all_has}
 use Rattle.sqlite.specs.State.{State}
 use Rattle.sqlite.specs.Values.{or_null}
-use Rattle.part_store.specs.Changes.{users_tree, contents_tree, entries_tree, equals, is_entry, columns, length_at, IsFound, Steps, Reads}
+use Rattle.part_store.specs.Tables.{users_tree, contents_tree, entries_tree, equals}
+use Rattle.part_store.specs.Changes.{is_entry, columns, length_at, IsFound, Steps, Reads}
 use Rattle.part_store.specs.Entries.{Entries}
 use Rattle.part_store.specs.Standing.{IsContentRow, HasContent, Stands}
 use Rattle.part_store.proofs.Equals.{blob_length, equal_blobs}
@@ -57,6 +58,12 @@ module _ (old new : State) (before : Entries) (stands : Stands old.now before) (
       let r = found_user old.now.trees before stands.tables user found.0 found.1 found.2 in
       let shown : row ≡ Int (pos (before.lasts user)) ∷ or_null Blob (before.programs user) ∷ [] = found.3 ∙ ap (columns (2 ∷ 3 ∷ [])) r.1 in
       subst (λ w. IsShortAt 0 w × MayBeBlobAt 1 w) (sym shown) ((omega arith, (before.lasts user, refl, omega (arith, stands.tables.numbers.limit user))), (omega arith, may_be (before.programs user)))
+
+  pub last_readable : (user : List ℕ) → Steps (Reads (λ db. IsFound users_tree (equals 1 (Text user)) (columns (2 ∷ [])) db (Some row))) old new → IsShortAt 0 row
+  last_readable user reads =
+      let found = (reads stands.schema).change.1 in
+      let r = found_user old.now.trees before stands.tables user found.0 found.1 found.2 in
+      subst (IsShortAt 0) (sym (found.3 ∙ ap (columns (2 ∷ [])) r.1)) (omega arith, (before.lasts user, refl, omega (arith, stands.tables.numbers.limit user)))
 
 -- content under a digest is found
 pub not_missing : (old new : State) (before : Entries) → Stands old.now before → (digest octets : List ℕ)

@@ -2,9 +2,11 @@
 use Rattle.std.proofs.Common.{◌≡◌, ℕ, List, subst}
 use Rattle.sqlite_trees.specs.Tree.{Trees}
 use Rattle.sqlite.specs.State.{State}
-use Rattle.part_store.specs.Changes.{contents_tree}
+use Rattle.part_store.specs.Tables.{contents_tree}
 use Rattle.part_store.specs.Entries.{Entry, Entries}
-use Rattle.part_store.specs.Standing.{HasContent, Stands, IsEntryAt, NamesDigest, Stays}
+use Rattle.part_store.specs.Standing.{HasContent, Stands, IsEntryAt}
+use Rattle.part_store.specs.Readings.{NamesDigest}
+use Rattle.part_store.specs.Inside.{Stays}
 use Rattle.part_store.proofs.Entering.{stands_still}
 use Rattle.part_store.proofs.Finding.{entry_there}
 

@@ -12,10 +12,12 @@ use Rattle.sqlite_rules.specs.Lists.{Has}
 use Rattle.sqlite_rules.proofs.ListLemmas.{all_has, all_from, has_filtered, has_kept}
 use Rattle.sqlite.specs.Effect.{IsDatabase}
 use Rattle.sqlite.specs.State.{State, KeepsCommit}
-use Rattle.part_store.specs.Tables.{store_schema}
-use Rattle.part_store.specs.Changes.{users_tree, contents_tree, entries_tree, equals, is_entry, IsTaken, Steps}
+use Rattle.part_store.specs.Tables.{store_schema, users_tree, contents_tree, entries_tree, equals}
+use Rattle.part_store.specs.Changes.{is_entry, IsTaken, Steps, IsTidied, IsTableIn}
 use Rattle.part_store.specs.Entries.{Entry, Entries, is_at, without_entry}
-use Rattle.part_store.specs.Standing.{IsUserRow, IsEntryRow, IsContentRow, HasContent, content_row, StandsFor, Stands, Brings, NamesDigest, Stays, IsTidied, HaveOneRow}
+use Rattle.part_store.specs.Standing.{IsUserRow, IsEntryRow, IsContentRow, HasContent, content_row, StandsFor, Stands, HaveOneRow}
+use Rattle.part_store.specs.Inside.{Brings, Stays}
+use Rattle.part_store.specs.Readings.{NamesDigest}
 use Rattle.part_store.proofs.Gaining.{filter_rises, keyed_all}
 use Rattle.part_store.proofs.Equals.{equal_blobs}
 use Rattle.part_store.proofs.Finding.{zip_found, row_test, content_test, same_blob}
@@ -23,7 +25,6 @@ use Rattle.part_store.proofs.Filed.{zip_weaker, entry_keys}
 use Rattle.part_store.proofs.Programs.{same_bytes, bytes_same}
 use Rattle.part_store.proofs.Stored.{still_listed}
 use Rattle.part_store.proofs.Causes.{contents_table_in}
-use Rattle.part_store.specs.Refusals.{IsTableIn}
 
 zip_filtered : {X Y : Type 0} (R : X → Y → Type 0) (p : X → Bool) (q : Y → Bool) (xs : List X) (ys : List Y) → ((x : X) (y : Y) → R x y → p x ≡ q y) → AllZip R xs ys → AllZip R (filter p xs) (filter q ys)
 zip_filtered R p q [] [] same all = tt

@@ -8,11 +8,12 @@ use Rattle.sqlite_rules.specs.Lists.{Has}
 use Rattle.sqlite.specs.declared.error.Error.{Error}
 use Rattle.sqlite.specs.State.{State, HasCleanDisk, KeepsCommit, Survives}
 use Rattle.sqlite.proofs.StateLemmas.{survives_then}
-use Rattle.part_store.specs.Tables.{store_schema, users_table}
+use Rattle.part_store.specs.Tables.{store_schema, users_table, users_tree}
 use Rattle.part_store.specs.Entries.{Entries, UserProgram, program_named, with_program, with_programs}
-use Rattle.part_store.specs.Standing.{Brings, Stands, Stays, pair_of}
-use Rattle.part_store.specs.Changes.{users_tree}
-use Rattle.part_store.specs.Refusals.{refusal_of, user_values, BlamesPrograms, BlamesRow, IsTooBig, RisesFrom, RunsOut}
+use Rattle.part_store.specs.Inside.{Brings, Stays}
+use Rattle.part_store.specs.Standing.{Stands, pair_of}
+use Rattle.part_store.specs.Refusals.{refusal_of, user_values, BlamesPrograms, BlamesRow, IsTooBig, RunsOut}
+use Rattle.part_store.specs.Causes.{RisesFrom}
 use Rattle.part_store.proofs.Apart.{bytes_same, same_bytes}
 use Rattle.part_store.proofs.Failing.{later_failed}
 use Rattle.part_store.proofs.Room.{ran_out, rises_after, rises_none}

@@ -1,9 +1,9 @@
 -- Where a user's row has no room.
-use Rattle.std.proofs.Common.{◌≡◌, ◌⊎◌, inl, inr, ℕ, ℤ, ◌+ℤ◌, ◌+◌, ◌<◌, ◌≤◌, pos, false, not, List, [], ◌∷◌, filter, fold, Option, None, Some, option_map, refl, sym, ap, subst, ◌∙◌, IsTrue, arith}
+use Rattle.std.proofs.Common.{◌≡◌, ◌⊎◌, inl, inr, ℕ, ℤ, ◌+ℤ◌, ◌+◌, ◌<◌, ◌≤◌, pos, false, not, List, [], ◌∷◌, filter, fold, Option, None, Some, refl, sym, ap, subst, ◌∙◌, IsTrue, arith}
 use Rattle.std.specs.List.{AllByRecursion}
 use Rattle.std.proofs.lemmas.Bool.{not-true}
 use Rattle.std.proofs.lemmas.Int.{ints}
-use Rattle.sqlite_value.specs.declared.value.Value.TheVariants.{Int, Text, Blob}
+use Rattle.sqlite_value.specs.declared.value.Value.TheVariants.{Null, Int, Text, Blob}
 use Rattle.sqlite_value.specs.Order.{Row}
 use Rattle.sqlite_trees.specs.Tree.{Trees, rowid, IsTable}
 use Rattle.sqlite_trees.specs.View.{is_int}
@@ -15,17 +15,20 @@ use Rattle.sqlite.specs.State.{State, HasCleanDisk, Survives}
 use Rattle.sqlite.specs.Values.{or_null}
 use Rattle.sqlite.proofs.StateLemmas.{survives_then}
 use Rattle.sqlite.specs.declared.error.Error.{Error}
-use Rattle.part_store.specs.Tables.{store_schema, users_table}
-use Rattle.part_store.specs.Changes.{users_tree, equals, columns, IsAdded, IsFound, IsTaken, Reads, Steps}
+use Rattle.part_store.specs.Tables.{store_schema, users_table, users_tree, equals}
+use Rattle.part_store.specs.Changes.{columns, user_row, IsAdded, IsFound, IsOnlyRow, IsTaken, Reads, Steps, IsTableIn}
 use Rattle.part_store.specs.Entries.{Entries, with_last, with_program}
-use Rattle.part_store.specs.Refusals.{refusal_of, user_values, AddFaults, BlamesRow, HasFailed, HasNoRow, HasNoUserRoom, IsRowidIn, IsTableIn, RisesFrom, RunsOut, ShowsLast}
-use Rattle.part_store.specs.Standing.{last_in, IsUserRow, Stands, StandsFor}
+use Rattle.part_store.specs.Refusals.{refusal_of, user_values, BlamesRow, HasFailed, HasNoUserRoom, IsRowidIn, RunsOut}
+use Rattle.part_store.specs.Causes.{AddFaults, HasNoRow, PutFaults, RisesFrom}
+use Rattle.part_store.specs.Readings.{ShowsLast, last_in}
+use Rattle.part_store.specs.Standing.{IsUserRow, Stands, StandsFor}
+use Rattle.part_store.specs.UserLines.{HasRow}
 use Rattle.part_store.specs.declared.error.StoreError.TheVariants.{Database}
 use Rattle.part_store.proofs.Apart.{bytes_same}
 use Rattle.part_store.proofs.Causes.{stands_writable, writable_then}
-use Rattle.part_store.proofs.Equals.{or_null_map}
 use Rattle.part_store.proofs.Failing.{later_failed}
 use Rattle.part_store.proofs.Gaining.{added_has, filter_rises, keyed_all}
+use Rattle.part_store.proofs.Numbers.{only_row}
 use Rattle.part_store.proofs.Programs.{last_read}
 use Rattle.part_store.proofs.Readable.{user_readable}
 
@@ -48,6 +51,9 @@ pub runs_out : (all rows : List Row) → ((r : Row) → Has rows r → Has all r
 runs_out all rows there full =
     let n = next_follows rows in
     (n.0, wider all rows n.0 there n.1, 1, omega arith, ap fits_i64 (sym n.2) ∙ full)
+
+same_id : (id : ℤ) → id ≡ id +ℤ pos 0
+same_id id = omega (arith, ints)
 
 user_keys : (s : State) (before : Entries) → Stands s.now before → AllByRecursion (λ r. IsTrue (is_int (rowid r))) (s.now.trees users_tree)
 user_keys s before stands = keyed_all (IsUserRow before) (s.now.trees users_tree) (λ r h. rw h.2) stands.tables.users
@@ -79,16 +85,41 @@ module _ (old mid new : State) (user : List ℕ) (takes : Steps (IsTaken users_t
     ])
   ]
 
+-- a user's row is refused where he has none
+pub row_unadded : (old new : State) (user : List ℕ) (e : Error) → refusal_of e ≡ Database → IsTrue old.in_transaction → (before : Entries) → Stands old.now before → (values : Row) (after : Entries)
+    → values ≡ user_values user (after.lasts user) (after.programs user) → HasNoRow user old.now.trees
+    → (IsTableIn users_tree old.now.trees → HasNoRow user old.now.trees → AddFaults users_table values old new e) → HasFailed old new ⊎ HasNoUserRoom user after old.now.trees
+row_unadded old new user e is inside before stands values after same none adds =
+    elim (adds (stands.tables.users_rise, user_keys old before stands) none is (stands_writable old before inside stands)) [
+      | inl failed ↦ inl failed
+      | inr (inl full) ↦ inr (inl (runs_out (old.now.trees users_tree) (old.now.trees users_tree) (λ r h. h) full))
+      | inr (inr big) ↦ inr (inr (next_rowid (old.now.trees users_tree), subst (λ (v : Row). IsOversized store_schema users_table (Int (next_rowid (old.now.trees users_tree)) ∷ v)) same big))
+    ]
+
+-- another last number is refused in the row that he has
+pub row_unrenewed : (old new : State) (user : List ℕ) (last : ℕ) (e : Error) → refusal_of e ≡ Database → IsTrue old.in_transaction → (before : Entries) → Stands old.now before → HasRow (old.now.trees users_tree) user
+    → ((id : ℤ) (was : ℕ) (program : Option (List ℕ)) → IsOnlyRow user (user_row id user was program) old.now.trees → PutFaults users_table id (user_values user last program) old new e)
+    → HasFailed old new ⊎ HasNoUserRoom user (with_last user last before) old.now.trees
+row_unrenewed old new user last e is inside before stands known puts =
+    let db = old.now.trees in
+    let row = only_row db before user stands.tables known in
+    let there = has_filtered (equals 1 (Text user)) (db users_tree) _ (subst (λ l. Has l (user_row row.0 user (before.lasts user) (before.programs user))) (sym row.1.1) (inl refl)) in
+    elim (puts row.0 (before.lasts user) (before.programs user) row.1 is (stands_writable old before inside stands)) [
+      | inl failed ↦ inl failed
+      | inr (inl full) ↦ inr (inl (row.0, inr (user_row row.0 user (before.lasts user) (before.programs user), there.0, refl), 0, omega arith, ap fits_i64 (sym (same_id row.0)) ∙ full))
+      | inr (inr big) ↦ inr (inr (row.0, rw (bytes_same user) big))
+    ]
+
 -- what was found of a user shows his last number
 pub last_shown : (old new : State) (before : Entries) (user : List ℕ) (found : Option Row) → Stands old.now before
     → Steps (Reads (λ db. IsFound users_tree (equals 1 (Text user)) (columns (2 ∷ 3 ∷ [])) db found)) old new → ShowsLast found
 last_shown old new before user None stands reads = tt
 last_shown old new before user (Some row) stands reads = (user_readable old new before stands row user reads).0
 
--- the row that a claim puts in, and the one with a program
-pub claimed_values : {A : Type 0} (items : A → List ℕ) (user : List ℕ) (last : ℕ) (program : Option A) (before : Entries) → option_map items program ≡ before.programs user
-    → Text user ∷ Int (pos last) ∷ or_null (λ v. Blob (items v)) program ∷ [] ≡ user_values user ((with_last user last before).lasts user) ((with_last user last before).programs user)
-claimed_values items user last program before same = rw (bytes_same user) (ap (λ v. Text user ∷ Int (pos last) ∷ v ∷ []) (or_null_map items program ∙ ap (or_null Blob) same))
+-- the row that is put in for a user who had none, and the one with a program
+pub first_values : (user : List ℕ) (last : ℕ) (before : Entries) → before.programs user ≡ None
+    → Text user ∷ Int (pos last) ∷ Null ∷ [] ≡ user_values user ((with_last user last before).lasts user) ((with_last user last before).programs user)
+first_values user last before none = rw (bytes_same user) (ap (λ (p : Option (List ℕ)). Text user ∷ Int (pos last) ∷ or_null Blob p ∷ []) (sym none))
 
 pub program_values : (user : List ℕ) (last : ℕ) (program : List ℕ) (before : Entries) → last ≡ before.lasts user
     → Text user ∷ Int (pos last) ∷ Blob program ∷ [] ≡ user_values user ((with_program user program before).lasts user) ((with_program user program before).programs user)
@@ -112,9 +143,6 @@ program_unplaced old one two new user program last found e reads number takes fi
     ]
 
 -- ---- rowids
-
-same_id : (id : ℤ) → id ≡ id +ℤ pos 0
-same_id id = omega (arith, ints)
 
 pub rises_none : (rows : List Row) → RisesFrom 0 rows rows
 rises_none rows id h = (id, h, 0, omega arith, same_id id)

@@ -1,7 +1,7 @@
--- What a query on one table answers, and what an INSERT and a DELETE make of it.
-use Rattle.std.proofs.Common.{◌≡◌, ℕ, ◌-◌, Bool, true, false, cond, List, [], ◌∷◌, ◌++◌, map, filter, flat_map, slice_get, None, refl, sym, ap, subst, ◌∙◌, IsPermutation, unwrap_or, nat_le}
+-- What a query on one table answers.
+use Rattle.std.proofs.Common.{◌≡◌, inl, inr, ℕ, ◌-◌, Bool, true, false, cond, List, [], ◌∷◌, ◌++◌, map, filter, flat_map, slice_get, None, refl, sym, ap, subst, ◌∙◌, IsPermutation, unwrap_or, nat_le, arith}
 use Rattle.std.specs.List.{list_all}
-use Rattle.std.proofs.lemmas.List.Sorted.{IsPermutation-sym, Contains-permutation}
+use Rattle.std.proofs.lemmas.List.Sorted.{IsPermutation-sym, Contains-permutation, length_permutation}
 use Rattle.sqlite_value.specs.declared.value.Value.{Value}
 use Rattle.sqlite_value.specs.declared.value.Value.TheVariants.{Null}
 use Rattle.sqlite_value.specs.Order.{Row}
@@ -25,6 +25,11 @@ kept_each p f (x ∷ xs) = elim (p x) as (λ b. cond b (f x ∷ []) [] ++ flat_m
 
 pub has_permuted : {X : Type 0} (xs ys : List X) (x : X) → IsPermutation xs ys → Has xs x → Has ys x
 has_permuted xs ys x same h = has_contained ys x (Contains-permutation xs ys x same (contains_had xs x h))
+
+one_permuted : {X : Type 0} (x : X) (ys : List X) → IsPermutation (x ∷ []) ys → ys ≡ x ∷ []
+one_permuted x [] same = absurd (omega (arith, length_permutation (x ∷ []) [] same))
+one_permuted x (y ∷ []) same = elim (has_permuted (x ∷ []) (y ∷ []) x same (inl refl)) [ inl is ↦ ap (λ z. z ∷ []) (sym is) | inr none ↦ absurd none ]
+one_permuted x (y ∷ z ∷ ys) same = absurd (omega (arith, length_permutation (x ∷ []) (y ∷ z ∷ ys) same))
 
 module _ (tree : ℕ) (tests shows : List Term) (order : List (Term × Key)) (db : Trees) (params : Row) where
   abbrev query : Query
@@ -59,3 +64,11 @@ module _ (tree : ℕ) (tests shows : List Term) (order : List (Term × Key)) (db
       let staged : Has a.staged (params ∷ r ∷ []) = subst (λ l. Has l (params ∷ r ∷ [])) (sym (a.grouped ∙ met Null)) (mapped_has (λ (r : Row). params ∷ r ∷ []) (filter passes (db tree)) r kept) in
       let all : Has a.kept (out r) = subst (λ l. Has l (out r)) (sym a.distinct) (mapped_has (output query) a.staged (params ∷ r ∷ []) staged) in
       subst (λ l. Has l (shown r)) (sym a.shown) (mapped_has (λ (p : Output). p.1) a.ordered (out r) (has_permuted a.kept a.ordered (out r) a.same all))
+
+  -- where one row passes, it alone is shown
+  pub answer_one : (rows : List Row) (one : Row) → IsAnswer query (overlay db []) params rows → filter passes (db tree) ≡ one ∷ [] → rows ≡ shown one ∷ []
+  answer_one rows one a only =
+      let staged : a.staged ≡ (params ∷ one ∷ []) ∷ [] = a.grouped ∙ met Null ∙ ap (map (λ r. params ∷ r ∷ [])) only in
+      let kept : a.kept ≡ out one ∷ [] = a.distinct ∙ ap (map (output query)) staged in
+      let ordered : a.ordered ≡ out one ∷ [] = one_permuted (out one) a.ordered (subst (λ l. IsPermutation l a.ordered) kept a.same) in
+      a.shown ∙ ap (map (λ (p : Output). p.1)) ordered

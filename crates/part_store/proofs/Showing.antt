@@ -10,10 +10,12 @@ use Rattle.sqlite_schema.specs.Rules.{equal}
 use Rattle.sqlite_trees.specs.Tree.{Trees, IsAscending}
 use Rattle.sqlite.specs.State.{State, HasCleanDisk, KeepsCommit, Survives}
 use Rattle.sqlite.proofs.StateLemmas.{survives_then}
-use Rattle.part_store.specs.Tables.{store_schema}
-use Rattle.part_store.specs.Changes.{contents_tree, entries_tree, columns, equals, IsListed, Reads, Steps}
+use Rattle.part_store.specs.Tables.{store_schema, contents_tree, entries_tree, equals}
+use Rattle.part_store.specs.Changes.{columns, IsListed, Reads, Steps}
 use Rattle.part_store.specs.Entries.{Entry, Entries, entries_of, listing_of}
-use Rattle.part_store.specs.Standing.{IsEntryRow, Shows, Stands, StandsFor, Stays, listed}
+use Rattle.part_store.specs.Standing.{IsEntryRow, Stands, StandsFor, listed}
+use Rattle.part_store.specs.Readings.{Shows}
+use Rattle.part_store.specs.Inside.{Stays}
 use Rattle.part_store.specs.declared.entry.EntryRow.{EntryRow}
 use Rattle.part_store.proofs.Entering.{kept_then, stands_still}
 use Rattle.part_store.proofs.Equals.{equal_texts}

@@ -13,10 +13,12 @@ use Rattle.sqlite_rules.proofs.ProbeLemmas.{has_mapped}
 use Rattle.sqlite.specs.State.{State}
 use Rattle.sqlite.specs.Values.{or_null}
 use Rattle.octets.specs.Limits.{max_entry_number}
-use Rattle.part_store.specs.Changes.{users_tree, contents_tree, columns, every, has_program, sized, IsListed, Reads, Steps}
+use Rattle.part_store.specs.Tables.{users_tree, contents_tree}
+use Rattle.part_store.specs.Changes.{columns, every, has_program, sized, IsListed, Reads, Steps}
 use Rattle.part_store.specs.Entries.{Entry, Entries}
-use Rattle.part_store.specs.Refusals.{AreNamed, IsReadable, ShowsProgram, ShowsSize, ShowsUser}
-use Rattle.part_store.specs.Standing.{IsContentRow, IsUserRow, Shows, Stands, kind_number}
+use Rattle.part_store.specs.Refusals.{AreNamed}
+use Rattle.part_store.specs.Readings.{IsReadable, ShowsProgram, ShowsSize, ShowsUser, Shows}
+use Rattle.part_store.specs.Standing.{IsContentRow, IsUserRow, Stands, kind_number}
 use Rattle.part_store.specs.declared.entry.Kind.{Kind}
 use Rattle.part_store.specs.declared.entry.Kind.TheVariants.{Message, Part}
 use Rattle.part_store.proofs.Equals.{blob_length}

@@ -7,7 +7,7 @@ use Rattle.sqlite_trees.specs.Tree.{Trees}
 use Rattle.sqlite_schema.specs.declared.schema.Keys.TheVariants.{Enforced}
 use Rattle.sqlite_schema.specs.declared.command.Source.{Source}
 use Rattle.sqlite_schema.specs.declared.command.Command.{Command}
-use Rattle.sqlite_schema.specs.declared.command.Command.TheVariants.{Insert, Delete, Begin, Commit, Rollback, Release, RollbackTo}
+use Rattle.sqlite_schema.specs.declared.command.Command.TheVariants.{Insert, Update, Delete, Begin, Commit, Rollback, Release, RollbackTo}
 use Rattle.sqlite_schema.specs.declared.program.Program.{Program}
 use Rattle.sqlite_resolve.specs.declared.compiled.Compiled.{Compiled}
 use Rattle.sqlite_rules.specs.declared.error.Refusal.{Refusal}
@@ -22,7 +22,8 @@ use Rattle.sqlite.specs.Effect.{is_query}
 use Rattle.sqlite.specs.Listing.{understood}
 use Rattle.sqlite.specs.State.{State, mode_of, is_pragma, shows_rows, store_error, text_of, IsNotRun, IsStatement, IsUnchanged, IsMisplaced, ExecutesIn, ExecutesInside, EndsScope, Escapes, RunsAlone}
 use Rattle.sqlite.proofs.Callers.{IsPlain, command_of}
-use Rattle.part_store.specs.Refusals.{refusal_of, still_named, HasFailed}
+use Rattle.part_store.specs.Refusals.{refusal_of, HasFailed}
+use Rattle.part_store.specs.Causes.{still_named}
 use Rattle.part_store.specs.Tables.{store_schema}
 use Rattle.part_store.specs.declared.error.StoreError.TheVariants.{Database as refused}
 use Rattle.part_store.proofs.Faults.{IsAsked, failed, not_run_failed}
@@ -43,6 +44,9 @@ insert_writes at from = record { query = refl; pragma = refl; begin = λ h. cc; 
 
 pub delete_writes : (at : ℕ) (q : Program) → IsRowWrite (Delete at q)
 delete_writes at q = record { query = refl; pragma = refl; begin = λ h. cc; commit = λ h. cc; rollback = λ h. cc; release = λ name h. cc; back = λ name h. cc }
+
+pub update_writes : (at : ℕ) (q : Program) → IsRowWrite (Update at q)
+update_writes at q = record { query = refl; pragma = refl; begin = λ h. cc; commit = λ h. cc; rollback = λ h. cc; release = λ name h. cc; back = λ name h. cc }
 
 -- the rules of the tables stop the command, which is told, or a row that can't be stored
 abbrev pub Stops : State → Row → Command → Error → Type 0

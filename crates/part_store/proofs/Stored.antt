@@ -10,9 +10,10 @@ use Rattle.sqlite.proofs.Callers.{survives_begin}
 use Rattle.sqlite.proofs.StateLemmas.{survives_then}
 use Rattle.part_store.specs.Tables.{store_schema}
 use Rattle.part_store.specs.Entries.{Draft, Entries, with_entries}
-use Rattle.part_store.specs.Filing.{Adds}
+use Rattle.part_store.specs.Additions.{Adds}
 use Rattle.part_store.specs.declared.adding.Adding.TheVariants.{From}
-use Rattle.part_store.specs.Standing.{Brings, IsStored, MayMake, Stands}
+use Rattle.part_store.specs.Inside.{Brings}
+use Rattle.part_store.specs.Standing.{IsStored, MayMake, Stands}
 
 -- the same trees list the same tables
 pub still_listed : {e : Entries} (old new : Database) → new.schema ≡ store_schema → new.trees ≡ old.trees → Stands old e → IsDatabase new

@@ -8,10 +8,12 @@ use Rattle.sqlite_value.specs.Order.{Row, column}
 use Rattle.sqlite_sql.specs.declared.ops.UnaryOp.TheVariants.{Length}
 use Rattle.sqlite_sql.specs.Ops.{unary}
 use Rattle.sqlite.specs.State.{State}
-use Rattle.part_store.specs.Changes.{contents_tree, every, sized, IsListed, Reads, Steps}
+use Rattle.part_store.specs.Tables.{contents_tree}
+use Rattle.part_store.specs.Changes.{every, sized, IsListed, Reads, Steps}
 use Rattle.part_store.specs.Entries.{Entries}
 use Rattle.part_store.specs.Standing.{IsContentRow, Stands}
-use Rattle.part_store.specs.Totals.{IsTotalOf, number_of, octets_in, octets_of}
+use Rattle.part_store.specs.Totals.{IsTotalOf, octets_in, octets_of}
+use Rattle.part_store.specs.Readings.{number_of}
 use Rattle.part_store.specs.declared.totals.ContentTotal.{ContentTotal}
 
 abbrev shown : Row → ℕ

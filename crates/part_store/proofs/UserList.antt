@@ -14,10 +14,12 @@ use Rattle.sqlite_rules.proofs.ListLemmas.{all_has, all_from, has_filtered, has_
 use Rattle.sqlite_rules.proofs.ProbeLemmas.{has_mapped, mapped_has}
 use Rattle.sqlite.specs.Values.{or_null}
 use Rattle.sqlite.specs.State.{State}
-use Rattle.part_store.specs.Changes.{users_tree, columns, equals, every, IsListed, Reads, Steps}
+use Rattle.part_store.specs.Tables.{users_tree, equals}
+use Rattle.part_store.specs.Changes.{columns, every, IsListed, Reads, Steps}
 use Rattle.part_store.specs.Entries.{Entries}
 use Rattle.part_store.specs.Standing.{IsUserRow, Stands, StandsFor}
-use Rattle.part_store.specs.UserLines.{AreUsersOf, HasRow, UserLine, answer_of, line_of, user_line}
+use Rattle.part_store.specs.UserLines.{AreUsersOf, HasRow, UserLine, line_of, user_line}
+use Rattle.part_store.specs.Readings.{answer_of}
 use Rattle.part_store.specs.declared.user_row.UserRow.{UserRow}
 use Rattle.part_store.proofs.Apart.{bytes_same}
 use Rattle.part_store.proofs.Equals.{equal_texts, same_number}

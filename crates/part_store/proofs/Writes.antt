@@ -11,7 +11,7 @@ use Rattle.sqlite_trees.specs.Tree.{Trees, rowid, IsTable, has_rowid, without_ro
 use Rattle.sqlite_trees.specs.View.{is_int}
 use Rattle.sqlite_sql.specs.Query.{IsAnswer}
 use Rattle.sqlite_sql.specs.Program.{overlay}
-use Rattle.sqlite_sql.specs.Term.{Term, col}
+use Rattle.sqlite_sql.specs.Term.{Term, col, eval_all}
 use Rattle.sqlite_sql.specs.Ops.{unary}
 use Rattle.sqlite_sql.specs.Query.{Query}
 use Rattle.sqlite_schema.specs.Rules.{parent_key}
@@ -127,37 +127,49 @@ module _ (at tree : ℕ) (name : List ℕ) (columns : List Column) (key : List �
       let edit = insertion db rows in
       added_next db next rows values (put_is db rows source values sources casts) (one_step store_schema Enforced db next edit (no_works tree (taken_by db edit) edit.news) h)
 
-  module _ (db : Trees) (params : Row) (tests : List Term) where
-    abbrev pub test : Row → Bool
-    test = passes tree tests (col 1 0 ∷ []) [] db params
+  -- of a query that shows rowids first, a row's rowid is among those of the answer exactly where it passes
+  module _ (db : Trees) (params : Row) (tests shows : List Term) where
+    abbrev pub passing : Row → Bool
+    passing = passes tree tests (col 1 0 ∷ shows) [] db params
 
-    abbrev ids_answer : Query
-    ids_answer = picked tree tests (col 1 0 ∷ []) []
+    abbrev pub rows_answer : Query
+    rows_answer = picked tree tests (col 1 0 ∷ shows) []
 
-    -- a row's rowid is among those of the answer exactly where it passes
-    taken_test : (rows : List Row) → IsAnswer ids_answer (overlay db []) params rows → IsTable (db tree) → AllByRecursion (λ r. IsTrue (is_int (rowid r))) (db tree)
-        → (r : Row) → Has (db tree) r → not (has_one (ids_of rows) r) ≡ not (test r)
-    taken_test rows a up keyed r h = elim (cases_Bool (test r)) [
+    pub taken_test : (rows : List Row) → IsAnswer rows_answer (overlay db []) params rows → IsTable (db tree) → AllByRecursion (λ r. IsTrue (is_int (rowid r))) (db tree)
+        → (r : Row) → Has (db tree) r → not (has_one (ids_of rows) r) ≡ not (passing r)
+    taken_test rows a up keyed r h = elim (cases_Bool (passing r)) [
       | inl passed ↦
-          let shown = answer_has tree tests (col 1 0 ∷ []) [] db params rows r a h passed in
-          let one = mapped_has (λ (x : Row). id_in (rowid x)) rows (rowid r ∷ []) shown in
+          let shown = answer_has tree tests (col 1 0 ∷ shows) [] db params rows r a h passed in
+          let one = mapped_has (λ (x : Row). id_in (rowid x)) rows (eval_all (col 1 0 ∷ shows) (params ∷ r ∷ [])) shown in
           let is : has_rowid (id_in (rowid r)) r ≡ true = rw (int_is (rowid r) (all_has _ (db tree) r keyed h)) (ap is_eq (tied_itself value_cmp_total (Int (id_in (rowid r))))) in
           rw (passed, some_from (λ id. has_rowid id r) (ids_of rows) (id_in (rowid r)) one is)
       | inr failed ↦ rw failed (ap not (false_from_ne_true _ (λ taken.
           let id = some_has (λ id. has_rowid id r) (ids_of rows) taken in
           let row = has_mapped (λ (x : Row). id_in (rowid x)) rows id.0 id.1 in
-          let from = answer_from tree tests (col 1 0 ∷ []) [] db params rows row.0 a row.1 in
+          let from = answer_from tree tests (col 1 0 ∷ shows) [] db params rows row.0 a row.1 in
           let same : Int id.0 ≡ rowid from.0 = ap Int (row.2 ∙ ap (λ (x : Row). id_in (rowid x)) from.3) ∙ sym (int_is (rowid from.0) (all_has _ (db tree) from.0 keyed from.1)) in
           let tie : Tied r from.0 = subst (λ v. value_cmp (rowid r) v ≡ Equal) same (equal_is _ id.2) in
           let one = tied_same (db tree) r from.0 up h from.1 tie in
-          let e : test r ≡ true = rw one from.2 in
+          let e : passing r ≡ true = rw one from.2 in
           absurd (true≢false (sym e ∙ failed)))))
     ]
+
+    -- so without these rowids the table has the rows that don't pass
+    pub left_of : (rows : List Row) → IsAnswer rows_answer (overlay db []) params rows → IsTable (db tree) → AllByRecursion (λ r. IsTrue (is_int (rowid r))) (db tree)
+        → without_all (db tree) (ids_of rows) ≡ filter (λ r. not (passing r)) (db tree)
+    left_of rows a up keyed = taken_out (ids_of rows) (db tree) ∙ filter_same _ _ (db tree) (taken_test rows a up keyed)
+
+  module _ (db : Trees) (params : Row) (tests : List Term) where
+    abbrev pub test : Row → Bool
+    test = passing db params tests []
+
+    abbrev ids_answer : Query
+    ids_answer = rows_answer db params tests []
 
     -- the edit that a deletion comes to takes out the rows that pass
     pub taken_next : (rows : List Row) (next : Trees) → IsAnswer ids_answer (overlay db []) params rows → Applies store_schema Enforced db (edit_of db (table) (ids_of rows) Given 0 []) next → IsTaken tree test db next
     taken_next rows next sure applied = record {
-      rows = λ up keyed. applied.rows ∙ taken_out (ids_of rows) (db tree) ∙ filter_same _ _ (db tree) (taken_test rows sure up keyed);
+      rows = λ up keyed. applied.rows ∙ left_of db params tests [] rows sure up keyed;
       others = applied.tables;
     }
 

@@ -3,13 +3,9 @@ use Rattle.std.specs.Prelude.{◌≡◌, Result, IsTrue, IfOk, IfErr, OnOk, OnEr
 use Rattle.sqlite_trees.specs.declared.store.Store.{Ghosts}
 use Rattle.sqlite_trees.specs.Tree.{Trees}
 use Rattle.sqlite.specs.Held.{Held, state}
-use Rattle.sqlite.specs.declared.error.Error.{Error}
-use Rattle.sqlite.specs.State.{State, HasCleanDisk, KeepsCommit, Survives}
-use Rattle.part_store.specs.Tables.{store_schema}
+use Rattle.sqlite.specs.State.{State, HasCleanDisk, Survives}
 use Rattle.part_store.specs.Entries.{Entries}
 use Rattle.part_store.specs.Standing.{Stands}
-use Rattle.part_store.specs.Refusals.{refusal_of}
-use Rattle.part_store.specs.declared.error.StoreError.{StoreError}
 
 -- ---- what is said of a state and the one after it
 
@@ -23,30 +19,6 @@ StaysShut old new = IsTrue new.is_open → IsTrue old.is_open
 -- an open store shows what is committed
 abbrev pub Settles : State → State → Type 0
 Settles old new = IsTrue new.is_open → new.committed ≡ new.now
-
--- the transaction is open
-abbrev pub IsInside : State → State → Type 0
-IsInside old new = IsTrue new.in_transaction
-
--- where there are the three tables, a transaction that was open is so still
-abbrev pub StaysInside : State → State → Type 0
-StaysInside old new = old.now.schema ≡ store_schema → IsTrue old.in_transaction → IsTrue new.in_transaction
-
--- the three tables are still those
-abbrev pub KeepsTables : State → State → Type 0
-KeepsTables old new = old.now.schema ≡ store_schema → new.now.schema ≡ store_schema
-
--- where there are the three tables, nothing is committed
-abbrev pub KeepsStored : State → State → Type 0
-KeepsStored old new = old.now.schema ≡ store_schema → KeepsCommit old new
-
--- what is said of the refusal that an error of the database becomes
-abbrev pub AsRefusal : (State → State → StoreError → Type 0) → State → State → Error → Type 0
-AsRefusal Is old new e = Is old new (refusal_of e)
-
--- the same in a transaction
-abbrev pub AsRefusalInside : (State → State → StoreError → Type 0) → State → State → Error → Type 0
-AsRefusalInside Is old new e = IsTrue old.in_transaction → Is old new (refusal_of e)
 
 -- ---- what a call promises
 

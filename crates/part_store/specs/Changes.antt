@@ -1,39 +1,24 @@
--- What one statement does to the tables.
-use Rattle.std.specs.Prelude.{◌≡◌, ◌≢◌, ℕ, pos, Bool, true, false, not, ◌&&◌, List, [], ◌∷◌, map, filter, Option, Some, None, IsTrue, IsPermutation, IsSorted}
+-- Private: what one statement does to the tables.
+use Rattle.std.specs.Prelude.{◌≡◌, ◌≢◌, ℕ, ℤ, pos, Bool, true, false, not, ◌&&◌, List, [], ◌∷◌, map, filter, Option, Some, None, IsTrue, IsPermutation, IsSorted, ◌⊎◌}
 use Rattle.std.specs.Ordering.{on}
 use Rattle.sqlite_sql.specs.declared.ops.UnaryOp.TheVariants.{Length}
 use Rattle.sqlite_sql.specs.Ops.{is_null, unary}
 use Rattle.std.specs.List.{AllByRecursion}
-use Rattle.sqlite_value.specs.declared.keys.Collation.TheVariants.{Binary}
-use Rattle.sqlite_value.specs.declared.value.Value.{Value}
-use Rattle.sqlite_value.specs.declared.value.Value.TheVariants.{Int, Text}
+use Rattle.sqlite_value.specs.declared.value.Value.TheVariants.{Int, Text, Blob}
 use Rattle.sqlite_value.specs.Order.{Row, column, value_cmp}
-use Rattle.sqlite_trees.specs.Tree.{Trees, rowid, IsTable, put_row}
+use Rattle.sqlite_trees.specs.Tree.{Trees, rowid, IsTable, put_row, with_tree}
 use Rattle.sqlite_trees.specs.View.{is_int}
-use Rattle.sqlite_schema.specs.Rules.{equal}
 use Rattle.sqlite_rules.specs.Lists.{Has}
 use Rattle.sqlite_rules.specs.Edit.{next_rowid, is_taken}
-use Rattle.sqlite.specs.Effect.{IsDatabase}
+use Rattle.sqlite.specs.Effect.{IsDatabase, Database}
 use Rattle.sqlite.specs.State.{State}
-use Rattle.part_store.specs.Tables.{store_schema}
-
--- the trees of the tables
-abbrev pub users_tree : ℕ
-users_tree = 0
-
-abbrev pub contents_tree : ℕ
-contents_tree = 2
-
-abbrev pub entries_tree : ℕ
-entries_tree = 4
+use Rattle.part_store.specs.Refusals.{user_values}
+use Rattle.part_store.specs.Tables.{users_tree, store_schema, contents_tree, entries_tree, equals}
+use Rattle.sqlite_schema.specs.declared.schema.Schema.{Schema}
 
 -- what a query shows of a row
 abbrev pub columns : List ℕ → Row → Row
 columns places r = map (column r) places
-
--- the column of the row equals the value
-abbrev pub equals : ℕ → Value → Row → Bool
-equals at value row = equal Binary (column row at) value
 
 -- any row
 abbrev pub every : Row → Bool
@@ -63,17 +48,43 @@ KeepsOthers tree old new = AllByRecursion (λ t. t.tree ≢ tree → new t.tree 
 abbrev pub new_row : List Row → Row → Row
 new_row rows values = Int (next_rowid rows) ∷ values
 
--- the table has one more row
-pub record IsAdded (tree : ℕ) (values : Row) (old new : Trees) : Type 0 where
-  pub free : is_taken (old tree) (new_row (old tree) values) ≡ false
-  pub rows : new tree ≡ put_row (new_row (old tree) values) (old tree)
+-- the rows of a table have rowids, which rise
+abbrev pub IsTableIn : ℕ → Trees → Type 0
+IsTableIn tree db = IsTable (db tree) × AllByRecursion (λ r. IsTrue (is_int (rowid r))) (db tree)
+
+-- the table has this row, too, whose rowid no other has
+pub record IsPut (tree : ℕ) (row : Row) (old new : Trees) : Type 0 where
+  pub free : is_taken (old tree) row ≡ false
+  pub rows : new tree ≡ put_row row (old tree)
   pub others : KeepsOthers tree old new
+
+-- the table has one more row
+abbrev pub IsAdded : ℕ → Row → Trees → Trees → Type 0
+IsAdded tree values old = IsPut tree (new_row (old tree) values) old
 
 -- the rows that pass the test are gone
 pub record IsTaken (tree : ℕ) (test : Row → Bool) (old new : Trees) : Type 0 where
   pub rows : IsTable (old tree) → AllByRecursion (λ r. IsTrue (is_int (rowid r))) (old tree)
       → new tree ≡ filter (λ r. not (test r)) (old tree)
   pub others : KeepsOthers tree old new
+
+-- the table without the rows that pass the test
+abbrev pub without : ℕ → (Row → Bool) → Trees → Trees
+without tree test db = with_tree db tree (filter (λ r. not (test r)) (db tree))
+
+-- a row of the table of users
+abbrev pub user_row : ℤ → List ℕ → ℕ → Option (List ℕ) → Row
+user_row id user last program = Int id ∷ user_values user last program
+
+-- the table of users has this row of the user, and no other
+abbrev pub IsOnlyRow : List ℕ → Row → Trees → Type 0
+IsOnlyRow user row db = IsTableIn users_tree db × (filter (equals 1 (Text user)) (db users_tree) ≡ row ∷ [])
+
+-- Where the user has one row it has another last number. The program in it is as it was.
+abbrev pub IsRenewed : List ℕ → ℕ → Trees → Trees → Type 0
+IsRenewed user last old new =
+    (id : ℤ) (was : ℕ) (program : Option (List ℕ)) → IsOnlyRow user (user_row id user was program) old
+    → IsPut users_tree (user_row id user last program) (without users_tree (equals 1 (Text user)) old) new
 
 -- a row that passes the test, as it is shown, or none where no row passes
 abbrev pub IsFound : ℕ → (Row → Bool) → (Row → Row) → Trees → Option Row → Type 0
@@ -102,3 +113,26 @@ Steps Change old new = old.now.schema ≡ store_schema → IsStep Change old new
 -- the tables are as they were, and what was read of them is so
 abbrev pub Reads : (Trees → Type 0) → Trees → Trees → Type 0
 Reads Finding old new = (new ≡ old) × Finding old
+
+-- In a transaction: where no entry names the digest any more, what is under it is gone, and else nothing has changed.
+pub record IsTidied (digest : List ℕ) (old new : State) : Type 0 where
+  pub schema : new.now.schema ≡ store_schema
+  pub committed : new.committed ≡ old.committed
+  pub inside : IsTrue old.in_transaction → IsTrue new.in_transaction
+  pub listed : IsDatabase old.now → IsDatabase new.now
+  pub change :
+      ((r : Row) × Has (old.now.trees entries_tree) r × (equals 7 (Blob digest) r ≡ true)
+      × (new.now.trees ≡ old.now.trees))
+      ⊎ (((r : Row) → Has (old.now.trees entries_tree) r → equals 7 (Blob digest) r ≡ false)
+      × IsTaken contents_tree (equals 1 (Blob digest)) old.now.trees new.now.trees)
+
+-- A table is made in a database that has the schema before: it is listed and empty, and the other
+-- tables are as they were.
+pub record IsMadeTable (was is : Schema) (tree : ℕ) (old new : Database) : Type 0 where
+  pub schema : new.schema ≡ is
+  pub listed : IsDatabase new
+  pub empty : new.trees tree ≡ []
+  pub others : AllByRecursion (λ t. new.trees t.tree ≡ old.trees t.tree) was.tables
+
+abbrev pub IsMade : Schema → Schema → ℕ → Database → Database → Type 0
+IsMade was is tree old new = old.schema ≡ was → IsMadeTable was is tree old new

@@ -1,15 +1,21 @@
 pub mod Tables
--- private: the texts of the statements
-pub mod Statements
-pub mod Changes
 pub mod Entries
 pub mod Standing
+pub mod Filing
 pub mod Refusals
 pub mod Sharing
 pub mod Calls
+pub mod Looking
 pub mod Opening
 pub mod Crashes
-pub mod Filing
-pub mod UserLines
-pub mod Looking
 pub mod Totals
+pub mod UserLines
+-- private: how the code goes; no public contract names these
+pub mod Statements
+pub mod Changes
+pub mod Causes
+pub mod Readings
+pub mod Noting
+pub mod Inside
+pub mod Additions
+pub mod Connections

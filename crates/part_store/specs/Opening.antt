@@ -89,10 +89,6 @@ IsUnopened {D} {g} image (Some left) e =
     × (IsCleanLeft left → FailsToOpenFiles files left e × LeavesFiles files left)
     × ((other : Image) → outcomes g files.log files.db other → other ≡ image)
 
-abbrev pub OpensOrTells : {D : Type 0} {g : Ghosts D} → Image → Result (Held (FileStore D g)) Error → Type 0
-OpensOrTells image (Ok found) = HasCleanDisk (file_state found) → FindsIn image (file_state found)
-OpensOrTells {D} {g} image (Err e) = (left : Option (Leftover D g)) × IsUnopened image left e
-
 -- what the database's open gave of files that held the image
 pub record IsFoundIn {D : Type 0} {g : Ghosts D} (image : Image) (found : Held (FileStore D g)) : Type 0 where
   pub opened : HasCleanDisk (file_state found) → IsOpened found

@@ -1,27 +1,23 @@
 -- How the database's errors are answered, and where it refuses.
-use Rattle.std.specs.Prelude.{◌≡◌, ◌⊎◌, ℕ, ◌^◌, ◌<◌, ◌≤◌, ℤ, ◌+ℤ◌, pos, false, List, [], ◌∷◌, length, Option, None, Some, IsSome, IsTrue, IsUtf8}
+use Rattle.std.specs.Prelude.{◌≡◌, ◌⊎◌, ℕ, ◌≤◌, ℤ, ◌+ℤ◌, pos, false, List, [], ◌∷◌, length, Option, Some, IsSome, IsUtf8}
 use Rattle.std.specs.List.{AllByRecursion}
 use Rattle.sqlite_value.specs.declared.value.Value.TheVariants.{Int, Text, Blob}
 use Rattle.sqlite_value.specs.Order.{Row, column}
-use Rattle.sqlite_trees.specs.Tree.{Trees, rowid, IsTable}
-use Rattle.sqlite_trees.specs.View.{is_int}
+use Rattle.sqlite_trees.specs.Tree.{Trees, rowid}
 use Rattle.sqlite_sql.specs.Ops.{fits_i64}
-use Rattle.sqlite_schema.specs.declared.schema.Constraint.TheVariants.{ForeignKey}
 use Rattle.sqlite_schema.specs.declared.schema.Table.{Table}
-use Rattle.sqlite_rules.specs.Edit.{id_in, next_rowid, IsOversized}
+use Rattle.sqlite_rules.specs.Edit.{id_in, IsOversized}
 use Rattle.sqlite_rules.specs.Lists.{Has}
 use Rattle.sqlite.specs.Values.{or_null}
-use Rattle.sqlite.specs.declared.error.ErrorCode.TheVariants.{OutOfMemory, ConstraintViolation}
+use Rattle.sqlite.specs.declared.error.ErrorCode.TheVariants.{OutOfMemory}
 use Rattle.sqlite.specs.declared.error.Error.{Error}
 use Rattle.sqlite.specs.declared.error.Error.TheVariants.{SqliteFailure}
-use Rattle.sqlite.specs.Effect.{IsDatabase}
 use Rattle.sqlite.specs.State.{State}
 use Rattle.sha2.specs.Sha256.{sha256}
-use Rattle.part_store.specs.Changes.{users_tree, contents_tree, entries_tree, equals, is_entry, new_row}
-use Rattle.part_store.specs.Entries.{Draft, Entry, Entries, UserProgram, entry_of, with_entries}
+use Rattle.part_store.specs.Entries.{Draft, Entries, UserProgram, entry_of, with_entries}
 use Rattle.part_store.specs.Filing.{HasRoom, entry_values}
-use Rattle.part_store.specs.Standing.{DiskFailed, HasContent, Stands}
-use Rattle.part_store.specs.Tables.{store_schema, users_table, contents_table, entries_table}
+use Rattle.part_store.specs.Standing.{DiskFailed, Stands}
+use Rattle.part_store.specs.Tables.{store_schema, users_table, contents_table, entries_table, users_tree, contents_tree, entries_tree}
 use Rattle.part_store.specs.declared.error.StoreError.{StoreError}
 use Rattle.part_store.specs.declared.error.StoreError.TheVariants.{Memory, Database}
 
@@ -29,10 +25,6 @@ use Rattle.part_store.specs.declared.error.StoreError.TheVariants.{Memory, Datab
 abbrev pub refusal_of : Error → StoreError
 refusal_of (SqliteFailure OutOfMemory) = Memory
 refusal_of _ = Database
-
--- the database's refusal to let a row go that another one names
-abbrev pub still_named : Error
-still_named = SqliteFailure (ConstraintViolation ForeignKey)
 
 -- the database can't work: its disk failed in the call, an earlier failure had shut it, or its
 -- statements may take only so many steps
@@ -47,51 +39,6 @@ Blames old new e = e ≡ Database → (before : Entries) → Stands old.now befo
 abbrev pub BlamesOr : (Entries → Trees → Type 0) → State → State → StoreError → Type 0
 BlamesOr Other old new e = e ≡ Database → (before : Entries) → Stands old.now before
     → HasFailed old new ⊎ Other before old.now.trees
-
--- where there are the three tables, a statement is refused for no other cause
-abbrev pub Faults : State → State → Error → Type 0
-Faults old new e = refusal_of e ≡ Database → old.now.schema ≡ store_schema → HasFailed old new
-
--- in a transaction, the database has the three tables and obeys them
-pub record IsWritable (s : State) : Type 0 where
-  pub inside : IsTrue s.in_transaction
-  pub schema : s.now.schema ≡ store_schema
-  pub listed : IsDatabase s.now
-
--- the rows of a table have rowids, which rise
-abbrev pub IsTableIn : ℕ → Trees → Type 0
-IsTableIn tree db = IsTable (db tree) × AllByRecursion (λ r. IsTrue (is_int (rowid r))) (db tree)
-
--- no row is the user's
-abbrev pub HasNoRow : List ℕ → Trees → Type 0
-HasNoRow user db = (r : Row) → Has (db users_tree) r → equals 1 (Text user) r ≡ false
-
--- nothing is under the digest
-abbrev pub HasNoContent : List ℕ → Trees → Type 0
-HasNoContent digest db = (r : Row) → Has (db contents_tree) r → equals 1 (Blob digest) r ≡ false
-
--- something is under it
-abbrev pub HasSome : List ℕ → Trees → Type 0
-HasSome digest db = (octets : List ℕ) × HasContent (db contents_tree) digest octets
-
--- no entry of the user has the number
-abbrev pub IsFree : List ℕ → ℕ → Trees → Type 0
-IsFree user number db = (r : Row) → Has (db entries_tree) r → is_entry user number r ≡ false
-
--- there a statement that writes is refused for no other cause
-abbrev pub WriteFaults : State → State → Error → Type 0
-WriteFaults old new e = refusal_of e ≡ Database → IsWritable old → HasFailed old new
-
--- a new row of these values has no room: its table has no rowid left, or the row or its key in an
--- index is more than can be stored
-abbrev pub HasNoRoom : Table → Row → Trees → Type 0
-HasNoRoom table values db = (fits_i64 (next_rowid (db table.tree)) ≡ false)
-    ⊎ IsOversized store_schema table (new_row (db table.tree) values)
-
--- there a new row of these values is refused for no other cause
-abbrev pub AddFaults : Table → Row → State → State → Error → Type 0
-AddFaults table values old new e = refusal_of e ≡ Database → IsWritable old
-    → HasFailed old new ⊎ HasNoRoom table values old.now.trees
 
 -- ---- want of room
 
@@ -134,16 +81,6 @@ HaveNoUserRoom pairs before db =
 abbrev pub BlamesPrograms : List UserProgram → State → State → StoreError → Type 0
 BlamesPrograms pairs = BlamesOr (HaveNoUserRoom pairs)
 
--- each rowid is at most so many above one that was there
-abbrev pub RisesFrom : ℕ → List Row → List Row → Type 0
-RisesFrom count old new = (id : ℤ) → IsRowidIn new id
-    → (from : ℤ) × IsRowidIn old from × (k : ℕ) × (k ≤ count) × (id ≡ from +ℤ pos k)
-
--- an entry or its octets have no room
-abbrev pub LacksRoom : Entry → List ℕ → Trees → Type 0
-LacksRoom x digest db = HasNoRoom contents_table (content_values digest x.octets) db
-    ⊎ HasNoRoom entries_table (entry_values x digest) db
-
 -- the octets of a draft, or its row as an entry of the user, are too big
 abbrev pub IsDraftTooBig : List ℕ → Draft → Type 0
 IsDraftTooBig user d =
@@ -168,10 +105,6 @@ LackRoom user drafts before db = HasRoom before user (length drafts) × HaveNoRo
 abbrev pub BlamesEntries : List ℕ → List Draft → State → State → StoreError → Type 0
 BlamesEntries user drafts = BlamesOr (LackRoom user drafts)
 
--- the same once their numbers are known to suffice
-abbrev pub BlamesRows : List ℕ → List Draft → State → State → StoreError → Type 0
-BlamesRows user drafts = BlamesOr (HaveNoRows user drafts)
-
 -- each user's name is UTF-8, as is each that a store was given
 abbrev pub AreNamed : Trees → Type 0
 AreNamed db = AllByRecursion (λ r. (user : List ℕ) → column r 1 ≡ Text user → IsUtf8 user) (db users_tree)
@@ -180,29 +113,3 @@ AreNamed db = AllByRecursion (λ r. (user : List ℕ) → column r 1 ≡ Text us
 abbrev pub BlamesNamed : State → State → StoreError → Type 0
 BlamesNamed old new e = e ≡ Database → (before : Entries) → Stands old.now before → AreNamed old.now.trees
     → HasFailed old new
-
--- the row of an answer can be read: a user and his program
-abbrev pub ShowsProgram : Row → Type 0
-ShowsProgram r = (user : List ℕ) × IsUtf8 user × (program : List ℕ) × (r ≡ Text user ∷ Blob program ∷ [])
-
--- the row that was found for a user, if any, begins with a last number
-abbrev pub ShowsLast : Option Row → Type 0
-ShowsLast None = Unit {0}
-ShowsLast (Some r) = (0 < length r) × ((last : ℕ) × (column r 0 ≡ Int (pos last)) × (last < 2 ^ 32))
-
--- a user, his last number and his program
-abbrev pub ShowsUser : Row → Type 0
-ShowsUser r =
-    (user : List ℕ) × IsUtf8 user × (last : ℕ) × (last < 2 ^ 32) × (program : Option (List ℕ))
-    × (r ≡ Text user ∷ Int (pos last) ∷ or_null Blob program ∷ [])
-
--- a digest, and how many octets are under it
-abbrev pub ShowsSize : Row → Type 0
-ShowsSize r = (digest : List ℕ) × (size : ℕ) × (r ≡ Blob digest ∷ Int (pos size) ∷ [])
-
--- what a listing shows of an entry
-abbrev pub IsReadable : Row → Type 0
-IsReadable r =
-    (number : ℕ) × (kind : ℕ) × (folder : List ℕ) × (name : List ℕ) × (media : List ℕ) × (digest : List ℕ)
-    × (number < 2 ^ 32) × (kind < 2 ^ 32)
-    × (r ≡ Int (pos number) ∷ Int (pos kind) ∷ Blob folder ∷ Blob name ∷ Blob media ∷ Blob digest ∷ [])

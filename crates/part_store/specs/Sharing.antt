@@ -1,16 +1,11 @@
 -- Drafts of one list that have the same octets.
-use Rattle.std.specs.Prelude.{◌≡◌, ℕ, ◌+◌, ◌<◌, Bool, true, List, [], length, map, slice_index_or}
-use Rattle.sha2.specs.Sha256.{sha256}
+use Rattle.std.specs.Prelude.{◌≡◌, ℕ, ◌<◌, List, [], length, map, slice_index_or}
 use Rattle.part_store.specs.Entries.{Draft}
 use Rattle.part_store.specs.declared.shared.Shared.{Shared}
 
 -- the place that is named for a draft
 abbrev pub first_of : Shared → ℕ
 first_of shared = shared.first
-
--- what a list has at a place past its end
-abbrev pub none_shared : Shared
-none_shared = record { first = 0; digest = [] }
 
 -- the octets of the draft at a place, none past the end
 abbrev pub octets_at : List Draft → ℕ → List ℕ
@@ -21,21 +16,3 @@ abbrev pub SharesContents : List Draft → List ℕ → Type 0
 SharesContents drafts firsts =
     (place : ℕ) → place < length firsts → place < length drafts → slice_index_or firsts place 0 < place
     → octets_at drafts (slice_index_or firsts place 0) ≡ octets_at drafts place
-
--- the digest that was noted at the earlier place that is named for this one
-abbrev pub IsKnown : List Shared → ℕ → List ℕ → Type 0
-IsKnown shared place digest =
-    (place < length shared) × ((slice_index_or shared place none_shared).first < place)
-    × (digest ≡ (slice_index_or shared (slice_index_or shared place none_shared).first none_shared).digest)
-
--- before a place each digest was noted
-pub record AreNoted (drafts : List Draft) (place : ℕ) (shared : List Shared) : Type 0 where
-  pub shares : SharesContents drafts (map first_of shared)
-  pub digests : (earlier : ℕ) → earlier < place → earlier < length shared
-      → (slice_index_or shared earlier none_shared).digest ≡ sha256 (octets_at drafts earlier)
-
--- the digest of the octets at a place, whether an earlier draft has them, and that the digest was noted
-pub record IsTold (drafts : List Draft) (place : ℕ) (octets : List ℕ) (shared : List Shared) (digest : List ℕ) (is_there : Bool) : Type 0 where
-  pub is : digest ≡ sha256 octets
-  pub earlier : is_there ≡ true → (first : ℕ) × (first < place) × (octets_at drafts first ≡ octets)
-  pub noted : AreNoted drafts (place + 1) shared

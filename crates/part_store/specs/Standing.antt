@@ -1,5 +1,5 @@
 -- The state that the tables stand for.
-use Rattle.std.specs.Prelude.{◌≡◌, ◌⊎◌, ℕ, ◌<◌, ◌≤◌, ℤ, pos, true, false, List, [], ◌∷◌, Option, Some, None, IsTrue, String, Vec, string_bytes}
+use Rattle.std.specs.Prelude.{◌≡◌, ◌⊎◌, ℕ, ◌<◌, ◌≤◌, ℤ, pos, true, false, List, [], ◌∷◌, None, IsTrue, String, Vec, string_bytes}
 use Rattle.std.specs.declared.alloc.Global.{Global}
 use Rattle.std.specs.List.{AllByRecursion, AllZip}
 use Rattle.sqlite_disk.specs.Disk.{MoreFaults}
@@ -11,13 +11,11 @@ use Rattle.sqlite.specs.Values.{or_null}
 use Rattle.sqlite.specs.Effect.{Database, IsDatabase}
 use Rattle.sqlite.specs.State.{State}
 use Rattle.octets.specs.Limits.{max_entry_number}
-use Rattle.part_store.specs.Tables.{store_schema}
-use Rattle.part_store.specs.Changes.{users_tree, contents_tree, entries_tree, equals, is_entry, IsTaken}
+use Rattle.part_store.specs.Tables.{store_schema, users_tree, contents_tree, entries_tree, equals}
 use Rattle.part_store.specs.declared.entry.Kind.{Kind}
 use Rattle.part_store.specs.declared.entry.Kind.TheVariants.{Message, Part}
 use Rattle.part_store.specs.Entries.{Entry, Entries, Draft, Listing, UserProgram}
 use Rattle.part_store.specs.declared.entry.EntryRow.{EntryRow}
-use Rattle.part_store.specs.declared.listing.Parts.{Parts}
 use Rattle.part_store.specs.declared.entry.NewEntry.{NewEntry}
 
 abbrev pub kind_number : Kind → ℕ
@@ -95,11 +93,6 @@ pub record IsStored (trees : Trees) (e : Entries) : Type 0 where
 abbrev pub MayMake : (Entries → Entries) → State → Trees → Type 0
 MayMake change old trees = (before : Entries) → Stands old.now before → IsStored trees (change before)
 
--- within a transaction: what the tables stand for has changed so, and nothing is committed
-abbrev pub Brings : (Entries → Entries) → State → State → Type 0
-Brings change old new = (before : Entries) → Stands old.now before
-    → Stands new.now (change before) × (new.committed ≡ old.committed)
-
 -- the store was open and still is, and what it shows is committed
 abbrev pub IsSaved : State → State → Type 0
 IsSaved old new = IsTrue old.is_open × IsTrue new.is_open × (new.committed ≡ new.now)
@@ -119,11 +112,6 @@ pub record Spares (old new : State) : Type 0 where
   pub shut : IsTrue new.is_open → IsTrue old.is_open
   pub closes : IsTrue old.is_open → IsTrue new.is_open ⊎ DiskFailed old new
 
--- the last number in a user's row
-abbrev pub last_in : Option Row → ℕ → Type 0
-last_in None n = n ≡ 0
-last_in (Some row) n = column row 0 ≡ Int (pos n)
-
 -- the user's entry of that number
 abbrev pub IsEntryAt : Entries → List ℕ → ℕ → Entry → Type 0
 IsEntryAt e user number x = Has e.entries x × (x.user ≡ user) × (x.number ≡ number)
@@ -131,60 +119,14 @@ IsEntryAt e user number x = Has e.entries x × (x.user ≡ user) × (x.number �
 abbrev pub HasNone : Entries → List ℕ → ℕ → Type 0
 HasNone e user number = (x : Entry) → ¬ IsEntryAt e user number x
 
--- in a transaction: the tables are read, and stay as they are
-abbrev pub Stays : State → State → Type 0
-Stays old new = old.now.schema ≡ store_schema → (new.now.schema ≡ store_schema) × (new.now.trees ≡ old.now.trees)
-
--- a row of the user's entry of that number names the digest
-abbrev pub NamesDigest : Trees → List ℕ → ℕ → List ℕ → Type 0
-NamesDigest db user number digest = (r : Row) × Has (db entries_tree) r × (is_entry user number r ≡ true)
-    × (column r 7 ≡ Blob digest)
-
 -- a user and his program, as the definitions see them
 abbrev pub pair_of : String Global × Vec ℕ Global → UserProgram
 pair_of pair = (string_bytes pair.0, pair.1.items)
-
--- the same as the row of an answer
-abbrev pub row_of : String Global × Vec ℕ Global → Row
-row_of pair = Text (string_bytes pair.0) ∷ Blob pair.1.items ∷ []
 
 -- an entry that is to be made, as the definitions see it
 abbrev pub draft_of : NewEntry → Draft
 draft_of entry = record { folder = entry.folder.now; kind = entry.kind; name = entry.name.now; media = entry.media.now; octets = entry.octets.now }
 
--- In a transaction: where no entry names the digest any more, what is under it is gone, and else nothing has changed.
-pub record IsTidied (digest : List ℕ) (old new : State) : Type 0 where
-  pub schema : new.now.schema ≡ store_schema
-  pub committed : new.committed ≡ old.committed
-  pub inside : IsTrue old.in_transaction → IsTrue new.in_transaction
-  pub listed : IsDatabase old.now → IsDatabase new.now
-  pub change :
-      ((r : Row) × Has (old.now.trees entries_tree) r × (equals 7 (Blob digest) r ≡ true)
-      × (new.now.trees ≡ old.now.trees))
-      ⊎ (((r : Row) → Has (old.now.trees entries_tree) r → equals 7 (Blob digest) r ≡ false)
-      × IsTaken contents_tree (equals 1 (Blob digest)) old.now.trees new.now.trees)
-
 -- an entry that is there, as the definitions see it
 abbrev pub listed : EntryRow → Listing
 listed row = record { number = row.number; kind = row.kind; folder = row.folder.items; name = row.name.items; media = row.media.items; octets = row.octets }
-
--- a row of the answer to a listing shows the entry
-abbrev pub Shows : Trees → Row → Entry → Type 0
-Shows db row x =
-    (digest : List ℕ) × (row ≡ Int (pos x.number) ∷ Int (pos (kind_number x.kind)) ∷ Blob x.folder ∷ Blob x.name
-    ∷ Blob x.media ∷ Blob digest ∷ []) × HasContent (db contents_tree) digest x.octets
-
--- what was read of a row that shows an entry is of that entry
-pub record ArePartsOf (parts : Parts) (x : Entry) (named : List ℕ) : Type 0 where
-  pub number : parts.number ≡ x.number
-  pub kind : parts.kind ≡ x.kind
-  pub folder : parts.folder.items ≡ x.folder
-  pub name : parts.name.items ≡ x.name
-  pub media : parts.media.items ≡ x.media
-  pub digest : parts.digest.items ≡ named
-
-abbrev pub IsParts : Row → Parts → Type 0
-IsParts row parts =
-    (x : Entry) (digest : List ℕ) → row ≡ Int (pos x.number) ∷ Int (pos (kind_number x.kind)) ∷ Blob x.folder
-    ∷ Blob x.name ∷ Blob x.media ∷ Blob digest ∷ []
-    → ArePartsOf parts x digest

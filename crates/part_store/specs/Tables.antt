@@ -1,7 +1,5 @@
--- The three tables, and the texts that make them.
-use Rattle.std.specs.Prelude.{◌≡◌, ℕ, true, false, List, [], ◌∷◌, None, codes}
-use Rattle.std.specs.List.{AllByRecursion}
-use Rattle.sqlite.specs.Effect.{Database, IsDatabase}
+-- The three tables, and their trees in the database.
+use Rattle.std.specs.Prelude.{ℕ, true, false, List, [], ◌∷◌, None, codes, Bool}
 use Rattle.sqlite_value.specs.declared.keys.Collation.TheVariants.{Binary}
 use Rattle.sqlite_value.specs.declared.value.Value.TheVariants.{Null}
 use Rattle.sqlite_value.specs.Keys.{plain as unordered}
@@ -13,6 +11,9 @@ use Rattle.sqlite_schema.specs.declared.schema.Kind.TheVariants.{Integer, Text, 
 use Rattle.sqlite_schema.specs.declared.schema.Action.TheVariants.{NoAction}
 use Rattle.sqlite_schema.specs.declared.schema.Reference.{Reference}
 use Rattle.sqlite_catalog.specs.Change.{created}
+use Rattle.sqlite_schema.specs.Rules.{equal}
+use Rattle.sqlite_value.specs.Order.{Row, column}
+use Rattle.sqlite_value.specs.declared.value.Value.{Value}
 
 abbrev pub nullable : List ℕ → Kind → Column
 nullable name kind = record { name = name; kind = kind; is_strict = true; not_null = false; default = Null; collation = Binary }
@@ -90,22 +91,16 @@ contents_table = record contents { tree = 2 }
 abbrev pub entries_table : Table
 entries_table = record entries { tree = 4 }
 
-abbrev pub users_text : List ℕ
-users_text = codes "CREATE TABLE users (user TEXT PRIMARY KEY, last INTEGER NOT NULL, program BLOB) STRICT"
+-- the trees of the tables
+abbrev pub users_tree : ℕ
+users_tree = 0
 
-abbrev pub contents_text : List ℕ
-contents_text = codes "CREATE TABLE contents (digest BLOB PRIMARY KEY, octets BLOB NOT NULL) STRICT"
+abbrev pub contents_tree : ℕ
+contents_tree = 2
 
-abbrev pub entries_text : List ℕ
-entries_text = codes "CREATE TABLE entries (user TEXT NOT NULL, number INTEGER NOT NULL, folder BLOB NOT NULL, kind INTEGER NOT NULL, name BLOB NOT NULL, media BLOB NOT NULL, digest BLOB NOT NULL REFERENCES contents, PRIMARY KEY (user, number)) STRICT"
+abbrev pub entries_tree : ℕ
+entries_tree = 4
 
--- A table is made in a database that has the schema before: it is listed and empty, and the other
--- tables are as they were.
-pub record IsMadeTable (was is : Schema) (tree : ℕ) (old new : Database) : Type 0 where
-  pub schema : new.schema ≡ is
-  pub listed : IsDatabase new
-  pub empty : new.trees tree ≡ []
-  pub others : AllByRecursion (λ t. new.trees t.tree ≡ old.trees t.tree) was.tables
-
-abbrev pub IsMade : Schema → Schema → ℕ → Database → Database → Type 0
-IsMade was is tree old new = old.schema ≡ was → IsMadeTable was is tree old new
+-- the column of the row equals the value
+abbrev pub equals : ℕ → Value → Row → Bool
+equals at value row = equal Binary (column row at) value

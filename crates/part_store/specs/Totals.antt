@@ -2,20 +2,14 @@
 use Rattle.std.specs.Prelude.{◌≡◌, ℕ, List, length}
 use Rattle.std.specs.List.{sum_by}
 use Rattle.sqlite_value.specs.declared.value.Value.{Value}
-use Rattle.sqlite_value.specs.declared.value.Value.TheVariants.{Int, Blob}
+use Rattle.sqlite_value.specs.declared.value.Value.TheVariants.{Blob}
 use Rattle.sqlite_value.specs.Order.{Row, column}
-use Rattle.std.specs.Prelude.{nat_abs}
 use Rattle.part_store.specs.declared.totals.ContentTotal.{ContentTotal}
 
 -- how many octets a value is
 abbrev pub octets_in : Value → ℕ
 octets_in (Blob octets) = length octets
 octets_in _ = 0
-
--- the number that a value is
-abbrev pub number_of : Value → ℕ
-number_of (Int number) = nat_abs number
-number_of _ = 0
 
 -- how many octets the contents of a table have
 abbrev pub octets_of : List Row → ℕ

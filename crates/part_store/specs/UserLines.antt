@@ -1,17 +1,16 @@
 -- All users of a store.
-use Rattle.std.specs.Prelude.{◌≡◌, ℕ, true, List, ◌∷◌, [], Option, None, option_map, pos, string_bytes}
+use Rattle.std.specs.Prelude.{◌≡◌, ℕ, true, List, Option, None, option_map, string_bytes}
 use Rattle.std.specs.List.{AllByRecursion}
 use Rattle.std.specs.Ordering.{nat_cmp}
 use Rattle.std.specs.Cmp.Lexicographic.{slice_cmp}
 use Rattle.std.specs.declared.cmp.Ordering.TheVariants.{Less}
-use Rattle.sqlite_value.specs.declared.value.Value.TheVariants.{Int, Text, Blob}
+use Rattle.sqlite_value.specs.declared.value.Value.TheVariants.{Text}
 use Rattle.sqlite_value.specs.Order.{Row}
 use Rattle.sqlite_trees.specs.Tree.{IsAscending}
 use Rattle.sqlite_rules.specs.Lists.{Has}
-use Rattle.sqlite.specs.Values.{or_null}
-use Rattle.part_store.specs.Changes.{equals}
 use Rattle.part_store.specs.Entries.{Entries}
 use Rattle.part_store.specs.declared.user_row.UserRow.{UserRow}
+use Rattle.part_store.specs.Tables.{equals}
 
 -- a user with his last number, and his program if he has one
 pub record UserLine : Type 0 where
@@ -22,10 +21,6 @@ pub record UserLine : Type 0 where
 -- a user as the definitions see him
 abbrev pub line_of : UserRow → UserLine
 line_of row = record { user = string_bytes row.user; last = row.last; program = option_map (λ v. v.items) row.program }
-
--- the same as the row of an answer
-abbrev pub answer_of : UserRow → Row
-answer_of row = Text (string_bytes row.user) ∷ Int (pos row.last) ∷ or_null (λ v. Blob v.items) row.program ∷ []
 
 -- what the state has of a user
 abbrev pub user_line : Entries → List ℕ → UserLine

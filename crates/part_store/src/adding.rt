@@ -1,13 +1,16 @@
 //! How entries are added: their numbers are claimed, and then each is filed.
-ghost use Rattle.std.specs.Prelude.{◌≡◌, ◌⊎◌, ◌+◌, ◌<◌, ◌≤◌, true, false, IsTrue, length, map, option_map};
+ghost use Rattle.std.specs.Prelude.{◌≡◌, ◌⊎◌, ◌+◌, ◌<◌, ◌≤◌, true, false, IsTrue, length, map};
 ghost use Rattle.octets.specs.Limits.{max_entry_number};
-ghost use Rattle.part_store.specs.Standing.{Stands, Stays, draft_of};
+ghost use Rattle.part_store.specs.Standing.{Stands, draft_of};
+ghost use Rattle.part_store.specs.Inside.{Stays, AsRefusal, AsRefusalInside, IsInside, KeepsStored, KeepsTables, StaysInside};
 ghost use Rattle.part_store.specs.Entries.{with_last};
-ghost use Rattle.part_store.specs.Refusals.{refusal_of, Blames, BlamesEntries, BlamesRows, HasFailed, HasNoUserRoom, HaveNoRoom};
+ghost use Rattle.part_store.specs.Refusals.{refusal_of, Blames, BlamesEntries, HasFailed, HasNoUserRoom, HaveNoRoom};
+ghost use Rattle.part_store.specs.Causes.{BlamesRows, TellsOfRow};
 ghost use Rattle.part_store.specs.declared.error.StoreError.TheVariants.{Database};
-ghost use Rattle.part_store.specs.Filing.{Adds, CanFile, Claims, Collides, Enters, FilesAll, IsFrom};
+ghost use Rattle.part_store.specs.Additions.{Adds, CanFile, Claims, Enters, FilesAll, IsFrom};
+ghost use Rattle.part_store.specs.Filing.{Collides};
 ghost use Rattle.part_store.specs.Sharing.{SharesContents, first_of};
-ghost use Rattle.part_store.specs.Calls.{Always, AsRefusal, AsRefusalInside, CommitsNothing, IfDone, IfRefused, IsInside, KeepsStored, KeepsTables, OnDone, StaysInside, StaysShut, Tells, WasOpen};
+ghost use Rattle.part_store.specs.Calls.{Always, CommitsNothing, IfDone, IfRefused, OnDone, StaysShut, WasOpen};
 
 use crate::entry::NewEntry;
 use crate::filing::file_entry;
@@ -47,24 +50,24 @@ pub(crate) fn put_entries<S: Alter>(
         (AsRefusalInside (BlamesEntries user.now (map draft_of entries.now))) }
     ensures survives { CommitsNothing S.Store tx.old.conn.now tx.new.conn.now }
 {
-    let (last, program) = user_of(tx, user)?;
+    let (last, is_known) = last_of(tx, user)?;
     if entries.len() > (u32::MAX - last) as usize {
         return Ok(Adding::NumberFull);
     }
-    if claim_and_file(tx, user, last, program, entries, shared)? {
+    if claim_and_file(tx, user, last, is_known, entries, shared)? {
         Ok(Adding::From(last + 1))
     } else {
         Ok(Adding::Collision)
     }
 }
 
-/// Files the entries under the numbers after a user's last one, which is then that of the last entry. Answers false where other
-/// octets are under the digest of one.
+/// Files the entries under the numbers after a user's last one, which is then that of the last entry. `is_known` tells whether he has
+/// a row. Answers false where other octets are under the digest of one.
 fn claim_and_file<S: Alter>(
     tx: &mut Transaction<'_, S>,
     user: &str,
     last: u32,
-    program: Option<Vec<u8>>,
+    is_known: bool,
     entries: &[NewEntry<'_>],
     shared: &mut [Shared],
 ) -> Result<bool, Error>
@@ -75,12 +78,12 @@ fn claim_and_file<S: Alter>(
     ensures filed { IfDone S.Store tx.old.conn.now tx.new.conn.now result
         (λ done old new. done ≡ true → (before : _) → Stands old.now before
         → last ≡ before.lasts user.now
-        → option_map (λ v. v.items) program ≡ before.programs user.now
+        → TellsOfRow user.now old.now.trees is_known
         → Enters user.now (map draft_of entries.now) before old new) }
     ensures other { IfDone S.Store tx.old.conn.now tx.new.conn.now result
         (λ done old _. done ≡ false → (before : _) → Stands old.now before
         → last ≡ before.lasts user.now
-        → option_map (λ v. v.items) program ≡ before.programs user.now
+        → TellsOfRow user.now old.now.trees is_known
         → Collides old.now.trees (map draft_of entries.now)) }
     ensures inside { IfDone S.Store tx.old.conn.now tx.new.conn.now result
         (λ done _ new. done ≡ true → IsTrue new.in_transaction) }
@@ -89,32 +92,20 @@ fn claim_and_file<S: Alter>(
         (λ old new e. IsTrue old.in_transaction
         → ((before : _) → Stands old.now before
         → (last ≡ before.lasts user.now)
-        × (option_map (λ v. v.items) program ≡ before.programs user.now))
+        × TellsOfRow user.now old.now.trees is_known)
         → BlamesRows user.now (map draft_of entries.now) old new (refusal_of e)) }
     ensures survives { CommitsNothing S.Store tx.old.conn.now tx.new.conn.now }
 {
-    claim(tx, user, last + entries.len() as u32, lent(&program))?;
+    claim(tx, user, is_known, last + entries.len() as u32)?;
     file_all(tx, user, last, entries, shared)
 }
 
-fn lent(program: &Option<Vec<u8>>) -> Option<&[u8]>
-    ensures { option_map (λ v. v.now) result ≡ option_map (λ v. v.items) program.now }
-{
-    match program {
-        Some(octets) => Some(octets.as_slice()),
-        None => None,
-    }
-}
-
-/// A user's last number and program.
-fn user_of<S: Alter>(
-    tx: &mut Transaction<'_, S>,
-    user: &str,
-) -> Result<(u32, Option<Vec<u8>>), Error>
+/// A user's last number, and whether he has a row.
+fn last_of<S: Alter>(tx: &mut Transaction<'_, S>, user: &str) -> Result<(u32, bool), Error>
     ensures same_reference { tx.new.conn.ghost_name ≡ tx.old.conn.ghost_name }
-    ensures told { Tells S.Store tx.old.conn.now tx.new.conn.now result
-        (λ before found. (found.0 ≡ before.lasts user.now)
-        × (option_map (λ v. v.items) found.1 ≡ before.programs user.now)) }
+    ensures told { IfDone S.Store tx.old.conn.now tx.new.conn.now result
+        (λ found old _. (before : _) → Stands old.now before
+        → (found.0 ≡ before.lasts user.now) × TellsOfRow user.now old.now.trees found.1) }
     ensures open { OnDone S.Store tx.old.conn.now tx.new.conn.now result WasOpen }
     ensures shut { Always S.Store tx.old.conn.now tx.new.conn.now StaysShut }
     ensures same { OnDone S.Store tx.old.conn.now tx.new.conn.now result Stays }
@@ -123,37 +114,41 @@ fn user_of<S: Alter>(
     ensures cause { IfRefused S.Store tx.old.conn.now tx.new.conn.now result (AsRefusal Blames) }
     ensures survives { CommitsNothing S.Store tx.old.conn.now tx.new.conn.now }
 {
-    match users::find(tx, user)? {
-        Some(row) => Ok((row.get(0)?, row.get(1)?)),
-        None => Ok((0, None)),
+    match users::find_last(tx, user)? {
+        Some(row) => Ok((row.get(0)?, true)),
+        None => Ok((0, false)),
     }
 }
 
-/// Gives a user, whose program this is, another last number.
+/// Gives a user another last number. Who has no row gets one.
 fn claim<S: Alter>(
     tx: &mut Transaction<'_, S>,
     user: &str,
+    is_known: bool,
     last: u32,
-    program: Option<&[u8]>,
 ) -> Result<(), Error>
     ensures same_reference { tx.new.conn.ghost_name ≡ tx.old.conn.ghost_name }
     ensures claimed { OnDone S.Store tx.old.conn.now tx.new.conn.now result
         (λ old new. (before : _) → Stands old.now before
-        → option_map (λ v. v.now) program.entry ≡ before.programs user.now
+        → TellsOfRow user.now old.now.trees is_known
         → before.lasts user.now ≤ last → Claims user.now last before old new) }
     ensures inside { OnDone S.Store tx.old.conn.now tx.new.conn.now result IsInside }
     ensures schema { OnDone S.Store tx.old.conn.now tx.new.conn.now result KeepsTables }
     ensures kept { Always S.Store tx.old.conn.now tx.new.conn.now KeepsStored }
     ensures cause { IfRefused S.Store tx.old.conn.now tx.new.conn.now result
         (λ old new e. refusal_of e ≡ Database → IsTrue old.in_transaction → (before : _)
-        → Stands old.now before → option_map (λ v. v.now) program.entry ≡ before.programs user.now
+        → Stands old.now before → TellsOfRow user.now old.now.trees is_known
         → HasFailed old new
         ⊎ HasNoUserRoom user.now (with_last user.now last before) old.now.trees) }
     ensures survives { CommitsNothing S.Store tx.old.conn.now tx.new.conn.now }
 {
-    users::remove(tx, user)?;
-    users::add(tx, user, last, program)?;
-    Ok(())
+    if is_known {
+        users::renew(tx, user, last)?;
+        Ok(())
+    } else {
+        users::add(tx, user, last, None)?;
+        Ok(())
+    }
 }
 
 /// Files the entries under the numbers after a user's last one. Answers false where other octets are under the digest of one. A

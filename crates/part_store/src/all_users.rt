@@ -1,12 +1,15 @@
 //! All users that a store knows.
 ghost use Rattle.std.specs.Prelude.{◌≡◌, ◌⊎◌, ◌∷◌, [], map, IfOk, IfErr};
-ghost use Rattle.part_store.specs.Changes.{columns, users_tree};
+ghost use Rattle.part_store.specs.Changes.{columns};
+ghost use Rattle.part_store.specs.Tables.{users_tree};
 ghost use Rattle.part_store.specs.Standing.{Stands};
-ghost use Rattle.part_store.specs.UserLines.{AreUsersOf, answer_of, line_of};
+ghost use Rattle.part_store.specs.UserLines.{AreUsersOf, line_of};
+ghost use Rattle.part_store.specs.Readings.{answer_of, ShowsUser};
 ghost use Rattle.std.specs.List.{AllByRecursion};
-ghost use Rattle.part_store.specs.Refusals.{refusal_of, BlamesNamed, ShowsUser};
+ghost use Rattle.part_store.specs.Refusals.{refusal_of, BlamesNamed};
 ghost use Rattle.part_store.specs.declared.error.StoreError.TheVariants.{Memory, Database};
-ghost use Rattle.part_store.specs.Calls.{Always, CommitsNothing, IfDone, IfRefused, KeepsStored, OnDone, StaysShut, WasOpen};
+ghost use Rattle.part_store.specs.Calls.{Always, CommitsNothing, IfDone, IfRefused, OnDone, StaysShut, WasOpen};
+ghost use Rattle.part_store.specs.Inside.{KeepsStored};
 
 use crate::error::StoreError;
 use crate::user_row::UserRow;

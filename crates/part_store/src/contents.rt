@@ -3,11 +3,12 @@ ghost use Rattle.std.specs.Prelude.{◌≡◌, ◌≢◌, [], ◌∷◌, IfErr, 
 ghost use Rattle.sqlite_value.specs.declared.value.Value.TheVariants.{Blob};
 ghost use Rattle.sqlite.specs.Effect.{IsDatabase};
 ghost use Rattle.sqlite.specs.State.{KeepsCommit};
-ghost use Rattle.part_store.specs.Changes.{Steps, Reads, IsFound, IsAdded, contents_tree, IsListed, equals, every, columns, length_at, sized};
-ghost use Rattle.part_store.specs.Tables.{contents_table, store_schema};
-ghost use Rattle.part_store.specs.Standing.{IsTidied};
-ghost use Rattle.part_store.specs.Refusals.{content_values, AddFaults, Faults, HasNoContent, IsTableIn, WriteFaults, still_named};
-ghost use Rattle.part_store.specs.Calls.{Always, CommitsNothing, IfDone, IfRefused, IsInside, OnDone, OnRefused, WasOpen};
+ghost use Rattle.part_store.specs.Changes.{Steps, Reads, IsFound, IsAdded, IsListed, every, columns, length_at, sized, IsTidied, IsTableIn};
+ghost use Rattle.part_store.specs.Tables.{contents_tree, equals, contents_table, store_schema};
+ghost use Rattle.part_store.specs.Refusals.{content_values};
+ghost use Rattle.part_store.specs.Causes.{AddFaults, Faults, HasNoContent, WriteFaults, still_named};
+ghost use Rattle.part_store.specs.Calls.{Always, CommitsNothing, IfDone, IfRefused, OnDone, OnRefused, WasOpen};
+ghost use Rattle.part_store.specs.Inside.{IsInside};
 
 use crate::users::first_of;
 use sqlite::{Alter, Constraint, Error, ErrorCode, Row, Transaction, params};

@@ -2,10 +2,11 @@
 ghost use Rattle.std.specs.Prelude.{◌≡◌, [], ◌∷◌, pos, IfErr};
 ghost use Rattle.sqlite_value.specs.declared.value.Value.TheVariants.{Int, Text, Blob};
 ghost use Rattle.sqlite.specs.State.{KeepsCommit};
-ghost use Rattle.part_store.specs.Changes.{Steps, Reads, IsFound, IsListed, IsAdded, IsTaken, entries_tree, equals, is_entry, columns};
-ghost use Rattle.part_store.specs.Tables.{entries_table};
-ghost use Rattle.part_store.specs.Refusals.{AddFaults, Faults, HasSome, IsFree, IsTableIn, WriteFaults};
-ghost use Rattle.part_store.specs.Calls.{Always, CommitsNothing, IfDone, IfRefused, IsInside, OnDone, OnRefused, WasOpen};
+ghost use Rattle.part_store.specs.Changes.{Steps, Reads, IsFound, IsListed, IsAdded, IsTaken, is_entry, columns, IsTableIn};
+ghost use Rattle.part_store.specs.Tables.{entries_tree, equals, entries_table};
+ghost use Rattle.part_store.specs.Causes.{AddFaults, Faults, HasSome, IsFree, WriteFaults};
+ghost use Rattle.part_store.specs.Calls.{Always, CommitsNothing, IfDone, IfRefused, OnDone, OnRefused, WasOpen};
+ghost use Rattle.part_store.specs.Inside.{IsInside};
 
 use crate::users::first_of;
 use sqlite::{Alter, Error, Row, Transaction, params};

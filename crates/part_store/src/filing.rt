@@ -3,14 +3,16 @@ ghost use Rattle.std.specs.Prelude.{◌≡◌, ◌≢◌, ◌⊎◌, ◌<◌, �
 ghost use Rattle.sqlite_value.specs.declared.value.Value.TheVariants.{Blob};
 ghost use Rattle.sqlite_value.specs.Order.{column};
 ghost use Rattle.sha2.specs.Sha256.{sha256};
-ghost use Rattle.part_store.specs.Tables.{contents_table};
+ghost use Rattle.part_store.specs.Tables.{contents_table, contents_tree};
 ghost use Rattle.part_store.specs.Entries.{entry_of};
-ghost use Rattle.part_store.specs.Changes.{contents_tree};
 ghost use Rattle.part_store.specs.Standing.{HasContent, Stands, kind_number, draft_of};
-ghost use Rattle.part_store.specs.Refusals.{content_values, refusal_of, HasFailed, HasNoRoom, LacksRoom};
+ghost use Rattle.part_store.specs.Refusals.{content_values, refusal_of, HasFailed};
+ghost use Rattle.part_store.specs.Causes.{HasNoRoom, LacksRoom};
 ghost use Rattle.part_store.specs.declared.error.StoreError.TheVariants.{Database};
-ghost use Rattle.part_store.specs.Filing.{HasDraft, Stocks, IsOther, IsNext, Files};
-ghost use Rattle.part_store.specs.Calls.{Always, CommitsNothing, IfDone, IfRefused, KeepsStored, KeepsTables, OnDone, StaysInside};
+ghost use Rattle.part_store.specs.Additions.{HasDraft, Stocks, IsNext, Files};
+ghost use Rattle.part_store.specs.Filing.{IsOther};
+ghost use Rattle.part_store.specs.Calls.{Always, CommitsNothing, IfDone, IfRefused, OnDone};
+ghost use Rattle.part_store.specs.Inside.{KeepsStored, KeepsTables, StaysInside};
 
 use crate::entry::{Kind, NewEntry};
 use crate::{contents, entries};

@@ -2,14 +2,16 @@
 ghost use Rattle.std.specs.Prelude.{◌≡◌, ◌⊎◌, ◌≤◌, ℕ, pos, List, length, map, IfOk, IfErr};
 ghost use Rattle.sqlite_value.specs.declared.value.Value.TheVariants.{Int};
 ghost use Rattle.sqlite_value.specs.Order.{column};
-ghost use Rattle.part_store.specs.Changes.{contents_tree};
+ghost use Rattle.part_store.specs.Tables.{contents_tree};
 ghost use Rattle.part_store.specs.Entries.{entries_of, listing_of};
-ghost use Rattle.part_store.specs.Standing.{HasContent, IsParts, Shows, Stands, Stays, kind_number, listed};
+ghost use Rattle.part_store.specs.Standing.{HasContent, Stands, kind_number, listed};
+ghost use Rattle.part_store.specs.Readings.{IsParts, Shows, IsReadable};
+ghost use Rattle.part_store.specs.Inside.{Stays, KeepsStored};
 ghost use Rattle.part_store.specs.declared.entry.Kind.{Kind};
 ghost use Rattle.octets.specs.Limits.{max_entry_number};
-ghost use Rattle.part_store.specs.Refusals.{refusal_of, Blames, IsReadable};
+ghost use Rattle.part_store.specs.Refusals.{refusal_of, Blames};
 ghost use Rattle.part_store.specs.declared.error.StoreError.TheVariants.{Memory, Database};
-ghost use Rattle.part_store.specs.Calls.{Always, CommitsNothing, IfDone, IfRefused, KeepsStored, OnDone, StaysShut, Tells, WasOpen};
+ghost use Rattle.part_store.specs.Calls.{Always, CommitsNothing, IfDone, IfRefused, OnDone, StaysShut, Tells, WasOpen};
 
 use crate::entry::{EntryRow, Kind};
 use crate::error::StoreError;

@@ -1,7 +1,8 @@
 //! Which entries of a list have the same content.
 ghost use Rattle.std.specs.Prelude.{◌≡◌, ◌≢◌, ◌<◌, ℕ, List, IfSome, length, map, slice_index_or};
 ghost use Rattle.part_store.specs.Entries.{Draft};
-ghost use Rattle.part_store.specs.Sharing.{AreNoted, IsKnown, IsTold, first_of, none_shared, octets_at};
+ghost use Rattle.part_store.specs.Noting.{AreNoted, IsKnown, IsTold, none_shared};
+ghost use Rattle.part_store.specs.Sharing.{first_of, octets_at};
 
 use sha2::{Digest, Sha256};
 

@@ -2,12 +2,13 @@
 ghost use Rattle.std.specs.Prelude.{◌≡◌, ◌≢◌, ◌⊎◌, ◌↔◌, ◌+◌, ◌^◌, ◌<◌, ◌≤◌, length, map, true, false, IsTrue, option_map, MatchOption, Err, IfOk, IfErr, IsErrAnd, OnOk, OnErr};
 ghost use Rattle.sqlite.specs.Held.{state};
 ghost use Rattle.sqlite.specs.State.{HasCleanDisk, KeepsCommit};
-ghost use Rattle.part_store.specs.Tables.{no_schema, store_schema};
+ghost use Rattle.part_store.specs.Tables.{no_schema, store_schema, contents_tree, users_tree};
 ghost use Rattle.part_store.specs.Entries.{AreProgramsOf, entries_of, listing_of, no_entries, with_entries, with_program, with_programs, without_entry};
-ghost use Rattle.part_store.specs.Standing.{Brings, IsStored, Makes, MayMake, Spares, Stays, Stands, HasContent, IsEntryAt, HasNone, NamesDigest, draft_of, listed, pair_of};
+ghost use Rattle.part_store.specs.Inside.{Brings, Stays, AsRefusal, AsRefusalInside, IsInside, KeepsStored, StaysInside};
+ghost use Rattle.part_store.specs.Standing.{IsStored, Makes, MayMake, Spares, Stands, HasContent, IsEntryAt, HasNone, draft_of, listed, pair_of};
+ghost use Rattle.part_store.specs.Readings.{NamesDigest};
 ghost use Rattle.part_store.specs.Refusals.{refusal_of, Blames, BlamesEntries, BlamesNamed, BlamesOr, BlamesPrograms, BlamesRow};
 ghost use Rattle.part_store.specs.declared.error.StoreError.TheVariants.{Memory, NoSuchEntry, NumberFull, Collision, Database};
-ghost use Rattle.part_store.specs.Changes.{contents_tree, users_tree};
 ghost use Rattle.part_store.specs.Crashes.{KeepsState};
 ghost use Rattle.part_store.specs.Looking.{are_tables};
 ghost use Rattle.part_store.specs.Totals.{IsTotalOf, octets_of};
@@ -16,10 +17,11 @@ ghost use Rattle.sqlite.specs.Files.{file_state, IsClosed, IsOpened};
 ghost use Rattle.sqlite.specs.WalReads.{AreClean};
 ghost use Rattle.part_store.specs.Filing.{Collides, HasRoom};
 ghost use Rattle.sqlite.specs.Steps.{over_memory};
-ghost use Rattle.part_store.specs.Opening.{HasOtherTables, HoldsNoTables, HoldsStore, IsAt, IsBare, IsEmptied, IsKept, IsReady, IsReadyFrom, KeepsStore, MakesEmpty, OpensOrTells, TellsWhy};
+ghost use Rattle.part_store.specs.Opening.{HasOtherTables, HoldsNoTables, HoldsStore, IsAt, IsBare, IsEmptied, IsKept, IsReady, IsReadyFrom, KeepsStore, MakesEmpty, TellsWhy};
+ghost use Rattle.part_store.specs.Connections.{OpensOrTells};
 ghost use Rattle.sqlite.specs.WalFiles.{image_at};
 ghost use Rattle.part_store.specs.Sharing.{SharesContents, first_of};
-ghost use Rattle.part_store.specs.Calls.{Always, AsRefusal, AsRefusalInside, CommitsNothing, DoneWhere, IfDone, IfRefused, IsInside, KeepsStored, MayCommit, OnDone, OnRefused, RefusedWhere, Settles, StaysInside, StaysShut, Tells, WasOpen};
+ghost use Rattle.part_store.specs.Calls.{Always, CommitsNothing, DoneWhere, IfDone, IfRefused, MayCommit, OnDone, OnRefused, RefusedWhere, Settles, StaysShut, Tells, WasOpen};
 
 mod connections;
 

@@ -1,13 +1,16 @@
 //! The users' programs.
 ghost use Rattle.std.specs.Prelude.{◌≡◌, ◌⊎◌, ◌∷◌, ◌<◌, [], length, map, IsTrue, option_map, IfOk, IfErr};
-ghost use Rattle.part_store.specs.Changes.{columns, users_tree};
-ghost use Rattle.part_store.specs.Tables.{store_schema};
+ghost use Rattle.part_store.specs.Changes.{columns};
+ghost use Rattle.part_store.specs.Tables.{users_tree, store_schema};
 ghost use Rattle.part_store.specs.Entries.{AreProgramsOf, with_program, with_programs};
-ghost use Rattle.part_store.specs.Standing.{Brings, Stands, Stays, last_in, pair_of, row_of};
+ghost use Rattle.part_store.specs.Inside.{Brings, Stays, AsRefusal, AsRefusalInside, IsInside, KeepsStored, KeepsTables, StaysInside};
+ghost use Rattle.part_store.specs.Standing.{Stands, pair_of};
+ghost use Rattle.part_store.specs.Readings.{last_in, row_of, ShowsLast, ShowsProgram};
 ghost use Rattle.std.specs.List.{AllByRecursion};
-ghost use Rattle.part_store.specs.Refusals.{refusal_of, Blames, BlamesNamed, BlamesPrograms, BlamesRow, RisesFrom, ShowsLast, ShowsProgram};
+ghost use Rattle.part_store.specs.Refusals.{refusal_of, Blames, BlamesNamed, BlamesPrograms, BlamesRow};
+ghost use Rattle.part_store.specs.Causes.{RisesFrom};
 ghost use Rattle.part_store.specs.declared.error.StoreError.TheVariants.{Memory, Database};
-ghost use Rattle.part_store.specs.Calls.{Always, AsRefusal, AsRefusalInside, CommitsNothing, IfRefused, IsInside, KeepsStored, KeepsTables, OnDone, StaysInside, StaysShut, Tells, WasOpen};
+ghost use Rattle.part_store.specs.Calls.{Always, CommitsNothing, IfRefused, OnDone, StaysShut, Tells, WasOpen};
 
 use crate::error::StoreError;
 use crate::users;

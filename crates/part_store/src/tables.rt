@@ -1,9 +1,10 @@
 //! The three tables and how they are made.
 ghost use Rattle.std.specs.Prelude.{◌≡◌, []};
 ghost use Rattle.sqlite.specs.State.{KeepsCommit};
-ghost use Rattle.part_store.specs.Changes.{users_tree, contents_tree, entries_tree};
-ghost use Rattle.part_store.specs.Tables.{no_schema, with_users, with_contents, store_schema, IsMade};
-ghost use Rattle.part_store.specs.Calls.{Always, CommitsNothing, IsInside, OnDone, WasOpen};
+ghost use Rattle.part_store.specs.Tables.{users_tree, contents_tree, entries_tree, no_schema, with_users, with_contents, store_schema};
+ghost use Rattle.part_store.specs.Changes.{IsMade};
+ghost use Rattle.part_store.specs.Calls.{Always, CommitsNothing, OnDone, WasOpen};
+ghost use Rattle.part_store.specs.Inside.{IsInside};
 
 use sqlite::{Alter, Error, Transaction};
 

@@ -2,12 +2,14 @@
 ghost use Rattle.std.specs.Prelude.{◌≡◌, ◌⊎◌, ◌+◌, ◌^◌, ◌≤◌, length, IfOk, IfErr};
 ghost use Rattle.std.specs.List.{AllByRecursion, sum_by};
 ghost use Rattle.sqlite_value.specs.Order.{column};
-ghost use Rattle.part_store.specs.Changes.{contents_tree};
+ghost use Rattle.part_store.specs.Tables.{contents_tree};
 ghost use Rattle.part_store.specs.Standing.{Stands};
-ghost use Rattle.part_store.specs.Totals.{IsTotalOf, number_of, octets_of};
-ghost use Rattle.part_store.specs.Refusals.{BlamesOr, ShowsSize};
+ghost use Rattle.part_store.specs.Totals.{IsTotalOf, octets_of};
+ghost use Rattle.part_store.specs.Readings.{number_of, ShowsSize};
+ghost use Rattle.part_store.specs.Refusals.{BlamesOr};
 ghost use Rattle.part_store.specs.declared.error.StoreError.TheVariants.{Memory, Database};
-ghost use Rattle.part_store.specs.Calls.{Always, CommitsNothing, IfDone, IfRefused, KeepsStored, OnDone, StaysShut, WasOpen};
+ghost use Rattle.part_store.specs.Calls.{Always, CommitsNothing, IfDone, IfRefused, OnDone, StaysShut, WasOpen};
+ghost use Rattle.part_store.specs.Inside.{KeepsStored};
 
 use crate::contents;
 use crate::error::StoreError;

@@ -1,12 +1,14 @@
 //! The table of users: each user's last number and program.
-ghost use Rattle.std.specs.Prelude.{◌≡◌, [], ◌∷◌, pos, slice_get, IfErr};
+ghost use Rattle.std.specs.Prelude.{◌≡◌, [], ◌∷◌, ℕ, ℤ, pos, List, Option, slice_get, IfErr};
 ghost use Rattle.sqlite_value.specs.declared.value.Value.TheVariants.{Int, Text, Blob};
 ghost use Rattle.sqlite.specs.State.{KeepsCommit};
 ghost use Rattle.sqlite.specs.Values.{or_null};
-ghost use Rattle.part_store.specs.Changes.{Steps, Reads, IsFound, IsListed, IsAdded, IsTaken, users_tree, equals, columns, every, has_program};
-ghost use Rattle.part_store.specs.Tables.{users_table};
-ghost use Rattle.part_store.specs.Refusals.{AddFaults, Faults, HasNoRow, IsTableIn, WriteFaults};
-ghost use Rattle.part_store.specs.Calls.{Always, CommitsNothing, IfDone, IfRefused, IsInside, OnDone, OnRefused, WasOpen};
+ghost use Rattle.part_store.specs.Changes.{Steps, Reads, IsFound, IsListed, IsAdded, IsOnlyRow, IsRenewed, IsTableIn, IsTaken, columns, every, has_program, user_row};
+ghost use Rattle.part_store.specs.Tables.{users_tree, equals, users_table};
+ghost use Rattle.part_store.specs.Causes.{AddFaults, Faults, HasNoRow, PutFaults, WriteFaults};
+ghost use Rattle.part_store.specs.Refusals.{user_values};
+ghost use Rattle.part_store.specs.Calls.{Always, CommitsNothing, IfDone, IfRefused, OnDone, OnRefused, WasOpen};
+ghost use Rattle.part_store.specs.Inside.{IsInside};
 
 use sqlite::{Alter, Error, Row, Transaction, params};
 
@@ -32,6 +34,24 @@ pub(crate) fn find<S: Alter>(tx: &mut Transaction<'_, S>, user: &str) -> Result<
         "SELECT last, program FROM users WHERE user = ?1",
         params![user],
     )?;
+    Ok(first_of(rows))
+}
+
+/// A user's last number, without his program.
+pub(crate) fn find_last<S: Alter>(
+    tx: &mut Transaction<'_, S>,
+    user: &str,
+) -> Result<Option<Row>, Error>
+    ensures same_reference { tx.new.conn.ghost_name ≡ tx.old.conn.ghost_name }
+    ensures step { IfDone S.Store tx.old.conn.now tx.new.conn.now result
+        (λ found. Steps (Reads
+        (λ db. IsFound users_tree (equals 1 (Text user.now)) (columns (2 ∷ [])) db found))) }
+    ensures open { OnDone S.Store tx.old.conn.now tx.new.conn.now result WasOpen }
+    ensures kept { OnRefused S.Store tx.old.conn.now tx.new.conn.now result KeepsCommit }
+    ensures fault { IfRefused S.Store tx.old.conn.now tx.new.conn.now result Faults }
+    ensures survives { CommitsNothing S.Store tx.old.conn.now tx.new.conn.now }
+{
+    let rows = tx.query_all("SELECT last FROM users WHERE user = ?1", params![user])?;
     Ok(first_of(rows))
 }
 
@@ -103,5 +123,28 @@ pub(crate) fn add<S: Alter>(
     tx.execute(
         "INSERT INTO users (user, last, program) VALUES (?1, ?2, ?3)",
         params![user, last, program],
+    )
+}
+
+/// Gives a user's row another last number. His program isn't written again.
+pub(crate) fn renew<S: Alter>(
+    tx: &mut Transaction<'_, S>,
+    user: &str,
+    last: u32,
+) -> Result<usize, Error>
+    ensures same_reference { tx.new.conn.ghost_name ≡ tx.old.conn.ghost_name }
+    ensures step { OnDone S.Store tx.old.conn.now tx.new.conn.now result
+        (Steps (IsRenewed user.now last)) }
+    ensures inside { OnDone S.Store tx.old.conn.now tx.new.conn.now result IsInside }
+    ensures kept { Always S.Store tx.old.conn.now tx.new.conn.now KeepsCommit }
+    ensures fault { Always S.Store tx.old.conn.now tx.new.conn.now
+        (λ old new. (id : ℤ) (was : ℕ) (program : Option (List ℕ))
+        → IsOnlyRow user.now (user_row id user.now was program) old.now.trees
+        → IfErr result (PutFaults users_table id (user_values user.now last program) old new)) }
+    ensures survives { CommitsNothing S.Store tx.old.conn.now tx.new.conn.now }
+{
+    tx.execute(
+        "UPDATE users SET last = ?2 WHERE user = ?1",
+        params![user, last],
     )
 }

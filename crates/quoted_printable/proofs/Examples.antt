@@ -1,7 +1,8 @@
 -- The definitions at small texts, by computation.
 use Rattle.std.proofs.Common.{◌≡◌, true, false, List, [], ◌∷◌, ◌++◌, ℕ, refl, replicate}
 use Rattle.std.specs.Prelude.{codes}
-use Rattle.quoted_printable.specs.Pieces.{goes_on, is_held}
+use Rattle.quoted_printable.specs.Pieces.{is_held}
+use Rattle.quoted_printable.specs.Private.{goes_on}
 use Rattle.quoted_printable.specs.QuotedPrintable.{decoding_of, encoding_of, soft_break}
 
 crlf : List ℕ

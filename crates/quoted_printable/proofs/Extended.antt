@@ -2,7 +2,7 @@
 use Rattle.std.proofs.Common.{◌≡◌, ℕ, List, ◌++◌, Bool, true, false, cond, sym, ◌∙◌, ap, length, take, drop}
 use Rattle.std.proofs.Math.Seq.{take-append_seam, take-length}
 use Rattle.std.proofs.lemmas.List.{append_assoc, take-append-drop}
-use Rattle.quoted_printable.specs.Pieces.{Extends}
+use Rattle.quoted_printable.specs.Private.{Extends}
 
 pub extends_same : (was : List ℕ) → Extends was was
 extends_same was = take-length was

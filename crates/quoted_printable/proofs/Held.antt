@@ -10,7 +10,8 @@ use Rattle.text_lines.proofs.FirstLine.{lines_other, no_break_of}
 use Rattle.text_lines.proofs.Broken.{octets_of-lines_of}
 use Rattle.octets.specs.Escapes.{is_hex}
 use Rattle.quoted_printable.specs.QuotedPrintable.{unescaped, ends_in_equals, without_last, decoded_line, decoding_of}
-use Rattle.quoted_printable.specs.Pieces.{Reads, Stops, all_follow, begins, follows, goes_on, has_digit, is_held, last_of}
+use Rattle.quoted_printable.specs.Pieces.{all_follow, begins, follows, is_held}
+use Rattle.quoted_printable.specs.Private.{Reads, Stops, goes_on, has_digit, last_of}
 use Rattle.quoted_printable.proofs.Heads.{IsFirm, blank_is, decoded-blank, decoded-escape, decoded-plain, ended, firm_after, firm_here, hex_is, last_more, lead_none, trailing_kept, turned}
 
 -- ---- a literal `=`

@@ -7,7 +7,7 @@ use Rattle.std.proofs.lemmas.List.{append_assoc, length-append}
 use Rattle.octets.specs.Blank.{is_blank}
 use Rattle.octets.specs.Escapes.{is_hex, octet_of_digits}
 use Rattle.quoted_printable.specs.QuotedPrintable.{decoding_of, unescaped}
-use Rattle.quoted_printable.specs.Pieces.{AreFor, Reads, Decodes}
+use Rattle.quoted_printable.specs.Private.{AreFor, Reads, Decodes}
 use Rattle.quoted_printable.proofs.Decoded.{unescaped-other}
 use Rattle.quoted_printable.proofs.Heads.{decoded-escape, decoded-plain}
 

@@ -1,3 +1,4 @@
+mod Breaks
 pub mod Decoded
 pub mod Encoded
 mod Examples

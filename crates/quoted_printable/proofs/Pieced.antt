@@ -6,7 +6,8 @@ use Rattle.std.proofs.lemmas.List.{append_assoc, append-nil, length-append}
 use Rattle.octets.specs.Blank.{is_blank, without_leading_blanks}
 use Rattle.octets.specs.Escapes.{is_hex}
 use Rattle.quoted_printable.specs.QuotedPrintable.{decoding_of, joined}
-use Rattle.quoted_printable.specs.Pieces.{HasFed, HaveFed, follows, goes_on, has_digit, is_held, last_of}
+use Rattle.quoted_printable.specs.Pieces.{HasFed, HaveFed, follows, is_held}
+use Rattle.quoted_printable.specs.Private.{goes_on, has_digit, last_of}
 use Rattle.quoted_printable.proofs.Heads.{blank_is, decoded-none, decoded-plain}
 use Rattle.quoted_printable.proofs.Held.{IsGap, NotKept, escape_literal, escape_read, gap_digit, held_form, line_hard, line_soft, not_kept}
 use Rattle.quoted_printable.proofs.Lengths.{no_longer}

@@ -9,7 +9,8 @@ use Rattle.memchr.specs.Find.{is_byte3}
 use Rattle.text_lines.specs.Lines.{TextLine, lines_of, octets_of, onto_break, onto_content}
 use Rattle.text_lines.proofs.Broken.{octets_of-lines_of}
 use Rattle.quoted_printable.specs.QuotedPrintable.{decoded_line, decoding_of}
-use Rattle.quoted_printable.specs.Pieces.{Extends, HasFed, Reads, begins, is_held}
+use Rattle.quoted_printable.specs.Pieces.{HasFed, begins, is_held}
+use Rattle.quoted_printable.specs.Private.{Extends, Reads}
 use Rattle.quoted_printable.proofs.Extended.{added_of}
 use Rattle.quoted_printable.proofs.Heads.{IsPlain, decoded-plain}
 

@@ -1,8 +1,8 @@
 -- Quoted-printable texts read in pieces: the octets that are kept until it is known what they stand for.
-use Rattle.std.specs.Prelude.{ℕ, ◌+◌, ◌<◌, ◌≤◌, ◌≡◌, ◌==◌, ◌&&◌, ◌||◌, Bool, true, false, List, [], ◌∷◌, ◌++◌, length, take}
+use Rattle.std.specs.Prelude.{ℕ, ◌≡◌, ◌==◌, ◌&&◌, ◌||◌, Bool, true, List, [], ◌∷◌, ◌++◌}
 use Rattle.octets.specs.Blank.{is_blank}
 use Rattle.octets.specs.Escapes.{is_hex}
-use Rattle.quoted_printable.specs.QuotedPrintable.{decoding_of, equals, unescaped}
+use Rattle.quoted_printable.specs.QuotedPrintable.{decoding_of, equals}
 
 -- an octet that may be the first one kept: `=`, SP or TAB
 abbrev pub begins : ℕ → Bool
@@ -22,35 +22,6 @@ abbrev pub is_held : List ℕ → Bool
 is_held [] = true
 is_held (octet ∷ rest) = begins octet && all_follow octet rest
 
--- the last of an octet and those after it
-abbrev pub last_of : ℕ → List ℕ → ℕ
-last_of octet [] = octet
-last_of octet (following ∷ rest) = last_of following rest
-
--- whether an octet is kept, too, after those that are kept
-abbrev pub goes_on : List ℕ → ℕ → Bool
-goes_on [] octet = begins octet
-goes_on (first ∷ rest) octet = follows (last_of first rest) octet
-
--- the text's first octet isn't kept after those that are
-abbrev pub Stops : List ℕ → List ℕ → Type 0
-Stops held [] = Unit {0}
-Stops held (octet ∷ rest) = goes_on held octet ≡ false
-
--- octets are those before, and perhaps more after them
-abbrev pub Extends : List ℕ → List ℕ → Type 0
-Extends was now = take (length was) now ≡ was
-
--- What was appended after octets, and what is left, together stand for what a text stands for, whatever comes after it.
-abbrev pub Reads : List ℕ → List ℕ → List ℕ → List ℕ → Type 0
-Reads was text now left = (after : List ℕ) → now ++ decoding_of (left ++ after) ≡ was ++ decoding_of (text ++ after)
-
--- whether a hexadecimal digit stands after the first octet
-abbrev pub has_digit : List ℕ → Bool
-has_digit [] = false
-has_digit (first ∷ []) = false
-has_digit (first ∷ digit ∷ rest) = is_hex digit
-
 -- A piece was read: the octets kept and the piece stand for what was appended and what the octets now kept stand for, whatever comes
 -- after the piece.
 pub record HasFed (held piece left was now : List ℕ) : Type 0 where
@@ -64,15 +35,3 @@ abbrev pub HaveFed : List ℕ → List (List ℕ) → List ℕ → List ℕ → 
 HaveFed held [] left was now = (left ≡ held) × (now ≡ was)
 HaveFed held (piece ∷ pieces) left was now =
     (held_next : List ℕ) × (next : List ℕ) × HasFed held piece held_next was next × HaveFed held_next pieces left next now
-
--- A text begins with octets that stand for this one, whatever comes after it, and this is left after them.
-pub record Decodes (text : List ℕ) (octet : ℕ) (rest : List ℕ) : Type 0 where
-  pub line : unescaped text ≡ octet ∷ unescaped rest
-  pub anywhere : (after : List ℕ) → decoding_of (text ++ after) ≡ octet ∷ decoding_of (rest ++ after)
-  pub shorter : length rest < length text
-
--- The same of several octets.
-pub record AreFor (text octets rest : List ℕ) : Type 0 where
-  pub line : unescaped text ≡ octets ++ unescaped rest
-  pub anywhere : (after : List ℕ) → decoding_of (text ++ after) ≡ octets ++ decoding_of (rest ++ after)
-  pub shorter : length rest + length octets ≤ length text

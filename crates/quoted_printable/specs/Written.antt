@@ -1,4 +1,4 @@
--- How an octet is written that another follows.
+-- Private: how an octet is written that another follows.
 use Rattle.std.specs.Prelude.{ℕ, false, if◌then◌else◌}
 use Rattle.quoted_printable.specs.QuotedPrintable.{equals, stands}
 

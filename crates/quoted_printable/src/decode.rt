@@ -1,7 +1,7 @@
 // Texts read.
 ghost use Rattle.std.specs.Prelude.{◌≡◌, ◌∷◌, ◌++◌, ◌<◌, ◌≤◌, IfOk, IfSome, OnOk, IsTrue, length, slice_index, take};
 ghost use Rattle.text_lines.specs.Lines.{text_line};
-ghost use Rattle.quoted_printable.specs.Pieces.{AreFor, Extends, Decodes};
+ghost use Rattle.quoted_printable.specs.Private.{AreFor, Extends, Decodes};
 ghost use Rattle.quoted_printable.specs.QuotedPrintable.{decoded_line, decoding_of, ends_in_equals, unescaped};
 
 use crate::decoder::QpDecoder;

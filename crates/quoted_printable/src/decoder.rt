@@ -1,9 +1,10 @@
 // Texts read in pieces.
-ghost use Rattle.std.specs.Prelude.{◌≡◌, ◌++◌, ◌<◌, ◌≤◌, ℕ, [], false, true, List, IfOk, OnErr, OnOk, length, slice_index};
+ghost use Rattle.std.specs.Prelude.{◌≡◌, ◌++◌, ◌<◌, ◌≤◌, ℕ, [], false, true, List, IfOk, IfSome, IsTrue, OnErr, OnOk, length, slice_index};
 ghost use Rattle.octets.specs.Blank.{is_blank};
 ghost use Rattle.octets.specs.Escapes.{is_hex};
 ghost use Rattle.quoted_printable.specs.QuotedPrintable.{decoding_of};
-ghost use Rattle.quoted_printable.specs.Pieces.{Extends, HasFed, Reads, Stops, begins, follows, goes_on, has_digit, is_held};
+ghost use Rattle.quoted_printable.specs.Pieces.{HasFed, begins, follows, is_held};
+ghost use Rattle.quoted_printable.specs.Private.{Extends, Reads, Stops, goes_on, has_digit};
 
 use crate::decode::{EQUALS, append_decoding, first_octets};
 use memchr::{memchr3, memrchr};
@@ -95,6 +96,9 @@ fn feed_held(
     ensures begun { OnErr result (Extends held.old.items held.new.items) }
     ensures more { Extends out.old.items out.new.items }
 {
+    if let Some(octets) = lone_break(held, piece) {
+        return out.extend_from_slice(octets);
+    }
     let rest = hold(held, piece)?;
     if rest.is_empty() {
         return Ok(());
@@ -102,6 +106,40 @@ fn feed_held(
     let rest = release(held, rest, out)?;
     *held = append_open(alloc, rest, out)?;
     Ok(())
+}
+
+// What a piece stands for that is a line break and nothing else, hard or soft, where no octets are kept before it.
+fn lone_break<'a>(held: &[u8], piece: &'a [u8]) -> Option<&'a [u8]>
+    ensures none { IfSome result (λ octets. held.now ≡ []) }
+    ensures stands { IfSome result (λ octets. (after : List ℕ) → decoding_of (piece.now ++ after)
+        ≡ octets.now ++ decoding_of after) }
+{
+    if !held.is_empty() {
+        return None;
+    }
+    if is_hard_break(piece) {
+        return Some(piece);
+    }
+    if is_soft_break(piece) {
+        return Some(piece.split_at(0).0);
+    }
+    None
+}
+
+#[inline]
+fn is_hard_break(piece: &[u8]) -> bool
+    ensures { IsTrue result → (after : List ℕ) → decoding_of (piece.now ++ after)
+        ≡ piece.now ++ decoding_of after }
+{
+    piece == b"\n".as_slice() || piece == b"\r\n".as_slice()
+}
+
+#[inline]
+fn is_soft_break(piece: &[u8]) -> bool
+    ensures { IsTrue result → (after : List ℕ) → decoding_of (piece.now ++ after)
+        ≡ decoding_of after }
+{
+    piece == b"=\n".as_slice() || piece == b"=\r\n".as_slice()
 }
 
 // Keeps the first octets of a text, as many as may be kept after those that are, and gives what follows them.

@@ -9,7 +9,8 @@ use Rattle.sieve_check.specs.declared.names.TestName.TheVariants.{Header, Exists
 use Rattle.sieve_check.specs.declared.typed.Order.TheVariants.{Over}
 use Rattle.sieve_check.specs.Causes.{plain, refusal_for}
 use Rattle.sieve_check.specs.Rules.{Visit, refused_among, fault_of, after_invocation}
-use Rattle.sieve_check.specs.Signatures.{no_tag, reading, test_signature}
+use Rattle.sieve_check.specs.Arguments.{reading}
+use Rattle.sieve_check.specs.Signatures.{no_tag, test_signature}
 use Rattle.sieve_check.specs.Surroundings.{Context, at_start, first_lacking}
 use Prim.Native.String.{String}
 use Rattle.sieve_check.proofs.Rows.{Gives, str, strs, tag, plain_at, simple_at, last_at, block_at, if_at, read_as}

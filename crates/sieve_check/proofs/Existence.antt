@@ -16,10 +16,10 @@ use Rattle.sieve_check.specs.declared.signature.Ending.TheVariants.{Semicolon, B
 use Rattle.sieve_check.specs.Bounded.{AreBoundedCommands, AreCommandsIn, IsBounded}
 use Rattle.sieve_check.specs.FormOf.{inner_forms_of, simple_of, block_of, simple_part, block_part, Forms, closed, after_none, put, part_of, forms_of, IsFormOf}
 use Rattle.sieve_check.specs.Names.{command_named}
-use Rattle.sieve_check.specs.Arguments.{arguments_cause}
+use Rattle.sieve_check.specs.Arguments.{arguments_cause, reading}
 use Rattle.sieve_check.specs.Causes.{plain}
 use Rattle.sieve_check.specs.Rules.{fault_of, known_command_cause, read_command_cause, ill_formed_command, tests_cause, ending_cause, mention_cause, misplaced, place_cause, long_string_cause, large_mention_cause, many_loops_cause, lacking, lacking_cause, unknown_cause, command_needs, may_stand, opened_by, loops_by, mentions_of, strings_read, lists_read, where_required, command_mentions, names_by, names_mentioned, same_tests, same_ending, kind_of, strings_of, tests_visits, head_visits, command_visits, commands_visits, after_invocation, invocation_of, loops_opened, looks_inside}
-use Rattle.sieve_check.specs.Signatures.{◌>>=◌, is_positional, reading, command_signature, ending_of}
+use Rattle.sieve_check.specs.Signatures.{◌>>=◌, is_positional, command_signature, ending_of}
 use Rattle.sieve_check.specs.Surroundings.{Loop, Context, first_lacking, at_start, in_block, inside, opens_many, following}
 use Rattle.sieve_check.specs.Typed.{CommandForms, no_command, no_branch}
 use Rattle.sieve_check.specs.Variables.{commands_variables, branches_variables}
@@ -29,7 +29,6 @@ use Rattle.sieve_check.proofs.Lists.{expands, has_long_string, is_large, read_sh
 use Rattle.sieve_check.proofs.OpenLoops.{room_inside}
 use Rattle.sieve_check.proofs.Options.{all_taken, both_none, map_none, if_none, unless_none}
 use Rattle.sieve_check.proofs.Templates.{mentioned_at}
-use Rattle.sieve_check.proofs.Unread.{right_behind}
 use Rattle.sieve_check.proofs.TestExistence.{both_names, known, names_found, WellFormed, well_formed, none_large, none_long, inner_variables, Inner, inner_exists, all_looked_at}
 use Rattle.sieve_check.proofs.CommandExistence.{AreWithin, forms_variables, Goes, along, shut, own_names, simple_goes, block_goes}
 
@@ -53,7 +52,7 @@ unselecting : (name : CommandName) → (command_signature name).selecting ≡ fa
 unselecting Require = refl
 unselecting _ = refl
 
-command_well_formed : (s : Context) (name : CommandName) (args : List ArgumentTree) (tests : Tests) (ending : Ending) → known_command_cause s name args tests ending ≡ None → CommandWellFormed s name args tests ending
+pub command_well_formed : (s : Context) (name : CommandName) (args : List ArgumentTree) (tests : Tests) (ending : Ending) → known_command_cause s name args tests ending ≡ None → CommandWellFormed s name args tests ending
 command_well_formed s name args tests ending h =
     let a = both_none (lacking_cause s.required (command_needs name)) _ h in
     let b = both_none (unknown_cause name args) _ a.1 in
@@ -76,7 +75,7 @@ command_well_formed s name args tests ending h =
       form = form;
       stands = unless_none (may_stand s name read) (misplaced name read) g.0;
       room = (if_none (opens_many (opened_by name args) s) (plain ManyLoops) None j.1).0;
-      positional = right_behind (command_signature name) args read form.is;
+      positional = form.complete.positional;
       alone = alone;
       short = ap has_long_string (sym alone) ∙ read_short (command_signature name) args read form.is (none_long args i.0);
       few = λ yes. ap (λ xs. list_any is_large (mentions_of name (strings_of xs)).expanded) (sym alone) ∙ none_large (expands s) mentions j.0 yes;
@@ -134,10 +133,10 @@ simple_exists s (invocation token word args tests) rest h begins bounded =
     let k = known_command s token word args tests Semicolon h in
     let read = k.form.form.read in
     let same = ap (same_tests (command_signature k.name).tests) k.inner.kind ∙ k.form.same in
-    along s _ _ _ (simple_of s k.name read k.inner.inner >>= λ part. put part rest)
-    (ap (λ o. o >>= λ part. put part rest) (all_taken (inner_forms_of s.required tests) k.inner.inner (command_named word) k.name (λ name. reading (command_signature name) args) read (λ inner name read. simple_of s name read inner) k.inner.is k.is_name k.form.form.is))
+    along s _ _ _ (simple_of s k.name token read k.inner.inner >>= λ part. put part rest)
+    (ap (λ o. o >>= λ part. put part rest) (all_taken (inner_forms_of s.required tests) k.inner.inner (command_named word) k.name (λ name. reading (command_signature name) args) read (λ inner name read. simple_of s name token read inner) k.inner.is k.is_name k.form.form.is))
     (ap (λ names. names ++ forms_variables rest) k.names)
-    (simple_goes s k.name args read k.inner.inner rest k.form.form.is k.form.stands k.form.has k.form.positional k.form.ends same k.form.short k.form.few (λ h. begins (following_word s word k.name (strings_of args) k.is_name h)) bounded)
+    (simple_goes s k.name token args read k.inner.inner rest k.form.form.is k.form.stands k.form.has k.form.positional k.form.ends same k.form.short k.form.few (λ h. begins (following_word s word k.name (strings_of args) k.is_name h)) bounded)
 
 block_exists : (s : Context) (i : InvocationTree) (body : CommandForms) (rest : Forms) → AreFaultless (head_visits s i Block) → ((after_invocation s i).after_if ≡ false → rest.branches ≡ no_branch) → AreBoundedCommands body → AreCommandsIn (length (loops_opened i ++ s.loops)) body → AreWithin (length s.loops) rest
     → Goes s ((names_brought (head_visits s i Block) ++ commands_variables body) ++ forms_variables rest) (block_part s i body >>= λ part. put part rest)
@@ -145,10 +144,10 @@ block_exists s (invocation token word args tests) body rest h begins within with
     let k = known_command s token word args tests Block h in
     let read = k.form.form.read in
     let same = ap (same_tests (command_signature k.name).tests) k.inner.kind ∙ k.form.same in
-    along s _ _ _ (block_of k.name k.inner.inner body >>= λ part. put part rest)
-    (ap (λ o. o >>= λ part. put part rest) (all_taken (inner_forms_of s.required tests) k.inner.inner (command_named word) k.name (λ name. reading (command_signature name) args) read (λ inner name read. block_of name inner body) k.inner.is k.is_name k.form.form.is))
+    along s _ _ _ (block_of k.name token k.inner.inner body >>= λ part. put part rest)
+    (ap (λ o. o >>= λ part. put part rest) (all_taken (inner_forms_of s.required tests) k.inner.inner (command_named word) k.name (λ name. reading (command_signature name) args) read (λ inner name read. block_of name token inner body) k.inner.is k.is_name k.form.form.is))
     (ap (λ names. (names ++ commands_variables body) ++ forms_variables rest) k.names)
-    (block_goes s k.name args read k.inner.inner body rest k.form.positional k.form.stands k.form.room k.form.ends same (λ h. begins (following_word s word k.name (strings_of args) k.is_name h)) k.inner.bounded k.inner.around within
+    (block_goes s k.name token args read k.inner.inner body rest k.form.positional k.form.stands k.form.room k.form.ends same (λ h. begins (following_word s word k.name (strings_of args) k.is_name h)) k.inner.bounded k.inner.around within
     (subst (λ (o : Option CommandName). AreCommandsIn (length (loops_by o args ++ s.loops)) body) k.is_name within_in) bounded)
 
 mutual

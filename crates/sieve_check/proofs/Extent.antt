@@ -1,7 +1,8 @@
 -- A typed form has no more octets than the commands that are written so.
-use Rattle.std.proofs.Common.{◌≡◌, ℕ, ◌+◌, ◌≤◌, suc, List, [], ◌∷◌, ◌++◌, length, map, Option, Some, None, arith, refl, ap, subst, inl, inr}
+use Rattle.std.proofs.Common.{◌≡◌, ℕ, ◌+◌, ◌*◌, ◌≤◌, suc, Bool, true, false, if◌then◌else◌, List, [], ◌∷◌, ◌++◌, length, map, Option, Some, None, arith, refl, sym, ap, subst, ◌∙◌, inl, inr}
 use Rattle.std.specs.Char.{to_ascii_lowercase}
 use Rattle.std.proofs.lemmas.List.{length-map}
+use Rattle.std.proofs.lemmas.List.Sums.{sum_by-append}
 use Rattle.std.proofs.lemmas.Option.{same_Some}
 use Rattle.octets.specs.Ascii.{lowercase_of}
 use Rattle.octets.specs.Limits.{max_script}
@@ -16,19 +17,25 @@ use Rattle.sieve_check.specs.declared.names.CommandName.{CommandName}
 use Rattle.sieve_check.specs.declared.names.CommandName.TheVariants.{Require, If, Elsif, Else, Stop, Keep, Discard, FileInto, Set, ForEveryPart, Break, Store, Take}
 use Rattle.sieve_check.specs.declared.names.TestName.{TestName}
 use Rattle.sieve_check.specs.declared.names.TestName.TheVariants.{Constant, Not, AllOf, AnyOf, Header, Exists, Size, String, PartSize, PartBody, PartDigest}
+use Rattle.sieve_check.specs.declared.typed.Act.{Act}
+use Rattle.sieve_check.specs.declared.typed.Act.TheVariants as act
 use Rattle.sieve_check.specs.declared.typed.Order.{Order}
-use Rattle.bytecode_format.specs.declared.selection.Selector.{Selector}
-use Rattle.bytecode_format.specs.declared.selection.Selector.TheVariants.{Param}
+use Rattle.sieve_check.specs.declared.typed.Question.{Question}
+use Rattle.sieve_check.specs.declared.typed.Question.TheVariants as question
+use Rattle.sieve_check.specs.declared.typed.Takes.{Takes}
 use Rattle.sieve_check.specs.declared.names.Tag.{Tag}
 use Rattle.sieve_check.specs.declared.signature.Signature.{Signature}
 use Rattle.sieve_check.specs.declared.signature.Tags.{Tags}
 use Rattle.sieve_check.specs.Names.{command_named, test_named}
-use Rattle.sieve_check.specs.Signatures.{Read, Given, with_tag, with_argument, reading, command_signature, test_signature}
+use Rattle.sieve_check.specs.Arguments.{reading}
+use Rattle.sieve_check.specs.Signatures.{Read, Given, with_tag, with_argument, command_signature, test_signature}
 use Rattle.sieve_check.specs.Rules.{after_invocation, invocation_of, loops_opened}
 use Rattle.sieve_check.specs.Surroundings.{Context, at_start, has_capability, inside, loops_left}
-use Rattle.sieve_check.specs.Typed.{Template, params_of, TestForm, constant, negation, all_of, any_of, header, exists, size, string, part_size, part_body, part_digest, TestForms, no_test as no_other, test, CommandForm, keep, discard, file_into, set, take_first, store, for_every_part, leave, stop, CommandForms, no_command, command, BranchForms, no_branch, otherwise}
-use Rattle.sieve_check.specs.Extent.{strings_extent, test_extent, tests_extent, command_extent, commands_extent, branches_extent}
-use Rattle.sieve_check.specs.FormOf.{InnerForms, none, one, bracketed, number_in, template_of, text_in, setting_in, most_of, taking_in, list_in, of_list, of_lists, match_of, scope_of, selected_by, params_in, header_of, test_of, test_form_of, inner_forms_of, more_forms_of, PartForm, nothing, action, first, next_branch, last, simple_of, block_of, simple_part, block_part, Forms, closed, closed_by, after_none, put, part_of, forms_of, IsFormOf}
+use Rattle.sieve_check.specs.Typed.{Template, Strings, in_order, TestForm, asks, negation, all_of, any_of, TestForms, no_test as no_other, test, for_every_part, CommandForms, no_command, command, BranchForms, no_branch, otherwise}
+use Rattle.sieve_check.specs.Acts.{act_row, act_strings}
+use Rattle.sieve_check.specs.Questions.{row_of, no_list}
+use Rattle.sieve_check.specs.Extent.{string_extent, strings_extent, names_extent, test_extent, tests_extent, command_extent, commands_extent, branches_extent}
+use Rattle.sieve_check.specs.FormOf.{InnerForms, none, one, bracketed, number_in, template_of, text_in, list_in, list_taken, strings_in, size_of, question_of, test_of, test_form_of, inner_forms_of, more_forms_of, PartForm, nothing, action, first, next_branch, last, with_text, setting_in, taking_in, act_of, action_at, simple_of, block_of, simple_part, block_part, Forms, closed, closed_by, after_none, put, part_of, forms_of, IsFormOf}
 use Rattle.sieve_check.proofs.Options.{step_some, map_some}
 use Rattle.sieve_check.proofs.TagSteps.{argument_taken, IsKept, kept_by_reading}
 use Rattle.sieve_check.proofs.Templates.{written, template_fits, templates_fit}
@@ -82,67 +89,69 @@ text_fits : (xs : List ArgumentTree) (x : List ℕ) → text_in xs ≡ Some x �
 text_fits (text t ∷ []) x h = subst (λ y. 2 + length y ≤ arguments_extent (text t ∷ [])) (same_Some t x h) (omega arith)
 text_fits _ x h = absurd (cc)
 
-setting_fits : (s : Context) (m : Modifiers) (xs : List ArgumentTree) (c : CommandForm) → setting_in s.required m xs ≡ Some c → command_extent c ≤ 2 + arguments_extent xs
-setting_fits s m (text name ∷ text x ∷ []) c h =
-    let value = template_of s.required x in
-    subst (λ c. command_extent c ≤ 2 + arguments_extent (text name ∷ text x ∷ [])) (same_Some (set m (lowercase_of name) value) c h)
-    (omega (arith, length-map name to_ascii_lowercase, template_fits (has_capability Variables s.required) x))
-setting_fits s m _ c h = absurd (cc)
-
-taking_fits : (tags : Tags) (xs : List ArgumentTree) (c : CommandForm) → taking_in tags xs ≡ Some c → command_extent c ≤ 2 + arguments_extent xs
-taking_fits tags xs c h =
-    let name = map_some (text_in xs) (λ name. take_first (most_of tags) (lowercase_of name)) c h in
-    subst (λ c. command_extent c ≤ 2 + arguments_extent xs) (same_Some (take_first (most_of tags) (lowercase_of name.0)) c name.2)
-    (omega (arith, length-map name.0 to_ascii_lowercase, text_fits xs name.0 name.1))
-
 list_fits : (s : Context) (a : ArgumentTree) (l : List Template) → list_in s.required a ≡ Some l → strings_extent l ≤ argument_extent a
 list_fits s (text x) l h = subst (λ l. strings_extent l ≤ 2 + length x) (same_Some (template_of s.required x ∷ []) l h) (omega (arith, templates_fit (has_capability Variables s.required) (x ∷ [])))
 list_fits s (text_list x xs) l h = subst (λ l. strings_extent l ≤ written (x ∷ xs)) (same_Some (map (template_of s.required) (x ∷ xs)) l h) (templates_fit (has_capability Variables s.required) (x ∷ xs))
 list_fits s _ l h = absurd (cc)
 
--- a test that is made of one list, and one of two
-one_list_fits : (s : Context) (make : List Template → TestForm) → ((l : List Template) → test_extent (make l) ≡ 1 + strings_extent l) → (xs : List ArgumentTree) (f : TestForm) → of_list s.required make xs ≡ Some f → test_extent f ≤ 1 + arguments_extent xs
-one_list_fits s make is (a ∷ []) f h =
-    let l = map_some (list_in s.required a) make f h in
-    subst (λ x. test_extent x ≤ 1 + arguments_extent (a ∷ [])) (same_Some (make l.0) f l.2) (omega (arith, is l.0, list_fits s a l.0 l.1))
-one_list_fits s make is _ f h = absurd (cc)
+-- the strings of a test
+list_taken_fits : (s : Context) (b : Bool) (args : List ArgumentTree) (r : List Template × List ArgumentTree) → list_taken s.required b args ≡ Some r → strings_extent r.0 + arguments_extent r.1 ≤ arguments_extent args
+list_taken_fits s false args r h = subst (λ (r : List Template × List ArgumentTree). strings_extent r.0 + arguments_extent r.1 ≤ arguments_extent args) (same_Some _ r h) (omega arith)
+list_taken_fits s true [] r h = absurd (cc)
+list_taken_fits s true (a ∷ args) r h =
+    let strings = map_some (list_in s.required a) _ r h in
+    subst (λ (r : List Template × List ArgumentTree). strings_extent r.0 + arguments_extent r.1 ≤ arguments_extent (a ∷ args)) (same_Some _ r strings.2) (omega (arith, list_fits s a strings.0 strings.1))
 
-two_lists_fit : (s : Context) (n : ℕ) (make : List Template → List Template → TestForm) → ((k l : List Template) → test_extent (make k l) ≡ n + strings_extent k + strings_extent l) → (xs : List ArgumentTree) (f : TestForm) → of_lists s.required make xs ≡ Some f → test_extent f ≤ n + arguments_extent xs
-two_lists_fit s n make is (a ∷ b ∷ []) f h =
-    let first = step_some (list_in s.required a) _ f h in
-    let second = map_some (list_in s.required b) (make first.0) f first.2 in
-    subst (λ x. test_extent x ≤ n + arguments_extent (a ∷ b ∷ [])) (same_Some (make first.0 second.0) f second.2) (omega (arith, is first.0 second.0, list_fits s a first.0 first.1, list_fits s b second.0 second.1))
-two_lists_fit s n make is _ f h = absurd (cc)
-
--- a test of fields, with the names of parameters
-params_fit : (s : Context) (params : List ArgumentTree) (names : List Template) → params_in s.required params ≡ Some names → strings_extent names ≤ arguments_extent params
-params_fit s [] names h = subst (λ names. strings_extent names ≤ 0) (same_Some [] names h) (omega arith)
-params_fit s (a ∷ args) names h = omega (arith, list_fits s a names h)
-
-selected_fits : (selector : Selector) (names : List Template) → strings_extent (params_of (selected_by selector names)) ≤ strings_extent names
-selected_fits Param names = omega arith
-selected_fits _ names = omega arith
-
-header_fits : (s : Context) (read : Read) (f : TestForm) → header_of s.required read ≡ Some f → test_extent f ≤ 1 + arguments_extent read.params + arguments_extent read.positional
-header_fits s read f h =
-    let names = step_some (params_in s.required read.params) _ f h in
-    let selected = selected_by read.tags.selector names.0 in
-    omega (
+strings_fit : (s : Context) (takes : Takes) (read : Read) (strings : Strings) → strings_in s.required takes read ≡ Some strings → strings_extent (in_order strings) ≤ arguments_extent read.params + arguments_extent read.positional
+strings_fit s takes read strings h =
+    let names = step_some (list_taken s.required takes.names read.positional) _ strings h in
+    let params = step_some (list_taken s.required takes.params read.params) _ strings names.2 in
+    let keys = step_some (list_taken s.required takes.keys names.0.1) _ strings params.2 in
+    subst (λ (strings : Strings). strings_extent (in_order strings) ≤ arguments_extent read.params + arguments_extent read.positional) (same_Some _ strings keys.2) (omega (
       arith,
-      two_lists_fit s (1 + strings_extent (params_of selected)) (header (match_of read.tags) (scope_of read.tags) selected) (λ k l. omega arith) read.positional f names.2,
-      selected_fits read.tags.selector names.0,
-      params_fit s read.params names.0 names.1,
-    )
+      list_taken_fits s takes.names read.positional names.0 names.1,
+      list_taken_fits s takes.params read.params params.0 params.1,
+      list_taken_fits s takes.keys names.0.1 keys.0 keys.1,
+      sum_by-append string_extent (names.0.0 ++ params.0.0) keys.0.0,
+      sum_by-append string_extent names.0.0 params.0.0,
+    ))
 
--- arguments by which a size was read
-size_args : (signature : Signature) (args : List ArgumentTree) (read : Read) (order : Order) (n : ℕ) → reading signature args ≡ Some read → read.tags.order ≡ Some order → number_in read.positional ≡ Some n → 2 ≤ arguments_extent args
-size_args signature args read order n h is number =
-    let some : given_order read.tags.order ≡ 1 = ap given_order is in
-    omega (arith, read_fits signature args read h, some, positional read.positional n number)
-  where
-    positional : (xs : List ArgumentTree) (n : ℕ) → number_in xs ≡ Some n → 1 ≤ arguments_extent xs
-    positional (amount m ∷ xs) n h = omega arith
-    positional _ n h = absurd (cc)
+-- a number with its tag
+amount_fits : (xs : List ArgumentTree) (n : ℕ) → number_in xs ≡ Some n → 1 ≤ arguments_extent xs
+amount_fits (amount m ∷ xs) n h = omega arith
+amount_fits _ n h = absurd (cc)
+
+-- what a test asks, with its numbers and its strings
+abbrev IsAskedWithin : Question → Strings → Read → Type 0
+IsAskedWithin q strings read = 2 * length (row_of q).numbers + strings_extent (in_order strings) ≤ given_order read.tags.order + arguments_extent read.params + arguments_extent read.positional
+
+numberless_fits : (s : Context) (read : Read) (o : Option Question) (p q : Question) (strings : Strings) → o ≡ Some p → (row_of p).numbers ≡ [] → o ≡ Some q → strings_in s.required (row_of q).takes read ≡ Some strings → IsAskedWithin q strings read
+numberless_fits s read o p q strings is unnumbered h taken =
+    let numbers : length (row_of q).numbers ≡ 0 = ap (λ (q : Question). length (row_of q).numbers) (same_Some q p (sym h ∙ is)) ∙ ap length unnumbered in
+    omega (arith, numbers, strings_fit s (row_of q).takes read strings taken)
+
+size_fits : (s : Context) (read : Read) (make : Order → ℕ → Question) (q : Question) (strings : Strings) → ((order : Order) (n : ℕ) → (row_of (make order n)).takes ≡ no_list) → ((order : Order) (n : ℕ) → (row_of (make order n)).numbers ≡ n ∷ [])
+    → size_of make read ≡ Some q → strings_in s.required (row_of q).takes read ≡ Some strings → IsAskedWithin q strings read
+size_fits s read make q strings unlisted numbered h taken =
+    let order = step_some read.tags.order _ q h in
+    let n = map_some (number_in read.positional) (make order.0) q order.2 in
+    let same : make order.0 n.0 ≡ q = same_Some (make order.0 n.0) q n.2 in
+    let same_strings : strings_in s.required no_list read ≡ Some strings = ap (λ takes. strings_in s.required takes read) (sym (unlisted order.0 n.0) ∙ ap (λ (q : Question). (row_of q).takes) same) ∙ taken in
+    let empty : strings_extent (in_order strings) ≡ 0 = ap (λ (strings : Strings). strings_extent (in_order strings)) (sym (same_Some _ strings same_strings)) in
+    let numbers : length (row_of q).numbers ≡ 1 = ap (λ (q : Question). length (row_of q).numbers) (sym same) ∙ ap length (numbered order.0 n.0) in
+    let given : given_order read.tags.order ≡ 1 = ap given_order order.1 in
+    omega (arith, numbers, empty, given, amount_fits read.positional n.0 n.1)
+
+asked_fits : (s : Context) (name : TestName) (read : Read) (q : Question) (strings : Strings) → question_of name read ≡ Some q → strings_in s.required (row_of q).takes read ≡ Some strings → IsAskedWithin q strings read
+asked_fits s Size read q strings h taken = size_fits s read question.Size q strings (λ order n. refl) (λ order n. refl) h taken
+asked_fits s PartSize read q strings h taken = size_fits s read question.PartSize q strings (λ order n. refl) (λ order n. refl) h taken
+asked_fits s (Constant b) read q strings h taken = numberless_fits s read (question_of (Constant b) read) _ q strings refl refl h taken
+asked_fits s Header read q strings h taken = numberless_fits s read (question_of Header read) _ q strings refl refl h taken
+asked_fits s Exists read q strings h taken = numberless_fits s read (question_of Exists read) _ q strings refl refl h taken
+asked_fits s String read q strings h taken = numberless_fits s read (question_of String read) _ q strings refl refl h taken
+asked_fits s PartBody read q strings h taken = numberless_fits s read (question_of PartBody read) _ q strings refl refl h taken
+asked_fits s PartDigest read q strings h taken = numberless_fits s read (question_of PartDigest read) _ q strings refl refl h taken
+asked_fits s _ read q strings h taken = absurd (cc)
 
 more_strings_fit : (d : ℕ) (ss : List (List ℕ)) → written ss ≤ octets_of (more_strings_spelled d ss)
 more_strings_fit d [] = omega arith
@@ -164,26 +173,17 @@ inner_extent none = 0
 inner_extent (one f) = test_extent f
 inner_extent (bracketed f fs) = 2 + test_extent f + tests_extent fs
 
-test_of_fits : (s : Context) (name : TestName) (args : List ArgumentTree) (read : Read) (inner : InnerForms) (f : TestForm) → reading (test_signature name) args ≡ Some read → test_of s.required name read inner ≡ Some f
+test_of_fits : (s : Context) (name : TestName) (at : ℕ) (args : List ArgumentTree) (read : Read) (inner : InnerForms) (f : TestForm) → reading (test_signature name) args ≡ Some read → test_of s.required name at read inner ≡ Some f
     → test_extent f ≤ 1 + arguments_extent args + inner_extent inner
-test_of_fits s (Constant b) args read none f h is = subst (λ x. test_extent x ≤ 1 + arguments_extent args + 0) (same_Some (constant b) f is) (omega arith)
-test_of_fits s Not args read (one t) f h is = subst (λ x. test_extent x ≤ 1 + arguments_extent args + test_extent t) (same_Some (negation t) f is) (omega arith)
-test_of_fits s AllOf args read (bracketed t ts) f h is = subst (λ x. test_extent x ≤ 1 + arguments_extent args + (2 + test_extent t + tests_extent ts)) (same_Some (all_of t ts) f is) (omega arith)
-test_of_fits s AnyOf args read (bracketed t ts) f h is = subst (λ x. test_extent x ≤ 1 + arguments_extent args + (2 + test_extent t + tests_extent ts)) (same_Some (any_of t ts) f is) (omega arith)
-test_of_fits s Size args read none f h is =
-    let order = step_some read.tags.order _ f is in
-    let n = step_some (number_in read.positional) _ f order.2 in
-    subst (λ x. test_extent x ≤ 1 + arguments_extent args + 0) (same_Some (size order.0 n.0) f n.2) (omega (arith, size_args (test_signature Size) args read order.0 n.0 h order.1 n.1))
-test_of_fits s PartSize args read none f h is =
-    let order = step_some read.tags.order _ f is in
-    let n = step_some (number_in read.positional) _ f order.2 in
-    subst (λ x. test_extent x ≤ 1 + arguments_extent args + 0) (same_Some (part_size order.0 n.0) f n.2) (omega (arith, size_args (test_signature PartSize) args read order.0 n.0 h order.1 n.1))
-test_of_fits s PartBody args read none f h is = omega (arith, one_list_fits s (part_body (match_of read.tags)) (λ l. refl) read.positional f is, read_fits (test_signature PartBody) args read h)
-test_of_fits s PartDigest args read none f h is = omega (arith, one_list_fits s part_digest (λ l. refl) read.positional f is, read_fits (test_signature PartDigest) args read h)
-test_of_fits s Header args read none f h is = omega (arith, header_fits s read f is, read_fits (test_signature Header) args read h)
-test_of_fits s String args read none f h is = omega (arith, two_lists_fit s 1 (string (match_of read.tags)) (λ k l. refl) read.positional f is, read_fits (test_signature String) args read h)
-test_of_fits s Exists args read none f h is = omega (arith, one_list_fits s (exists (scope_of read.tags)) (λ l. refl) read.positional f is, read_fits (test_signature Exists) args read h)
-test_of_fits s _ args read _ f h is = absurd (cc)
+test_of_fits s name at args read none f h is =
+    let q = step_some (question_of name read) _ f is in
+    let strings = map_some (strings_in s.required (row_of q.0).takes read) (λ strings. asks q.0 strings at) f q.2 in
+    subst (λ x. test_extent x ≤ 1 + arguments_extent args + 0) (same_Some (asks q.0 strings.0 at) f strings.2)
+    (omega (arith, asked_fits s name read q.0 strings.0 q.1 strings.1, read_fits (test_signature name) args read h))
+test_of_fits s Not at args read (one t) f h is = subst (λ x. test_extent x ≤ 1 + arguments_extent args + test_extent t) (same_Some (negation t at) f is) (omega arith)
+test_of_fits s AllOf at args read (bracketed t ts) f h is = subst (λ x. test_extent x ≤ 1 + arguments_extent args + (2 + test_extent t + tests_extent ts)) (same_Some (all_of t ts at) f is) (omega arith)
+test_of_fits s AnyOf at args read (bracketed t ts) f h is = subst (λ x. test_extent x ≤ 1 + arguments_extent args + (2 + test_extent t + tests_extent ts)) (same_Some (any_of t ts at) f is) (omega arith)
+test_of_fits s _ at args read _ f h is = absurd (cc)
 
 mutual
   test_fits : (s : Context) (i : InvocationTree) (f : TestForm) (d : ℕ) → test_form_of s.required i ≡ Some f → test_extent f ≤ octets_of (invocation_spelled d i)
@@ -193,7 +193,7 @@ mutual
       let read = step_some (reading (test_signature name.0) args) _ f name.2 in
       omega (
         arith,
-        test_of_fits s name.0 args read.0 inner.0 f read.1 read.2,
+        test_of_fits s name.0 token args read.0 inner.0 f read.1 read.2,
         inner_fits s tests inner.0 d inner.1,
         arguments_fit d args,
         octets-append (arguments_spelled d args) (tests_spelled d tests),
@@ -231,42 +231,68 @@ mutual
 abbrev part_extent : PartForm → ℕ
 part_extent nothing = 0
 part_extent (action c) = command_extent c
-part_extent (first f body) = 3 + test_extent f + commands_extent body
-part_extent (next_branch f body) = 3 + test_extent f + commands_extent body
+part_extent (first f body at) = 3 + test_extent f + commands_extent body
+part_extent (next_branch f body at) = 3 + test_extent f + commands_extent body
 part_extent (last body) = 3 + commands_extent body
 
-simple_fits : (s : Context) (name : CommandName) (args : List ArgumentTree) (read : Read) (inner : InnerForms) (p : PartForm) → reading (command_signature name) args ≡ Some read → simple_of s name read inner ≡ Some p → part_extent p ≤ 2 + arguments_extent args
-simple_fits s Require args read none p r h = subst (λ x. part_extent x ≤ 2 + arguments_extent args) (same_Some nothing p h) (omega arith)
-simple_fits s Stop args read none p r h = subst (λ x. part_extent x ≤ 2 + arguments_extent args) (same_Some (action stop) p h) (omega arith)
-simple_fits s Keep args read none p r h = subst (λ x. part_extent x ≤ 2 + arguments_extent args) (same_Some (action keep) p h) (omega arith)
-simple_fits s Discard args read none p r h = subst (λ x. part_extent x ≤ 2 + arguments_extent args) (same_Some (action discard) p h) (omega arith)
-simple_fits s FileInto args read none p r h =
-    let folder = map_some (text_in read.positional) (λ folder. action (file_into (template_of s.required folder))) p h in
-    subst (λ x. part_extent x ≤ 2 + arguments_extent args) (same_Some (action (file_into (template_of s.required folder.0))) p folder.2)
-    (omega (arith, text_fits read.positional folder.0 folder.1, template_fits (has_capability Variables s.required) folder.0, read_fits (command_signature FileInto) args read r))
-simple_fits s Store args read none p r h =
-    let folder = map_some (text_in read.positional) (λ folder. action (store (template_of s.required folder))) p h in
-    subst (λ x. part_extent x ≤ 2 + arguments_extent args) (same_Some (action (store (template_of s.required folder.0))) p folder.2)
-    (omega (arith, text_fits read.positional folder.0 folder.1, template_fits (has_capability Variables s.required) folder.0, read_fits (command_signature Store) args read r))
-simple_fits s Break args read none p r h =
-    let loops = map_some (loops_left read.name s.loops) (λ loops. action (leave loops)) p h in
-    subst (λ x. part_extent x ≤ 2 + arguments_extent args) (same_Some (action (leave loops.0)) p loops.2) (omega arith)
-simple_fits s Set args read none p r h =
-    let c = map_some (setting_in s.required read.tags.modifiers read.positional) action p h in
-    subst (λ x. part_extent x ≤ 2 + arguments_extent args) (same_Some (action c.0) p c.2)
-    (omega (arith, setting_fits s read.tags.modifiers read.positional c.0 c.1, read_fits (command_signature Set) args read r))
-simple_fits s Take args read none p r h =
-    let c = map_some (taking_in read.tags read.positional) action p h in
-    subst (λ x. part_extent x ≤ 2 + arguments_extent args) (same_Some (action c.0) p c.2)
-    (omega (arith, taking_fits read.tags read.positional c.0 c.1, read_fits (command_signature Take) args read r))
-simple_fits s _ args read _ p r h = absurd (cc)
+-- what an action does, with its string
+abbrev IsActWithin : Act × Template → ℕ → Type 0
+IsActWithin done most = names_extent (act_row done.0).sets + strings_extent (act_strings done.0 done.1) ≤ most
 
-block_fits : (name : CommandName) (inner : InnerForms) (body : CommandForms) (p : PartForm) → block_of name inner body ≡ Some p → part_extent p ≤ 3 + inner_extent inner + commands_extent body
-block_fits If (one f) body p h = subst (λ x. part_extent x ≤ 3 + test_extent f + commands_extent body) (same_Some (first f body) p h) (omega arith)
-block_fits Elsif (one f) body p h = subst (λ x. part_extent x ≤ 3 + test_extent f + commands_extent body) (same_Some (next_branch f body) p h) (omega arith)
-block_fits Else none body p h = subst (λ x. part_extent x ≤ 3 + 0 + commands_extent body) (same_Some (last body) p h) (omega arith)
-block_fits ForEveryPart none body p h = subst (λ x. part_extent x ≤ 3 + 0 + commands_extent body) (same_Some (action (for_every_part body)) p h) (omega arith)
-block_fits _ _ body p h = absurd (cc)
+bare_fits : (o : Option (Act × Template)) (bare done : Act × Template) (most : ℕ) → o ≡ Some bare → IsActWithin bare 0 → o ≡ Some done → IsActWithin done most
+bare_fits o bare done most is small h = subst (λ (done : Act × Template). IsActWithin done most) (same_Some bare done (sym is ∙ h)) (omega (arith, small))
+
+text_act_fits : (s : Context) (act : Act) (xs : List ArgumentTree) (done : Act × Template) → (act_row act).sets ≡ [] → with_text s.required act xs ≡ Some done → IsActWithin done (arguments_extent xs)
+text_act_fits s act xs done unset h =
+    let string = map_some (text_in xs) _ done h in
+    let t = template_of s.required string.0 in
+    let names : names_extent (act_row act).sets ≡ 0 = ap names_extent unset in
+    subst (λ (done : Act × Template). IsActWithin done (arguments_extent xs)) (same_Some (act, t) done string.2)
+    (omega (arith, names, string_at_most t (act_row act).string, text_fits xs string.0 string.1, template_fits (has_capability Variables s.required) string.0))
+  where
+    string_at_most : (t : Template) (b : Bool) → strings_extent (if b then t ∷ [] else []) ≤ string_extent t
+    string_at_most t true = omega arith
+    string_at_most t false = omega arith
+
+setting_fits : (s : Context) (m : Modifiers) (xs : List ArgumentTree) (done : Act × Template) → setting_in s.required m xs ≡ Some done → IsActWithin done (arguments_extent xs)
+setting_fits s m (text name ∷ text x ∷ []) done h =
+    let value = template_of s.required x in
+    subst (λ (done : Act × Template). IsActWithin done (arguments_extent (text name ∷ text x ∷ []))) (same_Some (act.Set m (lowercase_of name), value) done h)
+    (omega (arith, length-map name to_ascii_lowercase, template_fits (has_capability Variables s.required) x))
+setting_fits s m _ done h = absurd (cc)
+
+taking_fits : (tags : Tags) (xs : List ArgumentTree) (done : Act × Template) → taking_in tags xs ≡ Some done → IsActWithin done (arguments_extent xs)
+taking_fits tags xs done h =
+    let name = map_some (text_in xs) _ done h in
+    subst (λ (done : Act × Template). IsActWithin done (arguments_extent xs)) (same_Some _ done name.2)
+    (omega (arith, length-map name.0 to_ascii_lowercase, text_fits xs name.0 name.1))
+
+act_fits : (s : Context) (name : CommandName) (read : Read) (done : Act × Template) → act_of s name read ≡ Some done → IsActWithin done (arguments_extent read.positional)
+act_fits s Keep read done h = bare_fits (act_of s Keep read) _ done (arguments_extent read.positional) refl (omega arith) h
+act_fits s Discard read done h = bare_fits (act_of s Discard read) _ done (arguments_extent read.positional) refl (omega arith) h
+act_fits s Stop read done h = bare_fits (act_of s Stop read) _ done (arguments_extent read.positional) refl (omega arith) h
+act_fits s FileInto read done h = text_act_fits s act.FileInto read.positional done refl h
+act_fits s Store read done h = text_act_fits s act.Store read.positional done refl h
+act_fits s Set read done h = setting_fits s read.tags.modifiers read.positional done h
+act_fits s Take read done h = taking_fits read.tags read.positional done h
+act_fits s Break read done h =
+    let loops = map_some (loops_left read.name s.loops) _ done h in
+    subst (λ (done : Act × Template). IsActWithin done (arguments_extent read.positional)) (same_Some _ done loops.2) (omega arith)
+act_fits s _ read done h = absurd (cc)
+
+simple_fits : (s : Context) (name : CommandName) (at : ℕ) (args : List ArgumentTree) (read : Read) (inner : InnerForms) (p : PartForm) → reading (command_signature name) args ≡ Some read → simple_of s name at read inner ≡ Some p → part_extent p ≤ 2 + arguments_extent args
+simple_fits s Require at args read none p r h = subst (λ x. part_extent x ≤ 2 + arguments_extent args) (same_Some nothing p h) (omega arith)
+simple_fits s name at args read none p r h =
+    let done = map_some (act_of s name read) (action_at at) p h in
+    subst (λ x. part_extent x ≤ 2 + arguments_extent args) (same_Some (action_at at done.0) p done.2) (omega (arith, act_fits s name read done.0 done.1, read_fits (command_signature name) args read r))
+simple_fits s _ at args read _ p r h = absurd (cc)
+
+block_fits : (name : CommandName) (at : ℕ) (inner : InnerForms) (body : CommandForms) (p : PartForm) → block_of name at inner body ≡ Some p → part_extent p ≤ 3 + inner_extent inner + commands_extent body
+block_fits If at (one f) body p h = subst (λ x. part_extent x ≤ 3 + test_extent f + commands_extent body) (same_Some (first f body at) p h) (omega arith)
+block_fits Elsif at (one f) body p h = subst (λ x. part_extent x ≤ 3 + test_extent f + commands_extent body) (same_Some (next_branch f body at) p h) (omega arith)
+block_fits Else at none body p h = subst (λ x. part_extent x ≤ 3 + 0 + commands_extent body) (same_Some (last body) p h) (omega arith)
+block_fits ForEveryPart at none body p h = subst (λ x. part_extent x ≤ 3 + 0 + commands_extent body) (same_Some (action (for_every_part body at)) p h) (omega arith)
+block_fits _ at _ body p h = absurd (cc)
 
 abbrev forms_extent : Forms → ℕ
 forms_extent r = branches_extent r.branches + commands_extent r.commands
@@ -282,8 +308,8 @@ put_fits nothing rest r h =
 put_fits (action c) rest r h =
     let cs = map_some (closed rest) (λ cs. after_none (command c cs)) r h in
     subst (λ x. forms_extent x ≤ part_extent (action c) + forms_extent rest) (same_Some (after_none (command c cs.0)) r cs.2) (omega (arith, closed_fits rest.branches rest.commands cs.0 cs.1))
-put_fits (first f body) rest r h = subst (λ x. forms_extent x ≤ part_extent (first f body) + forms_extent rest) (same_Some _ r h) (omega arith)
-put_fits (next_branch f body) rest r h = subst (λ x. forms_extent x ≤ part_extent (next_branch f body) + forms_extent rest) (same_Some _ r h) (omega arith)
+put_fits (first f body at) rest r h = subst (λ x. forms_extent x ≤ part_extent (first f body at) + forms_extent rest) (same_Some _ r h) (omega arith)
+put_fits (next_branch f body at) rest r h = subst (λ x. forms_extent x ≤ part_extent (next_branch f body at) + forms_extent rest) (same_Some _ r h) (omega arith)
 put_fits (last body) rest r h =
     let cs = map_some (closed rest) (λ cs. let x : Forms = record { branches = otherwise body; commands = cs } in x) r h in
     subst (λ x. forms_extent x ≤ part_extent (last body) + forms_extent rest) (same_Some _ r cs.2) (omega (arith, closed_fits rest.branches rest.commands cs.0 cs.1))
@@ -293,7 +319,7 @@ simple_part_fits s (invocation token word args tests) p d h =
     let inner = step_some (inner_forms_of s.required tests) _ p h in
     let name = step_some (command_named word) _ p inner.2 in
     let read = step_some (reading (command_signature name.0) args) _ p name.2 in
-    omega (arith, simple_fits s name.0 args read.0 inner.0 p read.1 read.2, arguments_fit d args, octets-append (arguments_spelled d args) (tests_spelled d tests), octets-append (invocation_spelled d (invocation token word args tests)) (at_depth d semicolon ∷ []))
+    omega (arith, simple_fits s name.0 token args read.0 inner.0 p read.1 read.2, arguments_fit d args, octets-append (arguments_spelled d args) (tests_spelled d tests), octets-append (invocation_spelled d (invocation token word args tests)) (at_depth d semicolon ∷ []))
 
 block_part_fits : (s : Context) (i : InvocationTree) (body : CommandForms) (p : PartForm) (d : ℕ) → block_part s i body ≡ Some p → part_extent p ≤ 2 + octets_of (invocation_spelled d i) + commands_extent body
 block_part_fits s (invocation token word args tests) body p d h =
@@ -302,7 +328,7 @@ block_part_fits s (invocation token word args tests) body p d h =
     let read = step_some (reading (command_signature name.0) args) _ p name.2 in
     omega (
       arith,
-      block_fits name.0 inner.0 body p read.2,
+      block_fits name.0 token inner.0 body p read.2,
       inner_fits s tests inner.0 d inner.1,
       octets-append (arguments_spelled d args) (tests_spelled d tests),
     )

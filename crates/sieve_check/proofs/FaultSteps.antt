@@ -21,7 +21,8 @@ use Rattle.sieve_check.specs.declared.signature.Ending.TheVariants.{Block}
 use Rattle.sieve_check.specs.Causes.{Cause, refused_for}
 use Rattle.sieve_check.specs.Names.{command_named}
 use Rattle.sieve_check.specs.Refusing.{AreNoted, AreVisited, lacks_as, looks_inside_as, visit_as, visits_as}
-use Rattle.sieve_check.specs.Rules.{Visit, arguments_of, capability_arguments, command_lacks, command_needs, lacking_causes, strings_of, unknown_causes, test_visits, more_visits, head_visits, command_visits, commands_visits, invocation_of, loops_opened, after_invocation}
+use Rattle.sieve_check.specs.Rules.{Visit, capability_arguments, command_lacks, command_needs, lacking_causes, strings_of, unknown_causes, test_visits, more_visits, head_visits, command_visits, commands_visits, invocation_of, loops_opened, after_invocation}
+use Rattle.sieve_check.specs.Private.{arguments_of}
 use Rattle.sieve_check.specs.Surroundings.{Context, in_block, opens_many}
 use Rattle.sieve_check.proofs.FromIndex.{others_of, split_at}
 use Rattle.sieve_check.proofs.Visits.{one_refused}

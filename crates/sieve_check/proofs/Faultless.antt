@@ -69,7 +69,7 @@ none_first [] h = refl
 none_first (x ∷ xs) h = absurd (cc)
 
 -- the first of a list is told first
-told_first : (x : causes.Refused) (told more : List causes.Refused) → slice_get (with_more same_reason (x ∷ told) more) 0 ≡ Some x
+pub told_first : (x : causes.Refused) (told more : List causes.Refused) → slice_get (with_more same_reason (x ∷ told) more) 0 ≡ Some x
 told_first x told [] = refl
 told_first x told (y ∷ ys) =
     elim (cases_Bool (is_listed same_reason y (x ∷ told))) [

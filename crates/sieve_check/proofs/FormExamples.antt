@@ -8,15 +8,24 @@ use Rattle.glob_match.specs.declared.match_type.MatchType.{MatchType}
 use Rattle.glob_match.specs.declared.match_type.MatchType.TheVariants.{Is, Contains, Matches}
 use Rattle.sieve_parser.specs.Tree.{ArgumentTree, amount, InvocationTree, CommandsTree, no_command}
 use Rattle.sieve_check.specs.declared.names.CommandName.TheVariants.{Set}
-use Rattle.sieve_check.specs.declared.names.TestName.TheVariants.{Header}
+use Rattle.sieve_check.specs.declared.names.TestName.TheVariants as test
+use Rattle.bytecode_format.specs.declared.selection.FieldTest.{FieldTest}
+use Rattle.bytecode_format.specs.declared.selection.Scope.{Scope}
+use Rattle.bytecode_format.specs.declared.selection.Selector.{Selector}
+use Rattle.bytecode_format.specs.declared.selection.Selector.TheVariants.{Value, Main, Sub, ContentType, Param}
+use Rattle.sieve_check.specs.declared.typed.Act.TheVariants as act
+use Rattle.sieve_check.specs.declared.typed.Act.TheVariants.{Keep, FileInto, Stop}
 use Rattle.sieve_check.specs.declared.typed.Order.TheVariants.{Over}
+use Rattle.sieve_check.specs.declared.typed.Question.TheVariants as question
+use Rattle.sieve_check.specs.declared.typed.Question.TheVariants.{Constant, Header, Exists, Size}
 use Rattle.bytecode_format.specs.declared.selection.Scope.TheVariants.{Message, Part, PartAndBelow}
 use Rattle.sieve_check.specs.declared.typed.Segment.TheVariants.{Text, Variable, Capture}
 use Rattle.sieve_check.specs.FormOf.{IsFormOf, form_of, template_of, test_form_of}
 use Rattle.sieve_check.specs.Rules.{names_mentioned, test_mentions}
-use Rattle.sieve_check.specs.Signatures.{no_tag, reading, command_signature}
+use Rattle.sieve_check.specs.Arguments.{reading}
+use Rattle.sieve_check.specs.Signatures.{no_tag, command_signature}
 use Rattle.sieve_check.specs.Surroundings.{Context, at_start, in_block}
-use Rattle.sieve_check.specs.Typed.{Template, Selected, whole, main, sub, content_type, params, TestForm, constant, header, exists, size, string, CommandForms, keep, file_into, set, stop, choice, otherwise, branch}
+use Rattle.sieve_check.specs.Typed.{Template, Strings, TestForm, asks, CommandForms, does, choice, otherwise, branch}
 use Rattle.sieve_check.specs.Typed as typed
 use Rattle.sieve_check.specs.Variables.{commands_variables}
 use Prim.Native.String.{String}
@@ -26,6 +35,22 @@ use Rattle.sieve_check.proofs.Rows.{Gives, str, strs, tag, plain_at, simple_at, 
 abbrev caseless : MatchType → Match
 caseless kind = record { kind = kind; comparator = Casemap }
 
+abbrev octetwise : Match
+octetwise = record { kind = Contains; comparator = Octet }
+
+abbrev fields : Match → Scope → Selector → FieldTest
+fields how scope selector = record { how = how; scope = scope; selector = selector }
+
+-- the strings of tests
+abbrev no_strings : Strings
+no_strings = record { names = []; params = []; keys = [] }
+
+abbrev names_with_keys : List Template → List Template → Strings
+names_with_keys names keys = record { names = names; params = []; keys = keys }
+
+abbrev with_params : List Template → List Template → List Template → Strings
+with_params names params keys = record { names = names; params = params; keys = keys }
+
 -- a reference to a variable
 abbrev value_of : String → Template
 value_of name = Variable (codes name) ∷ []
@@ -34,11 +59,11 @@ value_of name = Variable (codes name) ∷ []
 
 forms_of_commands : Gives form_of (
     -- require "fileinto"; fileinto "x";
-    (simple_at 0 "require" (str "fileinto" ∷ []) (last_at 3 "fileinto" (str "x" ∷ [])), Some (alone (file_into (as_written "x")))) ∷
+    (simple_at 0 "require" (str "fileinto" ∷ []) (last_at 3 "fileinto" (str "x" ∷ [])), Some (alone (does FileInto (as_written "x") 3))) ∷
     -- require "mime"; if true {} else { keep; } stop;
     (
       simple_at 0 "require" (str "mime" ∷ []) (if_at 3 "if" (plain_at 4 "true" []) no_command (block_at 7 "else" [] (last_at 9 "keep" []) (last_at 12 "stop" []))),
-      Some (typed.command (choice (branch (constant true) typed.no_command (otherwise (alone keep)))) (alone stop)),
+      Some (typed.command (choice (branch (asks (Constant true) no_strings 4) typed.no_command 3 (otherwise (alone (does Keep [] 9))))) (alone (does Stop [] 12))),
     ) ∷
     -- keep; else {}
     (simple_at 0 "keep" [] (block_at 2 "else" [] no_command no_command), None) ∷ [])
@@ -54,40 +79,40 @@ mime_header = plain_at 4 "header" (tag "mime" ∷ tag "param" ∷ strs "a" ("b" 
 abbrev selecting_header : String → InvocationTree
 selecting_header name = plain_at 4 "header" (tag name ∷ tag "mime" ∷ str "X" ∷ str "y" ∷ [])
 
-abbrev selecting_form : Selected → TestForm
-selecting_form selected = header (caseless Is) Part selected (as_written "X" ∷ []) (as_written "y" ∷ [])
+abbrev selecting_form : Selector → TestForm
+selecting_form selector = asks (Header (fields (caseless Is) Part selector)) (names_with_keys (as_written "X" ∷ []) (as_written "y" ∷ [])) 4
 
 forms_of_tests : Gives (test_form_of at_start.required) (
     -- size :over 10
-    (plain_at 0 "size" (tag "over" ∷ amount 10 ∷ []), Some (size Over 10)) ∷
+    (plain_at 0 "size" (tag "over" ∷ amount 10 ∷ []), Some (asks (Size Over 10) no_strings 0)) ∷
     -- header "a" ["b", "c"]
     (
       plain_at 1 "header" (str "a" ∷ strs "b" ("c" ∷ []) ∷ []),
-      Some (header (caseless Is) Message whole (as_written "a" ∷ []) (as_written "b" ∷ as_written "c" ∷ [])),
+      Some (asks (Header (fields (caseless Is) Message Value)) (names_with_keys (as_written "a" ∷ []) (as_written "b" ∷ as_written "c" ∷ [])) 1),
     ) ∷
     -- header :Comparator "i;octet" :contains ["a"] "b", and with its tags the other way round
     (
       plain_at 1 "header" (tag "Comparator" ∷ str "i;octet" ∷ tag "contains" ∷ strs "a" [] ∷ str "b" ∷ []),
-      Some (header (record { kind = Contains; comparator = Octet }) Message whole (as_written "a" ∷ []) (as_written "b" ∷ [])),
+      Some (asks (Header (fields octetwise Message Value)) (names_with_keys (as_written "a" ∷ []) (as_written "b" ∷ [])) 1),
     ) ∷
     -- turned header
     (
       plain_at 1 "header" (tag "contains" ∷ tag "comparator" ∷ str "i;octet" ∷ str "a" ∷ str "b" ∷ []),
-      Some (header (record { kind = Contains; comparator = Octet }) Message whole (as_written "a" ∷ []) (as_written "b" ∷ [])),
+      Some (asks (Header (fields octetwise Message Value)) (names_with_keys (as_written "a" ∷ []) (as_written "b" ∷ [])) 1),
     ) ∷
     -- exists ["a", "b"]
-    (plain_at 1 "exists" (strs "a" ("b" ∷ []) ∷ []), Some (exists Message (as_written "a" ∷ as_written "b" ∷ []))) ∷
+    (plain_at 1 "exists" (strs "a" ("b" ∷ []) ∷ []), Some (asks (Exists Message) (names_with_keys (as_written "a" ∷ as_written "b" ∷ []) []) 1)) ∷
     -- params form
     (
       mime_header,
-      Some (header (caseless Is) PartAndBelow (params (as_written "a" ∷ as_written "b" ∷ [])) (as_written "X" ∷ []) (as_written "y" ∷ [])),
+      Some (asks (Header (fields (caseless Is) PartAndBelow Param)) (with_params (as_written "X" ∷ []) (as_written "a" ∷ as_written "b" ∷ []) (as_written "y" ∷ [])) 4),
     ) ∷
-    (selecting_header "type", Some (selecting_form main)) ∷  -- type form
-    (selecting_header "subtype", Some (selecting_form sub)) ∷  -- subtype form
-    (selecting_header "contenttype", Some (selecting_form content_type)) ∷  -- content type form
-    (selecting_header "is", Some (selecting_form whole)) ∷  -- plain mime form
+    (selecting_header "type", Some (selecting_form Main)) ∷  -- type form
+    (selecting_header "subtype", Some (selecting_form Sub)) ∷  -- subtype form
+    (selecting_header "contenttype", Some (selecting_form ContentType)) ∷  -- content type form
+    (selecting_header "is", Some (selecting_form Value)) ∷  -- plain mime form
     -- exists :mime :anychild "X"
-    (plain_at 1 "exists" (tag "mime" ∷ tag "anychild" ∷ str "X" ∷ []), Some (exists PartAndBelow (as_written "X" ∷ []))) ∷ [])
+    (plain_at 1 "exists" (tag "mime" ∷ tag "anychild" ∷ str "X" ∷ []), Some (asks (Exists PartAndBelow) (names_with_keys (as_written "X" ∷ []) []) 1)) ∷ [])
 forms_of_tests = refl
 
 -- ---- strings with references
@@ -104,7 +129,7 @@ inside_too = refl
 abbrev expanded_params : List ArgumentTree
 expanded_params = tag "mime" ∷ tag "param" ∷ str "${b}" ∷ str "${a}" ∷ str "${C}" ∷ []
 
-names_between : names_mentioned (test_mentions with_variables Header expanded_params) ≡ codes "a" ∷ codes "b" ∷ codes "c" ∷ []
+names_between : names_mentioned (test_mentions with_variables test.Header expanded_params) ≡ codes "a" ∷ codes "b" ∷ codes "c" ∷ []
 names_between = refl
 
 strings_as_written : Gives (template_of at_start.required) (
@@ -123,14 +148,14 @@ forms_of_expanded_tests : Gives (test_form_of with_variables.required) (
     -- string :matches ["${a}", "b"] "*"
     (
       plain_at 1 "string" (tag "matches" ∷ strs "${a}" ("b" ∷ []) ∷ str "*" ∷ []),
-      Some (string (caseless Matches) (value_of "a" ∷ as_written "b" ∷ []) (as_written "*" ∷ [])),
+      Some (asks (question.String (caseless Matches)) (names_with_keys (value_of "a" ∷ as_written "b" ∷ []) (as_written "*" ∷ [])) 1),
     ) ∷
     -- expanded exists
-    (plain_at 1 "exists" (str "x-${a}" ∷ []), Some (exists Message ((Text (codes "x-") ∷ Variable (codes "a") ∷ []) ∷ []))) ∷
+    (plain_at 1 "exists" (str "x-${a}" ∷ []), Some (asks (Exists Message) (names_with_keys ((Text (codes "x-") ∷ Variable (codes "a") ∷ []) ∷ []) []) 1)) ∷
     -- params between
     (
       plain_at 1 "header" expanded_params,
-      Some (header (caseless Is) Part (params (value_of "b" ∷ [])) (value_of "a" ∷ []) (value_of "c" ∷ [])),
+      Some (asks (Header (fields (caseless Is) Part Param)) (with_params (value_of "a" ∷ []) (value_of "b" ∷ []) (value_of "c" ∷ [])) 1),
     ) ∷ [])
 forms_of_expanded_tests = refl
 
@@ -143,8 +168,8 @@ setting =
     (last_at 3 "set" (tag "UpperFirst" ∷ tag "lower" ∷ str "Name" ∷ str "${0} ${other}" ∷ []))
 
 abbrev set_form : CommandForms
-set_form = alone (set (record { letters = Some Lower; first = Some Upper; quote_wildcard = false; length = false }) (codes "name")
-    (Capture 0 ∷ Text (codes " ") ∷ Variable (codes "other") ∷ []))
+set_form = alone (does (act.Set (record { letters = Some Lower; first = Some Upper; quote_wildcard = false; length = false }) (codes "name"))
+    (Capture 0 ∷ Text (codes " ") ∷ Variable (codes "other") ∷ []) 3)
 
 -- the variables of the value come before the one that is set
 in_order : commands_variables set_form ≡ codes "other" ∷ codes "name" ∷ []

@@ -17,9 +17,11 @@ use Rattle.sieve_check.specs.declared.typed.Test.{Test}
 use Rattle.sieve_check.specs.FormOf.{InnerForms, one, bracketed, PartForm, simple_of, simple_part, block_of, block_part, Forms, put, test_form_of, more_forms_of, part_of, forms_of}
 use Rattle.sieve_check.specs.Forming.{head_block, head_simple, head_test}
 use Rattle.sieve_check.specs.Names.{command_named}
-use Rattle.sieve_check.specs.Rules.{after_invocation, arguments_of, invocation_of}
+use Rattle.sieve_check.specs.Rules.{after_invocation, invocation_of}
+use Rattle.sieve_check.specs.Private.{arguments_of}
 use Rattle.sieve_check.specs.Sequences.{part_form, finished_by, Pushed, Unfit}
-use Rattle.sieve_check.specs.Signatures.{◌>>=◌, Read, reading, command_signature}
+use Rattle.sieve_check.specs.Arguments.{reading}
+use Rattle.sieve_check.specs.Signatures.{◌>>=◌, Read, command_signature}
 use Rattle.sieve_check.specs.Surroundings.{Context}
 use Rattle.sieve_check.specs.Typed.{TestForm, TestForms, test, CommandForms}
 use Rattle.sieve_check.specs.TypedView.{test_form}
@@ -35,6 +37,11 @@ module _ (required : Capabilities) (i : Invocation) (h : Head) (t : Box Invocati
   pub form_with_tests : (ts : Vec Invocation) → i ≡ WithTests h t ts
       → test_form_of required (invocation_tree i) ≡ ((test_form_of required (invocation_tree t.value) >>= λ f. option_map (bracketed f) (more_forms_of required (others_of ts.items))) >>= λ inner. head_test required h inner)
   form_with_tests ts is = ap (test_form_of required) (ap invocation_tree is ∙ tree_tests h t ts)
+
+-- where the tests after the first have no form
+pub no_others : (o : Option TestForm) (f : InnerForms → Option TestForm) → ((o >>= λ t. option_map (bracketed t) None) >>= f) ≡ None
+no_others None f = refl
+no_others (Some t) f = refl
 
 -- one more test of a list
 module _ (required : Capabilities) (list : List Invocation) (i : ℕ) (x : Invocation) (lt : i < length list) (is : x ≡ get_or list i x) (done : List Test) (t : Test) (formed : test_form_of required (invocation_tree x) ≡ Some (test_form t)) where
@@ -56,12 +63,12 @@ module _ (required : Capabilities) (list : List Invocation) (i : ℕ) (x : Invoc
       ∙ ap (λ o. option_map (tests_onto (map test_form done)) (o >>= λ f. option_map (test f) (more_forms_of required (others_of (drop (i + 1) list))))) missing
 
 -- a command with tests in round brackets and a block is none
-no_block : (name : CommandName) (f : TestForm) (fs : TestForms) (body : CommandForms) → block_of name (bracketed f fs) body ≡ None
-no_block Require f fs body = refl
-no_block _ f fs body = refl
+no_block : (name : CommandName) (at : ℕ) (f : TestForm) (fs : TestForms) (body : CommandForms) → block_of name at (bracketed f fs) body ≡ None
+no_block Require at f fs body = refl
+no_block _ at f fs body = refl
 
 no_head : (h : Head) (f : TestForm) (fs : TestForms) (body : CommandForms) → head_block h (bracketed f fs) body ≡ None
-no_head h f fs body = step_none (command_named h.name) _ (λ name. step_none (reading (command_signature name) (arguments_of h)) _ (λ read. no_block name f fs body))
+no_head h f fs body = step_none (command_named h.name) _ (λ name. step_none (reading (command_signature name) (arguments_of h)) _ (λ read. no_block name h.token f fs body))
 
 pub no_block_part : (s : Context) (i : Invocation) (h : Head) (t : Box Invocation) (ts : Vec Invocation) (body : CommandForms) → i ≡ WithTests h t ts → block_part s (invocation_tree i) body ≡ None
 no_block_part s i h t ts body is = ap (λ x. block_part s x body) (ap invocation_tree is ∙ tree_tests h t ts) ∙ inside (test_form_of s.required (invocation_tree t.value)) (more_forms_of s.required (others_of ts.items)) where
@@ -71,29 +78,29 @@ no_block_part s i h t ts body is = ap (λ x. block_part s x body) (ap invocation
   inside (Some f) (Some fs) = no_head h f fs body
 
 -- a command with tests and no block is none
-no_simple_test : (s : Context) (name : CommandName) (read : Read) (f : TestForm) → simple_of s name read (one f) ≡ None
-no_simple_test s Require read f = refl
-no_simple_test s _ read f = refl
+no_simple_test : (s : Context) (name : CommandName) (at : ℕ) (read : Read) (f : TestForm) → simple_of s name at read (one f) ≡ None
+no_simple_test s Require at read f = refl
+no_simple_test s _ at read f = refl
 
-no_simple_tests : (s : Context) (name : CommandName) (read : Read) (f : TestForm) (fs : TestForms) → simple_of s name read (bracketed f fs) ≡ None
-no_simple_tests s Require read f fs = refl
-no_simple_tests s _ read f fs = refl
+no_simple_tests : (s : Context) (name : CommandName) (at : ℕ) (read : Read) (f : TestForm) (fs : TestForms) → simple_of s name at read (bracketed f fs) ≡ None
+no_simple_tests s Require at read f fs = refl
+no_simple_tests s _ at read f fs = refl
 
-no_simple_part : (s : Context) (h : Head) (inner : InnerForms) → ((name : CommandName) (read : Read) → simple_of s name read inner ≡ None) → head_simple s h inner ≡ None
+no_simple_part : (s : Context) (h : Head) (inner : InnerForms) → ((name : CommandName) (read : Read) → simple_of s name h.token read inner ≡ None) → head_simple s h inner ≡ None
 no_simple_part s h inner none = step_none (command_named h.name) _ (λ name. step_none (reading (command_signature name) (arguments_of h)) _ (none name))
 
 pub no_part_with_test : (s : Context) (i : Invocation) (h : Head) (t : Box Invocation) → i ≡ WithTest h t → simple_part s (invocation_tree i) ≡ None
 no_part_with_test s i h t is = ap (simple_part s) (ap invocation_tree is ∙ tree_test h t) ∙ inside (test_form_of s.required (invocation_tree t.value)) where
   inside : (o : Option TestForm) → (option_map one o >>= λ inner. head_simple s h inner) ≡ None
   inside None = refl
-  inside (Some f) = no_simple_part s h (one f) (λ name read. no_simple_test s name read f)
+  inside (Some f) = no_simple_part s h (one f) (λ name read. no_simple_test s name h.token read f)
 
 pub no_part_with_tests : (s : Context) (i : Invocation) (h : Head) (t : Box Invocation) (ts : Vec Invocation) → i ≡ WithTests h t ts → simple_part s (invocation_tree i) ≡ None
 no_part_with_tests s i h t ts is = ap (simple_part s) (ap invocation_tree is ∙ tree_tests h t ts) ∙ inside (test_form_of s.required (invocation_tree t.value)) (more_forms_of s.required (others_of ts.items)) where
   inside : (a : Option TestForm) (b : Option TestForms) → ((a >>= λ f. option_map (bracketed f) b) >>= λ inner. head_simple s h inner) ≡ None
   inside None b = refl
   inside (Some f) None = refl
-  inside (Some f) (Some fs) = no_simple_part s h (bracketed f fs) (λ name read. no_simple_tests s name read f fs)
+  inside (Some f) (Some fs) = no_simple_part s h (bracketed f fs) (λ name read. no_simple_tests s name h.token read f fs)
 
 -- what is added before commands that are still to come
 module _ (s : Context) (list : List Tree) (i : ℕ) (x : Tree) (lt : i < length list) (is : x ≡ get_or list i x) (old : Sequence) where

@@ -21,6 +21,7 @@ pub mod Lists
 pub mod TestExistence
 pub mod CommandExistence
 pub mod Existence
+pub mod LeastFault
 pub mod Rows
 pub mod Examples
 pub mod ReasonExamples

@@ -4,29 +4,30 @@ use Rattle.std.specs.Prelude.{flat_map}
 use Rattle.std.specs.List.{list_any}
 use Rattle.std.proofs.lemmas.Bool.{ltb-false}
 use Rattle.std.proofs.lemmas.Grind.{flat_map-append}
-use Rattle.std.proofs.lemmas.List.{append-nil, append_assoc, length-map}
+use Rattle.std.proofs.lemmas.List.{append-nil, length-map, map-append}
 use Rattle.std.proofs.lemmas.List.Elements.{All-nil, All-cons, All-head, All-tail}
 use Rattle.std.proofs.lemmas.List.Folds.{list_any-append}
 use Rattle.octets.specs.Limits.{max_segments, max_string, max_test_strings}
 use Rattle.sieve_references.specs.References.{segments}
 use Rattle.sieve_parser.specs.Tree.{ArgumentTree, text, text_list}
 use Rattle.sieve_check.specs.declared.names.Capability.TheVariants.{Variables}
-use Rattle.bytecode_format.specs.declared.selection.Selector.{Selector}
-use Rattle.bytecode_format.specs.declared.selection.Selector.TheVariants.{Param}
 use Rattle.sieve_check.specs.declared.names.Tag.{Tag}
 use Rattle.sieve_check.specs.declared.string_faults.StringFault.TheVariants.{Long}
 use Rattle.sieve_check.specs.declared.signature.Positional.TheVariants as positional
 use Rattle.sieve_check.specs.declared.signature.Signature.{Signature}
-use Rattle.sieve_check.specs.Bounded.{IsBoundedString, IsBoundedList, AreBoundedLists, HasParams, IsBoundedHeader}
-use Rattle.sieve_check.specs.FormOf.{list_in, template_of, of_list, of_lists, selected_by, params_in}
+use Rattle.sieve_check.specs.Bounded.{IsBoundedString, IsAsTaken, AreBoundedStrings}
+use Rattle.sieve_check.specs.FormOf.{list_in, list_taken, template_of, strings_in as strings_taken}
+use Rattle.sieve_check.specs.declared.typed.Takes.{Takes}
+use Rattle.sieve_check.specs.Questions.{no_list, names_alone, keys_alone}
 use Rattle.sieve_check.specs.Rules.{is_long, string_has, strings_in, strings_of, lists_read}
-use Rattle.sieve_check.specs.Signatures.{◌>>=◌, Read, Given, with_argument, is_list, is_positional, reading}
+use Rattle.sieve_check.specs.Arguments.{reading}
+use Rattle.sieve_check.specs.Signatures.{◌>>=◌, Read, Given, with_argument, is_list, is_positional}
 use Rattle.sieve_check.specs.Surroundings.{Context, has_capability}
-use Rattle.sieve_check.specs.Typed.{Template, Selected, params_of, TestForm}
+use Rattle.sieve_check.specs.Typed.{Template, Strings, in_order}
 use Rattle.sieve_check.specs.Variables.{strings_variables}
 use Rattle.sieve_check.proofs.Options.{both_true, either_false}
-use Rattle.sieve_check.proofs.TagSteps.{argument_taken, IsKept, kept_by_reading, HasArgument}
-use Rattle.sieve_check.proofs.Templates.{template_at, names_at, IsSound, templates_bounded, templates_names}
+use Rattle.sieve_check.proofs.TagSteps.{argument_taken, IsKept, kept_by_reading}
+use Rattle.sieve_check.proofs.Templates.{names_at, IsSound, templates_bounded, templates_names}
 
 -- ---- the strings behind the tags
 
@@ -102,147 +103,122 @@ listed s (text x) h = (refl, omega arith)
 listed s (text_list x xs) h = (refl, omega arith)
 listed s _ h = absurd (cc)
 
--- one list, of which something is made
-pub record OneListed (s : Context) (make : List Template → TestForm) (xs : List ArgumentTree) : Type 0 where
-  pub list : List Template
-  pub is : of_list s.required make xs ≡ Some (make list)
-  pub bounded : IsBoundedList list
-  pub names : strings_variables list ≡ flat_map (names_at (expands s)) (strings_of xs)
+-- an argument is a list that is taken, or there is none
+abbrev pub IsGiven : Bool → List ArgumentTree → Type 0
+IsGiven true xs = (a : ArgumentTree) × (xs ≡ a ∷ []) × (is_list a ≡ true)
+IsGiven false xs = xs ≡ []
 
-pub one_listed : (s : Context) (make : List Template → TestForm) (xs : List ArgumentTree) → is_positional positional.OneList xs ≡ true → length (strings_of xs) ≤ max_test_strings → All (IsSound (expands s)) (strings_of xs) → OneListed s make xs
-one_listed s make (a ∷ []) h few all =
-    let b = expands s in
-    let list = listed s a h in
-    let strings = strings_in a in
-    let count = length-map strings (template_at b) in
+-- the strings of arguments, as they are meant
+abbrev meant_in : Context → List ArgumentTree → List Template
+meant_in s xs = map (template_of s.required) (strings_of xs)
+
+taken : (s : Context) (b : Bool) (xs rest : List ArgumentTree) → IsGiven b xs → list_taken s.required b (xs ++ rest) ≡ Some (meant_in s xs, rest)
+taken s true xs rest (a, is, h) =
+    ap (λ xs. list_taken s.required true (xs ++ rest)) is ∙ ap (option_map (λ strings. (strings, rest))) (listed s a h).0
+    ∙ ap (λ strings. Some (map (template_of s.required) strings, rest)) (sym (append-nil (strings_in a))) ∙ ap (λ xs. Some (meant_in s xs, rest)) (sym is)
+taken s false xs rest is = ap (λ xs. list_taken s.required false (xs ++ rest)) is ∙ ap (λ xs. Some (meant_in s xs, rest)) (sym is)
+
+taken_alone : (s : Context) (b : Bool) (xs : List ArgumentTree) → IsGiven b xs → list_taken s.required b xs ≡ Some (meant_in s xs, [])
+taken_alone s b xs given = ap (list_taken s.required b) (sym (append-nil xs)) ∙ taken s b xs [] given
+
+as_taken : (s : Context) (b : Bool) (xs : List ArgumentTree) → IsGiven b xs → IsAsTaken b (meant_in s xs)
+as_taken s true xs (a, is, h) =
+    subst (λ (xs : List ArgumentTree). 0 < length (meant_in s xs)) (sym is) (omega (arith, (listed s a h).1, length-append (strings_in a) [], length-map (strings_in a ++ []) (template_of s.required)))
+as_taken s false xs is = ap (meant_in s) is
+
+-- the arguments of a test are the lists that it takes, and nothing else
+pub record Split (takes : Takes) (read : Read) : Type 0 where
+  pub names : List ArgumentTree
+  pub keys : List ArgumentTree
+  pub behind : read.positional ≡ names ++ keys
+  pub all : lists_read read ≡ names ++ read.params ++ keys
+  pub named : IsGiven takes.names names
+  pub selected : IsGiven takes.params read.params
+  pub keyed : IsGiven takes.keys keys
+
+-- the strings of a test, within the limits, with the names that they bring
+pub record Listed (s : Context) (takes : Takes) (read : Read) : Type 0 where
+  pub strings : Strings
+  pub is : strings_taken s.required takes read ≡ Some strings
+  pub bounded : AreBoundedStrings takes strings
+  pub names : strings_variables (in_order strings) ≡ flat_map (names_at (expands s)) (strings_of (lists_read read))
+
+-- three steps, of which the last goes by the first
+steps : {A B C D : Type 0} (o : Option A) (x : A) (p : Option B) (y : B) (q : A → Option C) (z : C) (f : A → B → C → Option D) → o ≡ Some x → p ≡ Some y → q x ≡ Some z
+    → (o >>= λ a. p >>= λ b. q a >>= λ c. f a b c) ≡ f x y z
+steps o x p y q z f h k l = ap (λ o. o >>= λ a. p >>= λ b. q a >>= λ c. f a b c) h ∙ ap (λ p. p >>= λ b. q x >>= λ c. f x b c) k ∙ ap (λ r. r >>= λ c. f x y c) l
+
+pub all_listed : (s : Context) (takes : Takes) (read : Read) → Split takes read → length (strings_of (lists_read read)) ≤ max_test_strings → All (IsSound (expands s)) (strings_of (lists_read read)) → Listed s takes read
+all_listed s takes read split few sound =
+    let strings : Strings = record { names = meant_in s split.names; params = meant_in s read.params; keys = meant_in s split.keys } in
+    let t = template_of s.required in
+    let order : in_order strings ≡ meant_in s (lists_read read) =
+    ap (λ ts. ts ++ meant_in s split.keys) (sym (map-append t (strings_of split.names) (strings_of read.params)) ∙ ap (map t) (sym (flat_map-append strings_in split.names read.params)))
+    ∙ sym (map-append t (strings_of (split.names ++ read.params)) (strings_of split.keys)) ∙ ap (map t) (sym (flat_map-append strings_in (split.names ++ read.params) split.keys))
+    ∙ ap (meant_in s) (sym split.all) in
+    let all = strings_of (lists_read read) in
     record {
-      list = map (template_at b) strings;
-      is = ap (option_map make) list.0;
+      strings = strings;
+      is = ap (λ xs. list_taken s.required takes.names xs >>= λ names. list_taken s.required takes.params read.params >>= λ params. list_taken s.required takes.keys names.1 >>= λ keys. together names.0 params.0 keys.0) split.behind
+          ∙ steps _ (meant_in s split.names, split.keys) _ (meant_in s read.params, []) (λ names. list_taken s.required takes.keys names.1) (meant_in s split.keys, []) (λ names params keys. together names.0 params.0 keys.0)
+          (taken s takes.names split.names split.keys split.named) (taken_alone s takes.params read.params split.selected) (taken_alone s takes.keys split.keys split.keyed);
       bounded = record {
-        some = omega (arith, list.1, count);
-        few = omega (arith, few, count, length-append strings []);
-        bounded = templates_bounded b strings (both_sound b strings [] all).0;
+        names = as_taken s takes.names split.names split.named;
+        params = as_taken s takes.params read.params split.selected;
+        keys = as_taken s takes.keys split.keys split.keyed;
+        few = let count : length (in_order strings) ≡ length all = ap length order ∙ length-map all t in omega (arith, few, count);
+        bounded = subst (All IsBoundedString) (sym order) (templates_bounded (expands s) all sound);
       };
-      names = templates_names b strings ∙ ap (flat_map (names_at b)) (sym (append-nil strings));
+      names = ap strings_variables order ∙ templates_names (expands s) all;
     }
-one_listed s make _ h few all = absurd (cc)
+  where
+    together : List Template → List Template → List Template → Option Strings
+    together names params keys = Some (record { names = names; params = params; keys = keys })
 
--- two lists
-pub record TwoListed (s : Context) (make : List Template → List Template → TestForm) (xs : List ArgumentTree) : Type 0 where
-  pub first : List Template
-  pub second : List Template
-  pub is : of_lists s.required make xs ≡ Some (make first second)
-  pub bounded : AreBoundedLists first second
-  pub names : strings_variables first ++ strings_variables second ≡ flat_map (names_at (expands s)) (strings_of xs)
+-- a test that takes no list
+pub none_listed : (s : Context) (read : Read) → strings_of (lists_read read) ≡ [] → Listed s no_list read
+none_listed s read none = record {
+  strings = record { names = []; params = []; keys = [] };
+  is = refl;
+  bounded = record { names = refl; params = refl; keys = refl; few = omega arith; bounded = All-nil IsBoundedString };
+  names = ap (flat_map (names_at (expands s))) (sym none);
+}
 
-pub two_listed : (s : Context) (make : List Template → List Template → TestForm) (xs : List ArgumentTree) → is_positional positional.TwoLists xs ≡ true → length (strings_of xs) ≤ max_test_strings → All (IsSound (expands s)) (strings_of xs) → TwoListed s make xs
-two_listed s make (a ∷ c ∷ []) h few all =
-    let b = expands s in
-    let lists = both_true (is_list a) (is_list c) h in
-    let left = listed s a lists.0 in
-    let right = listed s c lists.1 in
-    let xs = strings_in a in
-    let ys = strings_in c in
-    let first = map (template_at b) xs in
-    let second = map (template_at b) ys in
-    let sounds = both_sound b xs (ys ++ []) all in
-    let xs_count = length-map xs (template_at b) in
-    let ys_count = length-map ys (template_at b) in
-    record {
-      first = first;
-      second = second;
-      is = ap (λ o. o >>= λ first. option_map (make first) (list_in s.required c)) left.0 ∙ ap (option_map (make first)) right.0;
-      bounded = record {
-        some_first = omega (arith, left.1, xs_count);
-        some_second = omega (arith, right.1, ys_count);
-        few = omega (arith, few, xs_count, ys_count, length-append xs (ys ++ []), length-append ys []);
-        bounded_first = templates_bounded b xs sounds.0;
-        bounded_second = templates_bounded b ys (both_sound b ys [] sounds.1).0;
-      };
-      names = ap (λ names. names ++ strings_variables second) (templates_names b xs)
-          ∙ ap (λ names. flat_map (names_at b) xs ++ names) (templates_names b ys ∙ ap (flat_map (names_at b)) (sym (append-nil ys)))
-          ∙ sym (flat_map-append (names_at b) xs (ys ++ []));
-    }
-two_listed s make _ h few all = absurd (cc)
+-- one list, and two
+pub one_given : (xs : List ArgumentTree) → is_positional positional.OneList xs ≡ true → IsGiven true xs
+one_given (a ∷ []) h = (a, refl, h)
+one_given _ h = absurd (cc)
 
--- what a test takes of a field
-record Selecting (s : Context) (selector : Selector) (params : List ArgumentTree) : Type 0 where
-  names : List Template
-  is : params_in s.required params ≡ Some names
-  some : HasParams (selected_by selector names)
-  same : params_of (selected_by selector names) ≡ map (template_of s.required) (strings_of params)
+pub two_given : (xs : List ArgumentTree) → is_positional positional.TwoLists xs ≡ true → IsGiven true (take 1 xs) × IsGiven true (drop 1 xs)
+two_given (a ∷ b ∷ []) h =
+    let lists = both_true (is_list a) (is_list b) h in
+    ((a, refl, lists.0), (b, refl, lists.1))
+two_given _ h = absurd (cc)
 
-selecting : (s : Context) (selector : Selector) (params : List ArgumentTree) → HasArgument selector params → Selecting s selector params
-selecting s Param params one =
-    let list = listed s one.0 one.2 in
-    let strings = strings_in one.0 in
-    subst (Selecting s Param) (sym one.1) (record {
-      names = map (template_of s.required) strings;
-      is = list.0;
-      some = omega (arith, list.1, length-map strings (template_of s.required));
-      same = ap (map (template_of s.required)) (sym (append-nil strings));
-    })
-selecting s selector params none = subst (Selecting s selector) (sym none) (record { names = []; is = refl; some = tt; same = refl })
+both_parts : (xs : List ArgumentTree) → xs ≡ take 1 xs ++ drop 1 xs
+both_parts [] = refl
+both_parts (x ∷ xs) = refl
 
--- two lists and, with `:param`, one between
-pub record ThreeListed (s : Context) (make : Selected → List Template → List Template → TestForm) (selector : Selector) (params xs : List ArgumentTree) : Type 0 where
-  pub selected : Selected
-  pub first : List Template
-  pub second : List Template
-  pub is : (params_in s.required params >>= λ names. of_lists s.required (make (selected_by selector names)) xs) ≡ Some (make selected first second)
-  pub bounded : IsBoundedHeader selected first second
-  pub names : strings_variables first ++ strings_variables (params_of selected) ++ strings_variables second ≡ flat_map (names_at (expands s)) (strings_of (take 1 xs ++ params ++ drop 1 xs))
+-- the first list is names, and what is behind it keys
+pub names_first : (takes : Takes) (read : Read) → IsGiven takes.names (take 1 read.positional) → IsGiven takes.params read.params → IsGiven takes.keys (drop 1 read.positional) → Split takes read
+names_first takes read named selected keyed = record { names = take 1 read.positional; keys = drop 1 read.positional; behind = both_parts read.positional; all = refl; named = named; selected = selected; keyed = keyed }
 
-pub three_listed : (s : Context) (make : Selected → List Template → List Template → TestForm) (selector : Selector) (params xs : List ArgumentTree) → is_positional positional.TwoLists xs ≡ true → HasArgument selector params
-    → length (strings_of (take 1 xs ++ params ++ drop 1 xs)) ≤ max_test_strings → All (IsSound (expands s)) (strings_of (take 1 xs ++ params ++ drop 1 xs)) → ThreeListed s make selector params xs
-three_listed s make selector params (a ∷ c ∷ []) h has few all =
-    let b = expands s in
-    let lists = both_true (is_list a) (is_list c) h in
-    let left = listed s a lists.0 in
-    let right = listed s c lists.1 in
-    let between = selecting s selector params has in
-    let selected = selected_by selector between.names in
-    let xs = strings_in a in
-    let ys = strings_of params in
-    let zs = strings_in c in
-    let first = map (template_at b) xs in
-    let second = map (template_at b) zs in
-    let strings : strings_of (a ∷ (params ++ c ∷ [])) ≡ xs ++ (ys ++ (zs ++ [])) = ap (λ l. xs ++ l) (flat_map-append strings_in params (c ∷ [])) in
-    let sounds = both_sound b xs (ys ++ (zs ++ [])) (subst (All (IsSound b)) strings all) in
-    let others = both_sound b ys (zs ++ []) sounds.1 in
-    let counts : length (strings_of (a ∷ (params ++ c ∷ []))) ≡ length xs + (length ys + (length zs + 0)) =
-    ap length strings ∙ length-append xs (ys ++ (zs ++ [])) ∙ ap (λ n. length xs + n) (length-append ys (zs ++ [])) ∙ ap (λ n. length xs + (length ys + n)) (length-append zs []) in
-    let xs_count = length-map xs (template_at b) in
-    let ys_count : length (params_of selected) ≡ length ys = ap length between.same ∙ length-map ys (template_at b) in
-    let zs_count = length-map zs (template_at b) in
-    record {
-      selected = selected;
-      first = first;
-      second = second;
-      is = ap (λ o. o >>= λ names. of_lists s.required (make (selected_by selector names)) (a ∷ c ∷ [])) between.is
-          ∙ ap (λ o. o >>= λ first. option_map (make selected first) (list_in s.required c)) left.0
-          ∙ ap (option_map (make selected first)) right.0;
-      bounded = record {
-        lists = record {
-          some_first = omega (arith, left.1, xs_count);
-          some_second = omega (arith, right.1, zs_count);
-          few = omega (arith, few, counts, xs_count, zs_count);
-          bounded_first = templates_bounded b xs sounds.0;
-          bounded_second = templates_bounded b zs (both_sound b zs [] others.1).0;
-        };
-        some_params = between.some;
-        few = omega (arith, few, counts, xs_count, ys_count, zs_count);
-        bounded_params = subst (All IsBoundedString) (sym between.same) (templates_bounded b ys others.0);
-      };
-      names = ap (λ names. names ++ strings_variables (params_of selected) ++ strings_variables second) (templates_names b xs)
-          ∙ ap (λ names. flat_map (names_at b) xs ++ names ++ strings_variables second) (ap strings_variables between.same ∙ templates_names b ys)
-          ∙ ap (λ names. flat_map (names_at b) xs ++ flat_map (names_at b) ys ++ names) (templates_names b zs ∙ ap (flat_map (names_at b)) (sym (append-nil zs)))
-          ∙ append_assoc (flat_map (names_at b) xs) (flat_map (names_at b) ys) (flat_map (names_at b) (zs ++ []))
-          ∙ ap (λ names. flat_map (names_at b) xs ++ names) (sym (flat_map-append (names_at b) ys (zs ++ [])))
-          ∙ sym (flat_map-append (names_at b) xs (ys ++ (zs ++ [])))
-          ∙ ap (flat_map (names_at b)) (sym strings);
-    }
-three_listed s make selector params _ h has few all = absurd (cc)
+-- all are names
+pub names_only : (read : Read) → read.params ≡ [] → IsGiven true read.positional → Split names_alone read
+names_only read none (a, is, h) = names_first names_alone read (a, ap (take 1) is, h) none (ap (drop 1) is)
+
+-- all are keys
+pub keys_only : (read : Read) → read.params ≡ [] → IsGiven true read.positional → Split keys_alone read
+keys_only read none keyed = record {
+  names = [];
+  keys = read.positional;
+  behind = refl;
+  all = ap (λ params. take 1 read.positional ++ params ++ drop 1 read.positional) none ∙ ap (λ xs. xs ++ drop 1 read.positional) (append-nil (take 1 read.positional)) ∙ sym (both_parts read.positional)
+      ∙ ap (λ params. params ++ read.positional) (sym none);
+  named = refl;
+  selected = none;
+  keyed = keyed;
+}
 
 -- ---- strings without brackets
 

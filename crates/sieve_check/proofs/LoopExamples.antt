@@ -6,15 +6,19 @@ use Rattle.glob_match.specs.declared.match_type.MatchType.TheVariants.{Is, Conta
 use Rattle.sieve_parser.specs.Tree.{ArgumentTree, amount, CommandsTree, no_command}
 use Rattle.sieve_check.specs.declared.error.CheckError.TheVariants.{MissingCapability, BadArguments, Limit}
 use Rattle.sieve_check.specs.declared.names.CommandName.TheVariants.{Break, ForEveryPart, Take}
+use Rattle.sieve_check.specs.declared.typed.Act.TheVariants as act
+use Rattle.sieve_check.specs.declared.typed.Act.TheVariants.{Keep, Store, Leave}
 use Rattle.sieve_check.specs.declared.typed.Order.TheVariants.{Under}
+use Rattle.sieve_check.specs.declared.typed.Question.TheVariants.{Constant, PartSize, PartBody, PartDigest}
 use Rattle.sieve_check.specs.declared.typed.Segment.TheVariants.{Text, Variable}
 use Rattle.sieve_check.specs.FormOf.{form_of}
 use Rattle.sieve_check.specs.Causes.{refusal_for}
 use Rattle.sieve_check.specs.Rules.{fault_of, reasons_of}
-use Rattle.sieve_check.specs.Signatures.{Read, no_tag, reading, command_signature}
+use Rattle.sieve_check.specs.Arguments.{reading}
+use Rattle.sieve_check.specs.Signatures.{Read, no_tag, command_signature}
 use Rattle.sieve_check.specs.Surroundings.{nameless, called, unreadable, loops_left}
 use Rattle.sieve_check.specs.Typed as typed
-use Rattle.sieve_check.specs.Typed.{TestForm, part_size, part_body, part_digest, CommandForm, CommandForms, keep, take_first, store, for_every_part, leave, choice, no_branch, branch}
+use Rattle.sieve_check.specs.Typed.{Template, Strings, TestForm, asks, CommandForm, CommandForms, does, for_every_part, choice, no_branch, branch}
 use Prim.Native.String.{String}
 use Rattle.sieve_check.proofs.Rows.{Gives, str, strs, tag, plain_at, simple_at, last_at, block_at, if_at, read_as, as_written, alone}
 
@@ -22,8 +26,12 @@ use Rattle.sieve_check.proofs.Rows.{Gives, str, strs, tag, plain_at, simple_at, 
 abbrev loop_at : ℕ → List ArgumentTree → CommandsTree → CommandsTree
 loop_at n args body = block_at n "foreverypart" args body no_command
 
-abbrev looped : CommandForm → CommandForms
-looped c = alone (for_every_part (alone c))
+abbrev looped : ℕ → CommandForm → CommandForms
+looped n c = alone (for_every_part (alone c) n)
+
+-- the strings of a test of the current part
+abbrev keys_as : List Template → Strings
+keys_as keys = record { names = []; params = []; keys = keys }
 
 -- :name with this name
 abbrev named : String → List ArgumentTree
@@ -68,7 +76,7 @@ faults_of_loops : Gives fault_of (
 faults_of_loops = refl
 
 forms_of_loops : Gives form_of (
-    (two_loops, Some (looped (for_every_part (alone keep)))) ∷  -- two loops form
+    (two_loops, Some (looped 3 (for_every_part (alone (does Keep [] 7)) 5))) ∷  -- two loops form
     (four_loops [], None) ∷ [])  -- fourth loop form
 forms_of_loops = refl
 
@@ -79,7 +87,7 @@ abbrev outer_and_inner : CommandsTree → CommandsTree
 outer_and_inner body = with_parts (loop_at 7 (named "o") (block_at 11 "foreverypart" [] body (last_at 16 "store" (str "s" ∷ []))))
 
 abbrev outer_and_inner_form : CommandForm → CommandForms
-outer_and_inner_form c = alone (for_every_part (typed.command (for_every_part (alone c)) (alone (store (as_written "s")))))
+outer_and_inner_form c = alone (for_every_part (typed.command (for_every_part (alone c) 11) (alone (does Store (as_written "s") 16))) 7)
 
 -- of two loops of one name the nearest is left, also by a break that stands in an if
 abbrev same_names : CommandsTree
@@ -104,10 +112,10 @@ none_open : loops_left None [] ≡ None
 none_open = refl
 
 forms_of_breaks : Gives form_of (
-    (outer_and_inner (last_at 13 "break" []), Some (outer_and_inner_form (leave 1))) ∷  -- inner left
-    (outer_and_inner (last_at 13 "break" (named "o")), Some (outer_and_inner_form (leave 2))) ∷  -- outer left
+    (outer_and_inner (last_at 13 "break" []), Some (outer_and_inner_form (does (Leave 1) [] 13))) ∷  -- inner left
+    (outer_and_inner (last_at 13 "break" (named "o")), Some (outer_and_inner_form (does (Leave 2) [] 13))) ∷  -- outer left
     -- nearest left
-    (same_names, Some (alone (for_every_part (looped (choice (branch (typed.constant true) (alone (leave 1)) no_branch)))))) ∷ [])
+    (same_names, Some (alone (for_every_part (looped 7 (choice (branch (asks (Constant true) (keys_as []) 12) (alone (does (Leave 1) [] 14)) 11 no_branch))) 3))) ∷ [])
 forms_of_breaks = refl
 
 faults_of_breaks : Gives fault_of (
@@ -167,7 +175,7 @@ readings_of_break : Gives (reading (command_signature Break)) (
     (tag "name" ∷ amount 1 ∷ [], None) ∷ [])  -- number for name
 readings_of_break = refl
 
-empty_name : form_of (named_like "" "") ≡ Some (looped (leave 1))
+empty_name : form_of (named_like "" "") ≡ Some (looped 9 (does (Leave 1) [] 13))
 empty_name = refl
 
 -- ---- parts
@@ -177,23 +185,23 @@ abbrev tested : String → List ArgumentTree → CommandsTree
 tested name args = with_parts (loop_at 7 [] (if_at 9 "if" (plain_at 10 name args) no_command no_command))
 
 abbrev tested_form : TestForm → Option CommandForms
-tested_form t = Some (looped (choice (branch t typed.no_command no_branch)))
+tested_form t = Some (looped 7 (choice (branch t typed.no_command 9 no_branch)))
 
 forms_of_parts : Gives form_of (
     -- foreverypart { store "x${a}"; }
     (
       with_expansion (loop_at 9 [] (last_at 11 "store" (str "x${a}" ∷ []))),
-      Some (looped (store (Text (codes "x") ∷ Variable (codes "a") ∷ []))),
+      Some (looped 9 (does Store (Text (codes "x") ∷ Variable (codes "a") ∷ []) 11)),
     ) ∷
-    (tested "partsize" (tag "under" ∷ amount 10 ∷ []), tested_form (part_size Under 10)) ∷  -- size form
+    (tested "partsize" (tag "under" ∷ amount 10 ∷ []), tested_form (asks (PartSize Under 10) (keys_as []) 10)) ∷  -- size form
     -- body form
     (
       tested "PartBody" (tag "contains" ∷ tag "comparator" ∷ str "i;octet" ∷ strs "b" ("c" ∷ []) ∷ []),
-      tested_form (part_body (record { kind = Contains; comparator = Octet }) (as_written "b" ∷ as_written "c" ∷ [])),
+      tested_form (asks (PartBody (record { kind = Contains; comparator = Octet })) (keys_as (as_written "b" ∷ as_written "c" ∷ [])) 10),
     ) ∷
     -- plain body form
-    (tested "partbody" (str "b" ∷ []), tested_form (part_body (record { kind = Is; comparator = Casemap }) (as_written "b" ∷ []))) ∷
-    (tested "partdigest" (str "b" ∷ []), tested_form (part_digest (as_written "b" ∷ []))) ∷ [])  -- digest form
+    (tested "partbody" (str "b" ∷ []), tested_form (asks (PartBody (record { kind = Is; comparator = Casemap })) (keys_as (as_written "b" ∷ [])) 10)) ∷
+    (tested "partdigest" (str "b" ∷ []), tested_form (asks PartDigest (keys_as (as_written "b" ∷ [])) 10)) ∷ [])  -- digest form
 forms_of_parts = refl
 
 faults_of_parts : Gives fault_of (
@@ -219,10 +227,10 @@ named_v = str "V" ∷ []
 
 forms_of_takes : Gives form_of (
     -- Take :First 3 "V"; the name is in lower case in the form
-    (taking (tag "First" ∷ amount 3 ∷ named_v), Some (looped (take_first 3 (codes "v")))) ∷
+    (taking (tag "First" ∷ amount 3 ∷ named_v), Some (looped 9 (does (act.Take 3 (codes "v")) [] 11))) ∷
     -- as much as a value may have, where no number is given or a larger one
-    (taking named_v, Some (looped (take_first 4096 (codes "v")))) ∷
-    (taking (number_first 4097 ++ named_v), Some (looped (take_first 4096 (codes "v")))) ∷ [])  -- no more taken
+    (taking named_v, Some (looped 9 (does (act.Take 4096 (codes "v")) [] 11))) ∷
+    (taking (number_first 4097 ++ named_v), Some (looped 9 (does (act.Take 4096 (codes "v")) [] 11))) ∷ [])  -- no more taken
 forms_of_takes = refl
 
 faults_of_takes : Gives fault_of (

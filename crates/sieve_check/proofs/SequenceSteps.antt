@@ -12,7 +12,8 @@ use Rattle.sieve_check.specs.FormOf.{Forms, after_none, closed as closed_forms}
 use Rattle.sieve_check.specs.Signatures.{◌>>=◌}
 use Rattle.sieve_check.specs.Sequences.{onto, choice_onto, joined, has_branch, is_open, finished_by, Closed, Pushed, Unfit}
 use Rattle.sieve_check.specs.Typed.{CommandForm, choice, CommandForms, no_command, command, BranchForms, no_branch, otherwise, branch}
-use Rattle.sieve_check.specs.TypedView.{GuardedForm, test_form, branch_form, command_form, commands_of, commands_form, branch_forms, else_form}
+use Rattle.sieve_check.specs.TypedView.{GuardedForm, test_form, command_form, commands_of, commands_form}
+use Rattle.sieve_check.specs.Private.{branch_form, branch_forms, else_form}
 use Rattle.sieve_check.proofs.Forms.{form_if, form_branch}
 
 onto-append : (cs : List CommandForm) (c : CommandForm) (others : CommandForms) → onto (cs ++ c ∷ []) others ≡ onto cs (command c others)
@@ -28,12 +29,12 @@ onto_more : (cs : List Command) (c : Command) (others : CommandForms) → onto (
 onto_more cs c others = ap (λ fs. onto fs others) (map-append command_form cs (c ∷ [])) ∙ onto-append (map command_form cs) (command_form c) others
 
 -- one more branch
-branches_more : (bs : List Branch) (b : Branch) (more : BranchForms) → branch_forms (bs ++ b ∷ []) more ≡ branch_forms bs (branch (test_form b.test) (commands_form b.block.items) more)
-branches_more [] b more = ap (λ (g : GuardedForm). branch g.test g.block more) (form_branch b)
-branches_more (x ∷ bs) b more = ap (branch (branch_form x).test (branch_form x).block) (branches_more bs b more)
+branches_more : (bs : List Branch) (b : Branch) (more : BranchForms) → branch_forms (bs ++ b ∷ []) more ≡ branch_forms bs (branch (test_form b.test) (commands_form b.block.items) b.at more)
+branches_more [] b more = ap (λ (g : GuardedForm). branch g.test g.block g.at more) (form_branch b)
+branches_more (x ∷ bs) b more = ap (branch (branch_form x).test (branch_form x).block (branch_form x).at) (branches_more bs b more)
 
 choice_more : (bs : List Branch) (b : Branch) (more : BranchForms) (others : CommandForms) → has_branch bs ≡ true
-    → choice_onto (bs ++ b ∷ []) more others ≡ choice_onto bs (branch (test_form b.test) (commands_form b.block.items) more) others
+    → choice_onto (bs ++ b ∷ []) more others ≡ choice_onto bs (branch (test_form b.test) (commands_form b.block.items) b.at more) others
 choice_more [] b more others h = absurd (both_ways false refl h)
 choice_more (x ∷ bs) b more others h = ap (λ f. command (choice f) others) (branches_more (x ∷ bs) b more)
 
@@ -102,12 +103,12 @@ action_added old shut_one new c is more same rest = added old new (λ cs. comman
 pub first_added : (old shut_one new : Sequence) (b : Branch) → Closed old no_branch shut_one → new.commands.items ≡ shut_one.commands.items → new.branches.items ≡ shut_one.branches.items ++ b ∷ []
     → Pushed old (First b) new
 first_added old shut_one new b is same more rest =
-    let cs = command (choice (branch (test_form b.test) (commands_form b.block.items) rest.branches)) rest.commands in
+    let cs = command (choice (branch (test_form b.test) (commands_form b.block.items) b.at rest.branches)) rest.commands in
     let alone : new.branches.items ≡ b ∷ [] = more ∙ ap (λ bs. bs ++ b ∷ []) is.none in
     after_all old cs
     ∙ ap Some (sym (is.same cs)
     ∙ ap (λ bs. onto (map command_form shut_one.commands.items) (choice_onto bs no_branch cs)) is.none
-    ∙ ap (λ (g : GuardedForm). onto (map command_form shut_one.commands.items) (command (choice (branch g.test g.block rest.branches)) rest.commands)) (sym (form_branch b))
+    ∙ ap (λ (g : GuardedForm). onto (map command_form shut_one.commands.items) (command (choice (branch g.test g.block g.at rest.branches)) rest.commands)) (sym (form_branch b))
     ∙ ap (λ xs. onto (map command_form xs) (choice_onto (b ∷ []) rest.branches rest.commands)) (sym same)
     ∙ ap (λ bs. onto (map command_form new.commands.items) (choice_onto bs rest.branches rest.commands)) (sym alone))
     ∙ sym (wide new (ap has_branch alone) rest)
@@ -115,7 +116,7 @@ first_added old shut_one new b is same more rest =
 -- a branch after another
 pub next_added : (old new : Sequence) (b : Branch) → new.commands ≡ old.commands → new.branches.items ≡ old.branches.items ++ b ∷ [] → is_open old ≡ true → Pushed old (Next b) new
 next_added old new b same more open_before rest =
-    wide old open_before (record { branches = branch (test_form b.test) (commands_form b.block.items) rest.branches; commands = rest.commands })
+    wide old open_before (record { branches = branch (test_form b.test) (commands_form b.block.items) b.at rest.branches; commands = rest.commands })
     ∙ ap Some (sym (
     ap (λ (cs : Vec Command). onto (map command_form cs.items) (choice_onto new.branches.items rest.branches rest.commands)) same
     ∙ ap (λ bs. onto (map command_form old.commands.items) (choice_onto bs rest.branches rest.commands)) more
@@ -132,7 +133,7 @@ last_added old new block is open_before rest = with (closed_forms rest) ∙ sym 
 
 -- where no choice is open no branch can be added
 pub no_next : (old : Sequence) (b : Branch) → old.branches.items ≡ [] → Unfit old (Next b)
-no_next old b none rest = shut old none (record { branches = branch (test_form b.test) (commands_form b.block.items) rest.branches; commands = rest.commands })
+no_next old b none rest = shut old none (record { branches = branch (test_form b.test) (commands_form b.block.items) b.at rest.branches; commands = rest.commands })
 
 pub no_last : (old : Sequence) (block : Vec Command) → old.branches.items ≡ [] → Unfit old (Last block)
 no_last old block none rest = with (closed_forms rest) where

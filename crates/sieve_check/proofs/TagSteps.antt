@@ -1,5 +1,5 @@
 -- What holds while tags are read.
-use Rattle.std.proofs.Common.{◌≡◌, ◌∙◌, ◌⊎◌, ℕ, zero, suc, ◌<◌, ◌==◌, Bool, true, false, not, if◌then◌else◌, List, [], ◌∷◌, ◌++◌, take, drop, Option, Some, None, refl, sym, ap, subst, arith, inl, inr}
+use Rattle.std.proofs.Common.{◌≡◌, ◌∙◌, ◌⊎◌, ℕ, zero, suc, ◌<◌, ◌==◌, Bool, true, false, not, if◌then◌else◌, List, [], ◌∷◌, ◌++◌, take, drop, Option, Some, None, option_map, Ok, refl, sym, ap, subst, arith, inl, inr}
 use Rattle.std.proofs.lemmas.Bool.{eq-eqb}
 use Rattle.std.proofs.lemmas.Option.{same_Some}
 use Rattle.sieve_parser.specs.Tree.{ArgumentTree, text, amount, label}
@@ -11,8 +11,10 @@ use Rattle.sieve_check.specs.declared.signature.Signature.{Signature}
 use Rattle.sieve_check.specs.declared.signature.Tags.{Tags}
 use Rattle.sieve_check.specs.Names.{comparator_named, tag_named}
 use Rattle.sieve_check.specs.Rules.{lists_read}
-use Rattle.sieve_check.specs.Signatures.{Read, Given, nothing_given, takes_tag, with_tag, tags_with, add_tag, awaited, selects, is_list, with_argument, tags_read, is_complete, reading}
-use Rattle.sieve_check.proofs.Options.{step_some, map_some, if_some, both_true, not_both}
+use Rattle.sieve_check.specs.Arguments.{Awaiting, awaiting, named_so, reading, rest_read}
+use Rattle.sieve_check.specs.Signatures.{Read, Given, nothing_given, takes_tag, with_tag, tags_with, add_tag, awaited, selects, is_list, with_argument}
+use Rattle.sieve_check.proofs.Options.{map_some, if_some, both_true, not_both}
+use Rattle.sieve_check.proofs.Unread.{end_of, expected_some, read_so, sound_both}
 
 -- ---- one tag, and its argument
 
@@ -89,24 +91,29 @@ module _ (signature : Signature) (P : Option Tag → Given → List ArgumentTree
     pub tag : (tag : Tag) (name : List ℕ) (given : Given) (args : List ArgumentTree) → takes_tag signature tag given.tags ≡ true → P None given (label name ∷ args) → P (awaited tag) (with_more tag given) args
     pub argument : (tag : Tag) (a : ArgumentTree) (given more : Given) (args : List ArgumentTree) → with_argument tag a given ≡ Some more → P (Some tag) given (a ∷ args) → P None more args
 
+  abbrev tag_of : Option Awaiting → Option Tag
+  tag_of = option_map (λ (a : Awaiting). a.tag)
+
+  tag_awaited : (name : List ℕ) (o : Option Tag) → o ≡ tag_of (option_map (named_so name) o)
+  tag_awaited name None = refl
+  tag_awaited name (Some tag) = refl
+
   module _ (kept : IsKept) where
-    pub kept_to_end : (given : Given) (last : Option Tag) (args : List ArgumentTree) (read : Read) → tags_read signature given last args ≡ Some read → P last given args → P None (given_in read) read.positional
-    kept_to_end given None (label name ∷ args) read h p =
-        let tag = step_some (tag_named name) _ read h in
-        let more = step_some (add_tag signature tag.0 given) _ read tag.2 in
+    pub kept_to_end : (all : List ArgumentTree) (given : Given) (last : Option Awaiting) (args : List ArgumentTree) (read : Read) → rest_read signature all given last args ≡ Ok read → P (tag_of last) given args → P None (given_in read) read.positional
+    kept_to_end all given None (label name ∷ args) read h p =
+        let tag = expected_some (tag_named name) _ _ read h in
+        let more = expected_some (add_tag signature tag.0 given) _ _ read tag.2 in
         let step = added signature tag.0 given more.0 more.1 in
-        kept_to_end more.0 (awaited tag.0) args read more.2 (subst (λ (g : Given). P (awaited tag.0) g args) step.1 (kept.tag tag.0 name given args step.0 p))
-    kept_to_end given None args read h p = subst (λ (r : Read). P None (given_in r) r.positional) (same_Some _ read h) p
-    kept_to_end given (Some tag) [] read h p = absurd (cc)
-    kept_to_end given (Some tag) (a ∷ args) read h p =
-        let more = step_some (with_argument tag a given) _ read h in
-        kept_to_end more.0 None args read more.2 (kept.argument tag a given more.0 args more.1 p)
+        let after = subst (λ (g : Given). P (awaited tag.0) g args) step.1 (kept.tag tag.0 name given args step.0 p) in
+        kept_to_end all more.0 (awaiting name tag.0) args read more.2 (subst (λ (t : Option Tag). P t more.0 args) (tag_awaited name (awaited tag.0)) after)
+    kept_to_end all given None args read h p = subst (λ (r : Read). P None (given_in r) r.positional) (sound_both _ (end_of given args) read h).1 p
+    kept_to_end all given (Some last) [] read h p = absurd (cc)
+    kept_to_end all given (Some last) (a ∷ args) read h p =
+        let more = expected_some (with_argument last.tag a given) _ _ read h in
+        kept_to_end all more.0 None args read more.2 (kept.argument last.tag a given more.0 args more.1 p)
 
     pub kept_by_reading : (args : List ArgumentTree) (read : Read) → reading signature args ≡ Some read → P None nothing_given args → P None (given_in read) read.positional
-    kept_by_reading args read h p =
-        let r = step_some (tags_read signature nothing_given None args) _ read h in
-        let same = same_Some r.0 read (if_some (is_complete signature r.0) r.0 read r.2).1 in
-        kept_to_end nothing_given None args read (r.1 ∙ ap Some same) p
+    kept_by_reading args read h p = kept_to_end args nothing_given None args read (read_so signature args read h) p
 
 -- ---- the argument of `:param`
 
@@ -179,13 +186,16 @@ number_read signature args read h =
     } in
     kept_by_reading signature P kept args read h (λ n none. absurd (cc))
 
--- where nothing is selected, the lists are those behind the tags
+-- where nothing is selected, there is none, and the lists are those behind the tags
+pub none_selected : (signature : Signature) (args : List ArgumentTree) (read : Read) → signature.selecting ≡ false → reading signature args ≡ Some read → read.params ≡ []
+none_selected signature args read plain h =
+    let is = selecting_read signature args read h in
+    subst (λ selector. HasArgument selector read.params) (is.unselected plain) is.params
+
 none_between : (xs : List ArgumentTree) → take 1 xs ++ [] ++ drop 1 xs ≡ xs
 none_between [] = refl
 none_between (x ∷ xs) = refl
 
 pub only_behind : (signature : Signature) (args : List ArgumentTree) (read : Read) → signature.selecting ≡ false → reading signature args ≡ Some read → lists_read read ≡ read.positional
 only_behind signature args read plain h =
-    let is = selecting_read signature args read h in
-    let params : read.params ≡ [] = subst (λ selector. HasArgument selector read.params) (is.unselected plain) is.params in
-    ap (λ params. take 1 read.positional ++ params ++ drop 1 read.positional) params ∙ none_between read.positional
+    ap (λ params. take 1 read.positional ++ params ++ drop 1 read.positional) (none_selected signature args read plain h) ∙ none_between read.positional

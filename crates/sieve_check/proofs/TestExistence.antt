@@ -1,6 +1,6 @@
 -- A test of which nothing is wrong has a typed form, which is within the limits and has the variables that its visits bring.
-use Rattle.std.proofs.Common.{◌≡◌, ℕ, ◌≤◌, length, Bool, true, false, if◌then◌else◌, List, [], ◌∷◌, ◌++◌, All, Option, Some, None, option_map, refl, sym, ap, subst, ◌∙◌}
-use Rattle.std.specs.Prelude.{is_some, flat_map}
+use Rattle.std.proofs.Common.{◌≡◌, ℕ, ◌≤◌, length, Bool, true, false, if◌then◌else◌, List, [], ◌∷◌, ◌++◌, All, Option, Some, None, option_map, refl, sym, ap, subst, ◌∙◌, arith}
+use Rattle.std.specs.Prelude.{is_some}
 use Rattle.std.specs.List.{find, list_any}
 use Rattle.std.specs.Option.{option_and_then}
 use Rattle.std.proofs.lemmas.Bool.{ltb-false, ltb-true}
@@ -14,27 +14,33 @@ use Rattle.sieve_check.specs.declared.names.TestName.{TestName}
 use Rattle.sieve_check.specs.declared.names.TestName.TheVariants.{Constant, Not, AllOf, AnyOf, Header, Exists, Size, String, PartSize, PartBody, PartDigest}
 use Rattle.sieve_check.specs.declared.signature.Positional.TheVariants as positional
 use Rattle.sieve_check.specs.declared.typed.Order.{Order}
+use Rattle.sieve_check.specs.declared.typed.Question.{Question}
+use Rattle.sieve_check.specs.declared.typed.Question.TheVariants as question
+use Rattle.sieve_check.specs.declared.typed.Takes.{Takes}
+use Rattle.bytecode_format.specs.declared.selection.Selector.{Selector}
+use Rattle.bytecode_format.specs.declared.selection.Selector.TheVariants.{Param}
 use Rattle.sieve_check.specs.declared.signature.Signature.{Signature}
 use Rattle.sieve_check.specs.declared.string_faults.StringFault.TheVariants.{Long}
 use Rattle.sieve_check.specs.declared.signature.Tests.{Tests}
 use Rattle.sieve_check.specs.declared.signature.Tests.TheVariants.{Nothing, One, Bracketed}
 use Rattle.sieve_check.specs.Bounded.{IsBoundedTest, AreBoundedTests, IsTestIn, AreTestsIn}
-use Rattle.sieve_check.specs.FormOf.{InnerForms, none, one, bracketed, number_in, match_of, scope_of, size_of, test_of, test_form_of, inner_forms_of, more_forms_of}
+use Rattle.sieve_check.specs.FormOf.{InnerForms, none, one, bracketed, number_in, match_of, scope_of, size_of, question_of, strings_in, asking_of, test_of, test_form_of, inner_forms_of, more_forms_of}
 use Rattle.sieve_check.specs.Names.{test_named}
-use Rattle.sieve_check.specs.Arguments.{arguments_cause}
+use Rattle.sieve_check.specs.Arguments.{arguments_cause, reading}
 use Rattle.sieve_check.specs.Causes.{Cause, about, plain}
+use Rattle.sieve_check.specs.Questions.{row_of, no_list, names_alone, keys_alone, names_and_keys, takes_params}
 use Rattle.sieve_check.specs.Rules.{Visit, where_required, names_by, cause_by_name, known_test_cause, read_test_cause, ill_formed_test, tests_cause, test_place_cause, long_string_cause, many_strings_cause, large_cause, large_mention_cause, lacking_cause, string_has, test_needs, test_may_stand, has_many_strings, Mentions, no_mention, expanding, strings_read, lists_read, test_mentions, names_mentioned, same_tests, kind_of, strings_of, test_visits, tests_visits, more_visits, looks_inside, takes_tests}
-use Rattle.sieve_check.specs.Signatures.{◌>>=◌, Read, is_positional, is_complete, reading, test_signature}
+use Rattle.sieve_check.specs.Signatures.{◌>>=◌, Read, is_positional, test_signature}
 use Rattle.sieve_check.specs.Surroundings.{Context}
-use Rattle.sieve_check.specs.Typed.{TestForm, constant, negation, all_of, any_of, header, exists, size, string, part_size, part_body, part_digest, TestForms, no_test as no_other, test}
+use Rattle.sieve_check.specs.Typed.{TestForm, asks, negation, all_of, any_of, TestForms, no_test as no_other, test}
 use Rattle.sieve_check.specs.Variables.{test_variables, tests_variables}
 use Rattle.sieve_check.proofs.Faultless.{AreFaultless, faultless_both, names_brought}
-use Rattle.sieve_check.proofs.Lists.{expands, has_long_string, is_large, read_short, all_sound, one_listed, two_listed, three_listed}
+use Rattle.sieve_check.proofs.Lists.{expands, has_long_string, is_large, read_short, all_sound, IsGiven, Listed, all_listed, none_listed, one_given, two_given, names_first, names_only, keys_only}
 use Rattle.sieve_check.proofs.Finding.{none_where}
 use Rattle.sieve_check.proofs.Options.{all_taken, both_none, map_none, if_none, unless_none, not_false, some_of}
-use Rattle.sieve_check.proofs.Unread.{complete_parts, complete_read, unread_either}
-use Rattle.sieve_check.proofs.TagSteps.{HasArgument, selecting_read, only_behind}
-use Rattle.sieve_check.proofs.Templates.{IsSound, names_at, mentioned_at, expanding_names}
+use Rattle.sieve_check.proofs.Unread.{IsComplete, complete_read, unread_either}
+use Rattle.sieve_check.proofs.TagSteps.{HasArgument, selecting_read, none_selected, only_behind}
+use Rattle.sieve_check.proofs.Templates.{IsSound, mentioned_at, expanding_names}
 
 -- ---- what follows from there being no fault
 
@@ -53,8 +59,9 @@ names_found mentions o name own inner brought is same inside =
 pub record WellFormed (signature : Signature) (args : List ArgumentTree) : Type 0 where
   pub read : Read
   pub is : reading signature args ≡ Some read
-  pub complete : is_complete signature read ≡ true
+  pub complete : IsComplete signature read
   pub alone : signature.selecting ≡ false → lists_read read ≡ read.positional
+  pub unselected : signature.selecting ≡ false → read.params ≡ []
 
 -- those with which nothing is wrong were
 pub well_formed : (signature : Signature) (args : List ArgumentTree) → arguments_cause signature args ≡ None → WellFormed signature args
@@ -65,6 +72,7 @@ well_formed signature args h =
       is = read.1;
       complete = complete_read signature args read.0 read.1;
       alone = λ plain. only_behind signature args read.0 plain read.1;
+      unselected = λ plain. none_selected signature args read.0 plain read.1;
     }
 
 -- no string that is expanded has too many segments
@@ -86,7 +94,7 @@ pub record TestWellFormed (s : Context) (name : TestName) (args : List ArgumentT
   pub few : length (strings_of (lists_read form.read)) ≤ max_test_strings
   pub sound : All (IsSound (expands s)) (strings_of (lists_read form.read))
 
-test_well_formed : (s : Context) (name : TestName) (args : List ArgumentTree) (tests : Tests) → known_test_cause s name args tests ≡ None → TestWellFormed s name args tests
+pub test_well_formed : (s : Context) (name : TestName) (args : List ArgumentTree) (tests : Tests) → known_test_cause s name args tests ≡ None → TestWellFormed s name args tests
 test_well_formed s name args tests h =
     let a = both_none (lacking_cause s.required (test_needs name args)) _ h in
     let b = both_none (arguments_cause (test_signature name) args) _ a.1 in
@@ -148,86 +156,77 @@ pub unnamed : (b : Bool) (xs : List ArgumentTree) → is_positional positional.N
 unnamed b [] h = sym (expanding_names b [])
 unnamed b (x ∷ xs) h = absurd (cc)
 
-numbered : (b : Bool) (xs : List ArgumentTree) → is_positional positional.Number xs ≡ true → (n : ℕ) × (number_in xs ≡ Some n) × ([] ≡ mentioned_at b (expanding (strings_of xs)))
-numbered b (amount n ∷ []) h = (n, refl, sym (expanding_names b []))
-numbered b _ h = absurd (cc)
+one_number : (xs : List ArgumentTree) → is_positional positional.Number xs ≡ true → (n : ℕ) × (xs ≡ amount n ∷ [])
+one_number (amount n ∷ []) h = (n, refl)
+one_number _ h = absurd (cc)
+
+no_argument : (xs : List ArgumentTree) → is_positional positional.Nothing xs ≡ true → xs ≡ []
+no_argument [] h = refl
+no_argument (x ∷ xs) h = absurd (cc)
 
 -- the names that a test brings by its own arguments
 abbrev own_names : Context → Read → List (List ℕ)
 own_names s read = mentioned_at (expands s) (expanding (strings_of (lists_read read)))
 
 -- those of what takes no argument
-none_own : (s : Context) (signature : Signature) (read : Read) → signature.positional ≡ positional.Nothing → is_complete signature read ≡ true → lists_read read ≡ read.positional → [] ≡ own_names s read
+none_own : (s : Context) (signature : Signature) (read : Read) → signature.positional ≡ positional.Nothing → IsComplete signature read → lists_read read ≡ read.positional → [] ≡ own_names s read
 none_own s signature read nothing h alone =
-    unnamed (expands s) read.positional (ap (λ p. is_positional p read.positional) (sym nothing) ∙ (complete_parts signature read h).1)
+    unnamed (expands s) read.positional (ap (λ p. is_positional p read.positional) (sym nothing) ∙ h.positional)
     ∙ ap (λ xs. mentioned_at (expands s) (expanding (strings_of xs))) (sym alone)
 
--- a comparison of a size
-module _ (s : Context) (make : Order → ℕ → TestForm) (within : (order : Order) (n : ℕ) → IsBoundedTest (make order n)) (around : (order : Order) (n : ℕ) → IsTestIn (length s.loops) (make order n)) (plain : (order : Order) (n : ℕ) → test_variables (make order n) ≡ []) where
-  sized : (read : Read) → is_some read.tags.order ≡ true → is_positional positional.Number read.positional ≡ true → lists_read read ≡ read.positional → Made (length s.loops) (own_names s read ++ []) (size_of make read.tags read.positional)
-  sized read ordered number alone =
-      let order = some_of read.tags.order ordered in
-      let n = numbered (expands s) read.positional number in
-      record {
-        form = make order.0 n.0;
-        is = ap (λ o. o >>= λ order. number_in read.positional >>= λ n. Some (make order n)) order.1 ∙ ap (λ o. o >>= λ n. Some (make order.0 n)) n.1;
-        bounded = within order.0 n.0;
-        around = around order.0 n.0;
-        variables = plain order.0 n.0 ∙ n.2 ∙ ap (λ xs. mentioned_at (expands s) (expanding (strings_of xs))) (sym alone) ∙ sym (append-nil (own_names s read));
-      }
-
--- names that lists bring
-listed_names : (s : Context) (read : Read) (names : List (List ℕ)) → names ≡ flat_map (names_at (expands s)) (strings_of (lists_read read)) → names ≡ own_names s read ++ []
-listed_names s read names h = h ∙ sym (expanding_names (expands s) (strings_of (lists_read read))) ∙ sym (append-nil (own_names s read))
-
--- those that stand behind the tags alone
-positional_names : (s : Context) (read : Read) (names : List (List ℕ)) → lists_read read ≡ read.positional → names ≡ flat_map (names_at (expands s)) (strings_of read.positional) → names ≡ own_names s read ++ []
-positional_names s read names alone h = listed_names s read names (h ∙ ap (λ xs. flat_map (names_at (expands s)) (strings_of xs)) (sym alone))
-
--- and are within the limits
-record BehindTags (s : Context) (read : Read) : Type 0 where
-  few : length (strings_of read.positional) ≤ max_test_strings
-  sound : All (IsSound (expands s)) (strings_of read.positional)
-
-behind_tags : (s : Context) (read : Read) → lists_read read ≡ read.positional → length (strings_of (lists_read read)) ≤ max_test_strings → All (IsSound (expands s)) (strings_of (lists_read read)) → BehindTags s read
-behind_tags s read alone few sound = record {
-  few = subst (λ (xs : List ArgumentTree). length (strings_of xs) ≤ max_test_strings) alone few;
-  sound = subst (λ (xs : List ArgumentTree). All (IsSound (expands s)) (strings_of xs)) alone sound;
+-- a simple test: what it asks, with its strings, where it has the loops that it needs
+asked : (s : Context) (name : TestName) (at : ℕ) (read : Read) (q : Question) → question_of name read ≡ Some q → Listed s (row_of q).takes read → (row_of q).loops ≤ length s.loops → Made (length s.loops) (own_names s read ++ []) (asking_of s.required name at read)
+asked s name at read q is lists around = record {
+  form = asks q lists.strings at;
+  is = ap (λ o. o >>= λ asked. option_map (λ strings. asks asked strings at) (strings_in s.required (row_of asked).takes read)) is ∙ ap (option_map (λ strings. asks q strings at)) lists.is;
+  bounded = lists.bounded;
+  around = around;
+  variables = lists.names ∙ sym (expanding_names (expands s) (strings_of (lists_read read))) ∙ sym (append-nil (own_names s read));
 }
 
-made : (s : Context) (name : TestName) (read : Read) (inner : InnerForms) → is_complete (test_signature name) read ≡ true → ((test_signature name).selecting ≡ false → lists_read read ≡ read.positional)
+-- a comparison of a size
+sized : (s : Context) (make : Order → ℕ → Question) (name : TestName) (at : ℕ) (read : Read) → question_of name read ≡ size_of make read → ((order : Order) (n : ℕ) → (row_of (make order n)).takes ≡ no_list) → ((order : Order) (n : ℕ) → (row_of (make order n)).loops ≤ length s.loops)
+    → is_some read.tags.order ≡ true → is_positional positional.Number read.positional ≡ true → lists_read read ≡ read.positional → Made (length s.loops) (own_names s read ++ []) (asking_of s.required name at read)
+sized s make name at read is unlisted around ordered number alone =
+    let order = some_of read.tags.order ordered in
+    let n = one_number read.positional number in
+    asked s name at read (make order.0 n.0) (is ∙ ap (λ o. o >>= λ order. option_map (make order) (number_in read.positional)) order.1 ∙ ap (λ xs. option_map (make order.0) (number_in xs)) n.1)
+    (subst (λ (takes : Takes). Listed s takes read) (sym (unlisted order.0 n.0)) (none_listed s read (ap strings_of (alone ∙ n.1)))) (around order.0 n.0)
+
+-- the parameters' names of a test of fields
+given_params : (selector : Selector) (params : List ArgumentTree) → HasArgument selector params → IsGiven (takes_params selector) params
+given_params Param params h = h
+given_params _ params h = h
+
+made : (s : Context) (name : TestName) (at : ℕ) (read : Read) (inner : InnerForms) → IsComplete (test_signature name) read → ((test_signature name).selecting ≡ false → lists_read read ≡ read.positional) → ((test_signature name).selecting ≡ false → read.params ≡ [])
     → same_tests (test_signature name).tests (inner_kind inner) ≡ true → HasArgument read.tags.selector read.params → length (strings_of (lists_read read)) ≤ max_test_strings → All (IsSound (expands s)) (strings_of (lists_read read)) → IsBoundedInner inner
-    → test_may_stand s name ≡ true → IsInnerIn (length s.loops) inner → Made (length s.loops) (own_names s read ++ inner_variables inner) (test_of s.required name read inner)
-made s (Constant b) read none complete alone same params few sound inside stands around = record { form = constant b; is = refl; bounded = tt; around = tt; variables = ap (λ names. names ++ []) (none_own s (test_signature (Constant b)) read refl complete (alone refl)) }
-made s Not read (one f) complete alone same params few sound inside stands around = record { form = negation f; is = refl; bounded = inside; around = around; variables = ap (λ names. names ++ test_variables f) (none_own s (test_signature Not) read refl complete (alone refl)) }
-made s AllOf read (bracketed f fs) complete alone same params few sound inside stands around = record { form = all_of f fs; is = refl; bounded = inside; around = around; variables = ap (λ names. names ++ (test_variables f ++ tests_variables fs)) (none_own s (test_signature AllOf) read refl complete (alone refl)) }
-made s AnyOf read (bracketed f fs) complete alone same params few sound inside stands around = record { form = any_of f fs; is = refl; bounded = inside; around = around; variables = ap (λ names. names ++ (test_variables f ++ tests_variables fs)) (none_own s (test_signature AnyOf) read refl complete (alone refl)) }
-made s Size read none complete alone same params few sound inside stands around =
-    let parts = complete_parts (test_signature Size) read complete in
-    sized s size (λ order n. tt) (λ order n. tt) (λ order n. refl) read parts.0 parts.1 (alone refl)
-made s PartSize read none complete alone same params few sound inside stands around =
-    let parts = complete_parts (test_signature PartSize) read complete in
-    sized s part_size (λ order n. tt) (λ order n. ltb-true 0 (length s.loops) stands) (λ order n. refl) read parts.0 parts.1 (alone refl)
-made s Header read none complete alone same params few sound inside stands around =
-    let lists = three_listed s (header (match_of read.tags) (scope_of read.tags)) read.tags.selector read.params read.positional (complete_parts (test_signature Header) read complete).1 params few sound in
-    record { form = header (match_of read.tags) (scope_of read.tags) lists.selected lists.first lists.second; is = lists.is; bounded = lists.bounded; around = tt; variables = listed_names s read _ lists.names }
-made s Exists read none complete alone same params few sound inside stands around =
-    let behind = behind_tags s read (alone refl) few sound in
-    let list = one_listed s (exists (scope_of read.tags)) read.positional (complete_parts (test_signature Exists) read complete).1 behind.few behind.sound in
-    record { form = exists (scope_of read.tags) list.list; is = list.is; bounded = list.bounded; around = tt; variables = positional_names s read _ (alone refl) list.names }
-made s PartBody read none complete alone same params few sound inside stands around =
-    let behind = behind_tags s read (alone refl) few sound in
-    let list = one_listed s (part_body (match_of read.tags)) read.positional (complete_parts (test_signature PartBody) read complete).1 behind.few behind.sound in
-    record { form = part_body (match_of read.tags) list.list; is = list.is; bounded = list.bounded; around = ltb-true 0 (length s.loops) stands; variables = positional_names s read _ (alone refl) list.names }
-made s PartDigest read none complete alone same params few sound inside stands around =
-    let behind = behind_tags s read (alone refl) few sound in
-    let list = one_listed s part_digest read.positional (complete_parts (test_signature PartDigest) read complete).1 behind.few behind.sound in
-    record { form = part_digest list.list; is = list.is; bounded = list.bounded; around = ltb-true 0 (length s.loops) stands; variables = positional_names s read _ (alone refl) list.names }
-made s String read none complete alone same params few sound inside stands around =
-    let behind = behind_tags s read (alone refl) few sound in
-    let lists = two_listed s (string (match_of read.tags)) read.positional (complete_parts (test_signature String) read complete).1 behind.few behind.sound in
-    record { form = string (match_of read.tags) lists.first lists.second; is = lists.is; bounded = lists.bounded; around = tt; variables = positional_names s read _ (alone refl) lists.names }
-made s _ read _ complete alone same params few sound inside stands around = absurd (cc)
+    → test_may_stand s name ≡ true → IsInnerIn (length s.loops) inner → Made (length s.loops) (own_names s read ++ inner_variables inner) (test_of s.required name at read inner)
+made s (Constant b) at read none complete alone unselected same params few sound inside stands around =
+    asked s (Constant b) at read (question.Constant b) refl (none_listed s read (ap strings_of (alone refl ∙ no_argument read.positional complete.positional))) (omega arith)
+made s Not at read (one f) complete alone unselected same params few sound inside stands around = record { form = negation f at; is = refl; bounded = inside; around = around; variables = ap (λ names. names ++ test_variables f) (none_own s (test_signature Not) read refl complete (alone refl)) }
+made s AllOf at read (bracketed f fs) complete alone unselected same params few sound inside stands around = record { form = all_of f fs at; is = refl; bounded = inside; around = around; variables = ap (λ names. names ++ (test_variables f ++ tests_variables fs)) (none_own s (test_signature AllOf) read refl complete (alone refl)) }
+made s AnyOf at read (bracketed f fs) complete alone unselected same params few sound inside stands around = record { form = any_of f fs at; is = refl; bounded = inside; around = around; variables = ap (λ names. names ++ (test_variables f ++ tests_variables fs)) (none_own s (test_signature AnyOf) read refl complete (alone refl)) }
+made s Size at read none complete alone unselected same params few sound inside stands around =
+    sized s question.Size Size at read refl (λ order n. refl) (λ order n. omega arith) complete.ordered complete.positional (alone refl)
+made s PartSize at read none complete alone unselected same params few sound inside stands around =
+    sized s question.PartSize PartSize at read refl (λ order n. refl) (λ order n. ltb-true 0 (length s.loops) stands) complete.ordered complete.positional (alone refl)
+made s Header at read none complete alone unselected same params few sound inside stands around =
+    let q = question.Header (record { how = match_of read.tags; scope = scope_of read.tags; selector = read.tags.selector }) in
+    let given = two_given read.positional complete.positional in
+    asked s Header at read q refl (all_listed s (row_of q).takes read (names_first (row_of q).takes read given.0 (given_params read.tags.selector read.params params) given.1) few sound) (omega arith)
+made s Exists at read none complete alone unselected same params few sound inside stands around =
+    let one = one_given read.positional complete.positional in
+    asked s Exists at read (question.Exists (scope_of read.tags)) refl (all_listed s names_alone read (names_only read (unselected refl) one) few sound) (omega arith)
+made s PartBody at read none complete alone unselected same params few sound inside stands around =
+    let one = one_given read.positional complete.positional in
+    asked s PartBody at read (question.PartBody (match_of read.tags)) refl (all_listed s keys_alone read (keys_only read (unselected refl) one) few sound) (ltb-true 0 (length s.loops) stands)
+made s PartDigest at read none complete alone unselected same params few sound inside stands around =
+    let one = one_given read.positional complete.positional in
+    asked s PartDigest at read question.PartDigest refl (all_listed s keys_alone read (keys_only read (unselected refl) one) few sound) (ltb-true 0 (length s.loops) stands)
+made s String at read none complete alone unselected same params few sound inside stands around =
+    let given = two_given read.positional complete.positional in
+    asked s String at read (question.String (match_of read.tags)) refl (all_listed s names_and_keys read (names_first names_and_keys read given.0 (unselected refl) given.1) few sound) (omega arith)
+made s _ at read _ complete alone unselected same params few sound inside stands around = absurd (cc)
 
 -- ---- any test
 
@@ -272,10 +271,10 @@ mutual
       let read = well.form.read in
       let looked = all_looked_at test_signature s (test_named word) name.0 tests name.1 well.same in
       let inner = inner_exists s tests (subst AreFaultless looked h.1) in
-      let f = made s name.0 read inner.inner well.form.complete well.form.alone (ap (same_tests (test_signature name.0).tests) inner.kind ∙ well.same) well.params well.few well.sound inner.bounded well.stands inner.around in
+      let f = made s name.0 token read inner.inner well.form.complete well.form.alone well.form.unselected (ap (same_tests (test_signature name.0).tests) inner.kind ∙ well.same) well.params well.few well.sound inner.bounded well.stands inner.around in
       record {
         form = f.form;
-        is = all_taken (inner_forms_of s.required tests) inner.inner (test_named word) name.0 (λ name. reading (test_signature name) args) read (λ inner name read. test_of s.required name read inner) inner.is name.1 well.form.is
+        is = all_taken (inner_forms_of s.required tests) inner.inner (test_named word) name.0 (λ name. reading (test_signature name) args) read (λ inner name read. test_of s.required name token read inner) inner.is name.1 well.form.is
             ∙ f.is;
         bounded = f.bounded;
         around = f.around;

@@ -1,5 +1,6 @@
--- What is wrong with arguments that a signature can't read.
-use Rattle.std.specs.Prelude.{ℕ, Bool, true, false, not, ◌&&◌, nat_lt, if◌then◌else◌, List, [], ◌∷◌, length, Option, Some, None, is_some, option_map}
+-- How a signature reads arguments, or why it can't.
+use Rattle.std.specs.Prelude.{ℕ, Bool, true, false, not, ◌&&◌, nat_lt, if◌then◌else◌, List, [], ◌∷◌, length, Option, Some, None, is_some, option_map, Result, Ok, Err}
+use Rattle.std.specs.Result.{result_err, result_ok}
 use Rattle.std.specs.Option.{option_or}
 use Rattle.sieve_parser.specs.Tree.{ArgumentTree, label}
 use Rattle.bytecode_format.specs.declared.modifiers.Case.{Case}
@@ -11,10 +12,10 @@ use Rattle.sieve_check.specs.declared.signature.Positional.TheVariants.{Nothing,
 use Rattle.sieve_check.specs.declared.signature.Signature.{Signature}
 use Rattle.sieve_check.specs.declared.signature.Tags.{Tags}
 use Rattle.sieve_check.specs.Names.{tag_named}
-use Rattle.sieve_check.specs.Signatures.{Given, add_tag, asks_for_mime, awaited, is_positional, no_tag, nothing_given, takes_tag, with_argument}
+use Rattle.sieve_check.specs.Signatures.{Given, Read, add_tag, asks_for_mime, awaited, is_positional, no_tag, nothing_given, takes_tag, with_argument}
 use Rattle.sieve_check.specs.declared.causes.ReasonKind.{ReasonKind}
 use Rattle.sieve_check.specs.declared.causes.ReasonKind.TheVariants.{UnknownTag, ForeignTag, RepeatedTag, TwoModifiers, TagArgument, MissingOrder, MissingMime, LateTag, MissingArgument, ExtraArgument, WrongArgument}
-use Rattle.sieve_check.specs.Causes.{Cause, about, plain, or_cause}
+use Rattle.sieve_check.specs.Causes.{Cause, about, plain}
 
 -- a case was given, and it is the other one
 abbrev pub is_other_case : Option Case → Case → Bool
@@ -92,20 +93,37 @@ named_so name tag = record { tag = tag; name = name }
 abbrev pub awaiting : List ℕ → Tag → Option Awaiting
 awaiting name tag = option_map (named_so name) (awaited tag)
 
--- after these tags of all the arguments, of which the last may await its argument: what is wrong
--- with those that are still to come
-abbrev pub rest_cause : Signature → List ArgumentTree → Given → Option Awaiting → List ArgumentTree → Option Cause
-rest_cause signature all given None (label name ∷ args) =
-    or_cause (tag_named name) (about UnknownTag name) (λ tag.
-    or_cause (add_tag signature tag given) (about (untaken_kind signature tag given.tags) name) (λ more.
-    rest_cause signature all more (awaiting name tag) args))
-rest_cause signature all given None args = option_or (positional_cause signature.positional args)
-    (missing_cause signature given.tags all)
-rest_cause signature all given (Some last) (a ∷ args) =
-    or_cause (with_argument last.tag a given) (about (TagArgument last.tag) last.name)
-    (λ more. rest_cause signature all more None args)
-rest_cause signature all given (Some last) [] = Some (about (TagArgument last.tag) last.name)
+-- what follows a value that has to be there; the cause, where it isn't there
+abbrev pub expected : {A B : Type 0} → Option A → Cause → (A → Result B Cause) → Result B Cause
+expected None cause next = Err cause
+expected (Some x) cause next = next x
 
--- what is wrong with arguments, if a signature can't read them
+-- a value with which nothing is wrong, or what is wrong with it
+abbrev pub sound : {A : Type 0} → Option Cause → A → Result A Cause
+sound None x = Ok x
+sound (Some cause) x = Err cause
+
+-- after these tags of all the arguments, of which the last may await its argument: those that are
+-- still to come, and the arguments behind them
+abbrev pub rest_read : Signature → List ArgumentTree → Given → Option Awaiting → List ArgumentTree → Result Read Cause
+rest_read signature all given None (label name ∷ args) =
+    expected (tag_named name) (about UnknownTag name) (λ tag.
+    expected (add_tag signature tag given) (about (untaken_kind signature tag given.tags) name) (λ more.
+    rest_read signature all more (awaiting name tag) args))
+rest_read signature all given None args =
+    sound (option_or (positional_cause signature.positional args) (missing_cause signature given.tags all))
+    (record { tags = given.tags; params = given.params; name = given.name; positional = args })
+rest_read signature all given (Some last) (a ∷ args) =
+    expected (with_argument last.tag a given) (about (TagArgument last.tag) last.name)
+    (λ more. rest_read signature all more None args)
+rest_read signature all given (Some last) [] = Err (about (TagArgument last.tag) last.name)
+
+-- the arguments, read by a signature: tags in any order, then the others; or what is wrong with them
+abbrev pub arguments_read : Signature → List ArgumentTree → Result Read Cause
+arguments_read signature args = rest_read signature args nothing_given None args
+
+abbrev pub reading : Signature → List ArgumentTree → Option Read
+reading signature args = result_ok (arguments_read signature args)
+
 abbrev pub arguments_cause : Signature → List ArgumentTree → Option Cause
-arguments_cause signature args = rest_cause signature args nothing_given None args
+arguments_cause signature args = result_err (arguments_read signature args)

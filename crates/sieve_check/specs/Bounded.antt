@@ -1,11 +1,16 @@
 -- What a script's limits say of its typed form.
-use Rattle.std.specs.Prelude.{ℕ, suc, ◌+◌, ◌<◌, ◌≤◌, List, length, All, bytes_eq}
+use Rattle.std.specs.Prelude.{◌≡◌, ℕ, suc, ◌<◌, ◌≤◌, Bool, true, false, List, [], length, All, bytes_eq}
 use Rattle.octets.specs.Limits.{max_loops, max_script, max_segments, max_string, max_test_strings, max_value, max_variables}
 use Rattle.octets.specs.Once.{each_once}
 use Rattle.sieve_references.specs.References.{last_capture}
 use Rattle.sieve_check.specs.declared.typed.Segment.{Segment}
 use Rattle.sieve_check.specs.declared.typed.Segment.TheVariants.{Text, Variable, Capture}
-use Rattle.sieve_check.specs.Typed.{Template, Selected, whole, main, sub, content_type, params, params_of, TestForm, constant, negation, all_of, any_of, header, exists, size, string, part_size, part_body, part_digest, TestForms, no_test, test, CommandForm, keep, discard, file_into, set, take_first, store, for_every_part, leave, stop, choice, CommandForms, no_command, command, BranchForms, no_branch, otherwise, branch}
+use Rattle.sieve_check.specs.declared.typed.Act.{Act}
+use Rattle.sieve_check.specs.declared.typed.Act.TheVariants.{Keep, Discard, FileInto, Set, Take, Store, Leave, Stop}
+use Rattle.sieve_check.specs.declared.typed.Takes.{Takes}
+use Rattle.sieve_check.specs.Typed.{Template, Strings, in_order, TestForm, asks, negation, all_of, any_of, TestForms, no_test, test, CommandForm, does, for_every_part, choice, CommandForms, no_command, command, BranchForms, no_branch, otherwise, branch}
+use Rattle.sieve_check.specs.Acts.{act_row, act_strings}
+use Rattle.sieve_check.specs.Questions.{row_of}
 use Rattle.sieve_check.specs.Extent.{commands_extent, string_extent}
 use Rattle.sieve_check.specs.Variables.{commands_variables}
 
@@ -21,64 +26,45 @@ pub record IsBoundedString (template : Template) : Type 0 where
   pub written : length template < string_extent template
   pub segments : All IsBoundedSegment template
 
--- the list of a test has a string, and no more than one test may have
-pub record IsBoundedList (strings : List Template) : Type 0 where
-  pub some : 0 < length strings
-  pub few : length strings ≤ max_test_strings
-  pub bounded : All IsBoundedString strings
+-- a list that is taken has a string, and one that isn't has none
+abbrev pub IsAsTaken : Bool → List Template → Type 0
+IsAsTaken true strings = 0 < length strings
+IsAsTaken false strings = strings ≡ []
 
--- the same of two lists of a test, together
-pub record AreBoundedLists (first second : List Template) : Type 0 where
-  pub some_first : 0 < length first
-  pub some_second : 0 < length second
-  pub few : length first + length second ≤ max_test_strings
-  pub bounded_first : All IsBoundedString first
-  pub bounded_second : All IsBoundedString second
-
--- where a test takes parameters, there are names of some
-abbrev pub HasParams : Selected → Type 0
-HasParams (params names) = 0 < length names
-HasParams whole = Unit {0}
-HasParams main = Unit {0}
-HasParams sub = Unit {0}
-HasParams content_type = Unit {0}
-
--- the names, parameters and keys of a test together
-pub record IsBoundedHeader (selected : Selected) (names keys : List Template) : Type 0 where
-  pub lists : AreBoundedLists names keys
-  pub some_params : HasParams selected
-  pub few : length names + length (params_of selected) + length keys ≤ max_test_strings
-  pub bounded_params : All IsBoundedString (params_of selected)
+-- the strings of a test are in the lists that it takes, and no more than one test may have
+pub record AreBoundedStrings (takes : Takes) (strings : Strings) : Type 0 where
+  pub names : IsAsTaken takes.names strings.names
+  pub params : IsAsTaken takes.params strings.params
+  pub keys : IsAsTaken takes.keys strings.keys
+  pub few : length (in_order strings) ≤ max_test_strings
+  pub bounded : All IsBoundedString (in_order strings)
 
 abbrev mutual
   pub IsBoundedTest : TestForm → Type 0
-  IsBoundedTest (constant b) = Unit {0}
-  IsBoundedTest (negation t) = IsBoundedTest t
-  IsBoundedTest (all_of t ts) = IsBoundedTest t × AreBoundedTests ts
-  IsBoundedTest (any_of t ts) = IsBoundedTest t × AreBoundedTests ts
-  IsBoundedTest (header matching scope selected names keys) = IsBoundedHeader selected names keys
-  IsBoundedTest (exists scope names) = IsBoundedList names
-  IsBoundedTest (size order number) = Unit {0}
-  IsBoundedTest (string matching sources keys) = AreBoundedLists sources keys
-  IsBoundedTest (part_size order number) = Unit {0}
-  IsBoundedTest (part_body matching keys) = IsBoundedList keys
-  IsBoundedTest (part_digest keys) = IsBoundedList keys
+  IsBoundedTest (asks question strings at) = AreBoundedStrings (row_of question).takes strings
+  IsBoundedTest (negation t at) = IsBoundedTest t
+  IsBoundedTest (all_of t ts at) = IsBoundedTest t × AreBoundedTests ts
+  IsBoundedTest (any_of t ts at) = IsBoundedTest t × AreBoundedTests ts
 
   pub AreBoundedTests : TestForms → Type 0
   AreBoundedTests no_test = Unit {0}
   AreBoundedTests (test t ts) = IsBoundedTest t × AreBoundedTests ts
 
+-- some octets are taken, and no more than a value may have, and some loops are left
+abbrev pub IsBoundedAct : Act → Type 0
+IsBoundedAct Keep = Unit {0}
+IsBoundedAct Discard = Unit {0}
+IsBoundedAct FileInto = Unit {0}
+IsBoundedAct (Set modifiers name) = Unit {0}
+IsBoundedAct (Take most name) = (0 < most) × (most ≤ max_value)
+IsBoundedAct Store = Unit {0}
+IsBoundedAct (Leave left) = 0 < left
+IsBoundedAct Stop = Unit {0}
+
 abbrev mutual
   pub IsBoundedCommand : CommandForm → Type 0
-  IsBoundedCommand keep = Unit {0}
-  IsBoundedCommand discard = Unit {0}
-  IsBoundedCommand (file_into folder) = IsBoundedString folder
-  IsBoundedCommand (set modifiers name value) = IsBoundedString value
-  IsBoundedCommand (take_first most name) = (0 < most) × (most ≤ max_value)
-  IsBoundedCommand (store folder) = IsBoundedString folder
-  IsBoundedCommand (for_every_part cs) = AreBoundedCommands cs
-  IsBoundedCommand (leave loops) = Unit {0}
-  IsBoundedCommand stop = Unit {0}
+  IsBoundedCommand (does act string at) = IsBoundedAct act × All IsBoundedString (act_strings act string)
+  IsBoundedCommand (for_every_part cs at) = AreBoundedCommands cs
   IsBoundedCommand (choice branches) = AreBoundedBranches branches
 
   pub AreBoundedCommands : CommandForms → Type 0
@@ -88,42 +74,27 @@ abbrev mutual
   pub AreBoundedBranches : BranchForms → Type 0
   AreBoundedBranches no_branch = Unit {0}
   AreBoundedBranches (otherwise cs) = AreBoundedCommands cs
-  AreBoundedBranches (branch t cs bs) = IsBoundedTest t × AreBoundedCommands cs × AreBoundedBranches bs
+  AreBoundedBranches (branch t cs at bs) = IsBoundedTest t × AreBoundedCommands cs × AreBoundedBranches bs
 
 -- Below, so many loops are open around.
 
 abbrev mutual
-  -- a test of the current part stands in a loop
+  -- a question has the loops that it needs
   pub IsTestIn : ℕ → TestForm → Type 0
-  IsTestIn loops (constant b) = Unit {0}
-  IsTestIn loops (negation t) = IsTestIn loops t
-  IsTestIn loops (all_of t ts) = IsTestIn loops t × AreTestsIn loops ts
-  IsTestIn loops (any_of t ts) = IsTestIn loops t × AreTestsIn loops ts
-  IsTestIn loops (header matching scope selected names keys) = Unit {0}
-  IsTestIn loops (exists scope names) = Unit {0}
-  IsTestIn loops (size order number) = Unit {0}
-  IsTestIn loops (string matching sources keys) = Unit {0}
-  IsTestIn loops (part_size order number) = 0 < loops
-  IsTestIn loops (part_body matching keys) = 0 < loops
-  IsTestIn loops (part_digest keys) = 0 < loops
+  IsTestIn loops (asks question strings at) = (row_of question).loops ≤ loops
+  IsTestIn loops (negation t at) = IsTestIn loops t
+  IsTestIn loops (all_of t ts at) = IsTestIn loops t × AreTestsIn loops ts
+  IsTestIn loops (any_of t ts at) = IsTestIn loops t × AreTestsIn loops ts
 
   pub AreTestsIn : ℕ → TestForms → Type 0
   AreTestsIn loops no_test = Unit {0}
   AreTestsIn loops (test t ts) = IsTestIn loops t × AreTestsIn loops ts
 
 abbrev mutual
-  -- of a part is taken and a part is stored in a loop, no more loops are left than there are, and
-  -- no more are open than may be
+  -- an act has the loops that it needs, and no more are open than may be
   pub IsCommandIn : ℕ → CommandForm → Type 0
-  IsCommandIn loops keep = Unit {0}
-  IsCommandIn loops discard = Unit {0}
-  IsCommandIn loops (file_into folder) = Unit {0}
-  IsCommandIn loops (set modifiers name value) = Unit {0}
-  IsCommandIn loops (take_first most name) = 0 < loops
-  IsCommandIn loops (store folder) = 0 < loops
-  IsCommandIn loops (for_every_part cs) = (loops < max_loops) × AreCommandsIn (suc loops) cs
-  IsCommandIn loops (leave left) = (0 < left) × (left ≤ loops)
-  IsCommandIn loops stop = Unit {0}
+  IsCommandIn loops (does act string at) = (act_row act).loops ≤ loops
+  IsCommandIn loops (for_every_part cs at) = (loops < max_loops) × AreCommandsIn (suc loops) cs
   IsCommandIn loops (choice branches) = AreBranchesIn loops branches
 
   pub AreCommandsIn : ℕ → CommandForms → Type 0
@@ -133,7 +104,7 @@ abbrev mutual
   pub AreBranchesIn : ℕ → BranchForms → Type 0
   AreBranchesIn loops no_branch = Unit {0}
   AreBranchesIn loops (otherwise cs) = AreCommandsIn loops cs
-  AreBranchesIn loops (branch t cs bs) = IsTestIn loops t × AreCommandsIn loops cs × AreBranchesIn loops bs
+  AreBranchesIn loops (branch t cs at bs) = IsTestIn loops t × AreCommandsIn loops cs × AreBranchesIn loops bs
 
 -- the form is that of a script within the limits
 pub record IsBounded (form : CommandForms) : Type 0 where

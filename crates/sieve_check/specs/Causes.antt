@@ -1,5 +1,5 @@
 -- What is wrong with a command or test, what in it is at fault, and which fault that is.
-use Rattle.std.specs.Prelude.{ℕ, List, [], Option, Some, None}
+use Rattle.std.specs.Prelude.{ℕ, List, []}
 use Rattle.sieve_check.specs.declared.causes.ReasonKind.{ReasonKind}
 use Rattle.sieve_check.specs.declared.causes.ReasonKind.TheVariants.{UnknownCommand, UnknownTest, MissingCapability, UnknownCapability, UnknownTag, ForeignTag, RepeatedTag, TwoModifiers, TagArgument, MissingOrder, MissingMime, LateTag, MissingArgument, ExtraArgument, WrongArgument, WrongTests, WrongEnding, Namespace, CaptureIndex, VariableName, NoSuchLoop, Misplaced, LongString, ManyStrings, ManySegments, LongName, ManyLoops, ManyVariables}
 use Rattle.sieve_check.specs.declared.error.CheckError.{CheckError}
@@ -17,11 +17,6 @@ about kind subject = record { kind = kind; subject = subject }
 
 abbrev pub plain : ReasonKind → Cause
 plain kind = about kind []
-
--- a value that has to be there: the cause where it isn't, else what is wrong with it
-abbrev pub or_cause : {A : Type 0} → Option A → Cause → (A → Option Cause) → Option Cause
-or_cause None cause rest = Some cause
-or_cause (Some x) cause rest = rest x
 
 -- why a command or test is refused, with its name as it is written
 pub record Reason : Type 0 where

@@ -1,5 +1,5 @@
 -- The typed form of a script.
-use Rattle.std.specs.Prelude.{◌≡◌, ℕ, List, [], ◌∷◌, flat_map, map, Option, Some, None, option_map, unwrap_or, if◌then◌else◌, min}
+use Rattle.std.specs.Prelude.{◌≡◌, ℕ, Bool, true, false, List, [], ◌∷◌, flat_map, map, Option, Some, None, option_map, unwrap_or, if◌then◌else◌, min}
 use Rattle.octets.specs.Ascii.{lowercase_of}
 use Rattle.octets.specs.Limits.{max_value}
 use Rattle.sieve_references.specs.References as references
@@ -12,21 +12,26 @@ use Rattle.sieve_check.specs.declared.names.CommandName.TheVariants.{Require, If
 use Rattle.sieve_check.specs.declared.names.TestName.{TestName}
 use Rattle.sieve_check.specs.declared.names.TestName.TheVariants.{Constant, Not, AllOf, AnyOf, Header, Exists, Size, String, PartSize, PartBody, PartDigest}
 use Rattle.sieve_check.specs.declared.names.Capability.TheVariants.{Variables}
+use Rattle.sieve_check.specs.declared.typed.Act.{Act}
+use Rattle.sieve_check.specs.declared.typed.Act.TheVariants as act
 use Rattle.sieve_check.specs.declared.typed.Order.{Order}
+use Rattle.sieve_check.specs.declared.typed.Question.{Question}
+use Rattle.sieve_check.specs.declared.typed.Question.TheVariants as question
+use Rattle.sieve_check.specs.declared.typed.Takes.{Takes}
 use Rattle.sieve_check.specs.declared.typed.Segment.{Segment}
 use Rattle.sieve_check.specs.declared.typed.Segment.TheVariants.{Text, Variable, Capture}
 use Rattle.bytecode_format.specs.declared.modifiers.Modifiers.{Modifiers}
 use Rattle.sieve_check.specs.declared.signature.Tags.{Tags}
 use Rattle.sieve_check.specs.declared.surroundings.Capabilities.{Capabilities}
-use Rattle.bytecode_format.specs.declared.selection.Selector.{Selector}
-use Rattle.bytecode_format.specs.declared.selection.Selector.TheVariants.{Value, Main, Sub, ContentType, Param}
 use Rattle.bytecode_format.specs.declared.selection.Scope.{Scope}
 use Rattle.bytecode_format.specs.declared.selection.Scope.TheVariants.{Message, Part, PartAndBelow}
 use Rattle.sieve_check.specs.Names.{command_named, test_named}
-use Rattle.sieve_check.specs.Signatures.{◌>>=◌, Read, reading, command_signature, test_signature}
+use Rattle.sieve_check.specs.Arguments.{reading}
+use Rattle.sieve_check.specs.Signatures.{◌>>=◌, Read, command_signature, test_signature}
 use Rattle.sieve_check.specs.Rules.{after_invocation, invocation_of, loops_opened}
-use Rattle.sieve_check.specs.Surroundings.{Context, at_start, has_capability, inside, loops_left}
-use Rattle.sieve_check.specs.Typed.{Template, Selected, whole, main, sub, content_type, params, TestForm, constant, negation, all_of, any_of, header, exists, size, string, part_size, part_body, part_digest, TestForms, no_test as no_other, test, CommandForm, keep, discard, file_into, set, take_first, store, for_every_part, leave, stop, choice, CommandForms, no_command, command, BranchForms, no_branch, otherwise, branch}
+use Rattle.sieve_check.specs.Surroundings.{Context, Loop, at_start, has_capability, inside, loops_left}
+use Rattle.sieve_check.specs.Questions.{row_of}
+use Rattle.sieve_check.specs.Typed.{Template, Strings, TestForm, asks, negation, all_of, any_of, TestForms, no_test as no_other, test, CommandForm, does, for_every_part, choice, CommandForms, no_command, command, BranchForms, no_branch, otherwise, branch}
 
 -- the forms of the tests behind arguments: none, one, or a first and others in brackets
 pub data InnerForms : Type 0 where
@@ -55,19 +60,9 @@ abbrev pub text_in : List ArgumentTree → Option (List ℕ)
 text_in (text s ∷ []) = Some s
 text_in _ = None
 
--- two strings: the name of a variable, which is taken as it is written, and its value
-abbrev pub setting_in : Capabilities → Modifiers → List ArgumentTree → Option CommandForm
-setting_in required modifiers (text name ∷ text value ∷ []) =
-    Some (set modifiers (lowercase_of name) (template_of required value))
-setting_in required modifiers _ = None
-
 -- at most how many octets are taken: the number of `:first`, and no more than a value may have, as where it isn't given
 abbrev pub most_of : Tags → ℕ
 most_of tags = min (unwrap_or tags.first max_value) max_value
-
--- the name of a variable, which is taken as it is written
-abbrev pub taking_in : Tags → List ArgumentTree → Option CommandForm
-taking_in tags args = option_map (λ name. take_first (most_of tags) (lowercase_of name)) (text_in args)
 
 -- the strings of a list, which may be one string without brackets
 abbrev pub list_in : Capabilities → ArgumentTree → Option (List Template)
@@ -75,14 +70,18 @@ list_in required (text x) = Some (template_of required x ∷ [])
 list_in required (text_list x xs) = Some (map (template_of required) (x ∷ xs))
 list_in required _ = None
 
--- what is made of one list, and of two
-abbrev pub of_list : {A : Type 0} → Capabilities → (List Template → A) → List ArgumentTree → Option A
-of_list required make (a ∷ []) = option_map make (list_in required a)
-of_list required make _ = None
+-- the strings of the first argument, if a list is taken, and the arguments after it
+abbrev pub list_taken : Capabilities → Bool → List ArgumentTree → Option (List Template × List ArgumentTree)
+list_taken required false args = Some ([], args)
+list_taken required true [] = None
+list_taken required true (a ∷ args) = option_map (λ strings. (strings, args)) (list_in required a)
 
-abbrev pub of_lists : {A : Type 0} → Capabilities → (List Template → List Template → A) → List ArgumentTree → Option A
-of_lists required make (a ∷ b ∷ []) = list_in required a >>= λ first. option_map (make first) (list_in required b)
-of_lists required make _ = None
+-- the strings of a test: of the lists behind the tags first the names, then the keys
+abbrev pub strings_in : Capabilities → Takes → Read → Option Strings
+strings_in required takes read =
+    list_taken required takes.names read.positional >>= λ names. list_taken required takes.params read.params
+    >>= λ params. list_taken required takes.keys names.1
+    >>= λ keys. Some (record { names = names.0; params = params.0; keys = keys.0 })
 
 -- how values and keys are matched: without a tag by `:is`, and by `i;ascii-casemap`
 abbrev pub match_of : Tags → Match
@@ -92,49 +91,44 @@ match_of tags = record { kind = unwrap_or tags.kind Is; comparator = unwrap_or t
 abbrev pub scope_of : Tags → Scope
 scope_of tags = if tags.mime then (if tags.any_child then PartAndBelow else Part) else Message
 
--- what it takes of a field, with the names of the parameters
-abbrev pub selected_by : Selector → List Template → Selected
-selected_by Value names = whole
-selected_by Main names = main
-selected_by Sub names = sub
-selected_by ContentType names = content_type
-selected_by Param names = params names
-
--- the names of the parameters, if they are given
-abbrev pub params_in : Capabilities → List ArgumentTree → Option (List Template)
-params_in required [] = Some []
-params_in required (a ∷ args) = list_in required a
-
--- a test of fields, by what was read
-abbrev pub header_of : Capabilities → Read → Option TestForm
-header_of required read =
-    params_in required read.params >>= λ names. of_lists required
-    (header (match_of read.tags) (scope_of read.tags) (selected_by read.tags.selector names)) read.positional
-
 -- the comparison of a size, that of the message or that of a part
-abbrev pub size_of : (Order → ℕ → TestForm) → Tags → List ArgumentTree → Option TestForm
-size_of make tags args = tags.order >>= λ order. number_in args >>= λ n. Some (make order n)
+abbrev pub size_of : (Order → ℕ → Question) → Read → Option Question
+size_of make read = read.tags.order >>= λ order. option_map (make order) (number_in read.positional)
 
--- a test of this name, with the arguments that were read and the tests behind them
-abbrev pub test_of : Capabilities → TestName → Read → InnerForms → Option TestForm
-test_of required (Constant b) read none = Some (constant b)
-test_of required Not read (one f) = Some (negation f)
-test_of required AllOf read (bracketed f fs) = Some (all_of f fs)
-test_of required AnyOf read (bracketed f fs) = Some (any_of f fs)
-test_of required Header read none = header_of required read
-test_of required Exists read none = of_list required (exists (scope_of read.tags)) read.positional
-test_of required Size read none = size_of size read.tags read.positional
-test_of required String read none = of_lists required (string (match_of read.tags)) read.positional
-test_of required PartSize read none = size_of part_size read.tags read.positional
-test_of required PartBody read none = of_list required (part_body (match_of read.tags)) read.positional
-test_of required PartDigest read none = of_list required part_digest read.positional
-test_of required _ _ _ = None
+-- what a simple test of this name asks, by what was read
+abbrev pub question_of : TestName → Read → Option Question
+question_of (Constant value) read = Some (question.Constant value)
+question_of Header read = Some (question.Header
+    (record { how = match_of read.tags; scope = scope_of read.tags; selector = read.tags.selector }))
+question_of Exists read = Some (question.Exists (scope_of read.tags))
+question_of Size read = size_of question.Size read
+question_of String read = Some (question.String (match_of read.tags))
+question_of PartSize read = size_of question.PartSize read
+question_of PartBody read = Some (question.PartBody (match_of read.tags))
+question_of PartDigest read = Some question.PartDigest
+question_of Not read = None
+question_of AllOf read = None
+question_of AnyOf read = None
+
+-- a simple test, which begins at this token
+abbrev pub asking_of : Capabilities → TestName → ℕ → Read → Option TestForm
+asking_of required name at read =
+    question_of name read >>= λ asked. option_map (λ strings. asks asked strings at)
+    (strings_in required (row_of asked).takes read)
+
+-- a test of this name, which begins at this token, with the arguments that were read and the tests behind them
+abbrev pub test_of : Capabilities → TestName → ℕ → Read → InnerForms → Option TestForm
+test_of required name at read none = asking_of required name at read
+test_of required Not at read (one f) = Some (negation f at)
+test_of required AllOf at read (bracketed f fs) = Some (all_of f fs at)
+test_of required AnyOf at read (bracketed f fs) = Some (any_of f fs at)
+test_of required _ _ _ _ = None
 
 abbrev mutual
   pub test_form_of : Capabilities → InvocationTree → Option TestForm
   test_form_of required (invocation token word args tests) =
       inner_forms_of required tests >>= λ inner. test_named word >>= λ name. reading
-      (test_signature name) args >>= λ read. test_of required name read inner
+      (test_signature name) args >>= λ read. test_of required name token read inner
 
   pub inner_forms_of : Capabilities → TestsTree → Option InnerForms
   inner_forms_of required no_test = Some none
@@ -150,34 +144,61 @@ abbrev mutual
 pub data PartForm : Type 0 where
   nothing : PartForm
   action : CommandForm → PartForm
-  first : TestForm → CommandForms → PartForm
-  next_branch : TestForm → CommandForms → PartForm
+  first : TestForm → CommandForms → ℕ → PartForm
+  next_branch : TestForm → CommandForms → ℕ → PartForm
   last : CommandForms → PartForm
 
--- a command that files into the folder which the arguments are
-abbrev pub filing_in : Capabilities → (Template → CommandForm) → List ArgumentTree → Option PartForm
-filing_in required make args = option_map (λ folder. action (make (template_of required folder))) (text_in args)
+-- an act, with a string that is given
+abbrev pub with_text : Capabilities → Act → List ArgumentTree → Option (Act × Template)
+with_text required this args = option_map (λ string. (this, template_of required string)) (text_in args)
 
--- a command of this name that ends in a semicolon, with the arguments that were read
-abbrev pub simple_of : Context → CommandName → Read → InnerForms → Option PartForm
-simple_of s Require read none = Some nothing
-simple_of s Stop read none = Some (action stop)
-simple_of s Keep read none = Some (action keep)
-simple_of s Discard read none = Some (action discard)
-simple_of s FileInto read none = filing_in s.required file_into read.positional
-simple_of s Store read none = filing_in s.required store read.positional
-simple_of s Take read none = option_map action (taking_in read.tags read.positional)
-simple_of s Break read none = option_map (λ loops. action (leave loops)) (loops_left read.name s.loops)
-simple_of s Set read none = option_map action (setting_in s.required read.tags.modifiers read.positional)
-simple_of s _ _ _ = None
+-- the act of a `set`, by two strings: the name of a variable, which is taken as it is written, and its value
+abbrev pub setting_in : Capabilities → Modifiers → List ArgumentTree → Option (Act × Template)
+setting_in required modifiers (text name ∷ text value ∷ []) =
+    Some (act.Set modifiers (lowercase_of name), template_of required value)
+setting_in required modifiers _ = None
+
+-- that of a `take`, by the name of a variable, which is taken as it is written
+abbrev pub taking_in : Tags → List ArgumentTree → Option (Act × Template)
+taking_in tags args = option_map (λ name. (act.Take (most_of tags) (lowercase_of name), [])) (text_in args)
+
+-- that of a `break` that may name a loop, in these loops
+abbrev pub leaving_in : Option (List ℕ) → List Loop → Option (Act × Template)
+leaving_in name loops = option_map (λ left. (act.Leave left, [])) (loops_left name loops)
+
+-- what an action of this name does, with its string, by what was read
+abbrev pub act_of : Context → CommandName → Read → Option (Act × Template)
+act_of s Keep read = Some (act.Keep, [])
+act_of s Discard read = Some (act.Discard, [])
+act_of s FileInto read = with_text s.required act.FileInto read.positional
+act_of s Set read = setting_in s.required read.tags.modifiers read.positional
+act_of s Take read = taking_in read.tags read.positional
+act_of s Store read = with_text s.required act.Store read.positional
+act_of s Break read = leaving_in read.name s.loops
+act_of s Stop read = Some (act.Stop, [])
+act_of s Require read = None
+act_of s If read = None
+act_of s Elsif read = None
+act_of s Else read = None
+act_of s ForEveryPart read = None
+
+-- an act with its string, which begins at this token
+abbrev pub action_at : ℕ → Act × Template → PartForm
+action_at at done = action (does done.0 done.1 at)
+
+-- a command of this name that ends in a semicolon, which begins at this token, with the arguments that were read
+abbrev pub simple_of : Context → CommandName → ℕ → Read → InnerForms → Option PartForm
+simple_of s Require at read none = Some nothing
+simple_of s name at read none = option_map (action_at at) (act_of s name read)
+simple_of s _ _ _ _ = None
 
 -- a command of this name that ends in a block
-abbrev pub block_of : CommandName → InnerForms → CommandForms → Option PartForm
-block_of If (one f) body = Some (first f body)
-block_of Elsif (one f) body = Some (next_branch f body)
-block_of Else none body = Some (last body)
-block_of ForEveryPart none body = Some (action (for_every_part body))
-block_of _ _ _ = None
+abbrev pub block_of : CommandName → ℕ → InnerForms → CommandForms → Option PartForm
+block_of If at (one f) body = Some (first f body at)
+block_of Elsif at (one f) body = Some (next_branch f body at)
+block_of Else at none body = Some (last body)
+block_of ForEveryPart at none body = Some (action (for_every_part body at))
+block_of _ _ _ _ = None
 
 -- commands, of which the first may go on with a choice before them: those branches, and then the commands
 pub record Forms : Type 0 where
@@ -199,21 +220,21 @@ after_none commands = record { branches = no_branch; commands = commands }
 abbrev pub put : PartForm → Forms → Option Forms
 put nothing rest = option_map after_none (closed rest)
 put (action c) rest = option_map (λ cs. after_none (command c cs)) (closed rest)
-put (first f body) rest = Some (after_none (command (choice (branch f body rest.branches)) rest.commands))
-put (next_branch f body) rest = Some (record { branches = branch f body rest.branches; commands = rest.commands })
+put (first f body at) rest = Some (after_none (command (choice (branch f body at rest.branches)) rest.commands))
+put (next_branch f body at) rest = Some (record { branches = branch f body at rest.branches; commands = rest.commands })
 put (last body) rest = option_map (λ cs. record { branches = otherwise body; commands = cs }) (closed rest)
 
 -- a command that ends in a semicolon
 abbrev pub simple_part : Context → InvocationTree → Option PartForm
 simple_part s (invocation token word args tests) =
     inner_forms_of s.required tests >>= λ inner. command_named word >>= λ name. reading
-    (command_signature name) args >>= λ read. simple_of s name read inner
+    (command_signature name) args >>= λ read. simple_of s name token read inner
 
 -- a command that ends in a block, which has that form
 abbrev pub block_part : Context → InvocationTree → CommandForms → Option PartForm
 block_part s (invocation token word args tests) body =
     inner_forms_of s.required tests >>= λ inner. command_named word >>= λ name. reading
-    (command_signature name) args >>= λ read. block_of name inner body
+    (command_signature name) args >>= λ read. block_of name token inner body
 
 abbrev mutual
   -- there is none where more loops would be open than may be

@@ -1,4 +1,6 @@
 pub mod Typed
+pub mod Questions
+pub mod Acts
 pub mod TypedView
 pub mod Extent
 pub mod Variables
@@ -12,9 +14,10 @@ pub mod Arguments
 pub mod Rules
 pub mod CheckedScript
 pub mod ReasonView
--- how the checker goes; nothing public rests on these
+pub mod LeastFault
+-- private: how the code goes; no public contract names these
 pub mod Refusing
 pub mod Forming
 pub mod Sequences
--- what the readers of arguments answer, private
 pub mod Reading
+pub mod Private

@@ -1,5 +1,5 @@
--- What the readers of arguments answer.
-use Rattle.std.specs.Prelude.{◌≡◌, ℕ, ◌≤◌, List, ◌∷◌, ◌++◌, map, length, Option, Some, None, option_map, Result, MatchOption, MatchResult}
+-- Private: what the readers of arguments answer.
+use Rattle.std.specs.Prelude.{◌≡◌, ℕ, ◌≤◌, List, ◌∷◌, ◌++◌, map, length, Option, None, option_map, Result, Ok, Err, MatchOption, MatchResult}
 use Rattle.std.specs.Borrow.{Bor}
 use Rattle.sieve_parser.specs.Tree.{ArgumentTree, label}
 use Rattle.sieve_parser.specs.View.{argument_tree}
@@ -12,11 +12,11 @@ use Rattle.sieve_check.specs.declared.signature.Reading.{Reading}
 use Rattle.sieve_check.specs.declared.names.Tag.{Tag}
 use Rattle.sieve_check.specs.declared.signature.Signature.{Signature}
 use Rattle.sieve_check.specs.declared.signature.Lists.{Lists}
-use Rattle.sieve_check.specs.Arguments.{arguments_cause, awaiting, rest_cause}
+use Rattle.sieve_check.specs.Arguments.{arguments_read, awaiting, rest_read}
 use Rattle.sieve_check.specs.Causes.{about}
-use Rattle.sieve_check.specs.ReasonView.{cause_view}
+use Rattle.sieve_check.specs.Private.{cause_view}
 use Rattle.sieve_check.specs.Surroundings.{Loop, nameless, called, unreadable}
-use Rattle.sieve_check.specs.Signatures.{Read, Given, awaited, reading, tags_read}
+use Rattle.sieve_check.specs.Signatures.{Read, Given}
 
 -- the name of the first argument and the arguments after it, if that is a tag
 abbrev pub FirstTag : List ArgumentTree → Option (Bor (List ℕ) × Bor (List Argument)) → Type 0
@@ -46,14 +46,12 @@ left_of reading = map argument_tree reading.positional.now
 abbrev pub Settles : Reading → Tag → Option Reading → Type 0
 Settles before tag answer = MatchOption answer
     ((signature : Signature) (all : List ArgumentTree) (name : List ℕ)
-    → rest_cause signature all (given_of before) (awaiting name tag) (left_of before)
-    ≡ Some (about (TagArgument tag) name))
+    → rest_read signature all (given_of before) (awaiting name tag) (left_of before)
+    ≡ Err (about (TagArgument tag) name))
     (λ after. (length after.positional.now ≤ length before.positional.now)
-    × ((signature : Signature) → tags_read signature (given_of before) (awaited tag) (left_of before)
-    ≡ tags_read signature (given_of after) None (left_of after))
     × ((signature : Signature) (all : List ArgumentTree) (name : List ℕ)
-    → rest_cause signature all (given_of before) (awaiting name tag) (left_of before)
-    ≡ rest_cause signature all (given_of after) None (left_of after)))
+    → rest_read signature all (given_of before) (awaiting name tag) (left_of before)
+    ≡ rest_read signature all (given_of after) None (left_of after)))
 
 -- the arguments as they were read, as a definition sees them
 abbrev pub read_of : Reading → Read
@@ -67,5 +65,5 @@ all_lists lists = map argument_tree lists.first.now ++ map argument_tree lists.p
 -- the arguments as they were read, where they could be; else what is wrong with them
 abbrev pub Reads : Signature → List ArgumentTree → Result Reading Cause → Type 0
 Reads signature args answer = MatchResult answer
-    (λ found. (reading signature args ≡ Some (read_of found)) × (arguments_cause signature args ≡ None))
-    (λ cause. (reading signature args ≡ None) × (arguments_cause signature args ≡ Some (cause_view cause)))
+    (λ found. arguments_read signature args ≡ Ok (read_of found))
+    (λ cause. arguments_read signature args ≡ Err (cause_view cause))

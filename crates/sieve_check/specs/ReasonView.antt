@@ -1,11 +1,7 @@
 -- Causes and reasons, as the definitions see them.
-use Rattle.sieve_check.specs.declared.causes.Cause.{Cause}
 use Rattle.sieve_check.specs.declared.causes.Reason.{Reason}
 use Rattle.sieve_check.specs.declared.causes.Refused.{Refused}
 use Rattle.sieve_check.specs.Causes as causes
-
-abbrev pub cause_view : Cause → causes.Cause
-cause_view cause = record { kind = cause.kind; subject = cause.subject.now }
 
 abbrev pub reason_view : Reason → causes.Reason
 reason_view reason = record { kind = reason.kind; name = reason.name.now; subject = reason.subject.now }

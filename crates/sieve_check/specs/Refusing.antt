@@ -1,4 +1,4 @@
--- What the functions answer that look for faults.
+-- Private: what the functions answer that look for faults.
 use Rattle.std.specs.Prelude.{◌≡◌, ℕ, ◌<◌, Bool, true, false, List, [], ◌∷◌, ◌++◌, length, map, take, bytes_eq, Option, Some, None, Result, MatchOption, MatchResult}
 use Rattle.std.specs.Borrow.{Bor}
 use Rattle.octets.specs.Ascii.{lowercase_of}
@@ -17,7 +17,8 @@ use Rattle.sieve_check.specs.declared.surroundings.Capabilities.{Capabilities}
 use Rattle.sieve_check.specs.declared.surroundings.Surroundings.{Surroundings}
 use Rattle.sieve_check.specs.declared.variable_names.VariableNames.{VariableNames}
 use Rattle.sieve_check.specs.Reading.{all_lists, loop_in}
-use Rattle.sieve_check.specs.ReasonView.{cause_view, refused_view}
+use Rattle.sieve_check.specs.ReasonView.{refused_view}
+use Rattle.sieve_check.specs.Private.{cause_view}
 use Rattle.sieve_check.specs.Causes as causes
 use Rattle.sieve_check.specs.Rules as rules
 use Rattle.sieve_check.specs.Rules.{Visit, command_visit, command_lacks, head_visits, looks_inside, max_found, names_mentioned, names_past, refused_among, same_reason, strings_of, test_lacks, test_visit, test_visits}

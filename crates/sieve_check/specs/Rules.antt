@@ -7,8 +7,6 @@ use Rattle.octets.specs.Limits.{max_name, max_segments, max_string, max_test_str
 use Rattle.octets.specs.Once.{with_more}
 use Rattle.sieve_references.specs.References.{Segment, variable, beyond, foreign, segments, is_identifier, names_in}
 use Rattle.sieve_parser.specs.Tree.{ArgumentTree, text, text_list, label, InvocationTree, invocation, TestsTree, no_test, one_test, test_list, MoreTests, last, next, CommandTree, simple, block, CommandsTree, no_command, command}
-use Rattle.sieve_parser.specs.View.{argument_tree}
-use Rattle.sieve_parser.specs.declared.tree.Head.{Head}
 use Rattle.sieve_check.specs.declared.causes.ReasonKind.{ReasonKind}
 use Rattle.sieve_check.specs.declared.causes.ReasonKind.TheVariants.{UnknownCommand, UnknownTest, MissingCapability, UnknownCapability, WrongTests, WrongEnding, Namespace, CaptureIndex, VariableName, NoSuchLoop, Misplaced, LongString, ManyStrings, ManySegments, LongName, ManyLoops, ManyVariables}
 use Rattle.sieve_check.specs.declared.error.CheckError.{CheckError}
@@ -28,10 +26,10 @@ use Rattle.sieve_check.specs.declared.signature.Signature.{Signature}
 use Rattle.sieve_check.specs.declared.surroundings.Capabilities.{Capabilities}
 use Rattle.sieve_check.specs.declared.names.Tag.{Tag}
 use Rattle.sieve_check.specs.declared.names.Tag.TheVariants.{Mime}
-use Rattle.sieve_check.specs.Arguments.{arguments_cause}
+use Rattle.sieve_check.specs.Arguments.{arguments_cause, reading}
 use Rattle.sieve_check.specs.Causes.{Cause, Refused, about, plain, refusal_for, refused_for}
 use Rattle.sieve_check.specs.Names.{capability_named, command_named, tag_named, test_named}
-use Rattle.sieve_check.specs.Signatures.{Read, command_signature, ending_of, test_signature, reading}
+use Rattle.sieve_check.specs.Signatures.{Read, command_signature, ending_of, test_signature}
 use Rattle.sieve_check.specs.Surroundings.{Loop, nameless, called, unreadable, Context, at_start, first_lacking, following, has_capability, same_capability, in_block, in_loop, loops_left, opens_many}
 
 -- the strings of arguments, with those in brackets
@@ -42,9 +40,6 @@ strings_in _ = []
 
 abbrev pub strings_of : List ArgumentTree → List (List ℕ)
 strings_of args = flat_map strings_in args
-
-abbrev pub arguments_of : Head → List ArgumentTree
-arguments_of head = map argument_tree head.arguments.items
 
 -- the capabilities that a command or test needs
 abbrev pub command_needs : CommandName → List Capability

@@ -1,4 +1,4 @@
--- How commands are put together, one after another.
+-- Private: how commands are put together, one after another.
 use Rattle.std.specs.Prelude.{◌≡◌, Bool, true, false, if◌then◌else◌, List, [], ◌∷◌, map, Option, Some, None, option_map}
 use Rattle.sieve_check.specs.declared.sequence.Part.{Part}
 use Rattle.sieve_check.specs.declared.sequence.Part.TheVariants.{Nothing, Action, First, Next, Last}
@@ -7,14 +7,15 @@ use Rattle.sieve_check.specs.declared.typed.Branch.{Branch}
 use Rattle.sieve_check.specs.Signatures.{◌>>=◌}
 use Rattle.sieve_check.specs.FormOf.{PartForm, nothing, action, first, next_branch, last, Forms, closed, put}
 use Rattle.sieve_check.specs.Typed.{CommandForm, choice, CommandForms, command, BranchForms, no_branch}
-use Rattle.sieve_check.specs.TypedView.{test_form, command_form, commands_form, branch_forms}
+use Rattle.sieve_check.specs.TypedView.{test_form, command_form, commands_form}
+use Rattle.sieve_check.specs.Private.{branch_forms}
 
 -- the code's part as a form
 abbrev pub part_form : Part → PartForm
 part_form Nothing = nothing
 part_form (Action c) = action (command_form c)
-part_form (First b) = first (test_form b.test) (commands_form b.block.items)
-part_form (Next b) = next_branch (test_form b.test) (commands_form b.block.items)
+part_form (First b) = first (test_form b.test) (commands_form b.block.items) b.at
+part_form (Next b) = next_branch (test_form b.test) (commands_form b.block.items) b.at
 part_form (Last block) = last (commands_form block.items)
 
 -- commands before others

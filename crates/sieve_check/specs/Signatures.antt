@@ -1,7 +1,7 @@
--- What commands and tests take, and how their arguments are read (RFC 5228, section 2.6; RFC 5229,
--- section 4; RFC 5703, sections 3 and 4).
+-- What commands and tests take (RFC 5228, section 2.6; RFC 5229, section 4; RFC 5703, sections 3
+-- and 4).
 use Rattle.std.specs.Prelude.{ℕ, Bool, true, false, not, ◌&&◌, ◌||◌, ◌==◌, if◌then◌else◌, List, [], ◌∷◌, Option, Some, None, is_some, option_map}
-use Rattle.sieve_parser.specs.Tree.{ArgumentTree, text, text_list, amount, label}
+use Rattle.sieve_parser.specs.Tree.{ArgumentTree, text, text_list, amount}
 use Rattle.bytecode_format.specs.Modifiers.{no_modifiers}
 use Rattle.sieve_check.specs.declared.names.CommandName.{CommandName}
 use Rattle.sieve_check.specs.declared.names.CommandName.TheVariants.{Require, If, Elsif, Else, Stop, Keep, Discard, FileInto, Set, ForEveryPart, Break, Store, Take}
@@ -19,7 +19,7 @@ use Rattle.sieve_check.specs.declared.signature.Ending.{Ending}
 use Rattle.sieve_check.specs.declared.signature.Ending.TheVariants.{Semicolon, Block}
 use Rattle.sieve_check.specs.declared.signature.Signature.{Signature}
 use Rattle.sieve_check.specs.declared.signature.Tags.{Tags}
-use Rattle.sieve_check.specs.Names.{tag_named, comparator_named}
+use Rattle.sieve_check.specs.Names.{comparator_named}
 
 infixl 10 ◌>>=◌
 abbrev pub ◌>>=◌ : {A B : Type 0} → Option A → (A → Option B) → Option B
@@ -170,17 +170,6 @@ with_argument Name (text s) given = Some (record given { name = Some s })
 with_argument First (amount n) given = if n == 0 then None else Some (record given { tags = record given.tags { first = Some n } })
 with_argument _ _ given = None
 
--- after these tags, of which the last may await its argument: those that are still to come, and the
--- arguments behind them
-abbrev pub tags_read : Signature → Given → Option Tag → List ArgumentTree → Option Read
-tags_read signature given None
-    (label name ∷ args) = tag_named name >>= λ tag. add_tag signature tag given >>= λ more. tags_read signature more
-    (awaited tag) args
-tags_read signature given None args = Some (record { tags = given.tags; params = given.params; name = given.name; positional = args })
-tags_read signature given (Some tag)
-    (a ∷ args) = with_argument tag a given >>= λ more. tags_read signature more None args
-tags_read signature given (Some tag) [] = None
-
 -- the arguments are those that have to stand behind the tags
 abbrev pub is_positional : Positional → List ArgumentTree → Bool
 is_positional positional.Nothing [] = true
@@ -194,14 +183,3 @@ is_positional _ _ = false
 -- tags that stand only with `:mime`
 abbrev pub asks_for_mime : Tags → Bool
 asks_for_mime tags = tags.any_child || selects tags.selector
-
--- of each group that needs one a tag was given, none stands without what it needs, and the
--- arguments behind them are right
-abbrev pub is_complete : Signature → Read → Bool
-is_complete signature read =
-    (not signature.order || is_some read.tags.order) && (not (asks_for_mime read.tags) || read.tags.mime)
-    && is_positional signature.positional read.positional
-
--- the arguments, read by a signature: tags in any order, then the others
-abbrev pub reading : Signature → List ArgumentTree → Option Read
-reading signature args = tags_read signature nothing_given None args >>= λ read. if is_complete signature read then Some read else None

@@ -1,80 +1,44 @@
--- The typed form of scripts.
-use Rattle.std.specs.Prelude.{ℕ, Bool, List, []}
-use Rattle.glob_match.specs.declared.match_type.Match.{Match}
-use Rattle.bytecode_format.specs.declared.modifiers.Modifiers.{Modifiers}
-use Rattle.bytecode_format.specs.declared.selection.Scope.{Scope}
-use Rattle.bytecode_format.specs.declared.selection.Selector.{Selector}
-use Rattle.bytecode_format.specs.declared.selection.Selector.TheVariants.{Value, Main, Sub, ContentType, Param}
-use Rattle.sieve_check.specs.declared.typed.Order.{Order}
+-- The typed form of scripts. Each test and command has as its last field the number of the token at which
+-- it begins; a choice begins where its first branch does.
+use Rattle.std.specs.Prelude.{ℕ, List, ◌++◌}
+use Rattle.sieve_check.specs.declared.typed.Act.{Act}
+use Rattle.sieve_check.specs.declared.typed.Question.{Question}
 use Rattle.sieve_check.specs.declared.typed.Segment.{Segment}
 
 -- a string as it is meant: stretches of text and references, which are put in their places one after the other
 abbrev pub Template : Type 0
 Template = List Segment
 
--- what a test takes of a field: its value, its type, its subtype, both, or the values of the parameters of these names
-pub data Selected : Type 0 where
-  whole : Selected
-  main : Selected
-  sub : Selected
-  content_type : Selected
-  params : List Template → Selected
+-- the strings of a simple test: names of fields, or sources; names of parameters; keys
+pub record Strings : Type 0 where
+  pub names : List Template
+  pub params : List Template
+  pub keys : List Template
 
--- the same, without names
-abbrev pub selector_of : Selected → Selector
-selector_of whole = Value
-selector_of main = Main
-selector_of sub = Sub
-selector_of content_type = ContentType
-selector_of (params names) = Param
+-- all of them, in the order in which they are expanded
+abbrev pub in_order : Strings → List Template
+in_order strings = strings.names ++ strings.params ++ strings.keys
 
--- the names of the parameters
-abbrev pub params_of : Selected → List Template
-params_of whole = []
-params_of main = []
-params_of sub = []
-params_of content_type = []
-params_of (params names) = names
-
--- a test: the lists of tests by their first and the others, a header's names and then its keys; tests in order
+-- a test: what it asks, with its strings; or other tests, the lists of them by their first and the others; tests in order
 mutual
   pub data TestForm : Type 0 where
-    constant : Bool → TestForm
-    negation : TestForm → TestForm
-    all_of : TestForm → TestForms → TestForm
-    any_of : TestForm → TestForms → TestForm
-    header : Match → Scope → Selected → List Template → List Template → TestForm
-    exists : Scope → List Template → TestForm
-    size : Order → ℕ → TestForm
-    -- sources, and then keys
-    string : Match → List Template → List Template → TestForm
-    -- of the current part its size, its content against keys, and its digest against keys
-    part_size : Order → ℕ → TestForm
-    part_body : Match → List Template → TestForm
-    part_digest : List Template → TestForm
+    asks : Question → Strings → ℕ → TestForm
+    negation : TestForm → ℕ → TestForm
+    all_of : TestForm → TestForms → ℕ → TestForm
+    any_of : TestForm → TestForms → ℕ → TestForm
 
   pub data TestForms : Type 0 where
     no_test : TestForms
     test : TestForm → TestForms → TestForms
 
--- a command; commands in order; the branches of an if with their blocks, up to the block of the else, if there is one
+-- a command; commands in order; the branches of an if with their blocks and where they begin, up to the block of the
+-- else, if there is one
 mutual
   pub data CommandForm : Type 0 where
-    keep : CommandForm
-    discard : CommandForm
-    file_into : Template → CommandForm
-    -- a variable, by its name in lower case, and its value before it is modified
-    set : Modifiers → List ℕ → Template → CommandForm
-    -- a variable, by its name in lower case, which gets at most so many octets of the current
-    -- part's content, the first ones
-    take_first : ℕ → List ℕ → CommandForm
-    -- the current part, filed into a folder
-    store : Template → CommandForm
+    -- what it does, with its string; an empty one, where it takes none
+    does : Act → Template → ℕ → CommandForm
     -- a loop over parts, with its block
-    for_every_part : CommandForms → CommandForm
-    -- so many of the loops around are left, the innermost first
-    leave : ℕ → CommandForm
-    stop : CommandForm
+    for_every_part : CommandForms → ℕ → CommandForm
     choice : BranchForms → CommandForm
 
   pub data CommandForms : Type 0 where
@@ -84,4 +48,4 @@ mutual
   pub data BranchForms : Type 0 where
     no_branch : BranchForms
     otherwise : CommandForms → BranchForms
-    branch : TestForm → CommandForms → BranchForms → BranchForms
+    branch : TestForm → CommandForms → ℕ → BranchForms → BranchForms

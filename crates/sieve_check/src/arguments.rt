@@ -4,7 +4,7 @@ ghost use Rattle.sieve_parser.specs.View.{argument_tree};
 ghost use Rattle.sieve_check.specs.Arguments.{first_label, is_second_modifier, label_needing_mime, missing_cause, needs_mime, number_of, positional_cause, untaken_kind};
 ghost use Rattle.sieve_check.specs.Names.{tag_named};
 ghost use Rattle.sieve_check.specs.Reading.{FirstTag, Settles, name_in};
-ghost use Rattle.sieve_check.specs.ReasonView.{cause_view};
+ghost use Rattle.sieve_check.specs.Private.{cause_view};
 
 use crate::causes::{Cause, ReasonKind};
 use crate::names::{Tag, comparator_named, tag_named};

@@ -100,7 +100,7 @@ pub struct Cause<'t> {
 impl<'t> Cause<'t> {
     ghost use Rattle.std.specs.Prelude.{◌≡◌};
     ghost use Rattle.sieve_check.specs.Causes.{about, plain};
-    ghost use Rattle.sieve_check.specs.ReasonView.{cause_view};
+    ghost use Rattle.sieve_check.specs.Private.{cause_view};
 
     /// One of this kind, whose subject that is.
     pub fn about(kind: ReasonKind, subject: &'t [u8]) -> Cause<'t>
@@ -136,7 +136,8 @@ pub struct Refused<'t> {
 impl<'t> Refused<'t> {
     ghost use Rattle.std.specs.Prelude.{◌≡◌};
     ghost use Rattle.sieve_check.specs.Causes.{refusal_for, refused_for};
-    ghost use Rattle.sieve_check.specs.ReasonView.{cause_view, refused_view};
+    ghost use Rattle.sieve_check.specs.ReasonView.{refused_view};
+    ghost use Rattle.sieve_check.specs.Private.{cause_view};
 
     // The command or test that begins so, for that cause.
     pub(crate) fn of(head: &'t Head, cause: Cause<'t>) -> Refused<'t>

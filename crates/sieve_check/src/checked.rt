@@ -47,7 +47,7 @@ impl Checked {
         Checked { script, commands }
     }
 
-    /// The script that was checked.
+    /// The script that was checked, as it is written: for editors and formatters, which need what the typed form leaves out.
     pub fn script(&self) -> &Script
         ensures value { result.now ≡ self.now.script }
         ensures tree { IsTree (commands_tree self.now.script) }

@@ -71,7 +71,8 @@ impl<'t> Findings<'t> {
     ghost use Rattle.octets.specs.Once.{is_listed};
     ghost use Rattle.sieve_parser.specs.View.{argument_tree};
     ghost use Rattle.sieve_check.specs.Causes.{refused_for};
-    ghost use Rattle.sieve_check.specs.ReasonView.{cause_view, refused_view};
+    ghost use Rattle.sieve_check.specs.ReasonView.{refused_view};
+    ghost use Rattle.sieve_check.specs.Private.{cause_view};
     ghost use Rattle.sieve_check.specs.Refusing.{AreNoted, listed, refused_in};
     ghost use Rattle.sieve_check.specs.Rules.{lacking_causes, same_reason, strings_in, strings_of, unknown_causes};
 

@@ -1,13 +1,11 @@
 // The typed form of scripts.
-ghost use Rattle.std.specs.Prelude.{◌≡◌, map, option_map};
+ghost use Rattle.std.specs.Prelude.{◌≡◌, map};
 ghost use Rattle.sieve_parser.specs.View.{argument_tree, command_tree, commands_tree, invocation_tree};
-ghost use Rattle.sieve_check.specs.FormOf.{none, one, action, block_part, filing_in, form_of, most_of, part_of, setting_in, simple_part, taking_in};
+ghost use Rattle.sieve_check.specs.FormOf.{none, one, act_of, block_part, form_of, leaving_in, most_of, part_of, setting_in, simple_part, taking_in, with_text};
 ghost use Rattle.sieve_check.specs.Forming.{Formed, IsBlockRead, IsSimpleRead, commands_formed, head_block, head_simple};
-ghost use Rattle.sieve_check.specs.Reading.{name_in};
+ghost use Rattle.sieve_check.specs.Reading.{name_in, read_of};
 ghost use Rattle.sieve_check.specs.Refusing.{context_of};
 ghost use Rattle.sieve_check.specs.Sequences.{part_form};
-ghost use Rattle.sieve_check.specs.Surroundings.{loops_left};
-ghost use Rattle.sieve_check.specs.Typed.{CommandForm, Template, leave};
 ghost use Rattle.sieve_check.specs.TypedView.{commands_form, test_form};
 
 use crate::form_error::FormError;
@@ -17,58 +15,43 @@ use crate::signature::{Reading, Tags, command_signature};
 use crate::strings::template;
 use crate::surroundings::{Capabilities, Surroundings};
 use crate::test_forms::test;
-use crate::typed::{Branch, Command, Segment, Test};
+use crate::typed::{Act, Branch, Command, Segment, Test};
 use bytecode_format::Modifiers;
 use octets::{MAX_VALUE, to_lowercase};
 use sieve_parser::{Argument, Command as Tree, Head, Invocation};
 use std::alloc::Global;
 
-// The folder that the arguments are.
-fn folder(
+// The act, with the string that the arguments are.
+fn with_text(
     alloc: Global,
     required: Capabilities,
+    act: Act,
     arguments: &[Argument],
-) -> Result<Vec<Segment>, FormError>
-    ensures { (make : Template → CommandForm)
-        → Formed (λ folder. action (make folder.items))
-        (filing_in required make (map argument_tree arguments.now)) result }
+) -> Result<(Act, Vec<Segment>), FormError>
+    ensures { Formed (λ done. (done.0, done.1.items))
+        (with_text required act (map argument_tree arguments.now)) result }
 {
     match arguments {
-        [Argument::Text(folder)] => Ok(template(alloc, required, folder)?),
+        [Argument::Text(string)] => Ok((act, template(alloc, required, string)?)),
         _ => Err(FormError::Malformed),
     }
 }
 
-// The command that leaves the loop of the name, or the innermost one, with those within it.
-fn leaving(surroundings: &Surroundings<'_>, name: Option<&[u8]>) -> Result<Part, FormError>
-    ensures { Formed part_form (option_map (λ loops. action (leave loops))
-        (loops_left (name_in name.entry) (context_of surroundings.now).loops)) result }
-{
-    match surroundings.loops.left_by(name) {
-        Some(loops) => Ok(Part::Action(Command::Break(loops))),
-        None => Err(FormError::Malformed),
-    }
-}
-
-// The command that sets the variable of the name to the value, which the arguments are. The name isn't expanded.
+// The act that sets the variable of the name to the value, which the arguments are. The name isn't expanded.
 fn setting(
     alloc: Global,
     required: Capabilities,
     modifiers: Modifiers,
     arguments: &[Argument],
-) -> Result<Part, FormError>
-    ensures { Formed part_form (option_map action (setting_in required
-        modifiers (map argument_tree arguments.now))) result }
+) -> Result<(Act, Vec<Segment>), FormError>
+    ensures { Formed (λ done. (done.0, done.1.items))
+        (setting_in required modifiers (map argument_tree arguments.now)) result }
 {
     match arguments {
         [Argument::Text(name), Argument::Text(value)] => {
             let name = to_lowercase(alloc, name.as_slice())?;
             let value = template(alloc, required, value)?;
-            Ok(Part::Action(Command::Set {
-                modifiers,
-                name,
-                value,
-            }))
+            Ok((Act::Set { modifiers, name }, value))
         }
         _ => Err(FormError::Malformed),
     }
@@ -82,19 +65,67 @@ fn most_of(tags: Tags) -> u16
     tags.first.unwrap_or(most).min(most) as u16
 }
 
-// The command that gives the first octets of the current part's content to the variable of the name, which the arguments are. The
+// The act that gives the first octets of the current part's content to the variable of the name, which the arguments are. The
 // name isn't expanded.
-fn taking(alloc: Global, tags: Tags, arguments: &[Argument]) -> Result<Part, FormError>
-    ensures { Formed part_form
-        (option_map action (taking_in tags (map argument_tree arguments.now))) result }
+fn taking(
+    alloc: Global,
+    tags: Tags,
+    arguments: &[Argument],
+) -> Result<(Act, Vec<Segment>), FormError>
+    ensures { Formed (λ done. (done.0, done.1.items))
+        (taking_in tags (map argument_tree arguments.now)) result }
 {
     match arguments {
         [Argument::Text(name)] => {
             let most = most_of(tags);
             let name = to_lowercase(alloc, name.as_slice())?;
-            Ok(Part::Action(Command::Take { most, name }))
+            Ok((Act::Take { most, name }, Vec::new(alloc)))
         }
         _ => Err(FormError::Malformed),
+    }
+}
+
+// The act that leaves the loop of the name, or the innermost one, with those within it.
+fn leaving(
+    alloc: Global,
+    surroundings: &Surroundings<'_>,
+    name: Option<&[u8]>,
+) -> Result<(Act, Vec<Segment>), FormError>
+    ensures { Formed (λ done. (done.0, done.1.items))
+        (leaving_in (name_in name.entry) (context_of surroundings.now).loops) result }
+{
+    match surroundings.loops.left_by(name) {
+        Some(loops) => Ok((Act::Leave(loops), Vec::new(alloc))),
+        None => Err(FormError::Malformed),
+    }
+}
+
+// What an action of this name does, with its string, by what was read.
+fn act_of(
+    alloc: Global,
+    surroundings: &Surroundings<'_>,
+    name: CommandName,
+    reading: &Reading<'_>,
+) -> Result<(Act, Vec<Segment>), FormError>
+    ensures { Formed (λ done. (done.0, done.1.items))
+        (act_of (context_of surroundings.now) name (read_of reading.now)) result }
+{
+    let required = surroundings.required;
+    let arguments = reading.positional;
+    match name {
+        CommandName::Keep => Ok((Act::Keep, Vec::new(alloc))),
+        CommandName::Discard => Ok((Act::Discard, Vec::new(alloc))),
+        CommandName::FileInto => with_text(alloc, required, Act::FileInto, arguments),
+        CommandName::Set => setting(alloc, required, reading.tags.modifiers, arguments),
+        CommandName::Take => taking(alloc, reading.tags, arguments),
+        CommandName::Store => with_text(alloc, required, Act::Store, arguments),
+        CommandName::Break => leaving(alloc, surroundings, reading.name),
+        CommandName::Stop => Ok((Act::Stop, Vec::new(alloc))),
+        CommandName::Require
+        | CommandName::If
+        | CommandName::Elsif
+        | CommandName::Else
+        | CommandName::ForEveryPart => Err(FormError::Malformed),
     }
 }
 
@@ -119,26 +150,15 @@ fn plain_part(
     let Some((name, reading)) = command_read(head) else {
         return Err(FormError::Malformed);
     };
-    let tags = reading.tags;
-    let arguments = reading.positional;
     match name {
         CommandName::Require => Ok(Part::Nothing),
-        CommandName::Stop => Ok(Part::Action(Command::Stop)),
-        CommandName::Keep => Ok(Part::Action(Command::Keep)),
-        CommandName::Discard => Ok(Part::Action(Command::Discard)),
-        CommandName::FileInto => {
-            let folder = folder(alloc, surroundings.required, arguments)?;
-            Ok(Part::Action(Command::FileInto(folder)))
-        }
-        CommandName::Set => setting(alloc, surroundings.required, tags.modifiers, arguments),
-        CommandName::Store => {
-            let folder = folder(alloc, surroundings.required, arguments)?;
-            Ok(Part::Action(Command::Store(folder)))
-        }
-        CommandName::Take => taking(alloc, tags, arguments),
-        CommandName::Break => leaving(surroundings, reading.name),
-        CommandName::If | CommandName::Elsif | CommandName::Else | CommandName::ForEveryPart => {
-            Err(FormError::Malformed)
+        _ => {
+            let (act, string) = act_of(alloc, surroundings, name, &reading)?;
+            Ok(Part::Action(Command::Does {
+                act,
+                string,
+                at: head.token,
+            }))
         }
     }
 }
@@ -148,9 +168,10 @@ fn branch_part(head: &Head, test: Test, block: Vec<Command>) -> Result<Part, For
     ensures { Formed part_form
         (head_block head.now (one (test_form test)) (commands_form block.items)) result }
 {
+    let at = head.token;
     match command_read(head) {
-        Some((CommandName::If, _)) => Ok(Part::First(Branch { test, block })),
-        Some((CommandName::Elsif, _)) => Ok(Part::Next(Branch { test, block })),
+        Some((CommandName::If, _)) => Ok(Part::First(Branch { test, block, at })),
+        Some((CommandName::Elsif, _)) => Ok(Part::Next(Branch { test, block, at })),
         _ => Err(FormError::Malformed),
     }
 }
@@ -161,7 +182,10 @@ fn untested_part(head: &Head, block: Vec<Command>) -> Result<Part, FormError>
 {
     match command_read(head) {
         Some((CommandName::Else, _)) => Ok(Part::Last(block)),
-        Some((CommandName::ForEveryPart, _)) => Ok(Part::Action(Command::ForEveryPart(block))),
+        Some((CommandName::ForEveryPart, _)) => Ok(Part::Action(Command::ForEveryPart {
+            block,
+            at: head.token,
+        })),
         _ => Err(FormError::Malformed),
     }
 }

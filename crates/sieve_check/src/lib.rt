@@ -7,6 +7,8 @@
 //!
 //! What a script means, and its code, go by its typed form alone (`specs/Typed`), which `specs/FormOf` reads off the tree. What each
 //! command and test takes is a table in `specs/Signatures`. `laws` says that a script has a typed form where nothing is wrong with it.
+//! A simple test of it is a question and its strings, an action an act and its string; all that differs from question to question
+//! and from act to act is a row each, in `specs/Questions` and `specs/Acts`.
 //! A `break` of the typed form says how many of the loops around it are left, so names of loops stand in scripts alone.
 //! A string of the typed form is its segments: text as it stands and, where `variables` was required, references. Which
 //! variables a typed form has stands in `specs/Variables`, and how large it and its strings and lists and how deep its
@@ -47,4 +49,4 @@ pub use findings::{MAX_FOUND, MAX_REASONS};
 pub use names::{Capability, CommandName, Tag, TestName, command_named, test_named};
 pub use references::MAX_NAME;
 pub use signature::{Ending, Positional, Tests};
-pub use typed::{Branch, Command, Order, Segment, Selection, Test};
+pub use typed::{Act, Branch, Command, Order, Question, Segment, Strings, Takes, Test};

@@ -89,10 +89,10 @@ impl<'t> Loops<'t> {
     }
 
     /// How many of them are left by a `break`, the innermost first: up to the first that is meant, if one is.
-    pub fn left_by(self, name: Option<&[u8]>) -> Option<usize>
+    pub fn left_by(self, name: Option<&[u8]>) -> Option<u8>
         ensures { result ≡ loops_left (name_in name.entry) (open_loops self.entry) }
     {
-        let mut left = 0;
+        let mut left = 0u8;
         for loop_name in &self.names[..self.number] {
             left += 1;
             if is_meant(name, *loop_name) {

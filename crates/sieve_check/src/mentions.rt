@@ -5,7 +5,7 @@ ghost use Rattle.sieve_references.specs.References.{segments};
 ghost use Rattle.sieve_references.specs.SegmentView.{segment_of};
 ghost use Rattle.sieve_check.specs.declared.signature.Positional.TheVariants.{Text, TwoTexts};
 ghost use Rattle.sieve_check.specs.Reading.{left_of, name_in, read_of};
-ghost use Rattle.sieve_check.specs.ReasonView.{cause_view};
+ghost use Rattle.sieve_check.specs.Private.{cause_view};
 ghost use Rattle.sieve_check.specs.Refusing.{Adds, listed, mentions_in};
 ghost use Rattle.sieve_check.specs.Rules.{expanding, large_cause, large_mention_cause, lists_read, long_name, mention_cause, mentions_of, names_mentioned, no_mention, reference_kind, strings_of, where_required};
 ghost use Rattle.sieve_check.specs.Signatures.{command_signature, is_positional};

@@ -3,8 +3,8 @@ ghost use Rattle.std.specs.Prelude.{◌≡◌, [], ◌∷◌, map, option_map, t
 ghost use Rattle.sieve_parser.specs.View.{argument_tree, command_tree, commands_tree, invocation_tree, more_tests_of};
 ghost use Rattle.sieve_check.specs.Reading.{left_of, read_of};
 ghost use Rattle.sieve_check.specs.Causes.{refused_for};
-ghost use Rattle.sieve_check.specs.ReasonView.{cause_view};
-ghost use Rattle.sieve_check.specs.Rules.{arguments_of, capability_arguments, command_mentions, command_needs, command_visit, command_visits, commands_visits, expanding, head_visits, ill_formed_command, ill_formed_test, is_mime_tag, known_command_cause, known_test_cause, lacking_cause, lists_read, long_string_cause, looks_inside, max_found, mentions_of, mime_where_given, misplaced, more_visits, names_mentioned, oversized_command, oversized_test, place_cause, read_command_cause, read_test_cause, reasons_of, strings_of, takes_tests, test_mentions, test_needs, test_place_cause, test_visit, test_visits, tests_cause, unknown_cause, where_required};
+ghost use Rattle.sieve_check.specs.Private.{cause_view, arguments_of};
+ghost use Rattle.sieve_check.specs.Rules.{capability_arguments, command_mentions, command_needs, command_visit, command_visits, commands_visits, expanding, head_visits, ill_formed_command, ill_formed_test, is_mime_tag, known_command_cause, known_test_cause, lacking_cause, lists_read, long_string_cause, looks_inside, max_found, mentions_of, mime_where_given, misplaced, more_visits, names_mentioned, oversized_command, oversized_test, place_cause, read_command_cause, read_test_cause, reasons_of, strings_of, takes_tests, test_mentions, test_needs, test_place_cause, test_visit, test_visits, tests_cause, unknown_cause, where_required};
 ghost use Rattle.sieve_check.specs.Signatures.{command_signature, is_positional, test_signature};
 ghost use Rattle.sieve_check.specs.Names.{command_named, test_named};
 ghost use Rattle.sieve_check.specs.Refusing.{AreNoted, AreVisited, Finds, context_of, lacks_as, looks_inside_as, mentions_in, refused_in, visit_as, visits_as};

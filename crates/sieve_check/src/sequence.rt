@@ -31,7 +31,8 @@ impl Sequence {
     ghost use Rattle.sieve_check.specs.declared.form_error.FormError.TheVariants.{Malformed};
     ghost use Rattle.sieve_check.specs.Sequences.{Closed, Pushed, Unfit, joined};
     ghost use Rattle.sieve_check.specs.Typed.{CommandForms, no_branch, no_command};
-    ghost use Rattle.sieve_check.specs.TypedView.{commands_form, else_form};
+    ghost use Rattle.sieve_check.specs.TypedView.{commands_form};
+    ghost use Rattle.sieve_check.specs.Private.{else_form};
 
     /// Before the first of so many commands. An error comes only where memory was refused.
     pub fn new(alloc: Global, number: usize) -> Result<Sequence, AllocError>

@@ -1,17 +1,18 @@
 // The strings of the typed form: those of a script, cut into what stands in them.
-ghost use Rattle.std.specs.Prelude.{◌≡◌, [], ◌∷◌, ◌++◌, List, IfOk, OnOk, flat_map, map};
+ghost use Rattle.std.specs.Prelude.{◌≡◌, [], ◌∷◌, ◌++◌, IfOk, OnOk, flat_map, map};
 ghost use Rattle.sieve_references.specs.References.{segments};
 ghost use Rattle.sieve_references.specs.SegmentView.{segment_of};
 ghost use Rattle.sieve_parser.specs.View.{argument_tree};
-ghost use Rattle.sieve_check.specs.FormOf.{list_in, meant, of_list, of_lists, template_of};
+ghost use Rattle.sieve_check.specs.FormOf.{list_in, list_taken, meant, strings_in, template_of};
 ghost use Rattle.sieve_check.specs.Forming.{Formed};
-ghost use Rattle.sieve_check.specs.Typed.{Template, TestForm};
-ghost use Rattle.sieve_check.specs.TypedView.{templates_of};
+ghost use Rattle.sieve_check.specs.Reading.{read_of};
+ghost use Rattle.sieve_check.specs.TypedView.{strings_form, templates_of};
 
 use crate::form_error::FormError;
 use crate::names::Capability;
+use crate::signature::Reading;
 use crate::surroundings::Capabilities;
-use crate::typed::Segment;
+use crate::typed::{Segment, Strings, Takes};
 use octets::{Octets, to_lowercase};
 use sieve_parser::Argument;
 use sieve_references::{Segment as Piece, first_segment};
@@ -95,8 +96,8 @@ fn templates(
     Ok(all)
 }
 
-/// The strings of a list, as they are meant; one string is a list, too. What is no list has no form.
-pub fn list_in(
+// The strings of a list, as they are meant; one string is a list, too. What is no list has no form.
+fn list_in(
     alloc: Global,
     required: Capabilities,
     argument: &Argument,
@@ -111,36 +112,40 @@ pub fn list_in(
     }
 }
 
-/// The one list that the arguments are.
-pub fn only_list_in(
+// The strings of the first argument, if a list is taken, and the arguments after it.
+fn list_taken<'t>(
     alloc: Global,
     required: Capabilities,
-    arguments: &[Argument],
-) -> Result<Vec<Vec<Segment>>, FormError>
-    ensures { (make : List Template → TestForm)
-        → Formed (λ list. make (templates_of list.items))
-        (of_list required make (map argument_tree arguments.now)) result }
+    takes: bool,
+    arguments: &'t [Argument],
+) -> Result<(Vec<Vec<Segment>>, &'t [Argument]), FormError>
+    ensures { Formed (λ taken. (templates_of taken.0.items, map argument_tree taken.1.now))
+        (list_taken required takes (map argument_tree arguments.now)) result }
 {
+    if !takes {
+        return Ok((Vec::new(alloc), arguments));
+    }
     match arguments {
-        [list] => list_in(alloc, required, list),
-        _ => Err(FormError::Malformed),
+        [list, rest @ ..] => Ok((list_in(alloc, required, list)?, rest)),
+        [] => Err(FormError::Malformed),
     }
 }
 
-/// The two lists that the arguments are.
-pub fn lists_in(
+/// The strings of a test that takes such lists, by what was read.
+pub fn strings_in(
     alloc: Global,
     required: Capabilities,
-    arguments: &[Argument],
-) -> Result<(Vec<Vec<Segment>>, Vec<Vec<Segment>>), FormError>
-    ensures { (make : List Template → List Template → TestForm)
-        → Formed (λ lists. make (templates_of lists.0.items) (templates_of lists.1.items))
-        (of_lists required make (map argument_tree arguments.now)) result }
+    takes: Takes,
+    reading: &Reading<'_>,
+) -> Result<Strings, FormError>
+    ensures { Formed strings_form (strings_in required takes (read_of reading.now)) result }
 {
-    let [first, second] = arguments else {
-        return Err(FormError::Malformed);
-    };
-    let first = list_in(alloc, required, first)?;
-    let second = list_in(alloc, required, second)?;
-    Ok((first, second))
+    let (names, rest) = list_taken(alloc, required, takes.names, reading.positional)?;
+    let (params, _) = list_taken(alloc, required, takes.params, reading.params)?;
+    let (keys, _) = list_taken(alloc, required, takes.keys, rest)?;
+    Ok(Strings {
+        names,
+        params,
+        keys,
+    })
 }

@@ -4,7 +4,8 @@ ghost use Rattle.sieve_parser.specs.Tree.{TestsTree};
 ghost use Rattle.sieve_parser.specs.View.{argument_tree, head_tree, invocation_tree};
 ghost use Rattle.sieve_check.specs.Reading.{loop_in};
 ghost use Rattle.sieve_check.specs.Rules.{loop_read};
-ghost use Rattle.sieve_check.specs.Signatures.{command_signature, reading};
+ghost use Rattle.sieve_check.specs.Arguments.{reading};
+ghost use Rattle.sieve_check.specs.Signatures.{command_signature};
 
 use crate::loops::{LoopName, Loops};
 use crate::names::{Capability, CommandName, capability_named, command_named};
@@ -156,7 +157,8 @@ impl<'t> Surroundings<'t> {
     ghost use Rattle.std.specs.Prelude.{◌≡◌, false, List, map, option_map};
     ghost use Rattle.sieve_parser.specs.Tree.{ArgumentTree};
     ghost use Rattle.sieve_parser.specs.View.{argument_tree, command_tree, invocation_tree};
-    ghost use Rattle.sieve_check.specs.Rules.{after_invocation, arguments_of, invocation_of, loops_by, loops_opened, opened_by, strings_of};
+    ghost use Rattle.sieve_check.specs.Rules.{after_invocation, invocation_of, loops_by, loops_opened, opened_by, strings_of};
+    ghost use Rattle.sieve_check.specs.Private.{arguments_of};
     ghost use Rattle.sieve_check.specs.Names.{command_named};
     ghost use Rattle.sieve_check.specs.Refusing.{LoopsWithin, context_of, open_loops};
     ghost use Rattle.sieve_check.specs.Surroundings.{at_start, following, inside, opens_many};

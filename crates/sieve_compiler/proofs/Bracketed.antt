@@ -10,24 +10,22 @@ use Rattle.bytecode_verifier.specs.Loops.{Loop, opens}
 use Rattle.bytecode_verifier.specs.Nests.{first_of, without_first, waiting_over, waiting_from, next_at}
 use Rattle.bytecode_verifier.proofs.Closing.{drop_here}
 use Rattle.bytecode_verifier.proofs.Open.{From, waiting_later, loop_at, loop_to, loop_at_next, inside, nexts, waits, Step, pushed, popped, stayed, step_at}
-use Rattle.sieve_check.specs.declared.typed.Order.{Order}
-use Rattle.sieve_check.specs.declared.typed.Order.TheVariants.{Over, Under}
+use Rattle.sieve_check.specs.declared.typed.Act.{Act}
 use Rattle.sieve_check.specs.declared.typed.Segment.{Segment}
 use Rattle.sieve_check.specs.declared.typed.Segment.TheVariants.{Text, Variable, Capture}
-use Rattle.sieve_check.specs.Typed.{Template, params_of, TestForm, constant, negation, all_of, any_of, size, header, exists, string, part_size, part_body, part_digest, TestForms, no_test, test, CommandForm, keep, discard, file_into, set, take_first, store, for_every_part, leave, stop, choice, CommandForms, no_command, command, BranchForms, no_branch, otherwise, branch}
+use Rattle.sieve_check.specs.Acts.{act_strings}
+use Rattle.sieve_check.specs.Typed.{Template, in_order, TestForm, asks, negation, all_of, any_of, TestForms, no_test, test, CommandForm, does, for_every_part, choice, CommandForms, no_command, command, BranchForms, no_branch, otherwise, branch}
 use Rattle.sieve_compiler.specs.Tables.{Tables}
 use Rattle.sieve_compiler.specs.Lengths.{test_length, leave_length, command_length, commands_length, branches_length}
-use Rattle.sieve_compiler.specs.Coding.{instruction, jump_if, push_bool, push_size, push_part_size, push_segment, string_code, strings_code, test_code, tests_code, leave_code, command_code, commands_code, branches_code}
+use Rattle.sieve_compiler.specs.Coding.{instruction, loop_code, jump_if, push_segment, act_code, string_code, strings_code, test_code, tests_code, leave_code, command_code, commands_code, branches_code}
 use Rattle.sieve_compiler.proofs.Standing.{Stands, stands_first, stands_next, stands_left, stands_right}
 use Rattle.sieve_compiler.proofs.CodeLengths.{test_code_length, leave_code_length, command_code_length, commands_code_length}
+use Rattle.sieve_compiler.proofs.Acts.{act_flat}
+use Rattle.sieve_compiler.proofs.Questions.{question_flat}
+use Rattle.sieve_compiler.proofs.Sound.{is_bracket}
 use Rattle.sieve_compiler.proofs.BranchParts.{branch_parts_of}
 
 -- ---- instructions that are no brackets
-
-abbrev pub is_bracket : Option Operation → Bool
-is_bracket (Some Each) = true
-is_bracket (Some Next) = true
-is_bracket _ = false
 
 pub record IsNone (o : Option Operation) : Type 0 where
   pub no_open : opens o ≡ false
@@ -96,32 +94,12 @@ module _ (tables : Tables) where
   jump_flat true target = refl
   jump_flat false target = refl
 
-  bool_flat : (b : Bool) → is_bracket (operation_of (push_bool b).op) ≡ false
-  bool_flat true = refl
-  bool_flat false = refl
-
-  size_flat : (order : Order) (place : ℕ) → is_bracket (operation_of (push_size order place).op) ≡ false
-  size_flat Over place = refl
-  size_flat Under place = refl
-
-  part_size_flat : (order : Order) (place : ℕ) → is_bracket (operation_of (push_part_size order place).op) ≡ false
-  part_size_flat Over place = refl
-  part_size_flat Under place = refl
-
   mutual
     pub test_flat : (t : TestForm) (place : ℕ) (asked : Bool) (target : ℕ) → AreFlat (test_code tables place t asked target)
-    test_flat (constant b) place asked target = (bool_flat b, (jump_flat asked target, tt))
-    test_flat (negation t) place asked target = test_flat t place _ target
-    test_flat (all_of t ts) place asked target = flat_both _ _ (test_flat t place _ _) (tests_flat ts (place + test_length t) false asked _ target)
-    test_flat (any_of t ts) place asked target = flat_both _ _ (test_flat t place _ _) (tests_flat ts (place + test_length t) true asked _ target)
-    test_flat (size order number) place asked target = (size_flat order _, (jump_flat asked target, tt))
-    test_flat (header how scope selected names keys) place asked target =
-        flat_both _ _ (flat_both _ _ (flat_both _ _ (strings_flat names) (strings_flat (params_of selected))) (strings_flat keys)) (refl, (jump_flat asked target, tt))
-    test_flat (exists scope names) place asked target = flat_both _ _ (strings_flat names) (refl, (jump_flat asked target, tt))
-    test_flat (string how sources keys) place asked target = flat_both _ _ (flat_both _ _ (strings_flat sources) (strings_flat keys)) (refl, (jump_flat asked target, tt))
-    test_flat (part_size order number) place asked target = (part_size_flat order _, (jump_flat asked target, tt))
-    test_flat (part_body how keys) place asked target = flat_both _ _ (strings_flat keys) (refl, (jump_flat asked target, tt))
-    test_flat (part_digest keys) place asked target = flat_both _ _ (strings_flat keys) (refl, (jump_flat asked target, tt))
+    test_flat (asks question strings at) place asked target = flat_both _ _ (strings_flat (in_order strings)) (question_flat tables question strings, (jump_flat asked target, tt))
+    test_flat (negation t at) place asked target = test_flat t place _ target
+    test_flat (all_of t ts at) place asked target = flat_both _ _ (test_flat t place _ _) (tests_flat ts (place + test_length t) false asked _ target)
+    test_flat (any_of t ts at) place asked target = flat_both _ _ (test_flat t place _ _) (tests_flat ts (place + test_length t) true asked _ target)
 
     pub tests_flat : (ts : TestForms) (place : ℕ) (deciding asked : Bool) (following target : ℕ) → AreFlat (tests_code tables place ts deciding asked following target)
     tests_flat no_test place deciding asked following target = tt
@@ -130,7 +108,7 @@ module _ (tables : Tables) where
   pub leave_flat : (bs : BranchForms) (end : ℕ) → AreFlat (leave_code bs end)
   leave_flat no_branch end = tt
   leave_flat (otherwise cs) end = (refl, tt)
-  leave_flat (branch t cs bs) end = (refl, tt)
+  leave_flat (branch t cs at bs) end = (refl, tt)
 
 -- ---- balanced code
 
@@ -154,27 +132,19 @@ in_loop : (block rest : List Instruction) (place each : ℕ) → IsBalanced bloc
     → waiting_from place ((block ++ instruction Next 0 each ∷ []) ++ rest) ≡ (place + length block) ∷ waiting_from (suc (place + length block)) rest
 in_loop block rest place each balanced = ap (waiting_from place) (append_assoc block (instruction Next 0 each ∷ []) rest) ∙ balanced place (instruction Next 0 each ∷ rest)
 
--- a loop around a block
-abbrev pub loop_code : ℕ → ℕ → List Instruction → List Instruction
-loop_code each next block = instruction Each 0 next ∷ (block ++ instruction Next 0 each ∷ [])
-
 loop_balanced : (each next : ℕ) (block : List Instruction) → IsBalanced block → IsBalanced (loop_code each next block)
 loop_balanced each next block balanced = λ place rest.
     let same : suc (suc place + length block) ≡ place + length (loop_code each next block) = omega (arith, length-append block (instruction Next 0 each ∷ [])) in
     ap without_first (in_loop block rest (suc place) each balanced) ∙ ap (λ p. waiting_from p rest) same
 
 module _ (tables : Tables) where
+  act_is_flat : (act : Act) (string : Template) → AreFlat (strings_code tables (act_strings act string) ++ act_code tables act ∷ [])
+  act_is_flat act string = flat_both _ _ (strings_flat tables (act_strings act string)) (act_flat tables act, tt)
+
   mutual
     pub command_balanced : (c : CommandForm) (place : ℕ) → IsBalanced (command_code tables place c)
-    command_balanced keep place = flat_balanced (command_code tables place keep) (refl, tt)
-    command_balanced discard place = flat_balanced (command_code tables place discard) (refl, tt)
-    command_balanced (file_into folder) place = flat_balanced (command_code tables place (file_into folder)) (flat_both _ _ (string_flat tables folder) (refl, tt))
-    command_balanced (set modifiers name value) place = flat_balanced (command_code tables place (set modifiers name value)) (flat_both _ _ (string_flat tables value) (refl, tt))
-    command_balanced (take_first most name) place = flat_balanced (command_code tables place (take_first most name)) (refl, tt)
-    command_balanced (store folder) place = flat_balanced (command_code tables place (store folder)) (flat_both _ _ (string_flat tables folder) (refl, tt))
-    command_balanced (for_every_part cs) place = loop_balanced place (place + 1 + commands_length cs) (commands_code tables (place + 1) cs) (commands_balanced cs (place + 1))
-    command_balanced (leave loops) place = flat_balanced (command_code tables place (leave loops)) (refl, tt)
-    command_balanced stop place = flat_balanced (command_code tables place stop) (refl, tt)
+    command_balanced (does act string at) place = flat_balanced (command_code tables place (does act string at)) (act_is_flat act string)
+    command_balanced (for_every_part cs at) place = loop_balanced place (place + 1 + commands_length cs) (commands_code tables (place + 1) cs) (commands_balanced cs (place + 1))
     command_balanced (choice bs) place = branches_balanced bs place (place + branches_length bs)
 
     pub commands_balanced : (cs : CommandForms) (place : ℕ) → IsBalanced (commands_code tables place cs)
@@ -184,7 +154,7 @@ module _ (tables : Tables) where
     pub branches_balanced : (bs : BranchForms) (place end : ℕ) → IsBalanced (branches_code tables place bs end)
     branches_balanced no_branch place end = flat_balanced [] tt
     branches_balanced (otherwise cs) place end = commands_balanced cs place
-    branches_balanced (branch t cs bs) place end =
+    branches_balanced (branch t cs at bs) place end =
         let block = place + test_length t in
         let next = block + commands_length cs + leave_length bs in
         balanced_both _ _ (balanced_both _ _ (balanced_both _ _ (flat_balanced (test_code tables place t false next) (test_flat tables t place false next)) (commands_balanced cs block)) (flat_balanced (leave_code bs end) (leave_flat tables bs end))) (branches_balanced bs next end)
@@ -231,7 +201,7 @@ module _ (all : List Instruction) (place next : ℕ) (block : List Instruction) 
 
 module _ (all : List Instruction) (tables : Tables) where
   -- where the block of a loop stands
-  pub block_stands : (cs : CommandForms) (place : ℕ) → Stands all place (command_code tables place (for_every_part cs)) → Stands all (place + 1) (commands_code tables (place + 1) cs)
+  pub block_stands : (cs : CommandForms) (place : ℕ) → Stands all place (loop_code place (place + 1 + commands_length cs) (commands_code tables (place + 1) cs)) → Stands all (place + 1) (commands_code tables (place + 1) cs)
   block_stands cs place h =
       let same : suc place ≡ place + 1 = omega arith in
       subst (λ p. Stands all p (commands_code tables (place + 1) cs)) same (stands_left all (suc place) (commands_code tables (place + 1) cs) _ (stands_next all place _ _ h))
@@ -240,7 +210,7 @@ module _ (all : List Instruction) (tables : Tables) where
   block_ends cs place = ap (λ n. place + 1 + n) (sym (commands_code_length tables cs (place + 1)))
 
   -- its loop is open at its block
-  pub block_inside : (cs : CommandForms) (place : ℕ) → Stands all place (command_code tables place (for_every_part cs)) → inside all (place + 1) ≡ loop_of place (place + 1 + commands_length cs) ∷ inside all place
+  pub block_inside : (cs : CommandForms) (place : ℕ) → Stands all place (loop_code place (place + 1 + commands_length cs) (commands_code tables (place + 1) cs)) → inside all (place + 1) ≡ loop_of place (place + 1 + commands_length cs) ∷ inside all place
   block_inside cs place h =
       let same : place + 1 ≡ suc place = omega arith in
       ap (inside all) same ∙ loop_opened all place (place + 1 + commands_length cs) (commands_code tables (place + 1) cs) h (commands_balanced tables cs (place + 1)) (block_ends cs place)
@@ -251,26 +221,16 @@ module _ (all : List Instruction) (tables : Tables) where
   pub leave_inside : (bs : BranchForms) (place end : ℕ) → Stands all place (leave_code bs end) → inside all (place + leave_length bs) ≡ inside all place
   leave_inside bs place end h = flat_inside all (leave_code bs end) place (leave_length bs) (leave_code_length tables bs end) h (leave_flat tables bs end)
 
-  flat_command : (c : CommandForm) (place : ℕ) → Stands all place (command_code tables place c) → AreFlat (command_code tables place c) → inside all (place + command_length c) ≡ inside all place
-  flat_command c place h flat = flat_inside all (command_code tables place c) place (command_length c) (command_code_length tables c place) h flat
-
   -- after the code of commands the same loops are open as before it
   mutual
     pub command_inside : (c : CommandForm) (place : ℕ) → Stands all place (command_code tables place c) → inside all (place + command_length c) ≡ inside all place
-    command_inside keep place h = flat_command keep place h (refl, tt)
-    command_inside discard place h = flat_command discard place h (refl, tt)
-    command_inside (file_into folder) place h = flat_command (file_into folder) place h (flat_both _ _ (string_flat tables folder) (refl, tt))
-    command_inside (set modifiers name value) place h = flat_command (set modifiers name value) place h (flat_both _ _ (string_flat tables value) (refl, tt))
-    command_inside (take_first most name) place h = flat_command (take_first most name) place h (refl, tt)
-    command_inside (store folder) place h = flat_command (store folder) place h (flat_both _ _ (string_flat tables folder) (refl, tt))
-    command_inside (for_every_part cs) place h =
+    command_inside (does act string at) place h = flat_inside all (command_code tables place (does act string at)) place (command_length (does act string at)) (command_code_length tables (does act string at) place) h (act_is_flat tables act string)
+    command_inside (for_every_part cs at) place h =
         let next : ℕ = place + 1 + commands_length cs in
         let first : place + 1 ≡ suc place = omega arith in
         let last : place + (commands_length cs + 2) ≡ suc next = omega arith in
         let block : inside all next ≡ inside all (suc place) = commands_inside cs (place + 1) (block_stands cs place h) ∙ ap (inside all) first in
         ap (inside all) last ∙ loop_closed all place next (commands_code tables (place + 1) cs) h (commands_balanced tables cs (place + 1)) (block_ends cs place) block
-    command_inside (leave loops) place h = flat_command (leave loops) place h (refl, tt)
-    command_inside stop place h = flat_command stop place h (refl, tt)
     command_inside (choice bs) place h = branches_inside bs place (place + branches_length bs) h
 
     pub commands_inside : (cs : CommandForms) (place : ℕ) → Stands all place (commands_code tables place cs) → inside all (place + commands_length cs) ≡ inside all place
@@ -283,8 +243,8 @@ module _ (all : List Instruction) (tables : Tables) where
     pub branches_inside : (bs : BranchForms) (place end : ℕ) → Stands all place (branches_code tables place bs end) → inside all (place + branches_length bs) ≡ inside all place
     branches_inside no_branch place end h = let same : place + 0 ≡ place = omega arith in ap (inside all) same
     branches_inside (otherwise cs) place end h = commands_inside cs place h
-    branches_inside (branch t cs bs) place end h =
-        let p = branch_parts_of all tables t cs bs place end h in
+    branches_inside (branch t cs at bs) place end h =
+        let p = branch_parts_of all tables t cs at bs place end h in
         let next : ℕ = place + test_length t + commands_length cs + leave_length bs in
         let same : place + (test_length t + commands_length cs + leave_length bs + branches_length bs) ≡ next + branches_length bs = omega arith in
         ap (inside all) same ∙ branches_inside bs next end p.rest ∙ leave_inside bs (place + test_length t + commands_length cs) end p.leave

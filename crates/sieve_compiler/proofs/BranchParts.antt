@@ -14,8 +14,8 @@ pub record BranchParts (all : List Instruction) (tables : Tables) (t : TestForm)
   pub leave : Stands all (place + test_length t + commands_length cs) (leave_code bs end)
   pub rest : Stands all (place + test_length t + commands_length cs + leave_length bs) (branches_code tables (place + test_length t + commands_length cs + leave_length bs) bs end)
 
-pub branch_parts_of : (all : List Instruction) (tables : Tables) (t : TestForm) (cs : CommandForms) (bs : BranchForms) (place end : ℕ) → Stands all place (branches_code tables place (branch t cs bs) end) → BranchParts all tables t cs bs place end
-branch_parts_of all tables t cs bs place end h =
+pub branch_parts_of : (all : List Instruction) (tables : Tables) (t : TestForm) (cs : CommandForms) (at : ℕ) (bs : BranchForms) (place end : ℕ) → Stands all place (branches_code tables place (branch t cs at bs) end) → BranchParts all tables t cs bs place end
+branch_parts_of all tables t cs at bs place end h =
     let block = place + test_length t in
     let next = block + commands_length cs + leave_length bs in
     let a = test_code tables place t false next in

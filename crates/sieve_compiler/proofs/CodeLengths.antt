@@ -3,7 +3,8 @@ use Rattle.std.proofs.Common.{◌≡◌, ℕ, ◌+◌, Bool, false, List, [], �
 use Rattle.std.proofs.lemmas.List.{length-append, length-map}
 use Rattle.std.proofs.lemmas.List.Sums.{sum_by-cons}
 use Rattle.bytecode_format.specs.declared.operation.Operation.TheVariants.{Next}
-use Rattle.sieve_check.specs.Typed.{Template, params_of, TestForm, constant, negation, all_of, any_of, size, header, exists, string, part_size, part_body, part_digest, TestForms, no_test, test, CommandForm, keep, discard, file_into, set, take_first, store, for_every_part, leave, stop, choice, CommandForms, no_command, command, BranchForms, no_branch, otherwise, branch}
+use Rattle.sieve_check.specs.Acts.{act_strings}
+use Rattle.sieve_check.specs.Typed.{Template, in_order, TestForm, asks, negation, all_of, any_of, TestForms, no_test, test, CommandForm, does, for_every_part, choice, CommandForms, no_command, command, BranchForms, no_branch, otherwise, branch}
 use Rattle.sieve_compiler.specs.Tables.{Tables}
 use Rattle.sieve_compiler.specs.Lengths.{string_length, strings_length, test_length, tests_length, leave_length, command_length, commands_length, branches_length}
 use Rattle.sieve_compiler.specs.Coding.{instruction, join_texts, push_segment, string_code, strings_code, test_code, tests_code, leave_code, command_code, commands_code, branches_code}
@@ -23,22 +24,10 @@ module _ (tables : Tables) where
 
   mutual
     pub test_code_length : (t : TestForm) (place : ℕ) (asked : Bool) (target : ℕ) → length (test_code tables place t asked target) ≡ test_length t
-    test_code_length (constant b) place asked target = refl
-    test_code_length (negation t) place asked target = test_code_length t place _ target
-    test_code_length (all_of t ts) place asked target = length_two _ _ _ _ (test_code_length t place _ _) (tests_code_length ts (place + test_length t) _ _ _ target)
-    test_code_length (any_of t ts) place asked target = length_two _ _ _ _ (test_code_length t place _ _) (tests_code_length ts (place + test_length t) _ _ _ target)
-    test_code_length (size order number) place asked target = refl
-    test_code_length (header how scope selected names keys) place asked target =
-        let given = params_of selected in
-        let two = length_two (strings_code tables names) (strings_code tables given) _ _ (strings_code_length names) (strings_code_length given) in
-        let three = length_two (strings_code tables names ++ strings_code tables given) (strings_code tables keys) (strings_length names + strings_length given) _ two (strings_code_length keys) in
-        length_two (strings_code tables names ++ strings_code tables given ++ strings_code tables keys) _ (strings_length names + strings_length given + strings_length keys) 2 three refl
-    test_code_length (exists scope names) place asked target = length_two (strings_code tables names) _ (strings_length names) 2 (strings_code_length names) refl
-    test_code_length (string how sources keys) place asked target =
-        length_two (strings_code tables sources ++ strings_code tables keys) _ (strings_length sources + strings_length keys) 2 (length_two (strings_code tables sources) (strings_code tables keys) _ _ (strings_code_length sources) (strings_code_length keys)) refl
-    test_code_length (part_size order number) place asked target = refl
-    test_code_length (part_body how keys) place asked target = length_two (strings_code tables keys) _ (strings_length keys) 2 (strings_code_length keys) refl
-    test_code_length (part_digest keys) place asked target = length_two (strings_code tables keys) _ (strings_length keys) 2 (strings_code_length keys) refl
+    test_code_length (asks question strings at) place asked target = length_two (strings_code tables (in_order strings)) _ (strings_length (in_order strings)) 2 (strings_code_length (in_order strings)) refl
+    test_code_length (negation t at) place asked target = test_code_length t place _ target
+    test_code_length (all_of t ts at) place asked target = length_two _ _ _ _ (test_code_length t place _ _) (tests_code_length ts (place + test_length t) _ _ _ target)
+    test_code_length (any_of t ts at) place asked target = length_two _ _ _ _ (test_code_length t place _ _) (tests_code_length ts (place + test_length t) _ _ _ target)
 
     pub tests_code_length : (ts : TestForms) (place : ℕ) (deciding asked : Bool) (following target : ℕ) → length (tests_code tables place ts deciding asked following target) ≡ tests_length ts
     tests_code_length no_test place deciding asked following target = refl
@@ -47,21 +36,14 @@ module _ (tables : Tables) where
   pub leave_code_length : (bs : BranchForms) (end : ℕ) → length (leave_code bs end) ≡ leave_length bs
   leave_code_length no_branch end = refl
   leave_code_length (otherwise cs) end = refl
-  leave_code_length (branch t cs bs) end = refl
+  leave_code_length (branch t cs at bs) end = refl
 
   mutual
     pub command_code_length : (c : CommandForm) (place : ℕ) → length (command_code tables place c) ≡ command_length c
-    command_code_length keep place = refl
-    command_code_length discard place = refl
-    command_code_length (file_into folder) place = length_two (string_code tables folder) _ _ 1 (string_code_length folder) refl
-    command_code_length (set modifiers name value) place = length_two (string_code tables value) _ _ 1 (string_code_length value) refl
-    command_code_length (take_first most name) place = refl
-    command_code_length (store folder) place = length_two (string_code tables folder) _ _ 1 (string_code_length folder) refl
-    command_code_length (for_every_part cs) place =
+    command_code_length (does act string at) place = length_two (strings_code tables (act_strings act string)) _ _ 1 (strings_code_length (act_strings act string)) refl
+    command_code_length (for_every_part cs at) place =
         let block = length_two (commands_code tables (place + 1) cs) (instruction Next 0 place ∷ []) (commands_length cs) 1 (commands_code_length cs (place + 1)) refl in
         omega (arith, block)
-    command_code_length (leave loops) place = refl
-    command_code_length stop place = refl
     command_code_length (choice bs) place = branches_code_length bs place _
 
     pub commands_code_length : (cs : CommandForms) (place : ℕ) → length (commands_code tables place cs) ≡ commands_length cs
@@ -71,7 +53,7 @@ module _ (tables : Tables) where
     pub branches_code_length : (bs : BranchForms) (place end : ℕ) → length (branches_code tables place bs end) ≡ branches_length bs
     branches_code_length no_branch place end = refl
     branches_code_length (otherwise cs) place end = commands_code_length cs place
-    branches_code_length (branch t cs bs) place end =
+    branches_code_length (branch t cs at bs) place end =
         let block = place + test_length t in
         let next = block + commands_length cs + leave_length bs in
         let a = test_code tables place t false next in

@@ -1,43 +1,39 @@
--- The code of each command but for blocks and branches does what the command means, and how loops are turned and left.
-use Rattle.std.proofs.Common.{◌≡◌, ℕ, zero, suc, ◌+◌, ◌<◌, ◌≤◌, Bool, true, false, ◌&&◌, nat_lt, bytes_eq, List, [], ◌∷◌, ◌++◌, Option, Some, All, length, map, take, drop, append-nil, slice_get, refl, sym, ap, subst, ◌∙◌, arith, if◌then◌else◌}
+-- The code of each act does what the act means, and how loops are turned and left.
+use Rattle.std.proofs.Common.{◌≡◌, ℕ, zero, suc, ◌+◌, ◌-◌, ◌<◌, ◌≤◌, Bool, true, false, ◌&&◌, nat_lt, List, [], ◌∷◌, ◌++◌, Option, Some, All, length, map, drop, slice_get, refl, sym, ap, subst, ◌∙◌, arith, if◌then◌else◌}
 use Rattle.std.proofs.lemmas.Bool.{lt-ltb, le-leb, eq-eqb}
-use Rattle.std.proofs.lemmas.List.{length-map}
 use Rattle.std.proofs.lemmas.List.Elements.{All-head, All-tail}
-use Rattle.std.proofs.lemmas.Option.{slice_get_within}
 use Rattle.bytecode_format.specs.declared.instruction.Instruction.{Instruction}
-use Rattle.bytecode_format.specs.declared.modifiers.Modifiers.{Modifiers}
-use Rattle.bytecode_format.specs.declared.operation.Operation.TheVariants.{Halt, Keep, Discard, File, Store, Each, Next, Break, Take}
-use Rattle.bytecode_format.specs.declared.action.Action.{Action}
-use Rattle.bytecode_format.specs.declared.action.Action.TheVariants as action
+use Rattle.bytecode_format.specs.declared.operation.Operation.TheVariants.{Halt, Each, Next, Break}
 use Rattle.bytecode_format.specs.Code.{Code}
-use Rattle.bytecode_format.specs.Modifiers.{modified}
-use Rattle.bytecode_format.proofs.ModifierLemmas.{number_again}
+use Rattle.bytecode_format.specs.Operations.{operation_of}
 use Rattle.bytecode_verifier.specs.Loops.{same_loops}
 use Rattle.bytecode_verifier.specs.Rows.{row_named, is_jump}
 use Rattle.mime_decode.specs.Mail.{Mail}
 use Rattle.mime_decode.specs.Scope.{visited}
-use Rattle.octets.specs.Limits.{max_loops, max_value}
-use Rattle.octets.specs.Once.{is_listed}
-use Rattle.sieve_check.specs.Bounded.{IsBoundedString}
+use Rattle.octets.specs.Limits.{max_loops}
+use Rattle.sieve_check.specs.declared.typed.Act.{Act}
+use Rattle.sieve_check.specs.declared.typed.Act.TheVariants.{Leave, Stop}
+use Rattle.sieve_check.specs.Acts.{act_row, act_strings}
+use Rattle.sieve_check.specs.Bounded.{IsBoundedAct, IsBoundedString}
 use Rattle.sieve_check.specs.Typed.{Template, CommandForms, BranchForms, no_branch, otherwise, branch}
-use Rattle.sieve_check.specs.Variables.{string_variables, commands_variables}
-use Rattle.sieve_meaning.specs.Meaning.{Effects, expanded, with_taken, with_value, Ending, normal, stopped, broken, effects_of, followed_by, left, after_turn, turns, current, stored}
-use Rattle.sieve_vm.specs.State.{Value, text, Frame, State, current_part, goes, start}
-use Rattle.sieve_vm.specs.Machine.{store_part, set_content, are_partners, open_loop, turn, step}
-use Rattle.sieve_vm.specs.Charge.{charge_of}
+use Rattle.sieve_check.specs.Variables.{strings_variables}
+use Rattle.sieve_meaning.specs.Meaning.{Effects, expanded, all_expanded, Ending, normal, stopped, broken, effects_of, followed_by, left, after_turn, turns, act_does}
+use Rattle.sieve_vm.specs.State.{Value, Frame, State, current_part, goes, start}
+use Rattle.sieve_vm.specs.Machine.{on, referred_in, are_partners, open_loop, turn, step}
 use Rattle.sieve_vm.specs.Runs.{Run}
-use Rattle.sieve_vm.proofs.Opened.{IsPart, close-is}
-use Rattle.sieve_compiler.specs.Growing.{Uses, uses_with, joined, string_uses}
-use Rattle.sieve_compiler.specs.Tables.{Tables, tables_of, place_of_variable}
-use Rattle.sieve_compiler.specs.Lengths.{string_length, leave_length, branches_length}
-use Rattle.sieve_compiler.specs.Strings.{string_strings}
-use Rattle.sieve_compiler.specs.Coding.{plain, instruction, string_code, set_variable, leave_code, code_of, take_octets, written_version}
+use Rattle.sieve_vm.proofs.Opened.{IsPart, close-is, some_left}
+use Rattle.sieve_compiler.specs.Growing.{uses_with, strings_uses}
+use Rattle.sieve_compiler.specs.Tables.{Tables, tables_of}
+use Rattle.sieve_compiler.specs.Lengths.{strings_length, leave_length, branches_length}
+use Rattle.sieve_compiler.specs.Strings.{strings_of}
+use Rattle.sieve_compiler.specs.Coding.{plain, instruction, act_code, strings_code, leave_code, code_of, written_version}
 use Rattle.sieve_compiler.proofs.Standing.{Stands, stands_first, stands_left, stands_right}
-use Rattle.sieve_compiler.proofs.CodeLengths.{string_code_length}
-use Rattle.sieve_compiler.proofs.Known.{Has, has_right, found_variable}
-use Rattle.sieve_compiler.proofs.Values.{AreShort, variable_set, name_itself}
-use Rattle.sieve_compiler.proofs.OnStack.{OnPart, with_part_is, lands, part_at, left_more}
-use Rattle.sieve_compiler.proofs.StringsMeet.{after_steps, one_step, step_at, comes_here, jump_step, next_place, string_run, leads_then}
+use Rattle.sieve_compiler.proofs.CodeLengths.{strings_code_length}
+use Rattle.sieve_compiler.proofs.Known.{Has, has_string_of, has_set_of}
+use Rattle.sieve_compiler.proofs.Acts.{one_at_most, act_formed, act_effect}
+use Rattle.sieve_compiler.proofs.Values.{AreShort}
+use Rattle.sieve_compiler.proofs.OnStack.{OnPart, onto, lands, part_at, left_more, effect_of, charge_in, formed_turn}
+use Rattle.sieve_compiler.proofs.StringsMeet.{after_steps, one_step, step_at, comes_here, jump_step, next_place, strings_run, leads_then}
 
 -- where each of the program's jumps is one that the machine makes
 module _ (script : CommandForms) (mail : Mail) (jumps_kept : (p : ℕ) (i : Instruction) → slice_get (code_of script).instructions p ≡ Some i → is_jump (row_named written_version i.op) ≡ true → (nat_lt p i.c && same_loops (code_of script) p i.c) ≡ true) where
@@ -82,99 +78,32 @@ module _ (script : CommandForms) (mail : Mail) (jumps_kept : (p : ℕ) (i : Inst
     abbrev Comes : ℕ → Effects → ℕ → Effects → Type 0
     Comes p e q f = Leads frames p e frames q f
 
-    pub keep_run : (p : ℕ) (e : Effects) → slice_get all p ≡ Some (plain Keep) → Comes p e (p + 1) (record e { actions = e.actions ++ action.Keep ∷ []; implicit_keep = false })
-    keep_run p e here c =
-        let f : Effects = record e { actions = e.actions ++ action.Keep ∷ []; implicit_keep = false } in
-        let same : suc p ≡ p + 1 = omega arith in
-        let step_here : Goes (at p e c) (at (suc p) f (c + 1)) = step_at script mail jumps_kept (at p e c) (plain Keep) _ here refl in
-        (c + 1, one_step script mail jumps_kept (at p e c) (at (p + 1) f (c + 1)) (subst (λ n. Goes (at p e c) (at n f (c + 1))) same step_here))
-
-    pub discard_run : (p : ℕ) (e : Effects) → slice_get all p ≡ Some (plain Discard) → Comes p e (p + 1) (record e { implicit_keep = false })
-    discard_run p e here c =
-        let f : Effects = record e { implicit_keep = false } in
-        let same : suc p ≡ p + 1 = omega arith in
-        let step_here : Goes (at p e c) (at (suc p) f (c + 1)) = step_at script mail jumps_kept (at p e c) (plain Discard) _ here refl in
-        (c + 1, one_step script mail jumps_kept (at p e c) (at (p + 1) f (c + 1)) (subst (λ n. Goes (at p e c) (at n f (c + 1))) same step_here))
-
-    -- a string, then the instruction that takes it
-    pub taken_run : (segments : Template) (p : ℕ) (i : Instruction) (cost : ℕ → ℕ) (e f : Effects) → AreShort e → IsBoundedString segments → Stands all p (string_code tables segments ++ i ∷ []) → Has tables (string_uses segments)
-        → ((c : ℕ) → slice_get all (p + string_length segments) ≡ Some i → Goes (with_stack (text (expanded e segments) ∷ []) (p + string_length segments) e c) (at (suc (p + string_length segments)) f (c + cost c)))
-        → Comes p e (p + (string_length segments + 1)) f
-    taken_run segments p i cost e f short b h known does = λ c.
-        let first = string_run script mail jumps_kept frames held segments p c [] e short b (stands_left all p (string_code tables segments) (i ∷ []) h) known (omega arith) in
-        let q : ℕ = p + string_length segments in
-        let rest = stands_right all p (string_length segments) (string_code tables segments) (i ∷ []) (string_code_length tables segments) h in
-        let middle = with_stack (text (expanded e segments) ∷ []) q e first.0 in
-        let d : ℕ = first.0 + cost first.0 in
-        let last = next_place script mail jumps_kept frames held q d middle [] f (does first.0 (stands_first all q i [] rest)) in
-        let same : q + 1 ≡ p + (string_length segments + 1) = omega arith in
-        (d, after_steps script mail jumps_kept first.1.0 (at p e c) middle (at (p + (string_length segments + 1)) f d) first.1.1 (subst (λ n. Reaches middle (at n f d)) same last))
-
-    pub file_step : (p c : ℕ) (folder : List ℕ) (e : Effects) → slice_get all p ≡ Some (plain File)
-        → Goes (with_stack (text folder ∷ []) p e c) (at (suc p) (record e { actions = e.actions ++ action.File folder ∷ []; implicit_keep = false }) (c + (1 + length folder)))
-    file_step p c folder e here = step_at script mail jumps_kept (with_stack (text folder ∷ []) p e c) (plain File) _ here refl
-
-    -- the part is stored in the folder
-    pub store_step : (p c : ℕ) (folder : List ℕ) (e : Effects) → 0 < length frames → slice_get all p ≡ Some (plain Store)
-        → Goes (with_stack (text folder ∷ []) p e c) (at (suc p) (record e { actions = e.actions ++ stored part folder }) (c + (1 + length folder)))
-    store_step p c folder e deep here =
-        let on = held deep in
-        let s = with_stack (text folder ∷ []) p e c in
-        let is : action.Store folder on.number ∷ [] ≡ stored part folder = sym (ap (λ o. stored o folder) on.is) in
-        subst (λ (more : List Action). Goes s (at (suc p) (record e { actions = e.actions ++ more }) (c + (1 + length folder)))) is
-        (step_at script mail jumps_kept s (plain Store) _ here (ap (turn (1 + length folder)) (with_part_is store_part mail s frames on)))
-
-    variable_listed : (name : List ℕ) (uses : Uses) → Has tables (joined uses (uses_with [] [] (name ∷ []))) → is_listed bytes_eq name tables.variables ≡ true
-    variable_listed name uses known = (has_right tables uses (uses_with [] [] (name ∷ [])) known).variables name (name_itself name)
-
-    pub set_step : (p c : ℕ) (modifiers : Modifiers) (name octets : List ℕ) (e : Effects) → Has tables (uses_with [] [] (name ∷ [])) → slice_get all p ≡ Some (set_variable tables modifiers name)
-        → Goes (with_stack (text octets ∷ []) p e c) (at (suc p) (record e { variables = with_value name (take max_value (modified modifiers octets)) e.variables }) (c + (1 + length octets)))
-    set_step p c modifiers name octets e known here =
-        let place = place_of_variable tables name in
-        let inside : place < length tables.variables = slice_get_within tables.variables place name (found_variable tables name [] [] known) in
-        let room : place < length (map e.variables tables.variables) = omega (arith, inside, length-map tables.variables e.variables) in
-        let listed_here = known.variables name (name_itself name) in
-        step_at script mail jumps_kept (with_stack (text octets ∷ []) p e c) (set_variable tables modifiers name) _ here
-        (rw (number_again modifiers, lt-ltb place (length (map e.variables tables.variables)) room, variable_set (commands_variables script) e.variables name (take max_value (modified modifiers octets)) listed_here) refl)
-
-    -- what is taken of the current part
-    with_taken_is : (most : ℕ) (name : List ℕ) (e : Effects) (on : OnPart mail part) → with_value name (take most on.found.content) e.variables ≡ with_taken most name (current mail part) e.variables
-    with_taken_is most name e on = sym (rw (on.is, on.here) refl)
-
-    abbrev take_charge : ℕ → List ℕ → ℕ → Effects → ℕ → ℕ
-    take_charge most name p e c = charge_of mail Take (take_octets most (place_of_variable tables name)) (at p e c)
-
-    take_goes : (p c most : ℕ) (name : List ℕ) (e : Effects) (on : OnPart mail part) → (0 < most) × (most ≤ max_value) → Has tables (uses_with [] [] (name ∷ [])) → slice_get all p ≡ Some (take_octets most (place_of_variable tables name))
-        → Goes (at p e c) (at (suc p) (record e { variables = with_value name (take most on.found.content) e.variables }) (c + take_charge most name p e c))
-    take_goes p c most name e on limits known here =
-        let place = place_of_variable tables name in
-        let i = take_octets most place in
-        let inside : place < length tables.variables = slice_get_within tables.variables place name (found_variable tables name [] [] known) in
-        let room : place < length (map e.variables tables.variables) = omega (arith, inside, length-map tables.variables e.variables) in
-        let set = variable_set (commands_variables script) e.variables name (take most on.found.content) (known.variables name (name_itself name)) in
-        step_at script mail jumps_kept (at p e c) i _ here
-        (rw (le-leb 1 most (omega (arith, limits.0)), le-leb most max_value limits.1)
-        (ap (turn (take_charge most name p e c)) (with_part_is (set_content i) mail (at p e c) frames on) ∙ rw (lt-ltb place (length (map e.variables tables.variables)) room, set) refl))
-
-    pub take_run : (p most : ℕ) (name : List ℕ) (e : Effects) → 0 < length frames → (0 < most) × (most ≤ max_value) → Has tables (uses_with [] [] (name ∷ [])) → slice_get all p ≡ Some (take_octets most (place_of_variable tables name))
-        → Comes p e (p + 1) (record e { variables = with_taken most name (current mail part) e.variables })
-    take_run p most name e deep limits known here c =
-        let on = held deep in
-        let d : ℕ = c + take_charge most name p e c in
-        let f : Effects = record e { variables = with_taken most name (current mail part) e.variables } in
-        let goes_here = take_goes p c most name e on limits known here in
-        let steps : Goes (at p e c) (at (suc p) f d) =
-        subst (λ (variables : List ℕ → List ℕ). Goes (at p e c) (at (suc p) (record e { variables = variables }) d)) (with_taken_is most name e on) goes_here in
-        (d, next_place script mail jumps_kept frames held p d (at p e c) [] f steps)
-
-    -- what a value and the variable that is set use
-    pub set_uses : (value : Template) (name : List ℕ) → Has tables (uses_with [] (string_strings value) (string_variables value ++ name ∷ [])) → Has tables (joined (string_uses value) (uses_with [] [] (name ∷ [])))
-    set_uses value name known = subst (λ ss. Has tables (uses_with [] ss (string_variables value ++ name ∷ []))) (sym (append-nil (string_strings value))) known
+    -- the string of an act and its instruction, where the commands go on
+    does_run : (act : Act) (string : Template) (p : ℕ) (e f : Effects) → AreShort e → IsBoundedAct act × All IsBoundedString (act_strings act string) → (act_row act).loops ≤ max_loops → Stands all p (strings_code tables (act_strings act string) ++ act_code tables act ∷ [])
+        → Has tables (strings_uses (act_strings act string))
+        → ((q c : ℕ) → effect_of (referred_in code) mail (operation_of (act_code tables act).op) (act_code tables act) (with_stack (onto (all_expanded e (act_strings act string)) []) q e c) ≡ on (at q f c))
+        → Comes p e (p + (strings_length (act_strings act string) + 1)) f
+    does_run act string p e f short b few h known effect c =
+        let strings = act_strings act string in
+        let pushes = strings_code tables strings in
+        let n : ℕ = strings_length strings in
+        let q : ℕ = p + n in
+        let i = act_code tables act in
+        let first = strings_run script mail jumps_kept frames held strings p c [] e short b.1 (stands_left all p pushes (i ∷ []) h) known (omega (arith, one_at_most act string)) in
+        let rest = stands_right all p n pushes (i ∷ []) (strings_code_length tables strings) h in
+        let middle = with_stack (onto (all_expanded e strings) []) q e first.0 in
+        let cost : ℕ = charge_in mail (operation_of i.op) i middle in
+        let d : ℕ = first.0 + cost in
+        let does : Goes middle (at (suc q) f d) =
+        step_at script mail jumps_kept middle i _ (stands_first all q i [] rest) (formed_turn code mail (operation_of i.op) i middle (act_formed tables act b.0 few) ∙ ap (turn cost) (effect q first.0)) in
+        let same : q + 1 ≡ p + (n + 1) = omega arith in
+        let last = next_place script mail jumps_kept frames held q d middle [] f does in
+        (d, after_steps script mail jumps_kept first.1.0 (at p e c) middle (at (p + (n + 1)) f d) first.1.1 (subst (λ m. Reaches middle (at m f d)) same last))
 
     pub leave_run : (bs : BranchForms) (p end : ℕ) (e : Effects) → Stands all p (leave_code bs end) → p + leave_length bs + branches_length bs ≡ end → Comes p e end e
     leave_run no_branch p end e h done = let same : p ≡ end = omega (arith, done) in comes_here script mail jumps_kept frames held p end e same
     leave_run (otherwise cs) p end e h done = λ c. (c + 1, one_step script mail jumps_kept (at p e c) (at end e (c + 1)) (jump_step script mail jumps_kept frames held p c end e (stands_first all p _ [] h)))
-    leave_run (branch t cs bs) p end e h done = λ c. (c + 1, one_step script mail jumps_kept (at p e c) (at end e (c + 1)) (jump_step script mail jumps_kept frames held p c end e (stands_first all p _ [] h)))
+    leave_run (branch t cs place bs) p end e h done = λ c. (c + 1, one_step script mail jumps_kept (at p e c) (at end e (c + 1)) (jump_step script mail jumps_kept frames held p c end e (stands_first all p _ [] h)))
 
   -- where commands lead that begin at a place where the first loops are open, by how they end: at another place where the second are,
   -- or after the Next of one of these, where those around it are open, or at a Halt
@@ -280,6 +209,19 @@ module _ (script : CommandForms) (mail : Mail) (jumps_kept : (p : ℕ) (i : Inst
         one_step script mail jumps_kept s (state_at outer [] (suc frame.next) e (c + 1))
             (step_at script mail jumps_kept s (instruction Break (suc m) 0) _ at_break (rw (le-leb 1 (suc m) (omega arith), le-leb (suc m) max_loops some) (ap (turn 1) (close-is m s fs frame outer there)))),
       )
+
+  -- an act
+  pub act_run : (act : Act) (string : Template) (fs : List Frame) (held : 0 < length fs → OnPart mail (current_part fs)) (p : ℕ) (e : Effects) → Stands all p (strings_code tables (act_strings act string) ++ act_code tables act ∷ [])
+      → Has tables (uses_with [] (strings_of (act_strings act string)) (strings_variables (act_strings act string) ++ (act_row act).sets)) → IsBoundedAct act × All IsBoundedString (act_strings act string) → length fs ≤ max_loops → (act_row act).loops ≤ length fs → AreShort e
+      → Arrives (act_does mail (current_part fs) act (expanded e string) e) fs fs p (p + (strings_length (act_strings act string) + 1)) e
+  act_run (Leave n) string fs held p e h has b few deep short =
+      let some : n ≡ suc (n - 1) = omega (arith, b.0) in
+      let there = some_left (n - 1) fs (omega (arith, b.0, deep)) in
+      (n - 1, some, there.0, there.1, there.2, break_run fs p n (n - 1) e there.0 there.1 some (omega (arith, deep, few)) there.2 (stands_first all p _ [] h))
+  act_run Stop string fs held p e h has b few deep short = (fs, p, (λ c. (c, (0, refl))), stands_first all p _ [] h)
+  act_run act string fs held p e h has b few deep short =
+      does_run fs held act string p e (effects_of (act_does mail (current_part fs) act (expanded e string) e)) short b (omega (arith, deep, few)) h (has_string_of tables (act_strings act string) (act_row act).sets has)
+      (λ q c. act_effect script mail (state_at fs [] q e c) held act e string (has_set_of tables (act_strings act string) (act_row act).sets has) deep)
 
   -- the current part of an open loop is one of the message
   abbrev pub AreHeld : List Frame → Type 0

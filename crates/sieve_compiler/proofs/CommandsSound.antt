@@ -1,31 +1,29 @@
 -- Each instruction of the code of commands keeps the rules at its place.
-use Rattle.std.proofs.Common.{◌≡◌, ℕ, suc, ◌+◌, ◌<◌, ◌≤◌, false, List, [], ◌∷◌, ◌++◌, Some, slice_get, length, refl, sym, ap, subst, ◌∙◌, arith}
+use Rattle.std.proofs.Common.{◌≡◌, ℕ, suc, ◌+◌, ◌<◌, ◌≤◌, false, List, [], ◌∷◌, ◌++◌, Some, All, slice_get, length, refl, sym, ap, subst, ◌∙◌, arith}
 use Rattle.bytecode_format.specs.declared.instruction.Instruction.{Instruction}
-use Rattle.bytecode_format.specs.declared.operation.Operation.TheVariants.{Halt, Jump, Keep, Discard, File, Store, Each, Next, Break}
-use Rattle.std.proofs.lemmas.Bool.{le-leb, eq-eqb, ne_eqb}
-use Rattle.std.proofs.lemmas.List.{append-nil}
-use Rattle.bytecode_format.specs.declared.modifiers.Modifiers.{Modifiers}
-use Rattle.bytecode_format.proofs.ModifierLemmas.{number_again}
+use Rattle.bytecode_format.specs.declared.operation.Operation.TheVariants.{Halt, Jump, Each, Next}
+use Rattle.std.proofs.lemmas.Bool.{eq-eqb, ne_eqb}
 use Rattle.bytecode_verifier.specs.Nests.{next_at}
 use Rattle.bytecode_verifier.proofs.Open.{inside}
-use Rattle.bytecode_verifier.specs.declared.shape.Entry.TheVariants.{Text}
-use Rattle.octets.specs.Limits.{max_loops, max_value}
-use Rattle.sieve_check.specs.Bounded.{IsBoundedString, IsBoundedCommand, AreBoundedCommands, AreBoundedBranches, IsCommandIn, AreCommandsIn, AreBranchesIn}
-use Rattle.sieve_check.specs.Variables.{string_variables}
-use Rattle.sieve_check.specs.Typed.{Template, CommandForm, keep, discard, file_into, set, take_first, store, for_every_part, leave, stop, choice, CommandForms, no_command, command, BranchForms, no_branch, otherwise, branch}
-use Rattle.sieve_compiler.specs.Tables.{Tables, place_of_variable}
-use Rattle.sieve_compiler.specs.Lengths.{string_length, test_length, leave_length, command_length, commands_length, branches_length}
-use Rattle.sieve_compiler.specs.Strings.{string_strings}
-use Rattle.sieve_compiler.specs.Growing.{uses_with, joined, string_uses, test_uses, command_uses, commands_uses, branches_uses}
-use Rattle.sieve_compiler.specs.Coding.{plain, instruction, string_code, set_variable, leave_code, command_code, commands_code, branches_code, take_octets}
+use Rattle.octets.specs.Limits.{max_loops}
+use Rattle.sieve_check.specs.declared.typed.Act.{Act}
+use Rattle.sieve_check.specs.Acts.{act_row, act_strings}
+use Rattle.sieve_check.specs.Bounded.{IsBoundedString, IsBoundedAct, IsBoundedCommand, AreBoundedCommands, AreBoundedBranches, IsCommandIn, AreCommandsIn, AreBranchesIn}
+use Rattle.sieve_check.specs.Variables.{strings_variables}
+use Rattle.sieve_check.specs.Typed.{Template, CommandForm, does, for_every_part, choice, CommandForms, no_command, command, BranchForms, no_branch, otherwise, branch}
+use Rattle.sieve_compiler.specs.Tables.{Tables}
+use Rattle.sieve_compiler.specs.Lengths.{strings_length, test_length, leave_length, command_length, commands_length, branches_length}
+use Rattle.sieve_compiler.specs.Strings.{strings_of}
+use Rattle.sieve_compiler.specs.Growing.{uses_with, joined, test_uses, command_uses, commands_uses, branches_uses}
+use Rattle.sieve_compiler.specs.Coding.{plain, instruction, act_code, strings_code, leave_code, command_code, commands_code, branches_code}
 use Rattle.sieve_compiler.proofs.BranchParts.{branch_parts_of}
-use Rattle.sieve_compiler.proofs.Bracketed.{flat_inside, string_flat, commands_balanced, loop_next, next_stands, block_stands, block_ends, block_inside, test_inside, leave_inside, command_inside, commands_inside, branches_inside}
+use Rattle.sieve_compiler.proofs.Bracketed.{flat_inside, strings_flat, commands_balanced, loop_next, next_stands, block_stands, block_ends, block_inside, test_inside, leave_inside, command_inside, commands_inside, branches_inside}
 use Rattle.sieve_compiler.proofs.Standing.{Stands, stands_first, stands_left, stands_right}
-use Rattle.sieve_compiler.proofs.CodeLengths.{length_two, string_code_length, test_code_length, leave_code_length, command_code_length, commands_code_length}
-use Rattle.sieve_compiler.proofs.Known.{Has, has_left, has_right, found_variable}
+use Rattle.sieve_compiler.proofs.CodeLengths.{length_two, strings_code_length, test_code_length, leave_code_length, command_code_length, commands_code_length}
+use Rattle.sieve_compiler.proofs.Known.{Has, has_left, has_right, has_string_of, has_set_of}
 use Rattle.sieve_compiler.proofs.Sound.{left_by, standing, IsAimed, IsSound, AreSound, sound_both}
-use Rattle.sieve_compiler.proofs.PushedTexts.{bound_of}
-use Rattle.sieve_compiler.proofs.StringsSound.{following_string, string_sound}
+use Rattle.sieve_compiler.proofs.Acts.{act_leaves, act_sound, one_at_most}
+use Rattle.sieve_compiler.proofs.StringsSound.{following_strings, strings_sound}
 use Rattle.sieve_compiler.proofs.TestsSound.{test_ends, test_sound}
 
 module _ (all : List Instruction) (tables : Tables) (last : ℕ) where
@@ -36,34 +34,28 @@ module _ (all : List Instruction) (tables : Tables) (last : ℕ) where
   after_plain : (place : ℕ) (i : Instruction) → slice_get all place ≡ Some i → left_by tables (Some i) (standing tables all place) ≡ [] → standing tables all (place + 1) ≡ []
   after_plain place i h none = let same : suc place ≡ place + 1 = omega arith in at_same (suc place) (place + 1) same (ap (λ o. left_by tables o (standing tables all place)) h ∙ none)
 
-  -- after a string and an instruction that leaves no entry
-  after_string : (place : ℕ) (s : Template) (i : Instruction) → Stands all place (string_code tables s ++ i ∷ []) → left_by tables (Some i) (standing tables all (place + string_length s)) ≡ [] → standing tables all (place + (string_length s + 1)) ≡ []
-  after_string place s i h none =
-      let there = stands_right all place (string_length s) (string_code tables s) (i ∷ []) (string_code_length tables s) h in
-      let same : place + string_length s + 1 ≡ place + (string_length s + 1) = omega arith in
-      at_same _ _ same (after_plain (place + string_length s) i (stands_first all (place + string_length s) i [] there) none)
+  -- after the string of an act and its instruction
+  after_act : (place : ℕ) (act : Act) (string : Template) → Stands all place (strings_code tables (act_strings act string) ++ act_code tables act ∷ []) → standing tables all (place + (strings_length (act_strings act string) + 1)) ≡ []
+  after_act place act string h =
+      let strings = act_strings act string in
+      let q : ℕ = place + strings_length strings in
+      let there = stands_right all place (strings_length strings) (strings_code tables strings) (act_code tables act ∷ []) (strings_code_length tables strings) h in
+      let same : q + 1 ≡ place + (strings_length strings + 1) = omega arith in
+      at_same _ _ same (after_plain q (act_code tables act) (stands_first all q (act_code tables act) [] there) (act_leaves tables act (standing tables all q)))
 
   leave_end : (bs : BranchForms) (place end : ℕ) → Stands all place (leave_code bs end) → standing tables all place ≡ [] → standing tables all (place + leave_length bs) ≡ []
   leave_end no_branch place end h start = let same : place ≡ place + 0 = omega arith in at_same place (place + 0) same start
   leave_end (otherwise cs) place end h start = after_plain place _ (stands_first all place _ [] h) refl
-  leave_end (branch t cs bs) place end h start = after_plain place _ (stands_first all place _ [] h) refl
+  leave_end (branch t cs at bs) place end h start = after_plain place _ (stands_first all place _ [] h) refl
 
   -- after the code of commands no entry is left
   mutual
     pub command_ends : (c : CommandForm) (place : ℕ) → Stands all place (command_code tables place c) → standing tables all place ≡ [] → standing tables all (place + command_length c) ≡ []
-    command_ends keep place h start = after_plain place _ (stands_first all place _ [] h) refl
-    command_ends discard place h start = after_plain place _ (stands_first all place _ [] h) refl
-    command_ends (file_into folder) place h start =
-        after_string place folder (plain File) h refl
-    command_ends (set modifiers name value) place h start = after_string place value (set_variable tables modifiers name) h refl
-    command_ends (take_first most name) place h start = after_plain place _ (stands_first all place _ [] h) refl
-    command_ends (store folder) place h start = after_string place folder (plain Store) h refl
-    command_ends (for_every_part cs) place h start =
+    command_ends (does act string at) place h start = after_act place act string h
+    command_ends (for_every_part cs at) place h start =
         let next : ℕ = place + 1 + commands_length cs in
         let same : next + 1 ≡ place + (commands_length cs + 2) = omega arith in
         at_same _ _ same (after_plain next (instruction Next 0 place) (next_stands all place next (commands_code tables (place + 1) cs) h (commands_balanced tables cs (place + 1)) (block_ends all tables cs place)) refl)
-    command_ends (leave loops) place h start = after_plain place _ (stands_first all place _ [] h) refl
-    command_ends stop place h start = after_plain place _ (stands_first all place _ [] h) refl
     command_ends (choice bs) place h start = branches_end bs place _ h start
 
     pub commands_end : (cs : CommandForms) (place : ℕ) → Stands all place (commands_code tables place cs) → standing tables all place ≡ [] → standing tables all (place + commands_length cs) ≡ []
@@ -76,36 +68,16 @@ module _ (all : List Instruction) (tables : Tables) (last : ℕ) where
     pub branches_end : (bs : BranchForms) (place end : ℕ) → Stands all place (branches_code tables place bs end) → standing tables all place ≡ [] → standing tables all (place + branches_length bs) ≡ []
     branches_end no_branch place end h start = let same : place ≡ place + 0 = omega arith in at_same place (place + 0) same start
     branches_end (otherwise cs) place end h start = commands_end cs place h start
-    branches_end (branch t cs bs) place end h start =
-        let p = branch_parts_of all tables t cs bs place end h in
+    branches_end (branch t cs at bs) place end h start =
+        let p = branch_parts_of all tables t cs at bs place end h in
         let tested = test_ends all tables last t place false _ p.test in
         let blocked = commands_end cs (place + test_length t) p.block tested in
         let left = leave_end bs (place + test_length t + commands_length cs) end p.leave blocked in
         let same : place + test_length t + commands_length cs + leave_length bs + branches_length bs ≡ place + (test_length t + commands_length cs + leave_length bs + branches_length bs) = omega arith in
         at_same _ _ same (branches_end bs (place + test_length t + commands_length cs + leave_length bs) end p.rest left)
 
-  keep_sound : (place : ℕ) → standing tables all place ≡ [] → IsSound all tables last place (plain Keep)
-  keep_sound place start = record { form = refl; loops = tt; index = tt; jump = λ e. absurd (cc); stack = λ code same. rw start refl }
-
-  discard_sound : (place : ℕ) → standing tables all place ≡ [] → IsSound all tables last place (plain Discard)
-  discard_sound place start = record { form = refl; loops = tt; index = tt; jump = λ e. absurd (cc); stack = λ code same. rw start refl }
-
   pub halt_sound : (place : ℕ) → standing tables all place ≡ [] → IsSound all tables last place (plain Halt)
   halt_sound place start = record { form = refl; loops = tt; index = tt; jump = λ e. absurd (cc); stack = λ code same. rw start refl }
-
-  -- an instruction on the current part, where a loop is open
-  store_sound : (place bound : ℕ) → standing tables all place ≡ Text bound ∷ [] → 0 < length (inside all place) → IsSound all tables last place (plain Store)
-  store_sound place bound start deep = record { form = refl; loops = deep; index = tt; jump = λ e. absurd (cc); stack = λ code same. rw start refl }
-
-  take_sound : (place most : ℕ) (name : List ℕ) → Has tables (uses_with [] [] (name ∷ [])) → 0 < most → most ≤ max_value → standing tables all place ≡ [] → 0 < length (inside all place)
-      → IsSound all tables last place (take_octets most (place_of_variable tables name))
-  take_sound place most name known some few start deep = record {
-    form = rw (le-leb 1 most (omega (arith, some)), le-leb most max_value few) refl;
-    loops = deep;
-    index = (name, found_variable tables name [] [] known);
-    jump = λ e. absurd (cc);
-    stack = λ code same. rw start refl;
-  }
 
   each_sound : (place next : ℕ) → standing tables all place ≡ [] → next_at all place ≡ next → 0 < next → length (inside all place) < max_loops → IsSound all tables last place (instruction Each 0 next)
   each_sound place next start is some room = record {
@@ -125,38 +97,22 @@ module _ (all : List Instruction) (tables : Tables) (last : ℕ) where
     stack = λ code same. rw start refl;
   }
 
-  break_sound : (place number : ℕ) → standing tables all place ≡ [] → 0 < number → number ≤ max_loops → number ≤ length (inside all place) → IsSound all tables last place (instruction Break number 0)
-  break_sound place number start some few deep = record {
-    form = rw (le-leb 1 number (omega (arith, some)), le-leb number max_loops few) refl;
-    loops = deep;
-    index = tt;
-    jump = λ e. absurd (cc);
-    stack = λ code same. rw start refl;
-  }
-
-  file_sound : (place bound : ℕ) → standing tables all place ≡ Text bound ∷ [] → IsSound all tables last place (plain File)
-  file_sound place bound start = record { form = refl; loops = tt; index = tt; jump = λ e. absurd (cc); stack = λ code same. rw start refl }
-
-  set_sound : (place bound : ℕ) (modifiers : Modifiers) (name : List ℕ) → Has tables (uses_with [] [] (name ∷ [])) → standing tables all place ≡ Text bound ∷ [] → IsSound all tables last place (set_variable tables modifiers name)
-  set_sound place bound modifiers name known start = record {
-    form = rw (number_again modifiers) refl;
-    loops = tt;
-    index = (name, found_variable tables name [] [] known);
-    jump = λ e. absurd (cc);
-    stack = λ code same. rw start refl;
-  }
-
-  -- a string and an instruction that takes its text
-  taking_sound : (place : ℕ) (s : Template) (i : Instruction) → Stands all place (string_code tables s ++ i ∷ []) → Has tables (string_uses s) → IsBoundedString s → standing tables all place ≡ []
-      → (standing tables all (place + string_length s) ≡ Text (bound_of s) ∷ [] → IsSound all tables last (place + string_length s) i) → AreSound all tables last place (string_code tables s ++ i ∷ [])
-  taking_sound place s i h known b start sound =
-      let here = stands_left all place (string_code tables s) (i ∷ []) h in
-      let after = following_string all tables last s place [] here known start in
-      sound_both all tables last (string_code tables s) (i ∷ []) place (string_length s) (string_code_length tables s) (string_sound all tables last s place [] here known b start (omega arith)) (sound after, tt)
-
-  -- the value of a variable that is set, and its name
-  pub has_setting : (name : List ℕ) (value : Template) → Has tables (uses_with [] (string_strings value) (string_variables value ++ name ∷ [])) → Has tables (joined (string_uses value) (uses_with [] [] (name ∷ [])))
-  has_setting name value known = subst (λ ss. Has tables (uses_with [] ss (string_variables value ++ name ∷ []))) (sym (append-nil (string_strings value))) known
+  -- the string of an act and its instruction
+  does_sound : (act : Act) (string : Template) (place : ℕ) → Stands all place (strings_code tables (act_strings act string) ++ act_code tables act ∷ []) → Has tables (uses_with [] (strings_of (act_strings act string)) (strings_variables (act_strings act string) ++ (act_row act).sets))
+      → IsBoundedAct act × All IsBoundedString (act_strings act string) → standing tables all place ≡ [] → (act_row act).loops ≤ length (inside all place) → length (inside all place) ≤ max_loops → AreSound all tables last place (strings_code tables (act_strings act string) ++ act_code tables act ∷ [])
+  does_sound act string place h known b start deep few =
+      let strings = act_strings act string in
+      let pushes = strings_code tables strings in
+      let n : ℕ = strings_length strings in
+      let i = act_code tables act in
+      let number = strings_code_length tables strings in
+      let of_string = has_string_of tables strings (act_row act).sets known in
+      let here = stands_left all place pushes (i ∷ []) h in
+      let around = flat_inside all pushes place n number here (strings_flat tables strings) in
+      let before = following_strings all tables last strings place [] here of_string start in
+      sound_both all tables last pushes (i ∷ []) place n number
+      (strings_sound all tables last strings place [] here of_string b.1 start (omega (arith, one_at_most act string)))
+      (act_sound tables all last (place + n) act string b.0 (has_set_of tables strings (act_row act).sets known) (omega (arith, deep, ap length around)) (omega (arith, few, ap length around)) before, tt)
 
   jump_sound : (place end : ℕ) → standing tables all place ≡ [] → IsAimed all tables last place end → IsSound all tables last place (instruction Jump 0 end)
   jump_sound place end start aimed = record { form = refl; loops = tt; index = tt; jump = λ e. aimed; stack = λ code same. rw start refl }
@@ -164,26 +120,14 @@ module _ (all : List Instruction) (tables : Tables) (last : ℕ) where
   leave_sound : (bs : BranchForms) (place end : ℕ) → standing tables all place ≡ [] → place + leave_length bs ≤ end → end ≤ last → standing tables all end ≡ [] → inside all end ≡ inside all place → AreSound all tables last place (leave_code bs end)
   leave_sound no_branch place end start le within between same = tt
   leave_sound (otherwise cs) place end start le within between same = (jump_sound place end start (record { forward = omega (arith, le); within = within; between = between; same = same }), tt)
-  leave_sound (branch t cs bs) place end start le within between same = (jump_sound place end start (record { forward = omega (arith, le); within = within; between = between; same = same }), tt)
+  leave_sound (branch t cs at bs) place end start le within between same = (jump_sound place end start (record { forward = omega (arith, le); within = within; between = between; same = same }), tt)
 
   -- so many loops are open around commands
   mutual
     pub command_sound : (c : CommandForm) (place loops : ℕ) → Stands all place (command_code tables place c) → Has tables (command_uses c) → IsBoundedCommand c → standing tables all place ≡ [] → place + command_length c ≤ last
         → loops ≤ max_loops → IsCommandIn loops c → length (inside all place) ≡ loops → AreSound all tables last place (command_code tables place c)
-    command_sound keep place loops h known b start within few in_loops deep = (keep_sound place start, tt)
-    command_sound discard place loops h known b start within few in_loops deep = (discard_sound place start, tt)
-    command_sound (file_into folder) place loops h known b start within few in_loops deep =
-        taking_sound place folder (plain File) h known b start (λ after. file_sound (place + string_length folder) (bound_of folder) after)
-    command_sound (set modifiers name value) place loops h known b start within few in_loops deep =
-        let both = has_setting name value known in
-        let of_value = has_left tables (string_uses value) (uses_with [] [] (name ∷ [])) both in
-        let of_name = has_right tables (string_uses value) (uses_with [] [] (name ∷ [])) both in
-        taking_sound place value (set_variable tables modifiers name) h of_value b start (λ after. set_sound (place + string_length value) (bound_of value) modifiers name of_name after)
-    command_sound (take_first most name) place loops h known b start within few in_loops deep = (take_sound place most name known b.0 b.1 start (omega (arith, in_loops, deep)), tt)
-    command_sound (store folder) place loops h known b start within few in_loops deep =
-        let same = flat_inside all (string_code tables folder) place (string_length folder) (string_code_length tables folder) (stands_left all place (string_code tables folder) (plain Store ∷ []) h) (string_flat tables folder) in
-        taking_sound place folder (plain Store) h known b start (λ after. store_sound (place + string_length folder) (bound_of folder) after (omega (arith, in_loops, deep, ap length same)))
-    command_sound (for_every_part cs) place loops h known b start within few in_loops deep =
+    command_sound (does act string at) place loops h known b start within few in_loops deep = does_sound act string place h known b start (omega (arith, in_loops, deep)) (omega (arith, few, deep))
+    command_sound (for_every_part cs at) place loops h known b start within few in_loops deep =
         let block : ℕ = place + 1 in
         let next : ℕ = block + commands_length cs in
         let body = commands_code tables block cs in
@@ -200,8 +144,6 @@ module _ (all : List Instruction) (tables : Tables) (last : ℕ) where
         let closing = next_sound next place (commands_end cs block stands first) is some in
         let same : block ≡ suc place = omega arith in
         (each_sound place next start is some room, subst (λ p. AreSound all tables last p (body ++ instruction Next 0 place ∷ [])) same (sound_both all tables last body (instruction Next 0 place ∷ []) block (commands_length cs) (commands_code_length tables cs block) own (closing, tt)))
-    command_sound (leave number) place loops h known b start within few in_loops deep = (break_sound place number start in_loops.0 (omega (arith, in_loops.1, few)) (omega (arith, in_loops.1, deep)), tt)
-    command_sound stop place loops h known b start within few in_loops deep = (halt_sound place start, tt)
     command_sound (choice bs) place loops h known b start within few in_loops deep =
         let same : place + branches_length bs ≤ place + branches_length bs = omega arith in
         branches_sound bs place (place + branches_length bs) loops h known b start same within (branches_end bs place _ h start) (branches_inside all tables bs place _ h) few in_loops deep
@@ -225,7 +167,7 @@ module _ (all : List Instruction) (tables : Tables) (last : ℕ) where
     branches_sound (otherwise cs) place end loops h known b start le within between around few in_loops deep =
         let fits : place + commands_length cs ≤ last = omega (arith, le, within) in
         commands_sound cs place loops h known b start fits few in_loops deep
-    branches_sound (branch t cs bs) place end loops h known limits start le within between around few in_loops deep =
+    branches_sound (branch t cs at bs) place end loops h known limits start le within between around few in_loops deep =
         let block = place + test_length t in
         let after_block = block + commands_length cs in
         let next = after_block + leave_length bs in
@@ -237,7 +179,7 @@ module _ (all : List Instruction) (tables : Tables) (last : ℕ) where
         let of_place : place + (test_length t + commands_length cs) ≡ after_block = omega arith in
         let of_next : place + (test_length t + commands_length cs + leave_length bs) ≡ next = omega arith in
         let both = has_left tables (joined (test_uses t) (commands_uses cs)) (branches_uses bs) known in
-        let parts = branch_parts_of all tables t cs bs place end h in
+        let parts = branch_parts_of all tables t cs at bs place end h in
         let tested = test_ends all tables last t place false _ parts.test in
         let blocked = commands_end cs block parts.block tested in
         let left = leave_end bs after_block end parts.leave blocked in

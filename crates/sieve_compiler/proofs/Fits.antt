@@ -1,37 +1,30 @@
 -- The fields of a script's code, and the whole program, are within the limits of one.
-use Rattle.std.proofs.Common.{◌≡◌, ℕ, ◌+◌, ◌-◌, ◌<◌, ◌≤◌, ◌^◌, nat_eq, bytes_eq, Bool, true, false, not, List, [], ◌∷◌, map, length, All, refl, arith}
+use Rattle.std.proofs.Common.{◌≡◌, ℕ, suc, ◌+◌, ◌-◌, ◌<◌, ◌≤◌, ◌^◌, nat_eq, bytes_eq, Bool, true, false, not, List, [], ◌∷◌, map, length, All, refl, arith}
 use Rattle.std.proofs.lemmas.List.{length-append}
 use Rattle.std.proofs.lemmas.List.Elements.{All-nil, All-cons, All-head, All-tail, All-append}
 use Rattle.bytecode_format.specs.declared.instruction.Instruction.{Instruction}
 use Rattle.bytecode_format.specs.declared.operation.Operation.{Operation}
-use Rattle.bytecode_format.specs.declared.operation.Operation.TheVariants.{Halt, Literal, Variable as VariableOp, Capture as CaptureOp, Set, Bool as BoolOp, Jump, JumpIfTrue, JumpIfFalse, Size, Keep, Discard, File, PartSize, PartBody, PartDigest, Store, Each, Next, Break}
+use Rattle.bytecode_format.specs.declared.operation.Operation.TheVariants.{Halt, Literal, Variable as VariableOp, Capture as CaptureOp, Jump, JumpIfTrue, JumpIfFalse, Each, Next}
 use Rattle.bytecode_format.specs.Operations.{octet_of}
-use Rattle.bytecode_format.specs.declared.modifiers.Modifiers.{Modifiers}
-use Rattle.bytecode_format.specs.Modifiers.{modifiers_number}
 use Rattle.bytecode_format.specs.Spelling.{Fits, IsProgram}
-use Rattle.bytecode_format.proofs.ModifierLemmas.{number_small}
 use Rattle.bytecode_format.proofs.Lengths.{length-spelling}
-use Rattle.sieve_check.specs.declared.typed.Order.{Order}
-use Rattle.sieve_check.specs.declared.typed.Order.TheVariants.{Over, Under}
+use Rattle.octets.specs.Limits.{max_loops, max_segments, max_variables}
+use Rattle.octets.proofs.Once.{place_within, each_once_all}
 use Rattle.sieve_check.specs.declared.typed.Segment.{Segment}
 use Rattle.sieve_check.specs.declared.typed.Segment.TheVariants.{Text, Variable, Capture}
-use Rattle.bytecode_format.proofs.SelectionLemmas as selecting
-use Rattle.bytecode_format.specs.declared.selection.Scope.{Scope}
-use Rattle.sieve_check.specs.Typed.{Template, Selected, selector_of, params_of, TestForm, constant, negation, all_of, any_of, size, header, exists, string, part_size, part_body, part_digest, TestForms, no_test, test, CommandForm, keep, discard, file_into, set, take_first, store, for_every_part, leave, stop, choice, CommandForms, no_command, command, BranchForms, no_branch, otherwise, branch}
-use Rattle.glob_match.specs.declared.match_type.Match.{Match}
-use Rattle.octets.specs.Limits.{max_segments, max_value, max_variables}
-use Rattle.sieve_check.specs.Bounded.{IsBoundedSegment, IsBoundedString, IsBoundedHeader, IsBoundedTest, AreBoundedTests, IsBoundedCommand, AreBoundedCommands, AreBoundedBranches, IsBounded}
-use Rattle.sieve_compiler.specs.Strings.{commands_strings}
+use Rattle.sieve_check.specs.Acts.{act_strings}
+use Rattle.sieve_check.specs.Typed.{Template, in_order, TestForm, asks, negation, all_of, any_of, TestForms, no_test, test, CommandForm, does, for_every_part, choice, CommandForms, no_command, command, BranchForms, no_branch, otherwise, branch}
+use Rattle.sieve_check.specs.Bounded.{IsBoundedSegment, IsBoundedString, IsBoundedTest, AreBoundedTests, IsBoundedCommand, AreBoundedCommands, AreBoundedBranches, IsCommandIn, AreCommandsIn, AreBranchesIn, IsBounded}
 use Rattle.sieve_check.specs.Extent.{commands_extent}
-use Rattle.sieve_compiler.specs.Tables.{Tables, tables_of, place_of_number, place_of_string, place_of_variable}
+use Rattle.sieve_compiler.specs.Strings.{commands_strings}
+use Rattle.sieve_compiler.specs.Tables.{Tables, tables_of, place_of_string, place_of_variable}
 use Rattle.sieve_compiler.specs.Lengths.{test_length, tests_length, leave_length, command_length, commands_length, branches_length}
 use Rattle.sieve_compiler.specs.Numbers.{commands_numbers}
-use Rattle.sieve_compiler.specs.Coding.{instruction, plain, jump_if, push_bool, push_part_size, push_size, push_text, push_segment, join_texts, string_code, strings_code, set_variable, match_fields, match_body, match_digest, match_texts, find_fields, asked_of, aim_of, test_code, tests_code, leave_code, command_code, commands_code, branches_code, code_of, take_octets}
-use Rattle.octets.proofs.Once.{place_within, each_once_all}
-use Rattle.sieve_compiler.specs.Leaving.{LeavesFew, LeaveFew, BranchesLeaveFew}
+use Rattle.sieve_compiler.specs.Coding.{instruction, plain, jump_if, push_text, push_segment, join_texts, string_code, strings_code, question_code, act_code, asked_of, aim_of, test_code, tests_code, leave_code, command_code, commands_code, branches_code, code_of}
+use Rattle.sieve_compiler.proofs.Acts.{act_fits}
 use Rattle.sieve_compiler.proofs.CodeLengths.{commands_code_length}
-use Rattle.sieve_compiler.proofs.LeavingLemmas.{leave_few}
 use Rattle.sieve_compiler.proofs.LengthsFit.{commands_within, table_within}
+use Rattle.sieve_compiler.proofs.Questions.{question_fits}
 use Rattle.sieve_compiler.proofs.StringsFit.{IsShort, commands_short, strings_few, strings_small}
 
 -- ---- fields
@@ -42,24 +35,9 @@ fits_instruction operation a c op small place = record { op = op; a = small; b =
 one : (i : Instruction) → Fits i → All Fits (i ∷ [])
 one i fits = All-cons Fits i [] fits (All-nil Fits)
 
-fits_plain : (operation : Operation) → octet_of operation < 2 ^ 8 → All Fits (plain operation ∷ [])
-fits_plain operation op = one (plain operation) (fits_instruction operation 0 0 op (omega arith) (omega arith))
-
 fits_jump_if : (asked : Bool) (target : ℕ) → target < 2 ^ 32 → Fits (jump_if asked target)
 fits_jump_if true target place = fits_instruction JumpIfTrue 0 target (omega arith) (omega arith) place
 fits_jump_if false target place = fits_instruction JumpIfFalse 0 target (omega arith) (omega arith) place
-
-fits_push_bool : (b : Bool) → Fits (push_bool b)
-fits_push_bool true = fits_instruction BoolOp 1 0 (omega arith) (omega arith) (omega arith)
-fits_push_bool false = fits_instruction BoolOp 0 0 (omega arith) (omega arith) (omega arith)
-
-fits_push_size : (order : Order) (place : ℕ) → place < 2 ^ 32 → Fits (push_size order place)
-fits_push_size Over place small = fits_instruction Size 0 place (omega arith) (omega arith) small
-fits_push_size Under place small = fits_instruction Size 1 place (omega arith) (omega arith) small
-
-fits_push_part_size : (order : Order) (place : ℕ) → place < 2 ^ 32 → Fits (push_part_size order place)
-fits_push_part_size Over place small = fits_instruction PartSize 0 place (omega arith) (omega arith) small
-fits_push_part_size Under place small = fits_instruction PartSize 1 place (omega arith) (omega arith) small
 
 fits_simple : (i : Instruction) (asked : Bool) (target : ℕ) → Fits i → target < 2 ^ 32 → All Fits (i ∷ jump_if asked target ∷ [])
 fits_simple i asked target fits small = All-cons Fits i (jump_if asked target ∷ []) fits (one (jump_if asked target) (fits_jump_if asked target small))
@@ -101,61 +79,19 @@ fits_strings : (tables : Tables) (ss : List Template) → AreFew tables → All 
 fits_strings tables [] few b = All-nil Fits
 fits_strings tables (s ∷ ss) few b = All-append Fits (string_code tables s) (strings_code tables ss) (fits_string tables s few (All-head IsBoundedString s ss b)) (fits_strings tables ss few (All-tail IsBoundedString s ss b))
 
-fits_set : (tables : Tables) (modifiers : Modifiers) (name : List ℕ) → AreFew tables → Fits (set_variable tables modifiers name)
-fits_set tables modifiers name few = fits_instruction Set (modifiers_number modifiers) (place_of_variable tables name) (omega arith) (omega (arith, number_small modifiers)) (omega (arith, place_within bytes_eq tables.variables name, few.2))
-
-fits_take : (tables : Tables) (most : ℕ) (name : List ℕ) → AreFew tables → most ≤ max_value → Fits (take_octets most (place_of_variable tables name))
-fits_take tables most name few small = record { op = omega arith; a = omega arith; b = omega (arith, small); c = omega (arith, place_within bytes_eq tables.variables name, few.2) }
-
-fits_fields : (how : Match) (scope : Scope) (selected : Selected) (names keys : List Template) → IsBoundedHeader selected names keys → Fits (match_fields how scope selected (length names) (length keys))
-fits_fields how scope selected names keys b = record {
-  op = omega arith;
-  a = selecting.field_test_small (record { how = how; scope = scope; selector = selector_of selected });
-  b = omega (arith, b.few);
-  c = omega (arith, b.few);
-}
-
-fits_texts : (how : Match) (sources keys : ℕ) → sources + keys ≤ 512 → Fits (match_texts how sources keys)
-fits_texts how sources keys few = record { op = omega arith; a = omega (arith, selecting.match_small how); b = omega (arith, few); c = omega (arith, few) }
-
-fits_body : (how : Match) (keys : ℕ) → keys ≤ 512 → Fits (match_body how keys)
-fits_body how keys few = fits_instruction PartBody _ keys (omega arith) (omega (arith, selecting.match_small how)) (omega (arith, few))
-
-fits_digest : (keys : ℕ) → keys ≤ 512 → Fits (match_digest keys)
-fits_digest keys few = fits_instruction PartDigest 0 keys (omega arith) (omega arith) (omega (arith, few))
-
-fits_names : (scope : Scope) (names : ℕ) → names ≤ 512 → Fits (find_fields scope names)
-fits_names scope names few = record { op = omega arith; a = omega (arith, selecting.scope_small scope); b = omega (arith, few); c = omega arith }
-
 mutual
   fits_test : (tables : Tables) (place : ℕ) (t : TestForm) (asked : Bool) (target : ℕ) → AreFew tables → IsBoundedTest t → place + test_length t < 2 ^ 32 → target < 2 ^ 32 → All Fits (test_code tables place t asked target)
-  fits_test tables place (constant v) asked target few b room small = fits_simple (push_bool v) asked target (fits_push_bool v) small
-  fits_test tables place (negation t) asked target few b room small = fits_test tables place t (not asked) target few b room small
-  fits_test tables place (all_of t ts) asked target few b room small =
+  fits_test tables place (asks question strings at) asked target few b room small =
+      All-append Fits _ _ (fits_strings tables (in_order strings) few b.bounded) (fits_simple (question_code tables question strings) asked target (question_fits tables question strings b few.0) small)
+  fits_test tables place (negation t at) asked target few b room small = fits_test tables place t (not asked) target few b room small
+  fits_test tables place (all_of t ts at) asked target few b room small =
       let following : ℕ = place + (test_length t + tests_length ts) in
       All-append Fits _ _ (fits_test tables place t (asked_of false asked ts) (aim_of false asked ts following target) few b.0 (omega (arith, room)) (aim_within false asked ts following target room small))
       (fits_tests tables (place + test_length t) ts false asked following target few b.1 (omega (arith, room)) room small)
-  fits_test tables place (any_of t ts) asked target few b room small =
+  fits_test tables place (any_of t ts at) asked target few b room small =
       let following : ℕ = place + (test_length t + tests_length ts) in
       All-append Fits _ _ (fits_test tables place t (asked_of true asked ts) (aim_of true asked ts following target) few b.0 (omega (arith, room)) (aim_within true asked ts following target room small))
       (fits_tests tables (place + test_length t) ts true asked following target few b.1 (omega (arith, room)) room small)
-  fits_test tables place (header how scope selected names keys) asked target few b room small =
-      let two = All-append Fits _ _ (fits_strings tables names few b.lists.bounded_first) (fits_strings tables (params_of selected) few b.bounded_params) in
-      All-append Fits _ _ (All-append Fits _ _ two (fits_strings tables keys few b.lists.bounded_second))
-      (fits_simple (match_fields how scope selected (length names) (length keys)) asked target (fits_fields how scope selected names keys b) small)
-  fits_test tables place (exists scope names) asked target few b room small =
-      All-append Fits _ _ (fits_strings tables names few b.bounded) (fits_simple (find_fields scope (length names)) asked target (fits_names scope (length names) b.few) small)
-  fits_test tables place (string how sources keys) asked target few b room small =
-      All-append Fits _ _ (All-append Fits _ _ (fits_strings tables sources few b.bounded_first) (fits_strings tables keys few b.bounded_second))
-      (fits_simple (match_texts how (length sources) (length keys)) asked target (fits_texts how (length sources) (length keys) b.few) small)
-  fits_test tables place (size order number) asked target few b room small =
-      fits_simple (push_size order (place_of_number tables number)) asked target (fits_push_size order (place_of_number tables number) (omega (arith, place_within nat_eq tables.numbers number, few.0))) small
-  fits_test tables place (part_size order number) asked target few b room small =
-      fits_simple (push_part_size order (place_of_number tables number)) asked target (fits_push_part_size order (place_of_number tables number) (omega (arith, place_within nat_eq tables.numbers number, few.0))) small
-  fits_test tables place (part_body how keys) asked target few b room small =
-      All-append Fits _ _ (fits_strings tables keys few b.bounded) (fits_simple (match_body how (length keys)) asked target (fits_body how (length keys) b.few) small)
-  fits_test tables place (part_digest keys) asked target few b room small =
-      All-append Fits _ _ (fits_strings tables keys few b.bounded) (fits_simple (match_digest (length keys)) asked target (fits_digest (length keys) b.few) small)
 
   fits_tests : (tables : Tables) (place : ℕ) (ts : TestForms) (deciding asked : Bool) (following target : ℕ) → AreFew tables → AreBoundedTests ts → place + tests_length ts < 2 ^ 32 → following < 2 ^ 32 → target < 2 ^ 32 → All Fits (tests_code tables place ts deciding asked following target)
   fits_tests tables place no_test deciding asked following target few b room inside small = All-nil Fits
@@ -166,37 +102,32 @@ mutual
 fits_leave : (bs : BranchForms) (end : ℕ) → end < 2 ^ 32 → All Fits (leave_code bs end)
 fits_leave no_branch end small = All-nil Fits
 fits_leave (otherwise cs) end small = one (instruction Jump 0 end) (fits_instruction Jump 0 end (omega arith) (omega arith) small)
-fits_leave (branch t cs bs) end small = one (instruction Jump 0 end) (fits_instruction Jump 0 end (omega arith) (omega arith) small)
+fits_leave (branch t cs at bs) end small = one (instruction Jump 0 end) (fits_instruction Jump 0 end (omega arith) (omega arith) small)
 
+-- so many loops are open around
 mutual
-  fits_command : (tables : Tables) (place : ℕ) (c : CommandForm) → AreFew tables → IsBoundedCommand c → LeavesFew c → place + command_length c < 2 ^ 32 → All Fits (command_code tables place c)
-  fits_command tables place keep few b l room = fits_plain Keep (omega arith)
-  fits_command tables place discard few b l room = fits_plain Discard (omega arith)
-  fits_command tables place (file_into folder) few b l room = All-append Fits (string_code tables folder) (plain File ∷ []) (fits_string tables folder few b) (fits_plain File (omega arith))
-  fits_command tables place (set modifiers name value) few b l room = All-append Fits (string_code tables value) (set_variable tables modifiers name ∷ []) (fits_string tables value few b) (one (set_variable tables modifiers name) (fits_set tables modifiers name few))
-  fits_command tables place (take_first most name) few b l room = one (take_octets most (place_of_variable tables name)) (fits_take tables most name few b.1)
-  fits_command tables place (store folder) few b l room = All-append Fits (string_code tables folder) (plain Store ∷ []) (fits_string tables folder few b) (fits_plain Store (omega arith))
-  fits_command tables place (for_every_part cs) few b l room =
+  fits_command : (tables : Tables) (place loops : ℕ) (c : CommandForm) → AreFew tables → IsBoundedCommand c → loops ≤ max_loops → IsCommandIn loops c → place + command_length c < 2 ^ 32 → All Fits (command_code tables place c)
+  fits_command tables place loops (does act string at) few b le in_loops room =
+      All-append Fits _ _ (fits_strings tables (act_strings act string) few b.1) (one (act_code tables act) (act_fits tables act b.0 (omega (arith, le, in_loops)) few.2))
+  fits_command tables place loops (for_every_part cs at) few b le in_loops room =
       let next : ℕ = place + 1 + commands_length cs in
       All-cons Fits (instruction Each 0 next) _ (fits_instruction Each 0 next (omega arith) (omega arith) (omega (arith, room)))
-      (All-append Fits _ _ (fits_commands tables (place + 1) cs few b l (omega (arith, room))) (one (instruction Next 0 place) (fits_instruction Next 0 place (omega arith) (omega arith) (omega (arith, room)))))
-  fits_command tables place (leave loops) few b l room = one (instruction Break loops 0) (fits_instruction Break loops 0 (omega arith) (omega (arith, l)) (omega arith))
-  fits_command tables place stop few b l room = fits_plain Halt (omega arith)
-  fits_command tables place (choice bs) few b l room = fits_branches tables place bs (place + branches_length bs) few b l room room
+      (All-append Fits _ _ (fits_commands tables (place + 1) (suc loops) cs few b (omega (arith, in_loops.0)) in_loops.1 (omega (arith, room))) (one (instruction Next 0 place) (fits_instruction Next 0 place (omega arith) (omega arith) (omega (arith, room)))))
+  fits_command tables place loops (choice bs) few b le in_loops room = fits_branches tables place loops bs (place + branches_length bs) few b le in_loops room room
 
-  fits_commands : (tables : Tables) (place : ℕ) (cs : CommandForms) → AreFew tables → AreBoundedCommands cs → LeaveFew cs → place + commands_length cs < 2 ^ 32 → All Fits (commands_code tables place cs)
-  fits_commands tables place no_command few b l room = All-nil Fits
-  fits_commands tables place (command c cs) few b l room =
-      All-append Fits _ _ (fits_command tables place c few b.0 l.0 (omega (arith, room))) (fits_commands tables (place + command_length c) cs few b.1 l.1 (omega (arith, room)))
+  fits_commands : (tables : Tables) (place loops : ℕ) (cs : CommandForms) → AreFew tables → AreBoundedCommands cs → loops ≤ max_loops → AreCommandsIn loops cs → place + commands_length cs < 2 ^ 32 → All Fits (commands_code tables place cs)
+  fits_commands tables place loops no_command few b le in_loops room = All-nil Fits
+  fits_commands tables place loops (command c cs) few b le in_loops room =
+      All-append Fits _ _ (fits_command tables place loops c few b.0 le in_loops.0 (omega (arith, room))) (fits_commands tables (place + command_length c) loops cs few b.1 le in_loops.1 (omega (arith, room)))
 
-  fits_branches : (tables : Tables) (place : ℕ) (bs : BranchForms) (end : ℕ) → AreFew tables → AreBoundedBranches bs → BranchesLeaveFew bs → place + branches_length bs < 2 ^ 32 → end < 2 ^ 32 → All Fits (branches_code tables place bs end)
-  fits_branches tables place no_branch end few b l room small = All-nil Fits
-  fits_branches tables place (otherwise cs) end few b l room small = fits_commands tables place cs few b l room
-  fits_branches tables place (branch t cs bs) end few b l room small =
+  fits_branches : (tables : Tables) (place loops : ℕ) (bs : BranchForms) (end : ℕ) → AreFew tables → AreBoundedBranches bs → loops ≤ max_loops → AreBranchesIn loops bs → place + branches_length bs < 2 ^ 32 → end < 2 ^ 32 → All Fits (branches_code tables place bs end)
+  fits_branches tables place loops no_branch end few b le in_loops room small = All-nil Fits
+  fits_branches tables place loops (otherwise cs) end few b le in_loops room small = fits_commands tables place loops cs few b le in_loops room
+  fits_branches tables place loops (branch t cs at bs) end few b le in_loops room small =
       let block : ℕ = place + test_length t in
       let next : ℕ = block + commands_length cs + leave_length bs in
-      All-append Fits _ _ (All-append Fits _ _ (All-append Fits _ _ (fits_test tables place t false next few b.0 (omega (arith, room)) (omega (arith, room))) (fits_commands tables block cs few b.1 l.0 (omega (arith, room)))) (fits_leave bs end small))
-      (fits_branches tables next bs end few b.2 l.1 (omega (arith, room)) small)
+      All-append Fits _ _ (All-append Fits _ _ (All-append Fits _ _ (fits_test tables place t false next few b.0 (omega (arith, room)) (omega (arith, room))) (fits_commands tables block loops cs few b.1 le in_loops.1 (omega (arith, room)))) (fits_leave bs end small))
+      (fits_branches tables next loops bs end few b.2 le in_loops.2 (omega (arith, room)) small)
 
 -- ---- the program
 
@@ -220,7 +151,7 @@ is_program cs short numbers =
       strings = omega (arith, commands, texts, short.octets);
       each_string = each_once_all bytes_eq IsShort (commands_strings cs) (commands_short cs short.commands);
       instructions = omega (arith, length_code cs, commands, short.octets);
-      each_instruction = All-append Fits _ _ (fits_commands (tables_of cs) 0 cs few short.commands (leave_few 0 cs (omega arith) short.loops) (omega (arith, commands, short.octets))) (fits_plain Halt (omega arith));
+      each_instruction = All-append Fits _ _ (fits_commands (tables_of cs) 0 0 cs few short.commands (omega arith) short.loops (omega (arith, commands, short.octets))) (one (plain Halt) (fits_instruction Halt 0 0 (omega arith) (omega arith) (omega arith)));
       octets = omega (arith, length-spelling (code_of cs), length_code cs, commands, numbers_few, strings_small cs, short.octets);
     }
 

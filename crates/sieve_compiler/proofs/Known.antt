@@ -1,5 +1,5 @@
 -- The tables have each number, each text and each variable that they are made of.
-use Rattle.std.proofs.Common.{◌≡◌, ℕ, true, nat_eq, bytes_eq, List, [], ◌∷◌, Some, slice_get, refl, ◌∙◌}
+use Rattle.std.proofs.Common.{◌≡◌, ℕ, true, nat_eq, bytes_eq, List, [], ◌∷◌, ◌++◌, Some, slice_get, append-nil, refl, sym, subst, ◌∙◌}
 use Rattle.std.proofs.Math.Bool.{or-true}
 use Rattle.std.proofs.lemmas.Bool.{eq-eqb, eqb-true}
 use Rattle.std.proofs.lemmas.Cmp.{nat_eq_equiv, nat_list_eq_equiv}
@@ -7,10 +7,10 @@ use Rattle.std.proofs.lemmas.List.Folds.{list_any-append}
 use Rattle.std.proofs.lemmas.Slice.Eq.{bytes_eq-Decides}
 use Rattle.octets.specs.Once.{is_listed}
 use Rattle.octets.proofs.Once as once
-use Rattle.sieve_check.specs.Typed.{CommandForms}
-use Rattle.sieve_check.specs.Variables.{commands_variables}
-use Rattle.sieve_compiler.specs.Growing.{Uses, uses_with, joined, commands_uses}
-use Rattle.sieve_compiler.specs.Strings.{commands_strings}
+use Rattle.sieve_check.specs.Typed.{Template, CommandForms}
+use Rattle.sieve_check.specs.Variables.{strings_variables, commands_variables}
+use Rattle.sieve_compiler.specs.Growing.{Uses, uses_with, joined, strings_uses, commands_uses}
+use Rattle.sieve_compiler.specs.Strings.{strings_of, commands_strings}
 use Rattle.sieve_compiler.specs.Numbers.{commands_numbers}
 use Rattle.sieve_compiler.specs.Tables.{Tables, tables_of, place_of_number, place_of_string, place_of_variable}
 
@@ -62,3 +62,20 @@ has_right tables a b h = record {
   strings = λ x here. h.strings x (list_any-append (bytes_eq x) a.strings b.strings ∙ rw here (or-true (is_listed bytes_eq x a.strings)));
   variables = λ x here. h.variables x (list_any-append (bytes_eq x) a.variables b.variables ∙ rw here (or-true (is_listed bytes_eq x a.variables)));
 }
+
+-- the numbers, the strings and the variables of a piece apart
+pub has_numbers : (tables : Tables) (ns : List ℕ) (ss vs : List (List ℕ)) → Has tables (uses_with ns ss vs) → Has tables (uses_with ns [] [])
+has_numbers tables ns ss vs h = record { numbers = h.numbers; strings = λ s none. absurd (cc); variables = λ s none. absurd (cc) }
+
+pub has_texts : (tables : Tables) (ns : List ℕ) (ss vs : List (List ℕ)) → Has tables (uses_with ns ss vs) → Has tables (uses_with [] ss vs)
+has_texts tables ns ss vs h = record { numbers = λ n none. absurd (cc); strings = h.strings; variables = h.variables }
+
+act_parts : (tables : Tables) (strings : List Template) (names : List (List ℕ)) → Has tables (uses_with [] (strings_of strings) (strings_variables strings ++ names)) → Has tables (joined (strings_uses strings) (uses_with [] [] names))
+act_parts tables strings names h = subst (λ texts. Has tables (uses_with [] texts (strings_variables strings ++ names))) (sym (append-nil (strings_of strings))) h
+
+-- the string of an act, and the names that it sets
+pub has_string_of : (tables : Tables) (strings : List Template) (names : List (List ℕ)) → Has tables (uses_with [] (strings_of strings) (strings_variables strings ++ names)) → Has tables (strings_uses strings)
+has_string_of tables strings names h = has_left tables (strings_uses strings) (uses_with [] [] names) (act_parts tables strings names h)
+
+pub has_set_of : (tables : Tables) (strings : List Template) (names : List (List ℕ)) → Has tables (uses_with [] (strings_of strings) (strings_variables strings ++ names)) → Has tables (uses_with [] [] names)
+has_set_of tables strings names h = has_right tables (strings_uses strings) (uses_with [] [] names) (act_parts tables strings names h)

@@ -1,28 +1,26 @@
 -- The run of a script's code does what the script means.
-use Rattle.std.proofs.Common.{◌≡◌, ℕ, zero, suc, ◌+◌, ◌-◌, ◌≤◌, true, false, ◌&&◌, nat_lt, List, [], ◌∷◌, ◌++◌, Some, None, length, map, take, drop, slice_get, refl, sym, ap, subst, ◌∙◌, arith}
+use Rattle.std.proofs.Common.{◌≡◌, ℕ, zero, suc, ◌+◌, ◌≤◌, true, false, ◌&&◌, nat_lt, List, [], ◌∷◌, Some, None, length, map, drop, slice_get, refl, sym, ap, subst, ◌∙◌, arith}
 use Rattle.bytecode_format.specs.declared.instruction.Instruction.{Instruction}
-use Rattle.bytecode_format.specs.declared.operation.Operation.TheVariants.{Halt, File, Store}
-use Rattle.bytecode_format.specs.declared.action.Action.TheVariants as action
+use Rattle.bytecode_format.specs.declared.operation.Operation.TheVariants.{Halt}
 use Rattle.bytecode_format.specs.Actions.{final_actions}
 use Rattle.bytecode_format.specs.Code.{Code}
-use Rattle.bytecode_format.specs.Modifiers.{modified}
 use Rattle.bytecode_verifier.specs.Loops.{same_loops}
 use Rattle.bytecode_verifier.specs.Rows.{row_named, is_jump}
 use Rattle.mime_decode.specs.Mail.{Mail, IsMail}
 use Rattle.mime_decode.specs.Scope.{visited}
-use Rattle.octets.specs.Limits.{max_loops, max_value}
+use Rattle.octets.specs.Limits.{max_loops}
 use Rattle.sieve_check.specs.Bounded.{IsBoundedCommand, AreBoundedCommands, AreBoundedBranches, IsCommandIn, AreCommandsIn, AreBranchesIn, IsBounded}
-use Rattle.sieve_check.specs.Typed.{CommandForm, keep, discard, file_into, set, take_first, store, for_every_part, leave, stop, choice, CommandForms, no_command, command, BranchForms, no_branch, otherwise, branch}
-use Rattle.sieve_meaning.specs.Meaning.{Effects, no_effects, expanded, with_value, Ending, normal, stopped, broken, effects_of, stored, test_does, command_does, commands_do, choice_does, meaning}
+use Rattle.sieve_check.specs.Typed.{CommandForm, does, for_every_part, choice, CommandForms, no_command, command, BranchForms, no_branch, otherwise, branch}
+use Rattle.sieve_meaning.specs.Meaning.{Effects, no_effects, Ending, normal, stopped, broken, effects_of, test_does, command_does, commands_do, choice_does, meaning}
 use Rattle.sieve_vm.specs.State.{Value, Frame, State, current_part, ends, start}
 use Rattle.sieve_vm.specs.Machine.{step}
 use Rattle.sieve_vm.specs.Runs.{Run}
 use Rattle.sieve_vm.specs.Ending.{IsOutcome}
-use Rattle.sieve_vm.proofs.Opened.{some_left, are_visited}
-use Rattle.sieve_compiler.specs.Growing.{uses_with, joined, string_uses, test_uses, command_uses, commands_uses, branches_uses}
+use Rattle.sieve_vm.proofs.Opened.{are_visited}
+use Rattle.sieve_compiler.specs.Growing.{joined, test_uses, command_uses, commands_uses, branches_uses}
 use Rattle.sieve_compiler.specs.Tables.{Tables, tables_of}
-use Rattle.sieve_compiler.specs.Lengths.{string_length, test_length, leave_length, command_length, commands_length, branches_length}
-use Rattle.sieve_compiler.specs.Coding.{plain, set_variable, command_code, commands_code, branches_code, code_of, written_version}
+use Rattle.sieve_compiler.specs.Lengths.{test_length, leave_length, command_length, commands_length, branches_length}
+use Rattle.sieve_compiler.specs.Coding.{plain, command_code, commands_code, branches_code, code_of, written_version}
 use Rattle.sieve_compiler.proofs.Standing.{Stands, stands_first, stands_left, stands_right}
 use Rattle.sieve_compiler.proofs.CodeLengths.{command_code_length}
 use Rattle.sieve_compiler.proofs.BranchParts.{branch_parts_of}
@@ -32,7 +30,7 @@ use Rattle.sieve_compiler.proofs.Accepted.{halt_at, jump_kept}
 use Rattle.sieve_compiler.proofs.Values.{AreShort, none_short, test_short, command_short, commands_short, all_empty}
 use Rattle.sieve_compiler.proofs.StringsMeet.{step_at, comes_here}
 use Rattle.sieve_compiler.proofs.TestsMeet.{test_run}
-use Rattle.sieve_compiler.proofs.CommandsMeet.{keep_run, discard_run, taken_run, file_step, store_step, set_step, take_run, set_uses, leave_run, Arrives, arrives_then, arrives_at, decided, frame_at, loop_run, break_run, AreHeld, held_part}
+use Rattle.sieve_compiler.proofs.CommandsMeet.{act_run, leave_run, Arrives, arrives_then, arrives_at, decided, frame_at, loop_run, AreHeld, held_part}
 
 -- where each of the program's jumps is one that the machine makes
 module _ (script : CommandForms) (mail : Mail) (jumps_kept : (p : ℕ) (i : Instruction) → slice_get (code_of script).instructions p ≡ Some i → is_jump (row_named written_version i.op) ≡ true → (nat_lt p i.c && same_loops (code_of script) p i.c) ≡ true) where
@@ -61,22 +59,8 @@ module _ (script : CommandForms) (mail : Mail) (jumps_kept : (p : ℕ) (i : Inst
     mutual
       command_run : (c : CommandForm) (fs : List Frame) (held : AreHeld script mail jumps_kept fs) (p : ℕ) (e : Effects) → Stands all p (command_code tables p c) → Has tables (command_uses c) → IsBoundedCommand c → length fs ≤ max_loops → IsCommandIn (length fs) c → AreShort e
           → Arrives script mail jumps_kept (command_does mail (current_part fs) c e) fs fs p (p + command_length c) e
-      command_run keep fs held p e h has b few in_loops short = keep_run script mail jumps_kept fs held p e (stands_first all p _ [] h)
-      command_run discard fs held p e h has b few in_loops short = discard_run script mail jumps_kept fs held p e (stands_first all p _ [] h)
-      command_run (file_into folder) fs held p e h has b few in_loops short =
-          let f : Effects = record e { actions = e.actions ++ action.File (expanded e folder) ∷ []; implicit_keep = false } in
-          taken_run script mail jumps_kept fs held folder p (plain File) (λ c. 1 + length (expanded e folder)) e f short b h has (λ c here. file_step script mail jumps_kept fs held (p + string_length folder) c (expanded e folder) e here)
-      command_run (set modifiers name value) fs held p e h has b few in_loops short =
-          let f : Effects = record e { variables = with_value name (take max_value (modified modifiers (expanded e value))) e.variables } in
-          let uses = set_uses script mail jumps_kept fs held value name has in
-          let own = has_right tables (string_uses value) (uses_with [] [] (name ∷ [])) uses in
-          taken_run script mail jumps_kept fs held value p (set_variable tables modifiers name) (λ c. 1 + length (expanded e value)) e f short b h (has_left tables (string_uses value) (uses_with [] [] (name ∷ [])) uses)
-          (λ c here. set_step script mail jumps_kept fs held (p + string_length value) c modifiers name (expanded e value) e own here)
-      command_run (take_first most name) fs held p e h has b few in_loops short = take_run script mail jumps_kept fs held p most name e in_loops b has (stands_first all p _ [] h)
-      command_run (store folder) fs held p e h has b few in_loops short =
-          let f : Effects = record e { actions = e.actions ++ stored (current_part fs) (expanded e folder) } in
-          taken_run script mail jumps_kept fs held folder p (plain Store) (λ c. 1 + length (expanded e folder)) e f short b h has (λ c here. store_step script mail jumps_kept fs held (p + string_length folder) c (expanded e folder) e in_loops here)
-      command_run (for_every_part cs) fs held p e h has b few in_loops short =
+      command_run (does act string at) fs held p e h has b few in_loops short = act_run script mail jumps_kept act string fs held p e h has b few in_loops short
+      command_run (for_every_part cs at) fs held p e h has b few in_loops short =
           let block : ℕ = p + 1 in
           let next : ℕ = block + commands_length cs in
           let first : block ≡ suc p = omega arith in
@@ -85,17 +69,12 @@ module _ (script : CommandForms) (mail : Mail) (jumps_kept : (p : ℕ) (i : Inst
           let next_here = next_stands all p next (commands_code tables block cs) h (commands_balanced tables cs block) (block_ends all tables cs p) in
           let stands = block_stands all tables cs p h in
           let does : ℕ → Effects → Ending = λ number f. commands_do mail (Some number) cs f in
-          subst (λ q. Arrives script mail jumps_kept (command_does mail (current_part fs) (for_every_part cs) e) fs fs p q e) last
+          subst (λ q. Arrives script mail jumps_kept (command_does mail (current_part fs) (for_every_part cs at) e) fs fs p q e) last
           (loop_run script mail jumps_kept p next each_here next_here fs does
           (λ part rest f is ok. subst (λ q. Arrives script mail jumps_kept (commands_do mail (Some part) cs f) (frame_at script mail jumps_kept p next each_here next_here fs part rest ∷ fs) (frame_at script mail jumps_kept p next each_here next_here fs part rest ∷ fs) q next f) first
           (commands_run cs (frame_at script mail jumps_kept p next each_here next_here fs part rest ∷ fs) (held_part script mail jumps_kept (frame_at script mail jumps_kept p next each_here next_here fs part rest) fs is) block f stands has b (omega (arith, in_loops.0)) in_loops.1 ok))
           (λ part f ok. commands_short mail (Some part) cs f b ok)
           (visited (current_part fs) mail) e refl (are_visited mail known (current_part fs)).each in_loops.0 short)
-      command_run (leave n) fs held p e h has b few in_loops short =
-          let some : n ≡ suc (n - 1) = omega (arith, in_loops.0) in
-          let there = some_left (n - 1) fs (omega (arith, in_loops.0, in_loops.1)) in
-          (n - 1, some, there.0, there.1, there.2, break_run script mail jumps_kept fs p n (n - 1) e there.0 there.1 some (omega (arith, in_loops.1, few)) there.2 (stands_first all p _ [] h))
-      command_run stop fs held p e h has b few in_loops short = (fs, p, (λ c. (c, (0, refl))), stands_first all p _ [] h)
       command_run (choice bs) fs held p e h has b few in_loops short = branches_run bs fs held p (p + branches_length bs) e h has b few in_loops short refl
 
       commands_run : (cs : CommandForms) (fs : List Frame) (held : AreHeld script mail jumps_kept fs) (p : ℕ) (e : Effects) → Stands all p (commands_code tables p cs) → Has tables (commands_uses cs) → AreBoundedCommands cs → length fs ≤ max_loops → AreCommandsIn (length fs) cs → AreShort e
@@ -113,14 +92,14 @@ module _ (script : CommandForms) (mail : Mail) (jumps_kept : (p : ℕ) (i : Inst
           → Arrives script mail jumps_kept (choice_does mail (current_part fs) bs e) fs fs p end e
       branches_run no_branch fs held p end e h has b few in_loops short done = let same : p ≡ end = omega (arith, done) in comes_here script mail jumps_kept fs held p end e same
       branches_run (otherwise cs) fs held p end e h has b few in_loops short done = subst (λ q. Arrives script mail jumps_kept (commands_do mail (current_part fs) cs e) fs fs p q e) done (commands_run cs fs held p e h has b few in_loops short)
-      branches_run (branch t cs bs) fs held p end e h has b few in_loops short done =
+      branches_run (branch t cs at bs) fs held p end e h has b few in_loops short done =
           let part = current_part fs in
           let block = p + test_length t in
           let after_block = block + commands_length cs in
           let next = after_block + leave_length bs in
           let same : next + branches_length bs ≡ end = omega (arith, done) in
           let both_uses = has_left tables (joined (test_uses t) (commands_uses cs)) (branches_uses bs) has in
-          let parts = branch_parts_of all tables t cs bs p end h in
+          let parts = branch_parts_of all tables t cs at bs p end h in
           let tested = test_run script mail jumps_kept fs held t p false next e parts.test (has_left tables (test_uses t) (commands_uses cs) both_uses) b.0 in_loops.0 short in
           let f = (test_does mail part t e).effects in
           let after = test_short mail part t e short in

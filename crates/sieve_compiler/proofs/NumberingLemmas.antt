@@ -1,31 +1,26 @@
 -- The first pass, one piece at a time.
-use Rattle.std.proofs.Common.{◌≡◌, ℕ, nat_eq, bytes_eq, ◌+◌, ◌<◌, ◌≤◌, List, [], ◌∷◌, ◌++◌, map, add-one, drop, length, get_or, Option, Result, Ok, Err, OnOk, ◌⊎◌, inl, inr, sym, ap, subst, ◌∙◌, refl}
+use Rattle.std.proofs.Common.{◌≡◌, ℕ, nat_eq, bytes_eq, ◌+◌, ◌<◌, ◌≤◌, List, [], ◌++◌, map, drop, length, get_or, Option, Result, Ok, Err, OnOk, ◌⊎◌, inl, inr, sym, ap, subst, ◌∙◌, refl}
 use Rattle.std.specs.Global.{Vec, Box}
-use Rattle.std.proofs.Math.Seq.{drop-cons}
+use Rattle.std.proofs.lemmas.Grind.{flat_map-append}
 use Rattle.std.proofs.lemmas.List.{append-nil}
 use Rattle.octets.proofs.Once.{more_after}
-use Rattle.sieve_check.specs.declared.typed.Test.{Test}
-use Rattle.sieve_check.specs.declared.typed.Test.TheVariants.{AllOf, AnyOf, Header, String, rolls-Header, rolls-String}
-use Rattle.sieve_check.specs.declared.typed.Test.TheOpen as test_layer
-use Rattle.sieve_check.specs.declared.typed.Test.TheFolds.{fold-roll-Test}
-use Rattle.glob_match.specs.declared.match_type.Match.{Match}
 use Rattle.sieve_check.specs.declared.typed.Branch.{Branch}
 use Rattle.sieve_check.specs.declared.typed.Command.{Command}
-use Rattle.sieve_check.specs.declared.typed.Command.TheVariants.{If, Set, rolls-Set}
-use Rattle.sieve_check.specs.declared.typed.Command.TheOpen as command_layer
-use Rattle.sieve_check.specs.declared.typed.Command.TheFolds.{fold-roll-Command}
-use Rattle.bytecode_format.specs.declared.modifiers.Modifiers.{Modifiers}
-use Rattle.octets.specs.declared.owned.Octets.{Octets}
-use Rattle.sieve_check.specs.Variables.{string_variables}
-use Rattle.sieve_compiler.specs.Strings.{string_strings}
-use Rattle.bytecode_format.specs.declared.selection.Scope.{Scope}
-use Rattle.sieve_check.specs.declared.typed.Selection.{Selection}
+use Rattle.sieve_check.specs.declared.typed.Act.{Act}
+use Rattle.sieve_check.specs.declared.typed.Command.TheVariants.{Does, If}
 use Rattle.sieve_check.specs.declared.typed.Segment.{Segment}
-use Rattle.sieve_check.specs.Typed.{Template, params_of, TestForm, CommandForm, set, BranchForms}
-use Rattle.sieve_check.specs.TypedView.{selected_form, GuardedForm, branch_step, command_step, templates_of, test_step, test_form, tests_of, command_form, commands_form, branch_forms, else_form}
+use Rattle.sieve_check.specs.declared.typed.Test.{Test}
+use Rattle.sieve_check.specs.declared.typed.Test.TheVariants.{AllOf, AnyOf}
+use Rattle.sieve_check.specs.Acts.{act_row, act_strings}
+use Rattle.sieve_check.specs.Typed.{Template, does, BranchForms}
+use Rattle.sieve_check.specs.TypedView.{templates_of, test_form, tests_of, command_form, commands_form}
+use Rattle.sieve_check.specs.Private.{branch_forms, else_form}
+use Rattle.sieve_check.specs.Variables.{string_variables, strings_variables}
+use Rattle.sieve_check.proofs.Forms.{form_all_of, form_any_of}
+use Rattle.sieve_compiler.specs.Strings.{string_strings, strings_of}
 use Rattle.sieve_compiler.specs.Growing.{Uses, uses_with, joined, segment_uses, segments_uses, string_uses, strings_uses, test_uses, tests_uses, command_uses, commands_uses, branches_uses, with_uses}
 use Rattle.sieve_compiler.specs.Tables.{Tables}
-use Rattle.sieve_compiler.proofs.Walks.{all_form, any_form, first_test, first_command, first_branch, no_branch_left, if_form}
+use Rattle.sieve_compiler.proofs.Walks.{split, first_test, first_command, first_branch, no_branch_left, if_form, does_form}
 
 -- what one piece uses, and then another
 pub uses_after : (table : Tables) (ms ns : Uses) → with_uses table (joined ms ns) ≡ with_uses (with_uses table ms) ns
@@ -35,52 +30,33 @@ uses_after table ms ns = rw (more_after nat_eq table.numbers ms.numbers ns.numbe
 then_left : (table next : Tables) (ms ns all : Uses) → next ≡ with_uses table ms → joined ms ns ≡ all → with_uses next ns ≡ with_uses table all
 then_left table next ms ns all e f = ap (λ l. with_uses l ns) e ∙ sym (uses_after table ms ns) ∙ ap (λ l. with_uses table l) f
 
+strings_joined : (first second : List Template) → joined (strings_uses first) (strings_uses second) ≡ strings_uses (first ++ second)
+strings_joined first second = rw (flat_map-append string_strings first second, flat_map-append string_variables first second) refl
+
 added_after : {T E : Type 0} (r : Result T E) (table middle new : Tables) (ms ns : Uses) → middle ≡ with_uses table ms → OnOk r (new ≡ with_uses middle ns) → OnOk r (new ≡ with_uses table (joined ms ns))
 added_after (Ok x) table middle new ms ns e f = f ∙ then_left table middle ms ns (joined ms ns) e refl
 added_after (Err x) table middle new ms ns e f = f
 
--- what a list of tests uses
-list_numbers : (t : Test) (first : Box Test) (others : Vec Test) (inner : Test) (items : List Test) → ((t ≡ AllOf first others) ⊎ (t ≡ AnyOf first others)) → inner ≡ first.value → items ≡ others.items
-    → joined (test_uses (test_form inner)) (tests_uses (tests_of (map test_form items))) ≡ test_uses (test_form t)
-list_numbers t first others inner items (inl e) f g = rw (f, g) (sym (ap (λ x. test_uses (test_form x)) e ∙ ap test_uses (all_form first others)))
-list_numbers t first others inner items (inr e) f g = rw (f, g) (sym (ap (λ x. test_uses (test_form x)) e ∙ ap test_uses (any_form first others)))
+-- three lists of strings
+pub lists_added : {T E : Type 0} (r : Result T E) (table first second new : Tables) (names params keys : List Template) → first ≡ with_uses table (strings_uses names) → second ≡ with_uses first (strings_uses params) → OnOk r (new ≡ with_uses second (strings_uses keys))
+    → OnOk r (new ≡ with_uses table (strings_uses (names ++ params ++ keys)))
+lists_added r table first second new names params keys a b h =
+    let two : joined (strings_uses names) (strings_uses params) ≡ strings_uses (names ++ params) = strings_joined names params in
+    let both : second ≡ with_uses table (strings_uses (names ++ params)) = b ∙ then_left table first (strings_uses names) (strings_uses params) (strings_uses (names ++ params)) a two in
+    subst (λ (l : Uses). OnOk r (new ≡ with_uses table l)) (strings_joined (names ++ params) keys) (added_after r table second new (strings_uses (names ++ params)) (strings_uses keys) both h)
 
-pub list_added : {T E : Type 0} (r : Result T E) (table middle new : Tables) (t : Test) (first : Box Test) (others : Vec Test) (inner : Test) (items : List Test) → ((t ≡ AllOf first others) ⊎ (t ≡ AnyOf first others)) → inner ≡ first.value → items ≡ others.items
+-- what a list of tests uses
+list_numbers : (t : Test) (first : Box Test) (others : Vec Test) (inner : Test) (items : List Test) → (((at : ℕ) × (t ≡ AllOf first others at)) ⊎ ((at : ℕ) × (t ≡ AnyOf first others at))) → inner ≡ first.value → items ≡ others.items
+    → joined (test_uses (test_form inner)) (tests_uses (tests_of (map test_form items))) ≡ test_uses (test_form t)
+list_numbers t first others inner items (inl e) f g = rw (f, g) (sym (ap (λ x. test_uses (test_form x)) e.1 ∙ ap test_uses (form_all_of first others e.0)))
+list_numbers t first others inner items (inr e) f g = rw (f, g) (sym (ap (λ x. test_uses (test_form x)) e.1 ∙ ap test_uses (form_any_of first others e.0)))
+
+pub list_added : {T E : Type 0} (r : Result T E) (table middle new : Tables) (t : Test) (first : Box Test) (others : Vec Test) (inner : Test) (items : List Test) → (((at : ℕ) × (t ≡ AllOf first others at)) ⊎ ((at : ℕ) × (t ≡ AnyOf first others at))) → inner ≡ first.value → items ≡ others.items
     → middle ≡ with_uses table (test_uses (test_form inner)) → OnOk r (new ≡ with_uses middle (tests_uses (tests_of (map test_form items)))) → OnOk r (new ≡ with_uses table (test_uses (test_form t)))
 list_added r table middle new t first others inner items is f g e h =
     let ms : Uses = test_uses (test_form inner) in
     let ns : Uses = tests_uses (tests_of (map test_form items)) in
     subst (λ (l : Uses). OnOk r (new ≡ with_uses table l)) (list_numbers t first others inner items is f g) (added_after r table middle new ms ns e h)
-
--- the two lists of strings of a test
-pub both_added : {T E : Type 0} (r : Result T E) (table middle new : Tables) (uses : Uses) (first second : Vec (Vec Segment)) (ns ks : List (Vec Segment)) → ns ≡ first.items → ks ≡ second.items
-    → joined (strings_uses (templates_of first.items)) (strings_uses (templates_of second.items)) ≡ uses
-    → middle ≡ with_uses table (strings_uses (templates_of ns)) → OnOk r (new ≡ with_uses middle (strings_uses (templates_of ks))) → OnOk r (new ≡ with_uses table uses)
-both_added r table middle new uses first second ns ks f g same e h =
-    let all : joined (strings_uses (templates_of ns)) (strings_uses (templates_of ks)) ≡ uses = rw (f, g) same in
-    subst (λ (l : Uses). OnOk r (new ≡ with_uses table l)) all (added_after r table middle new (strings_uses (templates_of ns)) (strings_uses (templates_of ks)) e h)
-
-pub header_uses : (t : Test) (how : Match) (scope : Scope) (selection : Selection) (names keys : Vec (Vec Segment)) → t ≡ Header how scope selection names keys
-    → joined (joined (strings_uses (templates_of names.items)) (strings_uses (params_of (selected_form selection)))) (strings_uses (templates_of keys.items)) ≡ test_uses (test_form t)
-header_uses t how scope selection names keys is =
-    sym (ap test_uses (ap test_form (is ∙ sym (rolls-Header how scope selection names keys)) ∙ fold-roll-Test TestForm test_step (test_layer.Header how scope selection names keys)))
-
--- the three lists of strings of a test
-pub three_added : {T E : Type 0} (r : Result T E) (table first second new : Tables) (uses : Uses) (names keys : Vec (Vec Segment)) (given : List Template) (ns ps ks : List (Vec Segment)) → ns ≡ names.items → templates_of ps ≡ given → ks ≡ keys.items
-    → joined (joined (strings_uses (templates_of names.items)) (strings_uses given)) (strings_uses (templates_of keys.items)) ≡ uses
-    → first ≡ with_uses table (strings_uses (templates_of ns)) → second ≡ with_uses first (strings_uses (templates_of ps)) → OnOk r (new ≡ with_uses second (strings_uses (templates_of ks))) → OnOk r (new ≡ with_uses table uses)
-three_added r table first second new uses names keys given ns ps ks f p g same a b h =
-    let two : Uses = joined (strings_uses (templates_of ns)) (strings_uses (templates_of ps)) in
-    let both : second ≡ with_uses table two = b ∙ then_left table first (strings_uses (templates_of ns)) (strings_uses (templates_of ps)) two a refl in
-    let all : joined two (strings_uses (templates_of ks)) ≡ uses = rw (f, p, g) same in
-    subst (λ (l : Uses). OnOk r (new ≡ with_uses table l)) all (added_after r table second new two (strings_uses (templates_of ks)) both h)
-
-pub string_test_uses : (t : Test) (how : Match) (sources keys : Vec (Vec Segment)) → t ≡ String how sources keys → joined (strings_uses (templates_of sources.items)) (strings_uses (templates_of keys.items)) ≡ test_uses (test_form t)
-string_test_uses t how sources keys is = sym (ap test_uses (ap test_form (is ∙ sym (rolls-String how sources keys)) ∙ fold-roll-Test TestForm test_step (test_layer.String how sources keys)))
-
--- the first that is left, and those after it
-split : {A : Type 0} (xs : List A) (i : ℕ) (x : A) → i < length xs → x ≡ get_or xs i x → drop i xs ≡ x ∷ drop (i + 1) xs
-split xs i x lt is = drop-cons xs i x lt ∙ ap (λ n. get_or xs i x ∷ drop n xs) (sym (add-one i)) ∙ ap (λ y. y ∷ drop (i + 1) xs) (sym is)
 
 pub segment_added : (table next : Tables) (segments : List Segment) (i : ℕ) (segment : Segment) → i < length segments → segment ≡ get_or segments i segment → next ≡ with_uses table (segment_uses segment)
     → with_uses next (segments_uses (drop (i + 1) segments)) ≡ with_uses table (segments_uses (drop i segments))
@@ -117,12 +93,13 @@ branches_added start table c branches last items i is same le h =
     ∙ h
     ∙ ap (λ f. with_uses start (command_uses f)) (sym (if_form c branches last items is same))
 
--- a value, and then the variable that it is given to
-pub set_added : (table middle new : Tables) (c : Command) (m : Modifiers) (name : Octets) (value : Vec Segment) (n : List ℕ) (segments : List Segment) → c ≡ Set m name value → n ≡ name → segments ≡ value.items
-    → middle ≡ with_uses table (string_uses segments) → new ≡ with_uses middle (uses_with [] [] (n ∷ [])) → new ≡ with_uses table (command_uses (command_form c))
-set_added table middle new c m name value n segments is named same e f =
-    let form : command_form c ≡ set m name value.items = ap command_form (is ∙ sym (rolls-Set m name value)) ∙ fold-roll-Command CommandForm GuardedForm command_step branch_step (command_layer.Set m name value) in
-    let strings : string_strings value.items ++ [] ≡ string_strings value.items = append-nil (string_strings value.items) in
-    let uses : joined (string_uses segments) (uses_with [] [] (n ∷ [])) ≡ command_uses (command_form c) =
-    rw (same, named) (ap (λ ss. uses_with [] ss (string_variables value.items ++ name ∷ [])) strings ∙ sym (ap command_uses form)) in
-    f ∙ then_left table middle (string_uses segments) (uses_with [] [] (n ∷ [])) (command_uses (command_form c)) e uses
+-- the string of an act, and then the variable that it sets
+pub does_added : (table middle new : Tables) (c : Command) (act : Act) (string : Vec Segment) (at : ℕ) (strings : List Template) → c ≡ Does act string at → strings ≡ act_strings act string.items
+    → middle ≡ with_uses table (strings_uses strings) → new ≡ with_uses middle (uses_with [] [] (act_row act).sets) → new ≡ with_uses table (command_uses (command_form c))
+does_added table middle new c act string at strings is same e f =
+    let own : List Template = act_strings act string.items in
+    let form : command_form c ≡ does act string.items at = does_form c act string at is in
+    let texts : strings_of own ++ [] ≡ strings_of own = append-nil (strings_of own) in
+    let uses : joined (strings_uses strings) (uses_with [] [] (act_row act).sets) ≡ command_uses (command_form c) =
+    rw same (ap (λ ss. uses_with [] ss (strings_variables own ++ (act_row act).sets)) texts ∙ sym (ap command_uses form)) in
+    f ∙ then_left table middle (strings_uses strings) (uses_with [] [] (act_row act).sets) (command_uses (command_form c)) e uses

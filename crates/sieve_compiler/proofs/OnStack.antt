@@ -1,20 +1,28 @@
 -- Strings on the stack and as they are expanded, and where a test leads.
 use Rattle.std.proofs.Common.{◌≡◌, ℕ, zero, suc, ◌+◌, ◌-◌, ◌<◌, ◌≤◌, Bool, true, false, not, List, [], ◌∷◌, ◌++◌, Option, Some, None, length, map, take, append-nil, slice_get, refl, sym, ap, ◌∙◌, arith, if◌then◌else◌}
 use Rattle.std.specs.List.{concat, flat_map}
+use Rattle.std.specs.Option.{option_and_then}
 use Rattle.std.proofs.lemmas.Bool.{lt-ltb}
-use Rattle.std.proofs.lemmas.List.{take_all}
+use Rattle.std.proofs.lemmas.List.{take_all, map-append}
 use Rattle.mime_decode.specs.Mail.{Mail, Part as MailPart}
 use Rattle.octets.specs.Limits.{max_string}
 use Rattle.sieve_check.specs.Bounded.{IsBoundedSegment}
 use Rattle.sieve_check.specs.declared.typed.Segment.{Segment}
 use Rattle.sieve_check.specs.declared.typed.Segment.TheVariants.{Text, Variable, Capture}
-use Rattle.sieve_check.specs.Typed.{Template, TestForm, TestForms, test}
-use Rattle.sieve_meaning.specs.Meaning.{Effects, value_of, expanded, all_expanded, Verdict, verdict, broken, left, current, of_part, all_do, any_do}
+use Rattle.sieve_check.specs.Typed.{Template, Strings, in_order, TestForm, TestForms, test}
+use Rattle.sieve_meaning.specs.Meaning.{Effects, Texts, texts_of, value_of, expanded, all_expanded, Verdict, verdict, broken, left, current, all_do, any_do}
 use Rattle.bytecode_verifier.proofs.Again.{onto as stacked, onto_number as stacked_number, on_top_again}
 use Rattle.sieve_vm.specs.State.{Value, text, Frame, State, current_part}
-use Rattle.sieve_vm.specs.Machine.{Effect, with_part}
+use Rattle.bytecode_format.specs.declared.instruction.Instruction.{Instruction}
+use Rattle.bytecode_format.specs.declared.operation.Operation.{Operation}
+use Rattle.bytecode_format.specs.Code.{Code}
+use Rattle.bytecode_verifier.specs.Rows.{is_well_formed}
+use Rattle.bytecode_verifier.specs.Rules.{row_in}
+use Rattle.sieve_vm.specs.Charge.{charge_of}
+use Rattle.sieve_vm.specs.Machine.{Effect, fails, Referred, referred_in, effect, turn, turn_of, with_part}
 use Rattle.sieve_vm.specs.Stack.{OnTop, Lists, text_in, texts_on_top, lists_on_top}
 use Rattle.sieve_compiler.specs.Coding.{aim_of}
+use Rattle.sieve_compiler.proofs.PushedTexts.{onto_append}
 use Rattle.sieve_compiler.proofs.Values.{AreShort, capture_short}
 
 -- where code that was asked for a value stands after it
@@ -48,13 +56,20 @@ on_top n ss stack number = on_top_again text_in text (λ s. refl) n ss stack num
 pub onto_number : (ss : List (List ℕ)) (stack : List Value) → length (onto ss stack) ≡ length ss + length stack
 onto_number ss stack = stacked_number text ss stack
 
--- names, and keys above them, are found again
-pub lists_again : (n k : ℕ) (names keys : List (List ℕ)) → length names ≡ n → length keys ≡ k → lists_on_top n 0 k (onto keys (onto names [])) ≡ Some (let lists : Lists = record { names = names; params = []; keys = keys; below = [] } in lists)
-lists_again n k names keys e f = rw (on_top k keys (onto names []) f, on_top n names [] e) refl
-
--- and so are names, parameters above them, and keys above these
+-- names, parameters above them, and keys above these are found again
 pub three_again : (n m k : ℕ) (names given keys : List (List ℕ)) → length names ≡ n → length given ≡ m → length keys ≡ k → lists_on_top n m k (onto keys (onto given (onto names []))) ≡ Some (let lists : Lists = record { names = names; params = given; keys = keys; below = [] } in lists)
 three_again n m k names given keys e g f = rw (on_top k keys (onto given (onto names [])) f, on_top m given (onto names []) g, on_top n names [] e) refl
+
+-- the texts of a question on the stack
+abbrev pub stacked_lists : Texts → List Value
+stacked_lists texts = onto texts.keys (onto texts.params (onto texts.names []))
+
+pub lists_stacked : (e : Effects) (strings : Strings) → onto (all_expanded e (in_order strings)) [] ≡ stacked_lists (texts_of e strings)
+lists_stacked e strings =
+    let two : List Template = strings.names ++ strings.params in
+    ap (λ texts. onto texts []) (map-append (expanded e) two strings.keys ∙ ap (λ texts. texts ++ all_expanded e strings.keys) (map-append (expanded e) strings.names strings.params))
+    ∙ onto_append text (all_expanded e strings.names ++ all_expanded e strings.params) (all_expanded e strings.keys) []
+    ∙ ap (onto (all_expanded e strings.keys)) (onto_append text (all_expanded e strings.names) (all_expanded e strings.params) [])
 
 -- ---- strings as they are expanded
 
@@ -93,22 +108,30 @@ pub with_part_is : (go : ℕ → MailPart → State → Effect) (mail : Mail) (s
 with_part_is go mail s [] on = absurd (let wrong : None ≡ Some on.number = on.is in cc)
 with_part_is go mail s (f ∷ fs) on = let is : Some f.part ≡ Some on.number = on.is in let same : f.part ≡ on.number = cc in rw (same, on.here) refl
 
-pub of_part_is : (mail : Mail) (part : Option ℕ) (does : MailPart → Verdict) (e : Effects) (on : OnPart mail part) → of_part does e (current mail part) ≡ does on.found
-of_part_is mail part does e on = rw (on.is, on.here) refl
+pub of_part_is : {A : Type 0} (mail : Mail) (part : Option ℕ) (asked : MailPart → Option A) (on : OnPart mail part) → option_and_then asked (current mail part) ≡ asked on.found
+of_part_is mail part asked on = rw (on.is, on.here) refl
 
 pub part_at : (parts : List MailPart) (number : ℕ) → number < length parts → (found : MailPart) × (slice_get parts number ≡ Some found)
 part_at [] number lt = absurd (omega (arith, lt))
 part_at (p ∷ parts) zero lt = (p, refl)
 part_at (p ∷ parts) (suc number) lt = part_at parts number (omega (arith, lt))
 
+-- ---- turns
+
+-- the effect and the charge of an instruction, by its operation
+abbrev pub effect_of : Referred → Mail → Option Operation → Instruction → State → Effect
+effect_of program mail None i s = fails
+effect_of program mail (Some operation) i s = effect program mail operation i s
+
+abbrev pub charge_in : Mail → Option Operation → Instruction → State → ℕ
+charge_in mail None i s = 0
+charge_in mail (Some operation) i s = charge_of mail operation i s
+
+-- the turn of an instruction whose fields are in their ranges
+pub formed_turn : (code : Code) (mail : Mail) (o : Option Operation) (i : Instruction) (s : State) → is_well_formed (row_in code i) i ≡ true → turn_of code mail o i s ≡ turn (charge_in mail o i s) (effect_of (referred_in code) mail o i s)
+formed_turn code mail None i s h = refl
+formed_turn code mail (Some operation) i s h = rw h refl
+
 -- a loop is left, alone or with others
 pub left_more : (n m : ℕ) (e : Effects) → n ≡ suc (suc m) → left n e ≡ broken (suc m) e
 left_more n m e is = let before : suc (suc m) - 1 ≡ suc m = omega arith in rw is (rw (lt-ltb 1 (suc (suc m)) (omega arith), before) refl)
-
--- two lists of strings on the stack
-abbrev pub both : Effects → List Template → List Template → List Value
-both e names keys = onto (all_expanded e keys) (onto (all_expanded e names) [])
-
--- three lists of strings on the stack
-abbrev pub three : Effects → List Template → List Template → List Template → List Value
-three e names given keys = onto (all_expanded e keys) (both e names given)

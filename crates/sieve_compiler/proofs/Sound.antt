@@ -25,6 +25,12 @@ string_at tables place = unwrap_or (slice_get tables.strings place) []
 abbrev pub joined_text : Texts → Entries
 joined_text parts = Text (min (sum parts.texts) max_string) ∷ parts.below
 
+-- the operation opens a loop or closes one
+abbrev pub is_bracket : Option Operation → Bool
+is_bracket (Some Each) = true
+is_bracket (Some Next) = true
+is_bracket _ = false
+
 -- the entries that an operation of a script's code leaves: a text goes on those that are there, a test leaves its truth value alone
 abbrev pub leaves : Tables → Option Operation → Instruction → Entries → Entries
 leaves tables (Some Literal) i entries = Text (length (string_at tables i.c)) ∷ entries

@@ -8,7 +8,8 @@ use Rattle.std.proofs.lemmas.List.Concat.{flat_map-cons}
 use Rattle.bytecode_format.specs.Spelling.{string as spell, two_octets}
 use Rattle.sieve_check.specs.declared.typed.Segment.{Segment}
 use Rattle.sieve_check.specs.declared.typed.Segment.TheVariants.{Text, Variable, Capture}
-use Rattle.sieve_check.specs.Typed.{Template, params_of, TestForm, constant, negation, all_of, any_of, size, header, exists, string, part_size, part_body, part_digest, TestForms, no_test, test, CommandForm, keep, discard, file_into, set, take_first, store, for_every_part, leave, stop, choice, CommandForms, no_command, command, BranchForms, no_branch, otherwise, branch}
+use Rattle.sieve_check.specs.Acts.{act_strings}
+use Rattle.sieve_check.specs.Typed.{Template, in_order, TestForm, asks, negation, all_of, any_of, TestForms, no_test, test, CommandForm, does, for_every_part, choice, CommandForms, no_command, command, BranchForms, no_branch, otherwise, branch}
 use Rattle.octets.specs.Once.{each_once}
 use Rattle.octets.specs.Limits.{max_string}
 use Rattle.sieve_check.specs.Bounded.{IsBoundedSegment, IsBoundedString, IsBoundedTest, AreBoundedTests, IsBoundedCommand, AreBoundedCommands, AreBoundedBranches}
@@ -67,19 +68,10 @@ strings_spell (s ∷ ss) = omega (arith, both_octets (string_strings s) (strings
 
 mutual
   test_spells : (t : TestForm) → octets_of (test_strings t) ≤ test_extent t
-  test_spells (constant b) = omega arith
-  test_spells (negation t) = omega (arith, test_spells t)
-  test_spells (all_of t ts) = omega (arith, both_octets (test_strings t) (tests_strings ts), test_spells t, tests_spell ts)
-  test_spells (any_of t ts) = omega (arith, both_octets (test_strings t) (tests_strings ts), test_spells t, tests_spell ts)
-  test_spells (size order number) = omega arith
-  test_spells (header how scope selected names keys) =
-      let given = params_of selected in
-      omega (arith, both_octets (strings_of names ++ strings_of given) (strings_of keys), both_octets (strings_of names) (strings_of given), strings_spell names, strings_spell given, strings_spell keys)
-  test_spells (exists scope names) = omega (arith, strings_spell names)
-  test_spells (string how sources keys) = omega (arith, both_octets (strings_of sources) (strings_of keys), strings_spell sources, strings_spell keys)
-  test_spells (part_size order number) = omega arith
-  test_spells (part_body how keys) = omega (arith, strings_spell keys)
-  test_spells (part_digest keys) = omega (arith, strings_spell keys)
+  test_spells (asks question strings at) = omega (arith, strings_spell (in_order strings))
+  test_spells (negation t at) = omega (arith, test_spells t)
+  test_spells (all_of t ts at) = omega (arith, both_octets (test_strings t) (tests_strings ts), test_spells t, tests_spell ts)
+  test_spells (any_of t ts at) = omega (arith, both_octets (test_strings t) (tests_strings ts), test_spells t, tests_spell ts)
 
   tests_spell : (ts : TestForms) → octets_of (tests_strings ts) ≤ tests_extent ts
   tests_spell no_test = omega arith
@@ -87,15 +79,8 @@ mutual
 
 mutual
   command_spells : (c : CommandForm) → octets_of (command_strings c) ≤ command_extent c
-  command_spells keep = omega arith
-  command_spells discard = omega arith
-  command_spells (file_into folder) = omega (arith, string_spells folder)
-  command_spells (set modifiers name value) = omega (arith, string_spells value)
-  command_spells (take_first most name) = omega arith
-  command_spells (store folder) = omega (arith, string_spells folder)
-  command_spells (for_every_part cs) = omega (arith, commands_spell cs)
-  command_spells (leave loops) = omega arith
-  command_spells stop = omega arith
+  command_spells (does act string at) = omega (arith, strings_spell (act_strings act string))
+  command_spells (for_every_part cs at) = omega (arith, commands_spell cs)
   command_spells (choice bs) = branches_spell bs
 
   commands_spell : (cs : CommandForms) → octets_of (commands_strings cs) ≤ commands_extent cs
@@ -105,7 +90,7 @@ mutual
   branches_spell : (bs : BranchForms) → octets_of (branches_strings bs) ≤ branches_extent bs
   branches_spell no_branch = omega arith
   branches_spell (otherwise cs) = omega (arith, commands_spell cs)
-  branches_spell (branch t cs bs) = omega (arith, both_octets (test_strings t ++ commands_strings cs) (branches_strings bs), both_octets (test_strings t) (commands_strings cs), test_spells t, commands_spell cs, branches_spell bs)
+  branches_spell (branch t cs at bs) = omega (arith, both_octets (test_strings t ++ commands_strings cs) (branches_strings bs), both_octets (test_strings t) (commands_strings cs), test_spells t, commands_spell cs, branches_spell bs)
 
 segment_pushes : (segment : Segment) → length (segment_strings segment) ≤ 1
 segment_pushes (Text octets) = omega arith
@@ -127,19 +112,10 @@ strings_push (s ∷ ss) = omega (arith, length-append (string_strings s) (string
 
 mutual
   test_pushes : (t : TestForm) → length (test_strings t) ≤ test_length t
-  test_pushes (constant b) = omega arith
-  test_pushes (negation t) = test_pushes t
-  test_pushes (all_of t ts) = omega (arith, length-append (test_strings t) (tests_strings ts), test_pushes t, tests_push ts)
-  test_pushes (any_of t ts) = omega (arith, length-append (test_strings t) (tests_strings ts), test_pushes t, tests_push ts)
-  test_pushes (size order number) = omega arith
-  test_pushes (header how scope selected names keys) =
-      let given = params_of selected in
-      omega (arith, length-append (strings_of names ++ strings_of given) (strings_of keys), length-append (strings_of names) (strings_of given), strings_push names, strings_push given, strings_push keys)
-  test_pushes (exists scope names) = omega (arith, strings_push names)
-  test_pushes (string how sources keys) = omega (arith, length-append (strings_of sources) (strings_of keys), strings_push sources, strings_push keys)
-  test_pushes (part_size order number) = omega arith
-  test_pushes (part_body how keys) = omega (arith, strings_push keys)
-  test_pushes (part_digest keys) = omega (arith, strings_push keys)
+  test_pushes (asks question strings at) = omega (arith, strings_push (in_order strings))
+  test_pushes (negation t at) = test_pushes t
+  test_pushes (all_of t ts at) = omega (arith, length-append (test_strings t) (tests_strings ts), test_pushes t, tests_push ts)
+  test_pushes (any_of t ts at) = omega (arith, length-append (test_strings t) (tests_strings ts), test_pushes t, tests_push ts)
 
   tests_push : (ts : TestForms) → length (tests_strings ts) ≤ tests_length ts
   tests_push no_test = omega arith
@@ -147,15 +123,8 @@ mutual
 
 mutual
   command_pushes : (c : CommandForm) → length (command_strings c) ≤ command_length c
-  command_pushes keep = omega arith
-  command_pushes discard = omega arith
-  command_pushes (file_into folder) = omega (arith, string_pushes folder)
-  command_pushes (set modifiers name value) = omega (arith, string_pushes value)
-  command_pushes (take_first most name) = omega arith
-  command_pushes (store folder) = omega (arith, string_pushes folder)
-  command_pushes (for_every_part cs) = omega (arith, commands_push cs)
-  command_pushes (leave loops) = omega arith
-  command_pushes stop = omega arith
+  command_pushes (does act string at) = omega (arith, strings_push (act_strings act string))
+  command_pushes (for_every_part cs at) = omega (arith, commands_push cs)
   command_pushes (choice bs) = branches_push bs
 
   commands_push : (cs : CommandForms) → length (commands_strings cs) ≤ commands_length cs
@@ -165,7 +134,7 @@ mutual
   branches_push : (bs : BranchForms) → length (branches_strings bs) ≤ branches_length bs
   branches_push no_branch = omega arith
   branches_push (otherwise cs) = commands_push cs
-  branches_push (branch t cs bs) = omega (arith, length-append (test_strings t ++ commands_strings cs) (branches_strings bs), length-append (test_strings t) (commands_strings cs), test_pushes t, commands_push cs, branches_push bs)
+  branches_push (branch t cs at bs) = omega (arith, length-append (test_strings t ++ commands_strings cs) (branches_strings bs), length-append (test_strings t) (commands_strings cs), test_pushes t, commands_push cs, branches_push bs)
 
 -- no longer than a string may be
 abbrev pub IsShort : List ℕ → Type 0
@@ -190,18 +159,10 @@ strings_short (s ∷ ss) b = All-append IsShort _ _ (string_short s (All-head Is
 
 mutual
   test_short : (t : TestForm) → IsBoundedTest t → All IsShort (test_strings t)
-  test_short (constant v) b = All-nil IsShort
-  test_short (negation t) b = test_short t b
-  test_short (all_of t ts) b = All-append IsShort _ _ (test_short t b.0) (tests_short ts b.1)
-  test_short (any_of t ts) b = All-append IsShort _ _ (test_short t b.0) (tests_short ts b.1)
-  test_short (size order number) b = All-nil IsShort
-  test_short (header how scope selected names keys) b =
-      All-append IsShort _ _ (All-append IsShort _ _ (strings_short names b.lists.bounded_first) (strings_short (params_of selected) b.bounded_params)) (strings_short keys b.lists.bounded_second)
-  test_short (exists scope names) b = strings_short names b.bounded
-  test_short (string how sources keys) b = All-append IsShort _ _ (strings_short sources b.bounded_first) (strings_short keys b.bounded_second)
-  test_short (part_size order number) b = All-nil IsShort
-  test_short (part_body how keys) b = strings_short keys b.bounded
-  test_short (part_digest keys) b = strings_short keys b.bounded
+  test_short (asks question strings at) b = strings_short (in_order strings) b.bounded
+  test_short (negation t at) b = test_short t b
+  test_short (all_of t ts at) b = All-append IsShort _ _ (test_short t b.0) (tests_short ts b.1)
+  test_short (any_of t ts at) b = All-append IsShort _ _ (test_short t b.0) (tests_short ts b.1)
 
   tests_short : (ts : TestForms) → AreBoundedTests ts → All IsShort (tests_strings ts)
   tests_short no_test b = All-nil IsShort
@@ -209,15 +170,8 @@ mutual
 
 mutual
   command_short : (c : CommandForm) → IsBoundedCommand c → All IsShort (command_strings c)
-  command_short keep b = All-nil IsShort
-  command_short discard b = All-nil IsShort
-  command_short (file_into folder) b = string_short folder b
-  command_short (set modifiers name value) b = string_short value b
-  command_short (take_first most name) b = All-nil IsShort
-  command_short (store folder) b = string_short folder b
-  command_short (for_every_part cs) b = commands_short cs b
-  command_short (leave loops) b = All-nil IsShort
-  command_short stop b = All-nil IsShort
+  command_short (does act string at) b = strings_short (act_strings act string) b.1
+  command_short (for_every_part cs at) b = commands_short cs b
   command_short (choice bs) b = branches_short bs b
 
   pub commands_short : (cs : CommandForms) → AreBoundedCommands cs → All IsShort (commands_strings cs)
@@ -227,7 +181,7 @@ mutual
   branches_short : (bs : BranchForms) → AreBoundedBranches bs → All IsShort (branches_strings bs)
   branches_short no_branch b = All-nil IsShort
   branches_short (otherwise cs) b = commands_short cs b
-  branches_short (branch t cs bs) b = All-append IsShort _ _ (All-append IsShort _ _ (test_short t b.0) (commands_short cs b.1)) (branches_short bs b.2)
+  branches_short (branch t cs at bs) b = All-append IsShort _ _ (All-append IsShort _ _ (test_short t b.0) (commands_short cs b.1)) (branches_short bs b.2)
 
 -- the table has at most as many texts as the commands have instructions, and they have no more octets than the commands
 pub strings_few : (cs : CommandForms) → length (tables_of cs).strings ≤ commands_length cs

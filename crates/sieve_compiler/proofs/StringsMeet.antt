@@ -1,5 +1,5 @@
 -- Runs of a script's code: their steps, jumps, and the code of strings, which pushes what the strings are expanded to.
-use Rattle.std.proofs.Common.{◌≡◌, ℕ, zero, suc, ◌+◌, ◌<◌, ◌≤◌, Bool, true, false, ◌&&◌, nat_lt, List, [], ◌∷◌, ◌++◌, Option, Some, option_map, All, length, map, slice_get, refl, sym, ap, subst, ◌∙◌, arith}
+use Rattle.std.proofs.Common.{◌≡◌, ℕ, zero, suc, ◌+◌, ◌<◌, ◌≤◌, Bool, true, false, ◌&&◌, nat_lt, List, [], ◌∷◌, Option, Some, option_map, All, length, map, slice_get, refl, sym, ap, subst, ◌∙◌, arith}
 use Rattle.std.specs.List.{flat_map}
 use Rattle.std.proofs.lemmas.Bool.{lt-ltb, le-leb}
 use Rattle.std.proofs.lemmas.List.{length-map}
@@ -11,30 +11,28 @@ use Rattle.bytecode_format.specs.declared.operation.Operation.TheVariants.{Varia
 use Rattle.bytecode_format.specs.Code.{Code}
 use Rattle.bytecode_verifier.specs.Loops.{same_loops}
 use Rattle.bytecode_verifier.specs.Rows.{row_named, is_jump}
-use Rattle.mime_decode.specs.Mail.{Mail, size_of}
-use Rattle.octets.specs.Limits.{max_stack, max_test_strings}
+use Rattle.mime_decode.specs.Mail.{Mail}
+use Rattle.octets.specs.Limits.{max_stack}
 use Rattle.sieve_check.specs.Bounded.{IsBoundedSegment, IsBoundedString}
-use Rattle.sieve_check.specs.declared.typed.Order.{Order}
-use Rattle.sieve_check.specs.declared.typed.Order.TheVariants.{Over, Under}
 use Rattle.sieve_check.specs.declared.typed.Segment.{Segment}
 use Rattle.sieve_check.specs.declared.typed.Segment.TheVariants.{Text, Variable, Capture}
 use Rattle.sieve_check.specs.Typed.{Template, CommandForms}
 use Rattle.sieve_check.specs.Variables.{string_variables}
-use Rattle.sieve_meaning.specs.Meaning.{Effects, value_of, expanded, all_expanded, is_size}
+use Rattle.sieve_meaning.specs.Meaning.{Effects, value_of, expanded, all_expanded}
 use Rattle.sieve_vm.specs.State.{Value, truth, text, Frame, State, current_part, Turn, goes, start}
 use Rattle.sieve_vm.specs.Machine.{is_sound_jump, turn, step, turn_at, referred_in}
 use Rattle.sieve_vm.specs.Charge.{charge_of}
 use Rattle.sieve_vm.specs.Runs.{Run}
-use Rattle.sieve_compiler.specs.Growing.{Uses, uses_with, joined, segment_uses, string_uses, strings_uses}
-use Rattle.sieve_compiler.specs.Tables.{Tables, tables_of, place_of_number, place_of_string, place_of_variable}
+use Rattle.sieve_compiler.specs.Growing.{Uses, uses_with, segment_uses, string_uses, strings_uses}
+use Rattle.sieve_compiler.specs.Tables.{Tables, tables_of, place_of_string, place_of_variable}
 use Rattle.sieve_compiler.specs.Lengths.{string_length, strings_length}
 use Rattle.sieve_compiler.specs.Strings.{segment_strings}
-use Rattle.sieve_compiler.specs.Coding.{instruction, jump_if, push_bool, push_size, push_text, push_segment, join_texts, string_code, strings_code, code_of, written_version}
+use Rattle.sieve_compiler.specs.Coding.{instruction, jump_if, push_text, push_segment, join_texts, string_code, strings_code, code_of, written_version}
 use Rattle.sieve_compiler.proofs.Standing.{Stands, stands_first, stands_next, stands_left, stands_right}
-use Rattle.sieve_compiler.proofs.CodeLengths.{string_code_length, strings_code_length}
-use Rattle.sieve_compiler.proofs.Known.{Has, has_left, has_right, found, found_string, found_variable}
+use Rattle.sieve_compiler.proofs.CodeLengths.{string_code_length}
+use Rattle.sieve_compiler.proofs.Known.{Has, has_left, has_right, found_string, found_variable}
 use Rattle.sieve_compiler.proofs.Values.{AreShort}
-use Rattle.sieve_compiler.proofs.OnStack.{lands, onto, on_top, onto_number, joined_texts, one_value, no_value, OnPart, both}
+use Rattle.sieve_compiler.proofs.OnStack.{lands, onto, on_top, joined_texts, one_value, no_value, OnPart}
 
 -- where each of the program's jumps is one that the machine makes
 module _ (script : CommandForms) (mail : Mail) (jumps_kept : (p : ℕ) (i : Instruction) → slice_get (code_of script).instructions p ≡ Some i → is_jump (row_named written_version i.op) ≡ true → (nat_lt p i.c && same_loops (code_of script) p i.c) ≡ true) where
@@ -105,14 +103,6 @@ module _ (script : CommandForms) (mail : Mail) (jumps_kept : (p : ℕ) (i : Inst
     pub comes_then : (p q r : ℕ) (e f g : Effects) → Comes p e q f → Comes q f r g → Comes p e r g
     comes_then p q r e f g h k = leads_then frames frames frames p q r e f g h k
 
-    pub bool_step : (p c : ℕ) (b : Bool) (e : Effects) → slice_get all p ≡ Some (push_bool b) → Goes (at p e c) (holding b (suc p) e (c + 1))
-    bool_step p c true e here = step_at (at p e c) (push_bool true) _ here refl
-    bool_step p c false e here = step_at (at p e c) (push_bool false) _ here refl
-
-    pub size_step : (p c : ℕ) (order : Order) (n : ℕ) (e : Effects) → Has tables (uses_with (n ∷ []) [] []) → slice_get all p ≡ Some (push_size order (place_of_number tables n)) → Goes (at p e c) (holding (is_size order n (size_of mail)) (suc p) e (c + 1))
-    size_step p c Over n e known here = step_at (at p e c) (push_size Over (place_of_number tables n)) _ here (rw (found tables n known) refl)
-    size_step p c Under n e known here = step_at (at p e c) (push_size Under (place_of_number tables n)) _ here (rw (found tables n known) refl)
-
     branch_step : (p c : ℕ) (b asked : Bool) (target : ℕ) (e : Effects) → slice_get all p ≡ Some (jump_if asked target) → Goes (holding b p e c) (at (lands b asked target (suc p)) e (c + 1))
     branch_step p c true true target e here = step_at (holding true p e c) (jump_if true target) _ here (rw (sound_jump (holding true p e c) (jump_if true target) here refl) refl)
     branch_step p c true false target e here = step_at (holding true p e c) (jump_if false target) _ here (rw (sound_jump (holding true p e c) (jump_if false target) here refl) refl)
@@ -129,10 +119,6 @@ module _ (script : CommandForms) (mail : Mail) (jumps_kept : (p : ℕ) (i : Inst
         let second = branch_step (suc p) c b asked target f here in
         let same : suc (suc p) ≡ p + 2 = omega arith in
         (c + 1, (2, (holding b (suc p) f c, first, (at (lands b asked target (p + 2)) f (c + 1), subst (λ n. Goes (holding b (suc p) f c) (at (lands b asked target n) f (c + 1))) same second, refl))))
-
-    -- a simple test and its jump
-    pub simple_run : (p c : ℕ) (i : Instruction) (b asked : Bool) (target : ℕ) (e : Effects) → Stands all p (i ∷ jump_if asked target ∷ []) → Goes (at p e c) (holding b (suc p) e (c + 1)) → (d : ℕ) × Reaches (at p e c) (at (lands b asked target (p + 2)) e d)
-    simple_run p c i b asked target e h first = tail_run p (c + 1) i b asked target (at p e c) e h first
 
     -- one step to the next place
     pub next_place : (p d : ℕ) (a : State) (stack : List Value) (e : Effects) → Goes a (with_stack stack (suc p) e d) → Reaches a (with_stack stack (p + 1) e d)
@@ -216,18 +202,3 @@ module _ (script : CommandForms) (mail : Mail) (jumps_kept : (p : ℕ) (i : Inst
         let end : ℕ → State = (λ (n : ℕ). with_stack (onto (all_expanded e (s ∷ ss)) stack) n e rest.0) in
         let others = subst (λ n. Reaches (with_stack pushed q e first.0) (end n)) same rest.1 in
         (rest.0, after_steps first.1.0 (with_stack stack p e c) (with_stack pushed q e first.0) (end (p + strings_length (s ∷ ss))) first.1.1 others)
-
-    pub lists_run : (names keys : List Template) (p c : ℕ) (e : Effects) → AreShort e → All IsBoundedString names → All IsBoundedString keys → length names + length keys ≤ max_test_strings → Stands all p (strings_code tables names ++ strings_code tables keys) → Has tables (joined (strings_uses names) (strings_uses keys))
-        → (d : ℕ) × Reaches (at p e c) (with_stack (both e names keys) (p + (strings_length names + strings_length keys)) e d)
-    lists_run names keys p c e short b_names b_keys few h known =
-        let first = strings_run names p c [] e short b_names (stands_left all p (strings_code tables names) (strings_code tables keys) h) (has_left tables (strings_uses names) (strings_uses keys) known) (omega (arith, few)) in
-        let there = stands_right all p (strings_length names) (strings_code tables names) (strings_code tables keys) (strings_code_length tables names) h in
-        let below : List Value = onto (all_expanded e names) [] in
-        let q : ℕ = p + strings_length names in
-        let size = onto_number (all_expanded e names) [] in
-        let own = length-map names (expanded e) in
-        let second = strings_run keys q first.0 below e short b_keys there (has_right tables (strings_uses names) (strings_uses keys) known) (omega (arith, size, own, few)) in
-        let same : q + strings_length keys ≡ p + (strings_length names + strings_length keys) = omega arith in
-        let end : ℕ → State = (λ (n : ℕ). with_stack (both e names keys) n e second.0) in
-        let others = subst (λ n. Reaches (with_stack below q e first.0) (end n)) same second.1 in
-        (second.0, after_steps first.1.0 (at p e c) (with_stack below q e first.0) (end (p + (strings_length names + strings_length keys))) first.1.1 others)

@@ -1,6 +1,7 @@
 -- The values of variables and captures stay as short as they are cut, and the values of the variables of a table are a list.
 use Rattle.std.proofs.Common.{◌≡◌, ℕ, zero, suc, ◌-◌, ◌≤◌, nat_lt, Bool, true, false, not, bytes_eq, List, [], ◌∷◌, Option, Some, None, IfSome, option_map, All, length, map, take, filter, replicate, slice_set, refl, sym, ap, subst, inl, inr, arith, if◌then◌else◌, length-take}
-use Rattle.std.specs.Option.{option_or}
+use Rattle.std.specs.Bool.{then_some}
+use Rattle.std.specs.Option.{option_and_then, option_or}
 use Rattle.std.specs.List.{slice_index_or}
 use Rattle.std.proofs.lemmas.Bool.{cases_Bool}
 use Rattle.std.proofs.lemmas.Cmp.{nat_list_eq_equiv}
@@ -19,14 +20,18 @@ use Rattle.glob_match.specs.declared.match_type.Match.{Match}
 use Rattle.glob_match.specs.declared.match_type.MatchType.{MatchType}
 use Rattle.glob_match.specs.declared.match_type.MatchType.TheVariants.{Is, Contains, Matches}
 use Rattle.mail_matching.specs.FirstMatch.{after_comparison, first_key, first_match, ten_of}
-use Rattle.mail_matching.specs.PartTests.{exactly, body_match, digest_match}
+use Rattle.mail_matching.specs.PartTests.{exactly}
 use Rattle.mime_decode.specs.Content.{digest_of}
 use Rattle.mime_decode.specs.Mail.{Mail, Part as MailPart}
 use Rattle.mime_decode.specs.Scope.{selected_values, visited}
-use Rattle.sieve_check.specs.Bounded.{IsBoundedCommand, AreBoundedCommands, AreBoundedBranches}
-use Rattle.sieve_check.specs.Typed.{TestForm, constant, negation, all_of, any_of, size, header, exists, string, part_size, part_body, part_digest, TestForms, no_test, test, CommandForm, keep, discard, file_into, set, take_first, store, for_every_part, leave, stop, choice, CommandForms, no_command, command, BranchForms, no_branch, otherwise, branch}
-use Rattle.mail_matching.specs.Selection.{scope_of}
-use Rattle.sieve_meaning.specs.Meaning.{selector_of, Effects, no_effects, all_expanded, expanded, with_taken, with_value, Verdict, verdict, matched, and_then, or_else, Ending, normal, stopped, broken, effects_of, followed_by, left, after_turn, turns, is_size, current, of_part, test_does, all_do, any_do, command_does, commands_do, choice_does}
+use Rattle.sieve_check.specs.declared.typed.Act.{Act}
+use Rattle.sieve_check.specs.declared.typed.Act.TheVariants.{Keep, Discard, FileInto, Set, Take, Store, Leave, Stop}
+use Rattle.sieve_check.specs.declared.typed.Question.{Question}
+use Rattle.sieve_check.specs.declared.typed.Question.TheVariants.{Constant, Header, Exists, Size, String, PartSize, PartBody, PartDigest}
+use Rattle.sieve_check.specs.Bounded.{IsBoundedAct, IsBoundedCommand, AreBoundedCommands, AreBoundedBranches}
+use Rattle.sieve_check.specs.Typed.{TestForm, asks, negation, all_of, any_of, TestForms, no_test, test, CommandForm, does, for_every_part, choice, CommandForms, no_command, command, BranchForms, no_branch, otherwise, branch}
+use Rattle.mail_matching.specs.Selection.{scope_of, selector_of}
+use Rattle.sieve_meaning.specs.Meaning.{Effects, no_effects, Texts, texts_of, expanded, with_taken, with_value, Verdict, verdict, matched, and_then, or_else, Ending, normal, stopped, broken, effects_of, followed_by, left, after_turn, turns, is_size, current, answer, test_does, all_do, any_do, act_does, command_does, commands_do, choice_does}
 
 -- ---- short values
 
@@ -129,10 +134,6 @@ decided_short : (b : Bool) (x y : Ending) → AreShort (effects_of x) → AreSho
 decided_short true x y h k = h
 decided_short false x y h k = k
 
-of_part_short : (does : MailPart → Verdict) (e : Effects) (found : Option MailPart) → AreShort e → ((p : MailPart) → AreShort (does p).effects) → AreShort (of_part does e found).effects
-of_part_short does e None short h = short
-of_part_short does e (Some p) short h = h p
-
 left_short : (n : ℕ) (e : Effects) → AreShort e → AreShort (effects_of (left n e))
 left_short n e short = step (nat_lt 1 n)
   where
@@ -150,25 +151,43 @@ pub turns_short : (turn : ℕ → Effects → Ending) (parts : List ℕ) (e : Ef
 turns_short turn [] e h short = short
 turns_short turn (number ∷ parts) e h short = turn_short (turn number e) (λ f. turns turn parts f) (h number e short) (λ f k. turns_short turn parts f h k)
 
+-- a test without captures leaves them
+still_some : (b : Bool) (captures : List (List ℕ)) → All IsShort captures → IfSome (then_some b captures) (All IsShort)
+still_some true captures short = short
+still_some false captures short = tt
+
+of_part_short : (asked : MailPart → Option (List (List ℕ))) (found : Option MailPart) → ((p : MailPart) → IfSome (asked p) (All IsShort)) → IfSome (option_and_then asked found) (All IsShort)
+of_part_short asked None h = tt
+of_part_short asked (Some p) h = h p
+
 module _ (mail : Mail) where
+  answer_short : (part : Option ℕ) (q : Question) (texts : Texts) (captures : List (List ℕ)) → All IsShort captures → IfSome (answer mail part q texts captures) (All IsShort)
+  answer_short part (Constant b) texts captures short = still_some b captures short
+  answer_short part (Header fields) texts captures short = after_values fields.how (selected_values (scope_of fields.scope) part (selector_of fields.selector texts.params) texts.names mail) texts.keys captures short
+  answer_short part (Exists scope) texts captures short = still_some _ captures short
+  answer_short part (Size order number) texts captures short = still_some _ captures short
+  answer_short part (String how) texts captures short = after_values how texts.names texts.keys captures short
+  answer_short part (PartSize order number) texts captures short = of_part_short _ (current mail part) (λ p. still_some (is_size order number (length p.content)) captures short)
+  answer_short part (PartBody how) texts captures short = of_part_short _ (current mail part) (λ p. after_values how (p.content ∷ []) texts.keys captures short)
+  answer_short part PartDigest texts captures short = of_part_short _ (current mail part) (λ p. after_values exactly (digest_of p.content ∷ []) texts.keys captures short)
+
+  act_short : (part : Option ℕ) (act : Act) (text : List ℕ) (e : Effects) → IsBoundedAct act → AreShort e → AreShort (effects_of (act_does mail part act text e))
+  act_short part Keep text e b short = still e _ refl refl short
+  act_short part Discard text e b short = still e _ refl refl short
+  act_short part FileInto text e b short = still e _ refl refl short
+  act_short part (Set modifiers name) text e b short = record { variables = set_short name (modified modifiers text) e.variables short.variables; captures = short.captures }
+  act_short part (Take most name) text e b short = record { variables = taken_short most name (current mail part) e.variables b.1 short.variables; captures = short.captures }
+  act_short part Store text e b short = still e _ refl refl short
+  act_short part (Leave loops) text e b short = short
+  act_short part Stop text e b short = short
+
   mutual
     -- after a test
     pub test_short : (part : Option ℕ) (t : TestForm) (e : Effects) → AreShort e → AreShort (test_does mail part t e).effects
-    test_short part (constant b) e short = short
-    test_short part (negation t) e short = test_short part t e short
-    test_short part (all_of t ts) e short = let v = test_does mail part t e in and_short v.value v.effects (λ f. all_do mail part ts f) (test_short part t e short) (λ f h. all_short part ts f h)
-    test_short part (any_of t ts) e short = let v = test_does mail part t e in or_short v.value v.effects (λ f. any_do mail part ts f) (test_short part t e short) (λ f h. any_short part ts f h)
-    test_short part (size order number) e short = short
-    test_short part (header how scope selected names keys) e short =
-        matched_short _ e short (after_values how (selected_values (scope_of scope) part (selector_of e selected) (all_expanded e names) mail) (all_expanded e keys) e.captures short.captures)
-    test_short part (exists scope names) e short = short
-    test_short part (string how sources keys) e short = matched_short _ e short (after_values how (all_expanded e sources) (all_expanded e keys) e.captures short.captures)
-    test_short part (part_size order number) e short = of_part_short (λ p. verdict (is_size order number (length p.content)) e) e (current mail part) short (λ p. short)
-    test_short part (part_body how keys) e short =
-        of_part_short (λ p. matched (body_match how p (all_expanded e keys) e.captures) e) e (current mail part) short (λ p. matched_short _ e short (after_values how (p.content ∷ []) (all_expanded e keys) e.captures short.captures))
-    test_short part (part_digest keys) e short =
-        of_part_short (λ p. matched (digest_match p (all_expanded e keys) e.captures) e) e (current mail part) short
-        (λ p. matched_short _ e short (after_values exactly (digest_of p.content ∷ []) (all_expanded e keys) e.captures short.captures))
+    test_short part (asks question strings at) e short = matched_short _ e short (answer_short part question (texts_of e strings) e.captures short.captures)
+    test_short part (negation t at) e short = test_short part t e short
+    test_short part (all_of t ts at) e short = let v = test_does mail part t e in and_short v.value v.effects (λ f. all_do mail part ts f) (test_short part t e short) (λ f h. all_short part ts f h)
+    test_short part (any_of t ts at) e short = let v = test_does mail part t e in or_short v.value v.effects (λ f. any_do mail part ts f) (test_short part t e short) (λ f h. any_short part ts f h)
 
     all_short : (part : Option ℕ) (ts : TestForms) (e : Effects) → AreShort e → AreShort (all_do mail part ts e).effects
     all_short part no_test e short = short
@@ -181,15 +200,8 @@ module _ (mail : Mail) where
   mutual
     -- after a command
     pub command_short : (part : Option ℕ) (c : CommandForm) (e : Effects) → IsBoundedCommand c → AreShort e → AreShort (effects_of (command_does mail part c e))
-    command_short part keep e b short = still e _ refl refl short
-    command_short part discard e b short = still e _ refl refl short
-    command_short part (file_into folder) e b short = still e _ refl refl short
-    command_short part (set modifiers name value) e b short = record { variables = set_short name (modified modifiers (expanded e value)) e.variables short.variables; captures = short.captures }
-    command_short part (take_first most name) e b short = record { variables = taken_short most name (current mail part) e.variables b.1 short.variables; captures = short.captures }
-    command_short part (store folder) e b short = still e _ refl refl short
-    command_short part (for_every_part cs) e b short = turns_short (λ number f. commands_do mail (Some number) cs f) (visited part mail) e (λ number f h. commands_short (Some number) cs f b h) short
-    command_short part (leave loops) e b short = short
-    command_short part stop e b short = short
+    command_short part (does act string at) e b short = act_short part act (expanded e string) e b.0 short
+    command_short part (for_every_part cs at) e b short = turns_short (λ number f. commands_do mail (Some number) cs f) (visited part mail) e (λ number f h. commands_short (Some number) cs f b h) short
     command_short part (choice bs) e b short = choice_short part bs e b short
 
     pub commands_short : (part : Option ℕ) (cs : CommandForms) (e : Effects) → AreBoundedCommands cs → AreShort e → AreShort (effects_of (commands_do mail part cs e))
@@ -199,7 +211,7 @@ module _ (mail : Mail) where
     choice_short : (part : Option ℕ) (bs : BranchForms) (e : Effects) → AreBoundedBranches bs → AreShort e → AreShort (effects_of (choice_does mail part bs e))
     choice_short part no_branch e b short = short
     choice_short part (otherwise cs) e b short = commands_short part cs e b short
-    choice_short part (branch t cs bs) e b short =
+    choice_short part (branch t cs at bs) e b short =
         let v = test_does mail part t e in
         let h = test_short part t e short in
         decided_short v.value (commands_do mail part cs v.effects) (choice_does mail part bs v.effects) (commands_short part cs v.effects b.1 h) (choice_short part bs v.effects b.2 h)

@@ -2,49 +2,41 @@
 use Rattle.std.specs.Prelude.{ℕ, ◌+◌, Bool, true, false, not, List, [], ◌∷◌, ◌++◌, flat_map, length, map}
 use Rattle.bytecode_format.specs.declared.instruction.Instruction.{Instruction}
 use Rattle.bytecode_format.specs.declared.operation.Operation.{Operation}
-use Rattle.bytecode_format.specs.declared.operation.Operation.TheVariants.{Halt, Literal, Variable as VariableOp, Capture as CaptureOp, Join, Set, String, Bool as BoolOp, Jump, JumpIfTrue, JumpIfFalse, Header, Exists, Size, PartSize, PartBody, PartDigest, Keep, Discard, File, Store, Each, Next, Break, Take}
-use Rattle.bytecode_format.specs.declared.modifiers.Modifiers.{Modifiers}
+use Rattle.bytecode_format.specs.declared.operation.Operation.TheVariants as operation
+use Rattle.bytecode_format.specs.declared.operation.Operation.TheVariants.{Halt, Literal, Join, Jump, JumpIfTrue, JumpIfFalse, Each, Next}
 use Rattle.bytecode_format.specs.Modifiers.{modifiers_number}
 use Rattle.bytecode_format.specs.Selection.{match_number, scope_number, field_test_number, counts_number}
 use Rattle.bytecode_format.specs.Operations.{octet_of}
 use Rattle.bytecode_format.specs.Code.{Code}
-use Rattle.glob_match.specs.declared.match_type.Match.{Match}
+use Rattle.sieve_check.specs.declared.typed.Act.{Act}
+use Rattle.sieve_check.specs.declared.typed.Act.TheVariants.{Keep, Discard, FileInto, Set, Take, Store, Leave, Stop}
 use Rattle.sieve_check.specs.declared.typed.Order.{Order}
 use Rattle.sieve_check.specs.declared.typed.Order.TheVariants.{Over, Under}
+use Rattle.sieve_check.specs.declared.typed.Question.{Question}
+use Rattle.sieve_check.specs.declared.typed.Question.TheVariants.{Constant, Header, Exists, Size, String, PartSize, PartBody, PartDigest}
 use Rattle.sieve_check.specs.declared.typed.Segment.{Segment}
 use Rattle.sieve_check.specs.declared.typed.Segment.TheVariants.{Text, Variable, Capture}
-use Rattle.bytecode_format.specs.declared.selection.Scope.{Scope}
-use Rattle.sieve_check.specs.Typed.{Template, Selected, selector_of, params_of, TestForm, constant, negation, all_of, any_of, size, header, exists, string, part_size, part_body, part_digest, TestForms, no_test, test, CommandForm, keep, discard, file_into, set, take_first, store, for_every_part, leave, stop, choice, CommandForms, no_command, command, BranchForms, no_branch, otherwise, branch}
+use Rattle.sieve_check.specs.Acts.{act_strings}
+use Rattle.sieve_check.specs.Typed.{Template, Strings, in_order, TestForm, asks, negation, all_of, any_of, TestForms, no_test, test, CommandForm, does, for_every_part, choice, CommandForms, no_command, command, BranchForms, no_branch, otherwise, branch}
 use Rattle.sieve_compiler.specs.Lengths.{test_length, tests_length, commands_length, command_length, leave_length, branches_length}
 use Rattle.sieve_compiler.specs.Tables.{Tables, tables_of, place_of_number, place_of_string, place_of_variable}
 
+-- an instruction with all its fields
+abbrev pub instruction_with : Operation → ℕ → ℕ → ℕ → Instruction
+instruction_with kind a b c = record { op = octet_of kind; a = a; b = b; c = c }
+
 -- an instruction with its fields a and c
 abbrev pub instruction : Operation → ℕ → ℕ → Instruction
-instruction operation a c = record { op = octet_of operation; a = a; b = 0; c = c }
+instruction kind a c = instruction_with kind a 0 c
 
 -- an instruction without fields
 abbrev pub plain : Operation → Instruction
-plain operation = instruction operation 0 0
+plain kind = instruction kind 0 0
 
 -- a jump to the target where the truth value taken is this one
 abbrev pub jump_if : Bool → ℕ → Instruction
 jump_if true target = instruction JumpIfTrue 0 target
 jump_if false target = instruction JumpIfFalse 0 target
-
--- the truth value itself
-abbrev pub push_bool : Bool → Instruction
-push_bool true = instruction BoolOp 1 0
-push_bool false = instruction BoolOp 0 0
-
--- the message's size against the number at a place of the table
-abbrev pub push_size : Order → ℕ → Instruction
-push_size Over place = instruction Size 0 place
-push_size Under place = instruction Size 1 place
-
--- the size of the current part's content against that number
-abbrev pub push_part_size : Order → ℕ → Instruction
-push_part_size Over place = instruction PartSize 0 place
-push_part_size Under place = instruction PartSize 1 place
 
 -- a text, by its place in the table
 abbrev pub push_text : Tables → List ℕ → Instruction
@@ -53,12 +45,12 @@ push_text tables text = instruction Literal 0 (place_of_string tables text)
 -- a segment of a string: a text, or the value of a variable or a capture
 abbrev pub push_segment : Tables → Segment → Instruction
 push_segment tables (Text octets) = push_text tables octets
-push_segment tables (Variable name) = instruction VariableOp 0 (place_of_variable tables name)
-push_segment tables (Capture n) = instruction CaptureOp n 0
+push_segment tables (Variable name) = instruction operation.Variable 0 (place_of_variable tables name)
+push_segment tables (Capture n) = instruction operation.Capture n 0
 
 -- so many texts as one
 abbrev pub join_texts : ℕ → Instruction
-join_texts texts = record { op = octet_of Join; a = 0; b = texts; c = 0 }
+join_texts texts = instruction_with Join 0 texts 0
 
 -- a string: one text or one reference, or else its segments, joined
 abbrev pub string_code : Tables → Template → List Instruction
@@ -71,38 +63,42 @@ string_code tables (one ∷ other ∷ more) = map (push_segment tables) (one ∷
 abbrev pub strings_code : Tables → List Template → List Instruction
 strings_code tables strings = flat_map (string_code tables) strings
 
--- the text on the stack, modified, as the value of a variable
-abbrev pub set_variable : Tables → Modifiers → List ℕ → Instruction
-set_variable tables modifiers name = instruction Set (modifiers_number modifiers) (place_of_variable tables name)
+-- how an instruction says a truth value, and whether a size is over or under a number
+abbrev pub truth_number : Bool → ℕ
+truth_number true = 1
+truth_number false = 0
 
--- at most so many octets of the current part's content, the first ones, as the value of the variable at a place
-abbrev pub take_octets : ℕ → ℕ → Instruction
-take_octets most place = record { op = octet_of Take; a = 0; b = most; c = place }
+abbrev pub order_number : Order → ℕ
+order_number Over = 0
+order_number Under = 1
 
--- what is selected of the fields of so many names in scope, against so many keys
-abbrev pub match_fields : Match → Scope → Selected → ℕ → ℕ → Instruction
-match_fields how scope selected names keys = record {
-  op = octet_of Header;
-  a = field_test_number (record { how = how; scope = scope; selector = selector_of selected });
-  b = names;
-  c = counts_number (record { params = length (params_of selected); keys = keys });
-}
+-- the instruction of each question, after its strings
+abbrev pub question_code : Tables → Question → Strings → Instruction
+question_code tables (Constant b) strings = instruction operation.Bool (truth_number b) 0
+question_code tables (Header fields) strings =
+    instruction_with operation.Header (field_test_number fields) (length strings.names)
+    (counts_number (record { params = length strings.params; keys = length strings.keys }))
+question_code tables (Exists scope) strings = instruction_with operation.Exists (scope_number scope) (length strings.names) 0
+question_code tables (Size order number) strings = instruction operation.Size (order_number order)
+    (place_of_number tables number)
+question_code tables (String how) strings = instruction_with operation.String (match_number how) (length strings.names)
+    (length strings.keys)
+question_code tables (PartSize order number) strings = instruction operation.PartSize (order_number order)
+    (place_of_number tables number)
+question_code tables (PartBody how) strings = instruction operation.PartBody (match_number how) (length strings.keys)
+question_code tables PartDigest strings = instruction operation.PartDigest 0 (length strings.keys)
 
--- so many sources against so many keys
-abbrev pub match_texts : Match → ℕ → ℕ → Instruction
-match_texts how sources keys = record { op = octet_of String; a = match_number how; b = sources; c = keys }
-
--- the current part's content against so many keys
-abbrev pub match_body : Match → ℕ → Instruction
-match_body how keys = instruction PartBody (match_number how) keys
-
--- the digest of its content against so many keys
-abbrev pub match_digest : ℕ → Instruction
-match_digest keys = instruction PartDigest 0 keys
-
--- whether there are fields of so many names in scope
-abbrev pub find_fields : Scope → ℕ → Instruction
-find_fields scope names = record { op = octet_of Exists; a = scope_number scope; b = names; c = 0 }
+-- the instruction of each act, after its string
+abbrev pub act_code : Tables → Act → Instruction
+act_code tables Keep = plain operation.Keep
+act_code tables Discard = plain operation.Discard
+act_code tables FileInto = plain operation.File
+act_code tables (Set modifiers name) = instruction operation.Set (modifiers_number modifiers)
+    (place_of_variable tables name)
+act_code tables (Take most name) = instruction_with operation.Take 0 most (place_of_variable tables name)
+act_code tables Store = plain operation.Store
+act_code tables (Leave loops) = instruction operation.Break loops 0
+act_code tables Stop = plain operation.Halt
 
 -- a test of a list jumps where it decides the list alone, as a false one does of allof and a true one of anyof;
 -- the last one, after which nothing stands, jumps where the list has the value that is asked for
@@ -121,32 +117,17 @@ aim_of false true (test t ts) following target = following
 abbrev mutual
   -- goes to the target where the test is as asked, true or false, and else on after the code
   pub test_code : Tables → ℕ → TestForm → Bool → ℕ → List Instruction
-  test_code tables place (constant b) asked target = push_bool b ∷ jump_if asked target ∷ []
-  test_code tables place (negation t) asked target = test_code tables place t (not asked) target
-  test_code tables place (all_of t ts) asked target =
+  test_code tables place (asks question strings at) asked target =
+      strings_code tables (in_order strings) ++ question_code tables question strings ∷ jump_if asked target ∷ []
+  test_code tables place (negation t at) asked target = test_code tables place t (not asked) target
+  test_code tables place (all_of t ts at) asked target =
       let following = place + (test_length t + tests_length ts) in
       test_code tables place t (asked_of false asked ts) (aim_of false asked ts following target)
       ++ tests_code tables (place + test_length t) ts false asked following target
-  test_code tables place (any_of t ts) asked target =
+  test_code tables place (any_of t ts at) asked target =
       let following = place + (test_length t + tests_length ts) in
       test_code tables place t (asked_of true asked ts) (aim_of true asked ts following target)
       ++ tests_code tables (place + test_length t) ts true asked following target
-  test_code tables place (size order number) asked target = push_size order (place_of_number tables number)
-      ∷ jump_if asked target ∷ []
-  test_code tables place (header how scope selected names keys) asked target =
-      strings_code tables names ++ strings_code tables (params_of selected) ++ strings_code tables keys
-      ++ match_fields how scope selected (length names) (length keys) ∷ jump_if asked target ∷ []
-  test_code tables place (exists scope names) asked target = strings_code tables names
-      ++ find_fields scope (length names) ∷ jump_if asked target ∷ []
-  test_code tables place (string how sources keys) asked target =
-      strings_code tables sources ++ strings_code tables keys ++ match_texts how (length sources) (length keys)
-      ∷ jump_if asked target ∷ []
-  test_code tables place (part_size order number) asked target = push_part_size order (place_of_number tables number)
-      ∷ jump_if asked target ∷ []
-  test_code tables place (part_body how keys) asked target = strings_code tables keys ++ match_body how (length keys)
-      ∷ jump_if asked target ∷ []
-  test_code tables place (part_digest keys) asked target = strings_code tables keys ++ match_digest (length keys)
-      ∷ jump_if asked target ∷ []
 
   -- the tests of a list after its first
   pub tests_code : Tables → ℕ → TestForms → Bool → Bool → ℕ → ℕ → List Instruction
@@ -159,24 +140,18 @@ abbrev mutual
 abbrev pub leave_code : BranchForms → ℕ → List Instruction
 leave_code no_branch end = []
 leave_code (otherwise cs) end = instruction Jump 0 end ∷ []
-leave_code (branch t cs bs) end = instruction Jump 0 end ∷ []
+leave_code (branch t cs at bs) end = instruction Jump 0 end ∷ []
+
+-- a loop around a block: its brackets name each other's places
+abbrev pub loop_code : ℕ → ℕ → List Instruction → List Instruction
+loop_code each next block = instruction Each 0 next ∷ (block ++ instruction Next 0 each ∷ [])
 
 abbrev mutual
   pub command_code : Tables → ℕ → CommandForm → List Instruction
-  command_code tables place keep = plain Keep ∷ []
-  command_code tables place discard = plain Discard ∷ []
-  command_code tables place (file_into folder) = string_code tables folder ++ plain File ∷ []
-  command_code tables place (set modifiers name value) = string_code tables value ++ set_variable tables modifiers name
-      ∷ []
-  command_code tables place (take_first most name) = take_octets most (place_of_variable tables name) ∷ []
-  command_code tables place (store folder) = string_code tables folder ++ plain Store ∷ []
-  -- the loop's brackets name each other's places
-  command_code tables place (for_every_part cs) =
+  command_code tables place (does act string at) = strings_code tables (act_strings act string) ++ act_code tables act ∷ []
+  command_code tables place (for_every_part cs at) =
       let block = place + 1 in
-      let next = block + commands_length cs in
-      instruction Each 0 next ∷ (commands_code tables block cs ++ instruction Next 0 place ∷ [])
-  command_code tables place (leave loops) = instruction Break loops 0 ∷ []
-  command_code tables place stop = plain Halt ∷ []
+      loop_code place (block + commands_length cs) (commands_code tables block cs)
   command_code tables place (choice bs) = branches_code tables place bs (place + branches_length bs)
 
   pub commands_code : Tables → ℕ → CommandForms → List Instruction
@@ -188,7 +163,7 @@ abbrev mutual
   pub branches_code : Tables → ℕ → BranchForms → ℕ → List Instruction
   branches_code tables place no_branch end = []
   branches_code tables place (otherwise cs) end = commands_code tables place cs
-  branches_code tables place (branch t cs bs) end =
+  branches_code tables place (branch t cs at bs) end =
       let block = place + test_length t in
       let next = block + commands_length cs + leave_length bs in
       test_code tables place t false next ++ commands_code tables block cs ++ leave_code bs end

@@ -1,4 +1,4 @@
--- Tables as they grow.
+-- Private: tables as they grow.
 use Rattle.std.specs.Prelude.{ℕ, nat_eq, bytes_eq, List, [], ◌++◌, flat_map, Option}
 use Rattle.octets.specs.Once as once
 use Rattle.sieve_check.specs.declared.typed.Segment.{Segment}

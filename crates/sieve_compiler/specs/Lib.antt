@@ -3,7 +3,6 @@ pub mod Numbers
 pub mod Strings
 pub mod Tables
 pub mod Coding
--- how the compiler goes; nothing public rests on these
+-- private: how the code goes; no public contract names these
 pub mod Growing
-pub mod Leaving
 pub mod Putting

@@ -1,4 +1,4 @@
--- How a coder puts code.
+-- Private: how a coder puts code.
 use Rattle.std.specs.Prelude.{◌≡◌, List, ◌++◌}
 use Rattle.bytecode_format.specs.declared.instruction.Instruction.{Instruction}
 use Rattle.sieve_compiler.specs.declared.coder.Coder.{Coder}

@@ -2,7 +2,8 @@
 use Rattle.std.specs.Prelude.{ℕ, List, [], ◌∷◌, ◌++◌, flat_map}
 use Rattle.sieve_check.specs.declared.typed.Segment.{Segment}
 use Rattle.sieve_check.specs.declared.typed.Segment.TheVariants.{Text, Variable, Capture}
-use Rattle.sieve_check.specs.Typed.{Template, params_of, TestForm, constant, negation, all_of, any_of, size, header, exists, string, part_size, part_body, part_digest, TestForms, no_test, test, CommandForm, keep, discard, file_into, set, take_first, store, for_every_part, leave, stop, choice, CommandForms, no_command, command, BranchForms, no_branch, otherwise, branch}
+use Rattle.sieve_check.specs.Acts.{act_strings}
+use Rattle.sieve_check.specs.Typed.{Template, in_order, TestForm, asks, negation, all_of, any_of, TestForms, no_test, test, CommandForm, does, for_every_part, choice, CommandForms, no_command, command, BranchForms, no_branch, otherwise, branch}
 
 abbrev pub segment_strings : Segment → List (List ℕ)
 segment_strings (Text octets) = octets ∷ []
@@ -20,18 +21,10 @@ strings_of strings = flat_map string_strings strings
 abbrev mutual
   -- the texts of a test as they stand in it
   pub test_strings : TestForm → List (List ℕ)
-  test_strings (constant b) = []
-  test_strings (negation t) = test_strings t
-  test_strings (all_of t ts) = test_strings t ++ tests_strings ts
-  test_strings (any_of t ts) = test_strings t ++ tests_strings ts
-  test_strings (size order number) = []
-  test_strings (header how scope selected names keys) = strings_of names ++ strings_of (params_of selected)
-      ++ strings_of keys
-  test_strings (exists scope names) = strings_of names
-  test_strings (string how sources keys) = strings_of sources ++ strings_of keys
-  test_strings (part_size order number) = []
-  test_strings (part_body how keys) = strings_of keys
-  test_strings (part_digest keys) = strings_of keys
+  test_strings (asks question strings at) = strings_of (in_order strings)
+  test_strings (negation t at) = test_strings t
+  test_strings (all_of t ts at) = test_strings t ++ tests_strings ts
+  test_strings (any_of t ts at) = test_strings t ++ tests_strings ts
 
   pub tests_strings : TestForms → List (List ℕ)
   tests_strings no_test = []
@@ -40,15 +33,8 @@ abbrev mutual
 abbrev mutual
   -- the texts of commands as they stand in them
   pub command_strings : CommandForm → List (List ℕ)
-  command_strings keep = []
-  command_strings discard = []
-  command_strings (file_into folder) = string_strings folder
-  command_strings (set modifiers name value) = string_strings value
-  command_strings (take_first most name) = []
-  command_strings (store folder) = string_strings folder
-  command_strings (for_every_part cs) = commands_strings cs
-  command_strings (leave loops) = []
-  command_strings stop = []
+  command_strings (does act string at) = strings_of (act_strings act string)
+  command_strings (for_every_part cs at) = commands_strings cs
   command_strings (choice bs) = branches_strings bs
 
   pub commands_strings : CommandForms → List (List ℕ)
@@ -58,4 +44,4 @@ abbrev mutual
   pub branches_strings : BranchForms → List (List ℕ)
   branches_strings no_branch = []
   branches_strings (otherwise cs) = commands_strings cs
-  branches_strings (branch t cs bs) = test_strings t ++ commands_strings cs ++ branches_strings bs
+  branches_strings (branch t cs at bs) = test_strings t ++ commands_strings cs ++ branches_strings bs

@@ -2,15 +2,11 @@
 ghost use Rattle.std.specs.Prelude.{◌≡◌, ◌<◌, ◌^◌, length};
 
 use crate::exits::{Exit, ListExit};
-use crate::instructions::{
-    find_fields, instruction, join_texts, jump_if, match_body, match_digest, match_fields,
-    match_texts, push_bool, push_part_size, push_size, take_octets,
-};
+use crate::instructions::{act_code, instruction, join_texts, jump_if, question_code};
 use crate::lengths::{command_length, commands_length, is_left, test_length, tests_length};
 use crate::tables::Tables;
-use bytecode_format::{Instruction, Operation, Scope};
-use glob_match::Match;
-use sieve_check::{Branch, Command, Segment, Selection, Test};
+use bytecode_format::{Instruction, Operation};
+use sieve_check::{Branch, Command, Question, Segment, Strings, Test};
 use std::alloc::{AllocError, Global};
 
 /// The code so far, and the tables of the whole script.
@@ -25,13 +21,14 @@ pub struct Coder<'t, 's> {
 
 impl<'t, 's> Coder<'t, 's> {
     ghost use Rattle.std.specs.Prelude.{◌≡◌, ◌+◌, ◌<◌, ◌^◌, false, [], ◌∷◌, ◌++◌, length, map, All, OnOk};
-    ghost use Rattle.sieve_check.specs.TypedView.{templates_of, selected_form, test_form, tests_of, command_form, commands_form, branch_forms, else_form};
+    ghost use Rattle.sieve_check.specs.TypedView.{templates_of, strings_form, test_form, tests_of, command_form, commands_form};
+    ghost use Rattle.sieve_check.specs.Private.{branch_forms, else_form};
     ghost use Rattle.sieve_compiler.specs.Lengths.{string_length, strings_length, test_length, tests_length, leave_length, command_length, commands_length};
-    ghost use Rattle.sieve_check.specs.Typed.{header, string, for_every_part};
-    ghost use Rattle.sieve_check.specs.Bounded.{IsBoundedString, AreBoundedLists, IsBoundedHeader, IsBoundedTest, AreBoundedTests, IsBoundedCommand, AreBoundedCommands};
-    ghost use Rattle.sieve_compiler.specs.Coding.{jump_if, push_text, push_segment, string_code, strings_code, test_code, tests_code, leave_code, command_code, commands_code};
+    ghost use Rattle.sieve_check.specs.Typed.{in_order};
+    ghost use Rattle.sieve_check.specs.Questions.{row_of};
+    ghost use Rattle.sieve_check.specs.Bounded.{IsBoundedString, AreBoundedStrings, IsBoundedTest, AreBoundedTests, IsBoundedCommand, AreBoundedCommands};
+    ghost use Rattle.sieve_compiler.specs.Coding.{jump_if, loop_code, question_code, push_text, push_segment, string_code, strings_code, test_code, tests_code, leave_code, command_code, commands_code};
     ghost use Rattle.sieve_compiler.specs.Putting.{Puts};
-    ghost use Rattle.sieve_compiler.specs.Leaving.{LeavesFew, LeaveFew};
 
     /// No code. Takes no memory.
     pub fn new(alloc: Global, tables: &'t Tables<'s>) -> Coder<'t, 's>
@@ -138,84 +135,39 @@ impl<'t, 's> Coder<'t, 's> {
         Ok(())
     }
 
-    // Puts a simple test and its jump.
-    fn put_simple(&mut self, test: Instruction, exit: Exit) -> Result<(), AllocError>
+    // Puts the code of a question's strings.
+    fn put_lists(&mut self, strings: &Strings) -> Result<(), AllocError>
+        requires { All IsBoundedString (in_order (strings_form strings.now)) }
         ensures code { OnOk result (Puts self.old self.new
-            (test ∷ jump_if exit.asked exit.target ∷ [])) }
+            (strings_code self.old.tables.now (in_order (strings_form strings.now)))) }
         ensures room { OnOk result (length self.new.instructions.items
-            ≡ length self.old.instructions.items + 2) }
+            ≡ length self.old.instructions.items + strings_length
+            (in_order (strings_form strings.now))) }
     {
-        self.put(test)?;
-        self.put(jump_if(exit))?;
-        Ok(())
+        self.put_strings(&strings.names)?;
+        self.put_strings(&strings.params)?;
+        self.put_strings(&strings.keys)
     }
 
-    // Puts the strings that a simple test takes last, the test and its jump.
-    fn put_tested(
+    // Puts the code of a question: its strings, its instruction and its jump.
+    fn put_question(
         &mut self,
-        strings: &[Vec<Segment>],
-        test: Instruction,
+        question: Question,
+        strings: &Strings,
         exit: Exit,
     ) -> Result<(), AllocError>
-        requires { All IsBoundedString (templates_of strings.now) }
+        requires { AreBoundedStrings (row_of question).takes (strings_form strings.now) }
         ensures code { OnOk result (Puts self.old self.new
-            (strings_code self.old.tables.now (templates_of strings.now) ++ test
+            (strings_code self.old.tables.now (in_order (strings_form strings.now))
+            ++ question_code self.old.tables.now question (strings_form strings.now)
             ∷ jump_if exit.asked exit.target ∷ [])) }
         ensures room { OnOk result (length self.new.instructions.items
             ≡ length self.old.instructions.items + (strings_length
-            (templates_of strings.now) + 2)) }
+            (in_order (strings_form strings.now)) + 2)) }
     {
-        self.put_strings(strings)?;
-        self.put_simple(test, exit)
-    }
-
-    // Puts the code of a test of fields.
-    fn put_header(
-        &mut self,
-        how: Match,
-        scope: Scope,
-        selection: &Selection,
-        names: &[Vec<Segment>],
-        keys: &[Vec<Segment>],
-        exit: Exit,
-    ) -> Result<(), AllocError>
-        requires { IsBoundedHeader (selected_form selection.now) (templates_of names.now)
-            (templates_of keys.now) }
-        ensures code { OnOk result (Puts self.old self.new
-            (test_code self.old.tables.now (length self.old.instructions.items)
-            (header how scope (selected_form selection.now) (templates_of names.now)
-            (templates_of keys.now)) exit.asked exit.target)) }
-        ensures room { OnOk result (length self.new.instructions.items
-            ≡ length self.old.instructions.items + test_length
-            (header how scope (selected_form selection.now) (templates_of names.now)
-            (templates_of keys.now))) }
-    {
-        self.put_strings(names)?;
-        self.put_strings(selection.params())?;
-        let test = match_fields(how, scope, selection, names.len() as u16, keys.len() as u32);
-        self.put_tested(keys, test, exit)
-    }
-
-    // Puts the code of a test of texts.
-    fn put_texts(
-        &mut self,
-        how: Match,
-        sources: &[Vec<Segment>],
-        keys: &[Vec<Segment>],
-        exit: Exit,
-    ) -> Result<(), AllocError>
-        requires { AreBoundedLists (templates_of sources.now) (templates_of keys.now) }
-        ensures code { OnOk result (Puts self.old self.new
-            (test_code self.old.tables.now (length self.old.instructions.items)
-            (string how (templates_of sources.now) (templates_of keys.now)) exit.asked
-            exit.target)) }
-        ensures room { OnOk result (length self.new.instructions.items
-            ≡ length self.old.instructions.items + test_length
-            (string how (templates_of sources.now) (templates_of keys.now))) }
-    {
-        self.put_strings(sources)?;
-        let test = match_texts(how, sources.len() as u16, keys.len() as u32);
-        self.put_tested(keys, test, exit)
+        self.put_lists(strings)?;
+        self.put(question_code(self.tables, question, strings))?;
+        self.put(jump_if(exit))
     }
 
     /// Puts the code of a test, which jumps as the exit says.
@@ -231,48 +183,23 @@ impl<'t, 's> Coder<'t, 's> {
             ≡ length self.old.instructions.items + test_length (test_form test.now)) }
     {
         match test {
-            Test::Constant(value) => self.put_simple(push_bool(*value), exit),
-            Test::Not(inner) => self.put_test(inner, exit.turned()),
-            Test::AllOf(first, others) => {
+            Test::Asks {
+                question,
+                strings,
+                ..
+            } => self.put_question(*question, strings, exit),
+            Test::Not { test, .. } => self.put_test(test, exit.turned()),
+            Test::AllOf { first, others, .. } => {
                 let list = self.list_exit(first, others, false, exit);
                 self.put_test(first, list.before(others))?;
                 self.put_tests(others, list)?;
                 Ok(())
             }
-            Test::AnyOf(first, others) => {
+            Test::AnyOf { first, others, .. } => {
                 let list = self.list_exit(first, others, true, exit);
                 self.put_test(first, list.before(others))?;
                 self.put_tests(others, list)?;
                 Ok(())
-            }
-            Test::Header {
-                matching,
-                scope,
-                selection,
-                names,
-                keys,
-            } => self.put_header(*matching, *scope, selection, names, keys, exit),
-            Test::Exists(scope, names) => {
-                self.put_tested(names, find_fields(*scope, names.len() as u16), exit)
-            }
-            Test::String {
-                matching,
-                sources,
-                keys,
-            } => self.put_texts(*matching, sources, keys, exit),
-            Test::Size(order, number) => {
-                let place = self.tables.place_of_number(*number) as u32;
-                self.put_simple(push_size(*order, place), exit)
-            }
-            Test::PartSize(order, number) => {
-                let place = self.tables.place_of_number(*number) as u32;
-                self.put_simple(push_part_size(*order, place), exit)
-            }
-            Test::PartBody { matching, keys } => {
-                self.put_tested(keys, match_body(*matching, keys.len() as u32), exit)
-            }
-            Test::PartDigest(keys) => {
-                self.put_tested(keys, match_digest(keys.len() as u32), exit)
             }
         }
     }
@@ -321,7 +248,6 @@ impl<'t, 's> Coder<'t, 's> {
         requires room { length self.old.instructions.items + command_length
             (command_form command.now) < 2 ^ 32 }
         requires bounded { IsBoundedCommand (command_form command.now) }
-        requires few { LeavesFew (command_form command.now) }
         ensures code { OnOk result (Puts self.old self.new
             (command_code self.old.tables.now (length self.old.instructions.items)
             (command_form command.now))) }
@@ -329,32 +255,11 @@ impl<'t, 's> Coder<'t, 's> {
             ≡ length self.old.instructions.items + command_length (command_form command.now)) }
     {
         match command {
-            Command::Keep => self.put(instruction(Operation::Keep, 0, 0))?,
-            Command::Discard => self.put(instruction(Operation::Discard, 0, 0))?,
-            Command::FileInto(folder) => {
-                self.put_string(folder)?;
-                self.put(instruction(Operation::File, 0, 0))?;
+            Command::Does { act, string, .. } => {
+                self.put_strings(act.strings(string))?;
+                self.put(act_code(self.tables, act))?;
             }
-            Command::Set {
-                modifiers,
-                name,
-                value,
-            } => {
-                self.put_string(value)?;
-                let place = self.tables.place_of_variable(name.as_slice()) as u32;
-                self.put(instruction(Operation::Set, modifiers.number(), place))?;
-            }
-            Command::Take { most, name } => {
-                let place = self.tables.place_of_variable(name.as_slice()) as u32;
-                self.put(take_octets(*most, place))?;
-            }
-            Command::Store(folder) => {
-                self.put_string(folder)?;
-                self.put(instruction(Operation::Store, 0, 0))?;
-            }
-            Command::ForEveryPart(block) => self.put_loop(block)?,
-            Command::Break(loops) => self.put(instruction(Operation::Break, *loops as u8, 0))?,
-            Command::Stop => self.put(instruction(Operation::Halt, 0, 0))?,
+            Command::ForEveryPart { block, .. } => self.put_loop(block)?,
             Command::If(branches, otherwise) => {
                 let end = self.place() + command_length(command);
                 'branches: for (i, branch) in branches.iter().enumerate() {
@@ -375,16 +280,17 @@ impl<'t, 's> Coder<'t, 's> {
     // Puts the code of a loop over parts.
     #[cycle(commands)]
     fn put_loop(&mut self, body: &[Command]) -> Result<(), AllocError>
-        requires room { length self.old.instructions.items + command_length
-            (for_every_part (commands_form body.now)) < 2 ^ 32 }
+        requires room { length self.old.instructions.items + (commands_length
+            (commands_form body.now) + 2) < 2 ^ 32 }
         requires bounded { AreBoundedCommands (commands_form body.now) }
-        requires few { LeaveFew (commands_form body.now) }
         ensures code { OnOk result (Puts self.old self.new
-            (command_code self.old.tables.now (length self.old.instructions.items)
-            (for_every_part (commands_form body.now)))) }
+            (loop_code (length self.old.instructions.items)
+            (length self.old.instructions.items + 1 + commands_length (commands_form body.now))
+            (commands_code self.old.tables.now (length self.old.instructions.items + 1)
+            (commands_form body.now)))) }
         ensures room { OnOk result (length self.new.instructions.items
-            ≡ length self.old.instructions.items + command_length
-            (for_every_part (commands_form body.now))) }
+            ≡ length self.old.instructions.items + (commands_length
+            (commands_form body.now) + 2)) }
     {
         let each = self.place();
         let next = each + 1 + commands_length(body);
@@ -399,7 +305,6 @@ impl<'t, 's> Coder<'t, 's> {
         requires room { length self.old.instructions.items + commands_length
             (commands_form commands.now) < 2 ^ 32 }
         requires bounded { AreBoundedCommands (commands_form commands.now) }
-        requires few { LeaveFew (commands_form commands.now) }
         ensures code { OnOk result (Puts self.old self.new
             (commands_code self.old.tables.now (length self.old.instructions.items)
             (commands_form commands.now))) }

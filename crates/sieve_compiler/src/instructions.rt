@@ -1,25 +1,31 @@
 // The instructions of which code is made.
-ghost use Rattle.std.specs.Prelude.{◌≡◌, ◌≤◌, length};
+ghost use Rattle.std.specs.Prelude.{◌≡◌, ◌+◌, ◌<◌, ◌≤◌, ◌^◌, length};
 ghost use Rattle.octets.specs.Limits.{max_test_strings};
-ghost use Rattle.sieve_check.specs.Typed.{params_of};
-ghost use Rattle.sieve_check.specs.TypedView.{selected_form};
-ghost use Rattle.sieve_compiler.specs.Coding.{find_fields, instruction, jump_if, match_body, match_digest, match_fields, join_texts, match_texts, push_bool, push_part_size, push_size, take_octets};
+ghost use Rattle.sieve_check.specs.TypedView.{strings_form};
+ghost use Rattle.sieve_compiler.specs.Coding.{instruction_with, instruction, jump_if, join_texts, order_number, question_code, act_code};
 
 use crate::exits::Exit;
-use bytecode_format::{FieldTest, Instruction, Operation, Scope, TestCounts, match_number};
-use glob_match::Match;
-use sieve_check::{Order, Selection};
+use crate::tables::Tables;
+use bytecode_format::{Instruction, Operation, TestCounts, match_number};
+use sieve_check::{Act, Order, Question, Strings};
+
+/// An instruction with all its fields.
+fn instruction_with(operation: Operation, a: u8, b: u16, c: u32) -> Instruction
+    ensures { result ≡ instruction_with operation a b c }
+{
+    Instruction {
+        op: operation.octet(),
+        a,
+        b,
+        c,
+    }
+}
 
 /// An instruction with its fields a and c.
 pub fn instruction(operation: Operation, a: u8, c: u32) -> Instruction
     ensures { result ≡ instruction operation a c }
 {
-    Instruction {
-        op: operation.octet(),
-        a,
-        b: 0,
-        c,
-    }
+    instruction_with(operation, a, 0, c)
 }
 
 /// The jump of a test whose value was pushed.
@@ -34,98 +40,72 @@ pub fn jump_if(exit: Exit) -> Instruction
     instruction(operation, 0, exit.target)
 }
 
-/// Pushes a truth value.
-pub fn push_bool(value: bool) -> Instruction
-    ensures { result ≡ push_bool value }
-{
-    instruction(Operation::Bool, u8::from(value), 0)
-}
-
-/// Compares the message's size with the number at a place of the table.
-pub fn push_size(order: Order, place: u32) -> Instruction
-    ensures { result ≡ push_size order place }
+// How an instruction says whether a size is over or under a number.
+fn order_number(order: Order) -> u8
+    ensures { result ≡ order_number order }
 {
     match order {
-        Order::Over => instruction(Operation::Size, 0, place),
-        Order::Under => instruction(Operation::Size, 1, place),
+        Order::Over => 0,
+        Order::Under => 1,
     }
 }
 
-/// Compares the size of the current part's content with the number at a place of the table.
-pub fn push_part_size(order: Order, place: u32) -> Instruction
-    ensures { result ≡ push_part_size order place }
+/// The instruction of a question, after its strings.
+pub fn question_code(tables: &Tables<'_>, question: Question, strings: &Strings) -> Instruction
+    requires numbers { length tables.now.numbers < 2 ^ 32 }
+    requires few { length strings.now.names.items + length strings.now.params.items
+        + length strings.now.keys.items ≤ max_test_strings }
+    ensures { result ≡ question_code tables.now question (strings_form strings.now) }
 {
-    match order {
-        Order::Over => instruction(Operation::PartSize, 0, place),
-        Order::Under => instruction(Operation::PartSize, 1, place),
+    let names = strings.names.len() as u16;
+    let keys = strings.keys.len() as u32;
+    match question {
+        Question::Constant(value) => instruction(Operation::Bool, u8::from(value), 0),
+        Question::Header(test) => {
+            let counts = TestCounts {
+                params: strings.params.len() as u16,
+                keys: keys as u16,
+            };
+            instruction_with(Operation::Header, test.number(), names, counts.number())
+        }
+        Question::Exists(scope) => instruction_with(Operation::Exists, scope.number(), names, 0),
+        Question::Size(order, number) => {
+            let place = tables.place_of_number(number) as u32;
+            instruction(Operation::Size, order_number(order), place)
+        }
+        Question::String(how) => {
+            let matching = match_number(how);
+            instruction_with(Operation::String, matching, names, keys)
+        }
+        Question::PartSize(order, number) => {
+            let place = tables.place_of_number(number) as u32;
+            instruction(Operation::PartSize, order_number(order), place)
+        }
+        Question::PartBody(how) => instruction(Operation::PartBody, match_number(how), keys),
+        Question::PartDigest => instruction(Operation::PartDigest, 0, keys),
     }
 }
 
-/// Compares what is selected of the fields of so many names in scope with so many keys.
-pub fn match_fields(
-    how: Match,
-    scope: Scope,
-    selection: &Selection,
-    names: u16,
-    keys: u32,
-) -> Instruction
-    requires params { length (params_of (selected_form selection.now)) ≤ max_test_strings }
-    requires keys { keys ≤ max_test_strings }
-    ensures { result ≡ match_fields how scope (selected_form selection.now) names keys }
+/// The instruction of an act, after its string.
+pub fn act_code(tables: &Tables<'_>, act: &Act) -> Instruction
+    requires { length tables.now.variables < 2 ^ 32 }
+    ensures { result ≡ act_code tables.now act.now }
 {
-    let selector = selection.selector();
-    let test = FieldTest {
-        how,
-        scope,
-        selector,
-    };
-    let counts = TestCounts {
-        params: selection.params().len() as u16,
-        keys: keys as u16,
-    };
-    Instruction {
-        op: Operation::Header.octet(),
-        a: test.number(),
-        b: names,
-        c: counts.number(),
-    }
-}
-
-/// Compares so many sources with so many keys.
-pub fn match_texts(how: Match, sources: u16, keys: u32) -> Instruction
-    ensures { result ≡ match_texts how sources keys }
-{
-    Instruction {
-        op: Operation::String.octet(),
-        a: match_number(how),
-        b: sources,
-        c: keys,
-    }
-}
-
-/// Compares the current part's content with so many keys.
-pub fn match_body(how: Match, keys: u32) -> Instruction
-    ensures { result ≡ match_body how keys }
-{
-    instruction(Operation::PartBody, match_number(how), keys)
-}
-
-/// Compares the digest of the current part's content with so many keys.
-pub fn match_digest(keys: u32) -> Instruction
-    ensures { result ≡ match_digest keys }
-{
-    instruction(Operation::PartDigest, 0, keys)
-}
-
-/// Takes at most so many octets of the current part's content, the first ones, into the variable at a place.
-pub fn take_octets(most: u16, place: u32) -> Instruction
-    ensures { result ≡ take_octets most place }
-{
-    Instruction {
-        op: Operation::Take.octet(),
-        a: 0,
-        b: most,
-        c: place,
+    match act {
+        Act::Keep => instruction(Operation::Keep, 0, 0),
+        Act::Discard => instruction(Operation::Discard, 0, 0),
+        Act::FileInto => instruction(Operation::File, 0, 0),
+        Act::Set { modifiers, name } => {
+            let place = tables.place_of_variable(name.as_slice()) as u32;
+            instruction(Operation::Set, modifiers.number(), place)
+        }
+        Act::Take { most, name } => {
+            let place = tables.place_of_variable(name.as_slice()) as u32;
+            instruction_with(Operation::Take, 0, *most, place)
+        }
+        Act::Store => instruction(Operation::Store, 0, 0),
+        Act::Leave(loops) => instruction(Operation::Break, *loops, 0),
+        Act::Stop => instruction(Operation::Halt, 0, 0),
     }
 }
 
@@ -133,22 +113,5 @@ pub fn take_octets(most: u16, place: u32) -> Instruction
 pub fn join_texts(texts: u16) -> Instruction
     ensures { result ≡ join_texts texts }
 {
-    Instruction {
-        op: Operation::Join.octet(),
-        a: 0,
-        b: texts,
-        c: 0,
-    }
-}
-
-/// Says whether there are fields of so many names in scope.
-pub fn find_fields(scope: Scope, names: u16) -> Instruction
-    ensures { result ≡ find_fields scope names }
-{
-    Instruction {
-        op: Operation::Exists.octet(),
-        a: scope.number(),
-        b: names,
-        c: 0,
-    }
+    instruction_with(Operation::Join, 0, texts, 0)
 }

@@ -4,10 +4,12 @@
 // it, and twice for each `if`; these are nested at most 32 deep in a script, so the time stays linear in the
 // script's length.
 ghost use Rattle.std.specs.Prelude.{◌≡◌, ◌<◌, ◌^◌, map, if◌then◌else◌};
-ghost use Rattle.sieve_check.specs.TypedView.{templates_of, test_form, tests_of, command_form, commands_form, branch_forms, else_form};
+ghost use Rattle.sieve_check.specs.TypedView.{templates_of, strings_form, test_form, tests_of, command_form, commands_form};
+ghost use Rattle.sieve_check.specs.Private.{branch_forms, else_form};
+ghost use Rattle.sieve_check.specs.Typed.{in_order};
 ghost use Rattle.sieve_compiler.specs.Lengths.{string_length, strings_length, test_length, tests_length, leave_length, command_length, commands_length};
 
-use sieve_check::{Branch, Command, Segment, Test};
+use sieve_check::{Branch, Command, Segment, Strings, Test};
 
 /// How many instructions a string has.
 pub fn string_length(string: &[Segment]) -> u32
@@ -32,6 +34,14 @@ pub fn strings_length(strings: &[Vec<Segment>]) -> u32
     total
 }
 
+// How many instructions the strings of a question have together.
+fn lists_length(strings: &Strings) -> u32
+    requires { strings_length (in_order (strings_form strings.now)) < 2 ^ 32 }
+    ensures { result ≡ strings_length (in_order (strings_form strings.now)) }
+{
+    strings_length(&strings.names) + strings_length(&strings.params) + strings_length(&strings.keys)
+}
+
 /// How many instructions a test has.
 #[cycle(test_lengths)]
 pub fn test_length(test: &Test) -> u32
@@ -39,18 +49,9 @@ pub fn test_length(test: &Test) -> u32
     ensures { result ≡ test_length (test_form test.now) }
 {
     match test {
-        Test::Constant(_) | Test::Size(_, _) | Test::PartSize(_, _) => 2,
-        Test::Header {
-            selection,
-            names,
-            keys,
-            ..
-        } => strings_length(names) + strings_length(selection.params()) + strings_length(keys) + 2,
-        Test::Exists(_, names) => strings_length(names) + 2,
-        Test::String { sources, keys, .. } => strings_length(sources) + strings_length(keys) + 2,
-        Test::PartBody { keys, .. } | Test::PartDigest(keys) => strings_length(keys) + 2,
-        Test::Not(inner) => test_length(inner),
-        Test::AllOf(first, others) | Test::AnyOf(first, others) => {
+        Test::Asks { strings, .. } => lists_length(strings) + 2,
+        Test::Not { test, .. } => test_length(test),
+        Test::AllOf { first, others, .. } | Test::AnyOf { first, others, .. } => {
             test_length(first) + tests_length(others)
         }
     }
@@ -84,14 +85,8 @@ pub fn command_length(command: &Command) -> u32
     ensures { result ≡ command_length (command_form command.now) }
 {
     match command {
-        Command::Keep
-        | Command::Discard
-        | Command::Take { .. }
-        | Command::Break(_)
-        | Command::Stop => 1,
-        Command::FileInto(folder) | Command::Store(folder) => string_length(folder) + 1,
-        Command::Set { value, .. } => string_length(value) + 1,
-        Command::ForEveryPart(block) => commands_length(block) + 2,
+        Command::Does { act, string, .. } => strings_length(act.strings(string)) + 1,
+        Command::ForEveryPart { block, .. } => commands_length(block) + 2,
         Command::If(branches, otherwise) => {
             let mut total = 0;
             'branches: for (i, branch) in branches.iter().enumerate() {

@@ -2,12 +2,15 @@
 ghost use Rattle.std.specs.Prelude.{◌≡◌};
 
 use crate::tables::Tables;
-use sieve_check::{Command, Segment, Test};
+use sieve_check::{Act, Command, Question, Segment, Strings, Test};
 use std::alloc::{AllocError, Global};
 
 impl<'a> Tables<'a> {
     ghost use Rattle.std.specs.Prelude.{◌≡◌, [], ◌∷◌, map, OnOk, IfOk};
-    ghost use Rattle.sieve_check.specs.TypedView.{templates_of, test_form, tests_of, command_form, commands_form};
+    ghost use Rattle.sieve_check.specs.TypedView.{templates_of, strings_form, test_form, tests_of, command_form, commands_form};
+    ghost use Rattle.sieve_check.specs.Typed.{in_order};
+    ghost use Rattle.sieve_check.specs.Questions.{row_of};
+    ghost use Rattle.sieve_check.specs.Acts.{act_row};
     ghost use Rattle.sieve_compiler.specs.Tables.{tables_of};
     ghost use Rattle.sieve_compiler.specs.Growing.{uses_with, segment_uses, segments_uses, string_uses, strings_uses, test_uses, tests_uses, command_uses, commands_uses, with_uses};
 
@@ -71,35 +74,51 @@ impl<'a> Tables<'a> {
         Ok(())
     }
 
+    // Adds what the strings of a question use.
+    fn add_lists(&mut self, strings: &'a Strings) -> Result<(), AllocError>
+        ensures { OnOk result (self.new
+            ≡ with_uses self.old (strings_uses (in_order (strings_form strings.now)))) }
+    {
+        self.add_strings(&strings.names)?;
+        self.add_strings(&strings.params)?;
+        self.add_strings(&strings.keys)
+    }
+
+    // Adds the number that a question compares, where it does.
+    fn add_compared(&mut self, question: Question) -> Result<(), AllocError>
+        ensures { OnOk result (self.new
+            ≡ with_uses self.old (uses_with (row_of question).numbers [] [])) }
+    {
+        match question {
+            Question::Size(_, number) | Question::PartSize(_, number) => self.numbers.add(number),
+            Question::Constant(_)
+            | Question::Header(_)
+            | Question::Exists(_)
+            | Question::String(_)
+            | Question::PartBody(_)
+            | Question::PartDigest => Ok(()),
+        }
+    }
+
     #[cycle(test_uses)]
     #[tactic(auto, using(crate::proofs::NumberingLemmas::uses_after))]
     fn add_test(&mut self, test: &'a Test) -> Result<(), AllocError>
         ensures { OnOk result (self.new ≡ with_uses self.old (test_uses (test_form test.now))) }
     {
         match test {
-            Test::Constant(_) => Ok(()),
-            Test::Not(inner) => self.add_test(inner),
-            Test::AllOf(first, others) | Test::AnyOf(first, others) => {
+            Test::Asks {
+                question,
+                strings,
+                ..
+            } => {
+                self.add_lists(strings)?;
+                self.add_compared(*question)
+            }
+            Test::Not { test, .. } => self.add_test(test),
+            Test::AllOf { first, others, .. } | Test::AnyOf { first, others, .. } => {
                 self.add_test(first)?;
                 self.add_tests(others)
             }
-            Test::Header {
-                selection,
-                names,
-                keys,
-                ..
-            } => {
-                self.add_strings(names)?;
-                self.add_strings(selection.params())?;
-                self.add_strings(keys)
-            }
-            Test::String { sources, keys, .. } => {
-                self.add_strings(sources)?;
-                self.add_strings(keys)
-            }
-            Test::Exists(_, names) => self.add_strings(names),
-            Test::PartBody { keys, .. } | Test::PartDigest(keys) => self.add_strings(keys),
-            Test::Size(_, number) | Test::PartSize(_, number) => self.numbers.add(*number),
         }
     }
 
@@ -115,6 +134,19 @@ impl<'a> Tables<'a> {
         Ok(())
     }
 
+    // Adds the variable that an act sets, where it does.
+    fn add_set(&mut self, act: &'a Act) -> Result<(), AllocError>
+        ensures { OnOk result (self.new
+            ≡ with_uses self.old (uses_with [] [] (act_row act.now).sets)) }
+    {
+        match act {
+            Act::Set { name, .. } | Act::Take { name, .. } => self.add_variable(name.as_slice()),
+            Act::Keep | Act::Discard | Act::FileInto | Act::Store | Act::Leave(_) | Act::Stop => {
+                Ok(())
+            }
+        }
+    }
+
     #[cycle(command_uses)]
     #[tactic(auto, using(crate::proofs::NumberingLemmas::uses_after))]
     fn add_command(&mut self, command: &'a Command) -> Result<(), AllocError>
@@ -122,14 +154,11 @@ impl<'a> Tables<'a> {
             ≡ with_uses self.old (command_uses (command_form command.now))) }
     {
         match command {
-            Command::Keep | Command::Discard | Command::Break(_) | Command::Stop => {}
-            Command::FileInto(folder) | Command::Store(folder) => self.add_string(folder)?,
-            Command::Take { name, .. } => self.add_variable(name.as_slice())?,
-            Command::ForEveryPart(block) => self.add_commands(block)?,
-            Command::Set { name, value, .. } => {
-                self.add_string(value)?;
-                self.add_variable(name.as_slice())?;
+            Command::Does { act, string, .. } => {
+                self.add_strings(act.strings(string))?;
+                self.add_set(act)?;
             }
+            Command::ForEveryPart { block, .. } => self.add_commands(block)?,
             Command::If(branches, otherwise) => {
                 'branches: for branch in branches {
                     self.add_test(&branch.test)?;

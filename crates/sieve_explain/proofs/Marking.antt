@@ -11,7 +11,7 @@ use Rattle.sieve_lexer.specs.declared.token.Token.{Token}
 use Rattle.sieve_lexer.specs.declared.token.TokenKind.{TokenKind}
 use Rattle.sieve_lexer.specs.declared.token.TokenKind.TheVariants.{Identifier}
 use Rattle.sieve_parser.specs.Grammar.{Placed, arguments_spelled, commands_spelled, lexemes_placed}
-use Rattle.sieve_parser.specs.Parsing.{lexemes}
+use Rattle.sieve_parser.specs.Lexemes.{lexemes}
 use Rattle.sieve_parser.specs.Scripts.{IsParsed}
 use Rattle.sieve_parser.specs.Tree.{CommandsTree}
 use Rattle.sieve_check.specs.Causes.{Refused}

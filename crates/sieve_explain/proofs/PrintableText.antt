@@ -7,9 +7,9 @@ use Rattle.octets.specs.Limits.{max_script}
 use Rattle.refusals.specs.declared.refusal.Refusal.{Refusal}
 use Rattle.refusals.specs.declared.refusal.Refusal.TheVariants as refused
 use Rattle.bytecode_listing.specs.declared.error.FaultKind.{FaultKind}
-use Rattle.sieve_explain.specs.Explaining.{Explains, TellsFault, TellsReasons, depth_told, end_told, fault_blanks, heading, is_argument_fault, label_blanks, look_told, may_lack_label, marked_token, more_told, note, opened, reason_told, remark, start_of, syntax_told, token_told, told, listing_told, numbered}
-use Rattle.sieve_explain.specs.Faults.{colon_blanks, end_blanks, lexical_blanks, listing_blanks, look_text, more_blanks, token_blanks, too_deep_blanks, too_long_blanks, unclosed_blanks, unit_blanks}
-use Rattle.sieve_explain.specs.Marks.{has_unit, label_behind, unclosed}
+use Rattle.sieve_explain.specs.Explaining.{Explains, IsRemarked, TellsFault, TellsReasons, depth_told, end_told, fault_blanks, foreign, heading, is_argument_fault, label_blanks, look_told, may_lack_label, marked_token, more_told, note, opened, reason_told, remark, start_of, syntax_told, token_told, told, listing_told, numbered}
+use Rattle.sieve_explain.specs.Faults.{colon_blanks, end_blanks, foreign_blanks, lexical_blanks, listing_blanks, look_text, more_blanks, token_blanks, too_deep_blanks, too_long_blanks, unclosed_blanks, unit_blanks}
+use Rattle.sieve_explain.specs.Marks.{foreign_among, has_unit, label_behind, unclosed}
 use Rattle.sieve_lexer.specs.declared.token.Token.{Token}
 use Rattle.sieve_check.specs.Causes.{Reason, Refused, fault_of_kind}
 use Rattle.sieve_check.specs.Rules.{max_reasons, reasons_of}
@@ -143,6 +143,14 @@ module _ (test : ℕ → Bool) (admits : Admits test) where
   pass_listing name listing place kind p =
       let at = min place (length listing) in pass_told name listing at (listing_blanks kind (drop at listing)) p (fine_listing kind (drop at listing))
 
+  pass_foreign : (name script : List ℕ) (string : Option Token) → Passes test (shown Name name) → Passes test (foreign name script string)
+  unfolding foreign
+  pass_foreign name script None p = refl
+  pass_foreign name script (Some string) p = pass_remark (codes ": note: ") name script string.start foreign_blanks refl p (refl, refl, refl)
+
+  pass_remarked : (name script text : List ℕ) → Passes test (shown Name name) → IsRemarked name script text → Passes test text
+  pass_remarked name script text p (tokens, are, e) = ap (list_all test) e ∙ pass_foreign name script (foreign_among script tokens) p
+
 pub without_controls : (name script : List ℕ) (refusal : Refusal) (text : List ℕ) → Explains name script refusal text → have_no_controls text ≡ true
 without_controls name script refusal text e = pass_text is_no_control admits_no_control name script refusal text (name_without_controls name) e
 
@@ -154,3 +162,9 @@ listing_without_controls name listing place kind = pass_listing is_no_control ad
 
 pub listing_printable : (name listing : List ℕ) (place : ℕ) (kind : FaultKind) → are_ascii name ≡ true → Fine (listing_told name listing place kind)
 listing_printable name listing place kind ascii = pass_listing is_printable admits_printable name listing place kind (name_printable name ascii)
+
+pub remarks_without_controls : (name script text : List ℕ) → IsRemarked name script text → have_no_controls text ≡ true
+remarks_without_controls name script text e = pass_remarked is_no_control admits_no_control name script text (name_without_controls name) e
+
+pub remarks_printable : (name script text : List ℕ) → are_ascii name ≡ true → IsRemarked name script text → Fine text
+remarks_printable name script text ascii e = pass_remarked is_printable admits_printable name script text (name_printable name ascii) e

@@ -1,8 +1,9 @@
 -- What is refused of a script stands where its token does, and a string that is no capability among its own arguments.
 use Rattle.std.proofs.Common.{◌≡◌, ◌∙◌, ℕ, suc, Bool, true, false, if◌then◌else◌, List, [], ◌∷◌, ◌++◌, All, filter, map, ap, sym, refl, inl, inr}
-use Rattle.std.specs.Prelude.{Option, Some, None, IfSome, not, ◌&&◌, length, nat_lt, is_some, option_map}
+use Rattle.std.specs.Prelude.{Option, Some, None, Result, Ok, Err, IfSome, not, ◌&&◌, length, nat_lt, is_some, option_map}
 use Rattle.std.specs.List.{find}
 use Rattle.std.specs.Option.{option_and_then, option_map_or, option_or}
+use Rattle.std.specs.Result.{result_err}
 use Rattle.std.proofs.lemmas.List.{append-nil, append_assoc}
 use Rattle.std.proofs.lemmas.List.Elements.{All-append, All-cons, All-filter, All-head, All-map, All-nil, All-tail, All-weaker}
 use Rattle.octets.specs.Limits.{max_variables}
@@ -11,11 +12,11 @@ use Rattle.sieve_references.specs.References.{Segment, beyond, foreign, segments
 use Rattle.sieve_parser.specs.Grammar.{Placed, at_depth, arguments_spelled, command_spelled, commands_spelled, invocation_spelled, more_tests_spelled, tests_spelled}
 use Rattle.sieve_parser.specs.Lexemes.{identifier, opening_parenthesis, closing_parenthesis, comma, semicolon, opening_brace, closing_brace}
 use Rattle.sieve_parser.specs.Tree.{ArgumentTree, label, InvocationTree, invocation, TestsTree, no_test, one_test, test_list, MoreTests, last, next, CommandTree, simple, block, CommandsTree, no_command, command}
-use Rattle.sieve_check.specs.Arguments.{Awaiting, arguments_cause, awaiting, first_label, is_second_modifier, missing_cause, number_of, positional_cause, rest_cause}
-use Rattle.sieve_check.specs.Causes.{Cause, Refused, about, or_cause, plain, refused_for}
+use Rattle.sieve_check.specs.Arguments.{Awaiting, arguments_cause, arguments_read, awaiting, expected, first_label, is_second_modifier, missing_cause, number_of, positional_cause, reading, rest_read, sound}
+use Rattle.sieve_check.specs.Causes.{Cause, Refused, about, plain, refused_for}
 use Rattle.sieve_check.specs.Names.{command_named, tag_named, test_named}
 use Rattle.sieve_check.specs.Rules.{Mentions, Visit, capability_arguments, cause_by_name, causes_by, command_lacks, command_needs, command_visit, command_visits, commands_visits, ending_cause, has_many_strings, head_visits, ill_formed_command, ill_formed_test, kind_of, known_command_cause, known_test_cause, lacking, lacking_cause, lacking_causes, large_cause, large_mention_cause, lists_read, long_name, long_string_cause, looks_inside, loops_opened, after_invocation, invocation_of, many_strings_cause, may_stand, mention_cause, mentions_of, misplaced, more_visits, names_past, names_with, opened_by, expanding, place_cause, read_command_cause, read_test_cause, reasons_of, reference_cause, reference_kind, refused_after, refused_among, same_ending, same_reason, same_tests, string_has, strings_of, test_lacks, test_may_stand, test_needs, test_place_cause, test_visit, test_visits, tests_cause, tests_visits, unknown_cause, unknown_causes, visit_causes, where_required}
-use Rattle.sieve_check.specs.Signatures.{Given, Read, add_tag, asks_for_mime, command_signature, ending_of, is_positional, no_tag, nothing_given, reading, takes_tag, test_signature, with_argument}
+use Rattle.sieve_check.specs.Signatures.{Given, Read, add_tag, asks_for_mime, command_signature, ending_of, is_positional, no_tag, nothing_given, takes_tag, test_signature, with_argument}
 use Rattle.sieve_check.specs.Surroundings.{Context, at_start, first_lacking, has_capability, in_block, opens_many}
 use Rattle.sieve_check.specs.declared.causes.ReasonKind.{ReasonKind}
 use Rattle.sieve_check.specs.declared.causes.ReasonKind.TheVariants as reasons
@@ -60,10 +61,6 @@ other_then : {A : Type 0} (f : A → Option Cause) (o : Option A) → ((x : A) �
 other_then f None h = tt
 other_then f (Some x) h = h x
 
-other_than : {A : Type 0} (o : Option A) (c : Cause) (f : A → Option Cause) → marks_string c.kind ≡ false → ((x : A) → Other (f x)) → Other (or_cause o c f)
-other_than None c f e h = e
-other_than (Some x) c f e h = h x
-
 untaken : (foreign second : Bool) → marks_string (if foreign then reasons.ForeignTag else (if second then reasons.TwoModifiers else reasons.RepeatedTag)) ≡ false
 untaken true second = refl
 untaken false true = refl
@@ -81,17 +78,37 @@ other_missing signature tags args =
     other_if (signature.order && not (is_some tags.order)) _ _ refl
     (other_if (asks_for_mime tags && not tags.mime) _ _ refl tt)
 
-other_rest : (signature : Signature) (all : List ArgumentTree) (given : Given) (awaited : Option Awaiting) (args : List ArgumentTree) → Other (rest_cause signature all given awaited args)
+-- arguments that were read, or a cause of another kind why they weren't
+abbrev OtherRead : Result Read Cause → Type 0
+OtherRead (Ok read) = Unit {0}
+OtherRead (Err c) = marks_string c.kind ≡ false
+
+other_expected : {A : Type 0} (o : Option A) (c : Cause) (follow : A → Result Read Cause) → marks_string c.kind ≡ false → ((x : A) → OtherRead (follow x)) → OtherRead (expected o c follow)
+other_expected None c follow e h = e
+other_expected (Some x) c follow e h = h x
+
+other_sound : (o : Option Cause) (read : Read) → Other o → OtherRead (sound o read)
+other_sound None read h = tt
+other_sound (Some c) read h = h
+
+other_rest : (signature : Signature) (all : List ArgumentTree) (given : Given) (awaited : Option Awaiting) (args : List ArgumentTree) → OtherRead (rest_read signature all given awaited args)
 other_rest signature all given None (label name ∷ args) =
-    other_than (tag_named name) _ _ refl (λ tag.
-    other_than (add_tag signature tag given) _ _ (untaken (not (takes_tag signature tag no_tag)) (is_second_modifier tag given.tags))
+    other_expected (tag_named name) _ _ refl (λ tag.
+    other_expected (add_tag signature tag given) _ _ (untaken (not (takes_tag signature tag no_tag)) (is_second_modifier tag given.tags))
     (λ more. other_rest signature all more (awaiting name tag) args))
 other_rest signature all given None args =
-    other_or (positional_cause signature.positional args) (missing_cause signature given.tags all)
-    (other_positional signature.positional args) (other_missing signature given.tags all)
+    other_sound (option_or (positional_cause signature.positional args) (missing_cause signature given.tags all)) _
+    (other_or (positional_cause signature.positional args) (missing_cause signature given.tags all)
+    (other_positional signature.positional args) (other_missing signature given.tags all))
 other_rest signature all given (Some awaited) (a ∷ args) =
-    other_than (with_argument awaited.tag a given) _ _ refl (λ more. other_rest signature all more None args)
+    other_expected (with_argument awaited.tag a given) _ _ refl (λ more. other_rest signature all more None args)
 other_rest signature all given (Some awaited) [] = refl
+
+other_arguments : (signature : Signature) (args : List ArgumentTree) → Other (arguments_cause signature args)
+other_arguments signature args = step (arguments_read signature args) (other_rest signature args nothing_given None args) where
+  step : (r : Result Read Cause) → OtherRead r → Other (result_err r)
+  step (Ok read) h = tt
+  step (Err c) h = h
 
 other_lacking : (required : Capabilities) (needed : List Capability) → Other (lacking_cause required needed)
 other_lacking required needed = other_map lacking (first_lacking needed required) (λ capability. refl)
@@ -176,7 +193,7 @@ good_command : (s : Context) (name : CommandName) (args : List ArgumentTree) (te
 good_command s name args tests end =
     let read = reading (command_signature name) args in
     let rest = option_and_then (read_command_cause s name args tests end) read in
-    let behind = other_or (arguments_cause (command_signature name) args) rest (other_rest (command_signature name) args nothing_given None args)
+    let behind = other_or (arguments_cause (command_signature name) args) rest (other_arguments (command_signature name) args)
     (other_then (read_command_cause s name args tests end) read (λ r. other_read_command s name args tests end r)) in
     good_or args (lacking_cause s.required (command_needs name)) _ (good_other args _ (other_lacking s.required (command_needs name)))
     (good_or args (unknown_cause name args) _ (good_unknown name args)
@@ -185,7 +202,7 @@ good_command s name args tests end =
 other_test : (s : Context) (name : TestName) (args : List ArgumentTree) (tests : Tests) → Other (known_test_cause s name args tests)
 other_test s name args tests =
     other_or (lacking_cause s.required (test_needs name args)) _ (other_lacking s.required (test_needs name args))
-    (other_or (arguments_cause (test_signature name) args) _ (other_rest (test_signature name) args nothing_given None args)
+    (other_or (arguments_cause (test_signature name) args) _ (other_arguments (test_signature name) args)
     (other_then (read_test_cause s name args tests) (reading (test_signature name) args) (λ r. other_read_test s name args tests r)))
 
 good_command_visit : (s : Context) (token : ℕ) (name : List ℕ) (args : List ArgumentTree) (tests : Tests) (end : Ending) → Good args (command_visit s token name args tests end).cause

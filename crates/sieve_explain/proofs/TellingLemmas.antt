@@ -21,7 +21,8 @@ use Rattle.sieve_parser.specs.Refusals.{parse_error}
 use Rattle.sieve_parser.specs.Scripts.{IsParseRefusal}
 use Rattle.sieve_parser.specs.declared.error.ParseError.{ParseError}
 use Rattle.sieve_parser.specs.declared.error.ParseError.TheVariants as parser
-use Rattle.sieve_explain.specs.Explaining.{IsExplained, IsFaultTold, TellsFault, TellsReasons, look_told}
+use Rattle.sieve_explain.specs.Explaining.{IsExplained, TellsFault, TellsReasons, look_told}
+use Rattle.sieve_explain.specs.Private.{IsFaultTold}
 use Rattle.sieve_explain.specs.Faults.{look_text}
 use Rattle.sieve_explain.specs.declared.explanation.Explanation.{Explanation}
 

@@ -7,7 +7,8 @@ use Rattle.std.specs.declared.alloc.AllocError.{AllocError}
 use Rattle.sieve_lexer.specs.Tokens.{AreTokens, IsToken}
 use Rattle.sieve_lexer.specs.declared.token.Token.{Token}
 use Rattle.sieve_parser.proofs.Here.{token_here}
-use Rattle.sieve_explain.specs.Marks.{Stands, has_unit, has_value, if_unclosed, is_no_name, is_number_at, is_opening, is_unit_at, string_among, unclosed, unopened}
+use Rattle.sieve_explain.specs.Marks.{foreign_among, foreign_from, has_unit, has_value, if_unclosed, in_header, is_foreign, is_no_name, is_number_at, is_opening, is_unit_at, string_among, unclosed, unopened}
+use Rattle.sieve_explain.specs.Private.{Stands}
 
 -- a token among those of a script stands in it
 pub stands_numbered : (script : List ℕ) (tokens : List Token) → AreTokens script tokens → (number : ℕ) (o : Option Token) → o ≡ slice_get tokens number → Stands script o
@@ -76,3 +77,13 @@ pub unit_both : (script : List ℕ) (tokens : List Token) (place : ℕ) (a b : B
 unit_both script tokens place a b e p q =
     ap (λ (x : Bool). x && b) p ∙ ap (λ (x : Bool). is_number_at (slice_get tokens (place - 1)) && x) q
     ∙ ap (λ (n : ℕ). is_number_at (slice_get tokens (n - 1)) && is_unit_at script (slice_get tokens n)) e
+
+one_foreign : (script : List ℕ) (inside : Bool) (tokens : List Token) → IsOne tokens (foreign_from script inside tokens)
+one_foreign script inside [] = tt
+one_foreign script inside (token ∷ tokens) =
+    let next = in_header script inside token in
+    one_found token tokens (inside && is_foreign script token) (foreign_from script next tokens) (one_foreign script next tokens)
+
+-- a string of `header`
+pub foreign_stands : (script : List ℕ) (tokens : List Token) → AreTokens script tokens → (o : Option Token) → o ≡ foreign_among script tokens → Stands script o
+foreign_stands script tokens has o e = stands_one script tokens has o (subst (IsOne tokens) (sym e) (one_foreign script false tokens))

@@ -20,8 +20,8 @@ use Rattle.sieve_check.specs.declared.signature.Tests.TheVariants as tests
 use Rattle.sieve_check.specs.Causes.{Reason, Refused, fault_of_kind}
 use Rattle.sieve_check.specs.Rules.{fault_of, max_reasons, reasons_of}
 use Rattle.sieve_explain.specs.declared.explanation.Explanation.{Explanation}
-use Rattle.sieve_explain.specs.Faults.{colon_blanks, end_blanks, lexical_blanks, listing_blanks, look_text, more_blanks, token_blanks, too_deep_blanks, too_long_blanks, unclosed_blanks, unit_blanks}
-use Rattle.sieve_explain.specs.Marks.{arguments_behind, has_unit, is_string, label_behind, string_among, text_of, unclosed}
+use Rattle.sieve_explain.specs.Faults.{colon_blanks, end_blanks, foreign_blanks, lexical_blanks, listing_blanks, look_text, more_blanks, token_blanks, too_deep_blanks, too_long_blanks, unclosed_blanks, unit_blanks}
+use Rattle.sieve_explain.specs.Marks.{arguments_behind, foreign_among, has_unit, is_string, label_behind, string_among, text_of, unclosed}
 use Rattle.sieve_explain.specs.Places.{column, line_number}
 use Rattle.sieve_explain.specs.Reasons.{reason_blanks}
 use Rattle.sieve_explain.specs.Sentences.{Blanks, filled, plain}
@@ -176,6 +176,18 @@ pub record Explains (name script : List ℕ) (refusal : Refusal) (text : List �
   pub tells : TellsFault name script refusal fault
   pub whole : text ≡ fault ++ look_told name (look_text script)
 
+-- the string of `header` that mail writes otherwise, where there is one
+unfoldable pub foreign : List ℕ → List ℕ → Option Token → List ℕ
+foreign name script None = []
+foreign name script (Some string) = remark (codes ": note: ") name script string.start foreign_blanks
+
+-- what is remarked of a script with which nothing is wrong
+abbrev pub foreign_told : List ℕ → List ℕ → List Token → List ℕ
+foreign_told name script tokens = foreign name script (foreign_among script tokens)
+
+abbrev pub IsRemarked : List ℕ → List ℕ → List ℕ → Type 0
+IsRemarked name script text = Tells script (foreign_told name script) text
+
 -- nothing is wrong with the script; or this is its refusal, and this is told of it
 abbrev pub IsExplained : List ℕ → List ℕ → Option Explanation → Type 0
 IsExplained name script None = (commands : CommandsTree) × IsParsed script commands × (fault_of commands ≡ None)
@@ -189,9 +201,3 @@ answer_of answer = option_map (λ (found : Explanation). (found.refusal, found.t
 -- what is told of a listing of a program, whose fault is of that kind: its place, a sentence and the line
 abbrev pub listing_told : List ℕ → List ℕ → ℕ → FaultKind → List ℕ
 listing_told name listing place kind = let at = min place (length listing) in told name listing at (listing_blanks kind (drop at listing))
-
--- of the refusal alone, before the file's look is told
-abbrev pub IsFaultTold : List ℕ → List ℕ → Option Explanation → Type 0
-IsFaultTold name script None = IsExplained name script None
-IsFaultTold name script (Some found) = (found.refusal ≢ refused.Memory) × IsScriptRefusal script found.refusal
-    × TellsFault name script found.refusal found.text.items

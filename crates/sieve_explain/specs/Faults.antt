@@ -1,6 +1,5 @@
 -- What is said of a script that isn't parsed.
 use Rattle.std.specs.Prelude.{ℕ, suc, ◌^◌, ◌-◌, ◌==◌, nat_lt, ◌&&◌, ◌||◌, if◌then◌else◌, Bool, List, [], ◌∷◌, drop, length, take, take_while, slice_index, slice_range, bytes_eq, codes}
-use Rattle.std.specs.Borrow.{Bor}
 use Rattle.std.specs.Char.{is_ascii_alphabetic, is_ascii_digit}
 use Rattle.octets.specs.Limits.{max_nesting, max_script}
 use Rattle.bytecode_listing.specs.declared.error.FaultKind.{FaultKind}
@@ -20,10 +19,6 @@ pub record Beginning : Type 0 where
 
 abbrev pub beginning : List ℕ → List ℕ → Beginning
 beginning octets text = record { octets = octets; text = text }
-
--- a row of the code
-abbrev pub beginning_of : (Bor (List ℕ) × Bor (List ℕ)) → Beginning
-beginning_of row = beginning row.0.now row.1.now
 
 abbrev pub typographic : List ℕ
 typographic = codes "a typographic quote stands here: strings stand between straight double quotes, \"like this\""
@@ -102,6 +97,10 @@ too_deep_blanks = record (plain (codes "braces and tests are nested more than % 
 -- 13 at the end, of an opening brace that has no partner
 abbrev pub unclosed_blanks : Blanks
 unclosed_blanks = plain (codes "this brace is never closed")
+
+-- of a string of `header` that isn't ASCII
+abbrev pub foreign_blanks : Blanks
+foreign_blanks = plain (codes "header fields are compared as they are written, and mail mostly writes such letters encoded, as =?UTF-8?..?=: this may never match")
 
 -- 18, where a unit has more letters, or stands apart from its number
 abbrev pub unit_blanks : Blanks

@@ -1,8 +1,7 @@
 -- What is said of a name that isn't known where it stands. ASCII case doesn't count.
-use Rattle.std.specs.Prelude.{ℕ, if◌then◌else◌, List, [], ◌∷◌, is_some, codes, map}
+use Rattle.std.specs.Prelude.{ℕ, if◌then◌else◌, List, [], ◌∷◌, is_some, codes}
 use Rattle.sieve_check.specs.Names.{command_named, test_named}
-use Rattle.sieve_explain.specs.Words.{Hint, hint, hint_of, nearest, nearest_but, texts_of, with_words, words_for}
-use Rattle.sieve_explain.specs.declared.hints.Vocabulary as code
+use Rattle.sieve_explain.specs.Words.{Hint, hint, nearest, nearest_but, with_words, words_for}
 use Rattle.sieve_explain.specs.Sentences.{Blanks, plain}
 
 -- ---- what depot lacks
@@ -57,16 +56,6 @@ pub record Vocabulary : Type 0 where
   pub hinting : List ℕ
   pub hinting_two : List ℕ
   pub alone : List ℕ
-
-abbrev pub vocabulary_of : code.Vocabulary → Vocabulary
-vocabulary_of known = record {
-  elsewhere = map hint_of known.elsewhere.now;
-  names = texts_of known.names.now;
-  lacks = known.lacks.now;
-  hinting = known.hinting.now;
-  hinting_two = known.hinting_two.now;
-  alone = known.alone.now;
-}
 
 abbrev pub known_commands : Vocabulary
 known_commands = record {

@@ -8,3 +8,5 @@ pub mod Faults
 pub mod Reasons
 pub mod Explaining
 pub mod Printable
+-- private: how the code goes; no public contract names these
+pub mod Private

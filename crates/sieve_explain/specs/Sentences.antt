@@ -2,7 +2,6 @@
 use Rattle.std.specs.Prelude.{ℕ, ◌==◌, if◌then◌else◌, List, [], ◌∷◌, flat_map}
 use Rattle.std.specs.Fmt.{decimal}
 use Rattle.sieve_explain.specs.Shown.{named, quoted, tagged}
-use Rattle.sieve_explain.specs.declared.sentence.Sentence.{Sentence}
 
 -- the text with its blanks, and what goes into them: a name, a tag or string, some fixed words, others beside them, a number
 pub record Blanks : Type 0 where
@@ -12,9 +11,6 @@ pub record Blanks : Type 0 where
   pub words : List ℕ
   pub others : List ℕ
   pub number : ℕ
-
-abbrev pub blanks_of : Sentence → Blanks
-blanks_of s = record { text = s.text.now; name = s.name.now; subject = s.subject.now; words = s.words.now; others = s.others.now; number = s.number }
 
 -- a sentence without blanks
 abbrev pub plain : List ℕ → Blanks

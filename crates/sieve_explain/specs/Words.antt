@@ -1,6 +1,5 @@
 -- Tables of words, and words that are one letter off.
-use Rattle.std.specs.Prelude.{ℕ, zero, suc, ◌+◌, Bool, false, not, ◌&&◌, ◌||◌, if◌then◌else◌, List, [], ◌∷◌, length, map, take, drop}
-use Rattle.std.specs.Borrow.{Bor}
+use Rattle.std.specs.Prelude.{ℕ, zero, suc, ◌+◌, Bool, false, not, ◌&&◌, ◌||◌, if◌then◌else◌, List, [], ◌∷◌, length, take, drop}
 use Rattle.std.specs.List.{list_any}
 use Rattle.octets.specs.Ascii.{is_word}
 
@@ -13,13 +12,6 @@ pub record Hint : Type 0 where
 
 abbrev pub hint : List (List ℕ) → List ℕ → Hint
 hint names words = record { names = names; words = words }
-
--- texts of the code, and a row of a table
-abbrev pub texts_of : List (Bor (List ℕ)) → List (List ℕ)
-texts_of texts = map (λ (text : Bor (List ℕ)). text.now) texts
-
-abbrev pub hint_of : (Bor (List (Bor (List ℕ))) × Bor (List ℕ)) → Hint
-hint_of row = hint (texts_of row.0.now) row.1.now
 
 -- the words of the first row that has the name, or none
 abbrev pub words_for : List ℕ → List Hint → List ℕ

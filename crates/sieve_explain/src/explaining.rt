@@ -8,22 +8,23 @@ ghost use Rattle.sieve_lexer.specs.Tokens.{AreTokens};
 ghost use Rattle.sieve_parser.specs.Refusals.{parse_error};
 ghost use Rattle.sieve_parser.specs.Scripts.{IsGrammarRefusal, IsParsed};
 ghost use Rattle.sieve_parser.specs.View.{commands_tree};
-ghost use Rattle.sieve_explain.specs.Explaining.{IsExplained, IsFaultTold, TellsFault, depth_told, end_told, listing_told, look_told, marked_token, more_told, opened, reason_told, syntax_told};
+ghost use Rattle.sieve_explain.specs.Explaining.{IsExplained, IsRemarked, TellsFault, depth_told, end_told, foreign, foreign_told, listing_told, look_told, marked_token, more_told, opened, reason_told, syntax_told};
+ghost use Rattle.sieve_explain.specs.Private.{IsFaultTold, Stands};
 ghost use Rattle.sieve_explain.specs.Faults.{look_text};
-ghost use Rattle.sieve_explain.specs.Marks.{Stands};
 
 use crate::explanation::Explanation;
 use crate::faults::{
-    lexical_sentence, listing_sentence, look_text, more_sentence, token_sentence,
+    foreign_sentence, lexical_sentence, listing_sentence, look_text, more_sentence, token_sentence,
     too_deep_sentence, too_long_sentence, unclosed_sentence,
 };
-use crate::marks::{start_of, string_behind, token_numbered, unclosed};
+use crate::marks::{foreign_among, start_of, string_behind, token_numbered, unclosed};
 use crate::reasons::fault_sentence;
 use crate::remarks::{Source, push_note, push_remark, told};
 use crate::sentence::plain;
 use bytecode_listing::FaultKind;
 use refusals::Refusal;
 use sieve_check::{MAX_REASONS, ReasonKind, Refused, reasons_of};
+use sieve_lexer::laws::tokens_have_no_fault;
 use sieve_lexer::{LexicalError, MAX_SCRIPT, Token, tokens};
 use sieve_parser::{ParseError, Script, parse_tokens};
 use std::alloc::{AllocError, Global};
@@ -311,6 +312,58 @@ fn marked_token(
             string_behind(source, tokens, found.token, found.reason.subject)
         }
         _ => Ok(token_numbered(source.octets, tokens, found.token)),
+    }
+}
+
+/// What is remarked of a script with which nothing is wrong: the first string of a test `header` that
+/// isn't ASCII, since header fields are compared as they are written. Nothing where there is none.
+///
+/// # Errors
+///
+/// An allocation was refused.
+pub fn remarks_on(alloc: Global, name: &str, script: &[u8]) -> Result<Vec<u8>, AllocError>
+    requires { IsExplained name.now script.now None }
+    ensures { IfOk result (λ text. IsRemarked name.now script.now text.items) }
+{
+    let source = Source {
+        alloc,
+        name,
+        octets: script,
+    };
+    tokens_have_no_fault();
+    match tokens(alloc, script) {
+        Ok(tokens) => foreign_told(&source, &tokens),
+        Err(LexicalError::Memory) => Err(AllocError),
+        Err(LexicalError::ScriptTooLong) => unreachable!(),
+        Err(LexicalError::Lexical { .. }) => unreachable!(),
+    }
+}
+
+// The same of a script with these tokens.
+fn foreign_told(source: &Source<'_>, tokens: &[Token]) -> Result<Vec<u8>, AllocError>
+    requires { AreTokens source.now.octets.now tokens.now }
+    ensures { IfOk result (λ text.
+        text.items ≡ foreign_told source.now.name.now source.now.octets.now tokens.now) }
+{
+    let mut text = Vec::new(source.alloc);
+    push_foreign(&mut text, source, foreign_among(source.octets, tokens))?;
+    Ok(text)
+}
+
+// Appends that a string of `header` may never match, where there is one that isn't ASCII.
+#[tactic(auto, unfolding(crate::specs::Explaining::foreign))]
+fn push_foreign(
+    out: &mut Vec<u8>,
+    source: &Source<'_>,
+    string: Option<Token>,
+) -> Result<(), AllocError>
+    requires { Stands source.now.octets.now string }
+    ensures { OnOk result (out.new.items ≡ out.old.items
+        ++ foreign source.now.name.now source.now.octets.now string) }
+{
+    match string {
+        Some(string) => push_remark(out, ": note: ", source, string.start, &foreign_sentence()),
+        None => Ok(()),
     }
 }
 

@@ -2,8 +2,8 @@
 ghost use Rattle.std.specs.Prelude.{◌≡◌};
 ghost use Rattle.std.specs.List.{list_any};
 ghost use Rattle.octets.specs.Ascii.{is_word};
-ghost use Rattle.sieve_explain.specs.Hints.{known_tags, lacking, meant, meant_too, unknown, unknown_capability, unknown_command, unknown_tag, unknown_test, vocabulary_of};
-ghost use Rattle.sieve_explain.specs.Sentences.{blanks_of};
+ghost use Rattle.sieve_explain.specs.Hints.{known_tags, lacking, meant, meant_too, unknown, unknown_capability, unknown_command, unknown_tag, unknown_test};
+ghost use Rattle.sieve_explain.specs.Private.{vocabulary_of, blanks_of};
 
 use crate::sentence::{Sentence, plain};
 use crate::words::{Row, is_any, nearest, nearest_but, with_words, words_for};

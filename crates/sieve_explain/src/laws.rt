@@ -9,7 +9,7 @@ ghost use Rattle.sieve_lexer.specs.Tokens.{AreTokens};
 ghost use Rattle.sieve_lexer.specs.declared.token.Token.{Token};
 ghost use Rattle.sieve_parser.specs.Scripts.{IsParsed};
 ghost use Rattle.sieve_parser.specs.Tree.{CommandsTree};
-ghost use Rattle.sieve_explain.specs.Explaining.{Explains, IsExplained, IsMarked, answer_of, listing_told};
+ghost use Rattle.sieve_explain.specs.Explaining.{Explains, IsExplained, IsMarked, IsRemarked, answer_of, listing_told};
 ghost use Rattle.sieve_explain.specs.Printable.{are_ascii, are_printable, have_no_controls};
 ghost use Rattle.sieve_explain.specs.declared.explanation.Explanation.{Explanation};
 
@@ -19,13 +19,15 @@ use sieve_parser::laws::{
 };
 
 /// What is told of a refusal of a script is one text, since a script has one list of tokens and one tree at most. So it also has
-/// one answer: nothing is wrong with it, or it has this refusal and this text.
+/// one answer: nothing is wrong with it, or it has this refusal and this text. What is remarked of it is one text, too.
 pub fn explanations_are_unique()
     ensures texts { (name script : List ℕ) (refusal : Refusal) (text other : List ℕ)
         → Explains name script refusal text → Explains name script refusal other → text ≡ other }
     ensures answers { (name script : List ℕ) (found other : Option Explanation)
         → IsExplained name script found → IsExplained name script other
         → answer_of found ≡ answer_of other }
+    ensures remarks { (name script text other : List ℕ)
+        → IsRemarked name script text → IsRemarked name script other → text ≡ other }
 {
     tokens_are_unique();
     parsed_trees_are_unique();
@@ -52,7 +54,15 @@ pub fn explanations_are_printable()
         → IsTrue (are_ascii name) → Explains name script refusal text → IsTrue (are_printable text) }
 {}
 
-/// So is what is told of a listing.
+/// What is remarked of a script can be printed as well, whoever wrote the script and named its file.
+pub fn remarks_are_printable()
+    ensures whole { (name script text : List ℕ) → IsRemarked name script text
+        → IsTrue (have_no_controls text) }
+    ensures ascii { (name script text : List ℕ) → IsTrue (are_ascii name)
+        → IsRemarked name script text → IsTrue (are_printable text) }
+{}
+
+/// What is told of a listing can be printed as well.
 pub fn listing_explanations_are_printable()
     ensures whole { (name listing : List ℕ) (place : ℕ) (kind : FaultKind)
         → IsTrue (have_no_controls (listing_told name listing place kind)) }

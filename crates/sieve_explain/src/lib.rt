@@ -5,7 +5,8 @@
 //! sentence what is wrong there, then the line of the script, and a mark under the place. Where the
 //! checker refuses a script, each command and test that it refuses is told so, up to
 //! [`MAX_REASONS`](sieve_check::MAX_REASONS) reasons, and a note says where there are more. Another
-//! says where the file begins as a program or a mail does.
+//! says where the file begins as a program or a mail does. [`remarks_on`] tells of a script with which
+//! nothing is wrong where a string of `header` may match nothing.
 //!
 //! `specs/Explaining` says the text of each refusal, `specs/Faults`, `specs/Reasons` and `specs/Hints`
 //! are its sentences, `specs/Words` is which words are one letter off, `specs/Marks` what is looked for
@@ -28,5 +29,5 @@ mod sentence;
 mod shown;
 mod words;
 
-pub use explaining::{explain, listing_explanation};
+pub use explaining::{explain, listing_explanation, remarks_on};
 pub use explanation::Explanation;

@@ -1,16 +1,21 @@
 // What an explanation looks for among the tokens of a script.
 ghost use Rattle.std.specs.Prelude.{◌≡◌, ◌<◌, ◌≤◌, ◌+◌, ◌-◌, ◌^◌, IfOk, drop, length, take_while};
-ghost use Rattle.std.specs.List.{slice_get};
+ghost use Rattle.std.specs.List.{list_any, slice_get};
 ghost use Rattle.sieve_lexer.specs.Tokens.{AreTokens};
 ghost use Rattle.sieve_explain.specs.Explaining.{start_of};
-ghost use Rattle.sieve_explain.specs.Marks.{Stands, has_unit, has_value, if_unclosed, is_name, is_no_name, is_number_at, is_of_arguments, is_string, is_unit, is_unit_at, label_at, label_behind, string_among, text_of, unclosed, unopened, unopened_over};
+ghost use Rattle.sieve_explain.specs.Marks.{foreign_among, has_unit, has_value, if_unclosed, in_header, is_beyond, is_foreign, is_name, is_no_name, is_number_at, is_of_arguments, is_string, is_unit, is_unit_at, label_at, label_behind, string_among, text_of, unclosed, unopened, unopened_over};
+ghost use Rattle.sieve_explain.specs.Private.{Stands};
 
 use crate::hints::is_tag;
 use crate::places::around;
 use crate::remarks::Source;
 use crate::words::is_any;
+use octets::is_word;
 use sieve_lexer::{Token, TokenKind, string_of};
 use std::alloc::AllocError;
+
+// The last octet of ASCII.
+const LAST_ASCII: u8 = 0x7f;
 
 // The tokens from that number on.
 #[tactic(auto, using(std::proofs::lemmas::List::drop_min))]
@@ -253,4 +258,52 @@ pub fn unclosed(script: &[u8], tokens: &[Token]) -> Option<Token>
         waiting = unopened_over(token.kind, waiting);
     }
     found
+}
+
+// Whether a text has an octet that isn't ASCII.
+fn has_beyond(text: &[u8]) -> bool
+    ensures { result ≡ list_any is_beyond text.now }
+{
+    text.iter().any(|octet| *octet > LAST_ASCII)
+}
+
+// Whether the token is a string with an octet that isn't ASCII.
+fn is_foreign(script: &[u8], token: &Token) -> bool
+    ensures { result ≡ is_foreign script.now token.now }
+{
+    is_string(token.kind) && has_beyond(text_of(script, token))
+}
+
+// Whether the arguments behind a token are those of `header`, where those before it are or aren't.
+fn in_header(script: &[u8], inside: bool, token: &Token) -> bool
+    ensures { result ≡ in_header script.now inside token.now }
+{
+    if is_name(token.kind) {
+        is_word(text_of(script, token), b"header")
+    } else {
+        inside
+    }
+}
+
+// The first such string among the arguments of `header`, if there is one.
+fn foreign_in(script: &[u8], tokens: &[Token]) -> Option<Token>
+    ensures { result ≡ foreign_among script.now tokens.now }
+{
+    let mut inside = false;
+    for token in tokens {
+        if inside && is_foreign(script, token) {
+            return Some(*token);
+        }
+        inside = in_header(script, inside, token);
+    }
+    None
+}
+
+// The same of the tokens of the script.
+pub fn foreign_among(script: &[u8], tokens: &[Token]) -> Option<Token>
+    requires { AreTokens script.now tokens.now }
+    ensures token { result ≡ foreign_among script.now tokens.now }
+    ensures within { Stands script.now result }
+{
+    foreign_in(script, tokens)
 }

@@ -3,7 +3,7 @@ ghost use Rattle.std.specs.Prelude.{◌≡◌};
 ghost use Rattle.sieve_check.specs.ReasonView.{reason_view, refused_view};
 ghost use Rattle.sieve_explain.specs.Explaining.{fault_blanks, is_argument_fault, label_blanks, may_lack_label};
 ghost use Rattle.sieve_explain.specs.Reasons.{capability_words, ending_words, extra_words, no_argument_words, no_test_words, other_blanks, place_text, positional_words, reason_blanks, reason_limit, reason_text, reason_words, tag_words, tests_words};
-ghost use Rattle.sieve_explain.specs.Sentences.{blanks_of};
+ghost use Rattle.sieve_explain.specs.Private.{blanks_of};
 
 use crate::hints::{unknown_capability, unknown_command, unknown_tag, unknown_test};
 use crate::marks::{has_unit, label_behind, tokens_from};

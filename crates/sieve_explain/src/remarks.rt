@@ -1,7 +1,7 @@
 // Remarks about a place of a script.
 ghost use Rattle.std.specs.Prelude.{◌≡◌, ◌≤◌, ◌++◌, IfOk, OnOk, length};
 ghost use Rattle.sieve_explain.specs.Explaining.{heading, note, numbered, remark, told};
-ghost use Rattle.sieve_explain.specs.Sentences.{blanks_of};
+ghost use Rattle.sieve_explain.specs.Private.{blanks_of};
 
 use crate::excerpt::push_excerpt;
 use crate::places::{line_number, octets_before};

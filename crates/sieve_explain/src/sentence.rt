@@ -1,6 +1,7 @@
 // Sentences with blanks.
 ghost use Rattle.std.specs.Prelude.{◌≡◌, ◌++◌, OnOk};
-ghost use Rattle.sieve_explain.specs.Sentences.{blanks_of, filled, filled_octet, plain};
+ghost use Rattle.sieve_explain.specs.Sentences.{filled, filled_octet, plain};
+ghost use Rattle.sieve_explain.specs.Private.{blanks_of};
 
 use crate::shown::push_between;
 use itoa::Buffer;

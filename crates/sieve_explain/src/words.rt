@@ -2,7 +2,8 @@
 ghost use Rattle.std.specs.Prelude.{◌≡◌, map};
 ghost use Rattle.std.specs.List.{list_any};
 ghost use Rattle.octets.specs.Ascii.{is_word};
-ghost use Rattle.sieve_explain.specs.Words.{begin_off, begin_swapped, differ_at, hint_of, is_near, nearest, nearest_but, texts_of, with_words, words_for};
+ghost use Rattle.sieve_explain.specs.Words.{begin_off, begin_swapped, differ_at, is_near, nearest, nearest_but, with_words, words_for};
+ghost use Rattle.sieve_explain.specs.Private.{hint_of, texts_of};
 
 use crate::places::around;
 use octets::is_word;

@@ -5,3 +5,5 @@ pub mod Strings
 pub mod Texts
 pub mod Values
 pub mod Tokens
+-- private: how the code goes; no public contract names these
+pub mod Private

@@ -1,5 +1,5 @@
 -- The tokens of a script, and where a script has none.
-use Rattle.std.specs.Prelude.{◌≡◌, ℕ, ◌<◌, ◌≤◌, ◌^◌, List, [], ◌∷◌, length, slice_range, Option, MatchOption}
+use Rattle.std.specs.Prelude.{◌≡◌, ℕ, ◌<◌, ◌≤◌, ◌^◌, List, [], ◌∷◌, length, slice_range}
 use Rattle.sieve_lexer.specs.Chain.{Stops}
 use Rattle.sieve_lexer.specs.Separators.{IsSeparator, IsGap}
 use Rattle.sieve_lexer.specs.Strings.{IsOpeningLine}
@@ -24,11 +24,6 @@ pub record IsToken (script : List ℕ) (token : Token) : Type 0 where
 -- at the place begins no token
 abbrev pub NoToken : List ℕ → ℕ → Type 0
 NoToken script place = (token : Token) → token.start ≡ place → IsToken script token → ⊥
-
--- the token that begins at the place, or nothing where none does
-abbrev pub IsTokenAt : List ℕ → ℕ → Option Token → Type 0
-IsTokenAt script place answer = MatchOption answer (NoToken script place)
-    (λ token. (token.start ≡ place) × IsToken script token)
 
 -- from place a to place b stand the tokens, with nothing but white space and comments before each
 abbrev pub TokensUpTo : List ℕ → ℕ → List Token → ℕ → Type 0

@@ -5,7 +5,8 @@ ghost use Rattle.octets.specs.Limits.{max_script};
 ghost use Rattle.sieve_lexer.specs.Classes.{begins_identifier};
 ghost use Rattle.sieve_lexer.specs.Texts.{IsSuffix, sign_octet};
 ghost use Rattle.sieve_lexer.specs.declared.token.TokenKind.{TokenKind};
-ghost use Rattle.sieve_lexer.specs.Tokens.{IsTokenAt, AreTokens, IsLexicalRefusal};
+ghost use Rattle.sieve_lexer.specs.Tokens.{AreTokens, IsLexicalRefusal};
+ghost use Rattle.sieve_lexer.specs.Private.{IsTokenAt};
 
 use crate::MAX_SCRIPT;
 use crate::error::LexicalError;

@@ -1,5 +1,4 @@
 pub mod Joining
 pub mod MeaningLemmas
 pub mod Shapes
-pub mod HeaderAgain
 pub mod Parts

@@ -13,7 +13,8 @@ use Rattle.sieve_check.specs.declared.typed.Test.{Test}
 use Rattle.sieve_check.specs.declared.typed.Command.{Command}
 use Rattle.sieve_check.specs.declared.typed.Command.TheVariants.{If, ForEveryPart}
 use Rattle.sieve_check.specs.Typed.{test, command, CommandForms, BranchForms, branch}
-use Rattle.sieve_check.specs.TypedView.{GuardedForm, test_form, tests_of, branch_form, branches_of, command_form, commands_form, branch_forms, else_form}
+use Rattle.sieve_check.specs.TypedView.{GuardedForm, test_form, tests_of, branches_of, command_form, commands_form}
+use Rattle.sieve_check.specs.Private.{branch_form, branch_forms, else_form}
 use Rattle.sieve_check.proofs.Forms.{form_if, form_branch}
 use Rattle.bytecode_format.specs.declared.action.Action.{Action}
 use Rattle.bytecode_format.specs.Actions.{first_occurrences, with_implicit_keep, final_actions}
@@ -28,12 +29,12 @@ use Rattle.sieve_meaning.proofs.Shapes.{form_for_every_part}
 pub does_if : (mail : Mail) (part : Option ℕ) (c : Command) (branches : Vec Branch) (last : Option (Vec Command)) → c ≡ If branches last → (e : Effects) → command_does mail part (command_form c) e ≡ choice_does mail part (branch_forms branches.items (else_form last)) e
 does_if mail part c branches last is e = ap (λ f. command_does mail part f e) (ap command_form is ∙ form_if branches last)
 
-first_branch : (bs : List Branch) (i : ℕ) (b : Branch) (last : BranchForms) → i < length bs → b ≡ get_or bs i b → branch_forms (drop i bs) last ≡ branch (test_form b.test) (commands_form b.block.items) (branch_forms (drop (i + 1) bs) last)
+first_branch : (bs : List Branch) (i : ℕ) (b : Branch) (last : BranchForms) → i < length bs → b ≡ get_or bs i b → branch_forms (drop i bs) last ≡ branch (test_form b.test) (commands_form b.block.items) b.at (branch_forms (drop (i + 1) bs) last)
 first_branch bs i b last lt is =
     let split : drop i bs ≡ get_or bs i b ∷ drop (i + 1) bs = drop-cons bs i b lt ∙ ap (λ n. get_or bs i b ∷ drop n bs) (sym (add-one i)) in
     ap (λ x. branch_forms x last) split
     ∙ ap (λ x. branches_of (branch_form x ∷ map branch_form (drop (i + 1) bs)) last) (sym is)
-    ∙ ap (λ (g : GuardedForm). branch g.test g.block (branch_forms (drop (i + 1) bs) last)) (form_branch b)
+    ∙ ap (λ (g : GuardedForm). branch g.test g.block g.at (branch_forms (drop (i + 1) bs) last)) (form_branch b)
 
 -- the first element that is left, and those after it
 split : {A : Type 0} (xs : List A) (i : ℕ) (x : A) → i < length xs → x ≡ get_or xs i x → drop i xs ≡ x ∷ drop (i + 1) xs
@@ -80,7 +81,7 @@ pub passed : (mail : Mail) (part : Option ℕ) (bs : List Branch) (i : ℕ) (b :
 passed mail part bs i b last value m f lt is gives false_here =
     let v = test_does mail part (test_form b.test) f in
     let fails : v.value ≡ false = gives.0 ∙ false_here in
-    let step : choice_does mail part (branch (test_form b.test) (commands_form b.block.items) (branch_forms (drop (i + 1) bs) last)) f ≡ choice_does mail part (branch_forms (drop (i + 1) bs) last) v.effects = rw fails refl in
+    let step : choice_does mail part (branch (test_form b.test) (commands_form b.block.items) b.at (branch_forms (drop (i + 1) bs) last)) f ≡ choice_does mail part (branch_forms (drop (i + 1) bs) last) v.effects = rw fails refl in
     (v.effects, gives.1, sym (ap (λ x. choice_does mail part x f) (first_branch bs i b last lt is) ∙ step))
 
 -- after a command that goes on
@@ -128,7 +129,7 @@ pub taken : (mail : Mail) (part : Option ℕ) (bs : List Branch) (i : ℕ) (b : 
 taken mail part bs i b last value m f lt is gives true_here =
     let v = test_does mail part (test_form b.test) f in
     let holds : v.value ≡ true = gives.0 ∙ true_here in
-    let step : choice_does mail part (branch (test_form b.test) (commands_form b.block.items) (branch_forms (drop (i + 1) bs) last)) f ≡ commands_do mail part (commands_form b.block.items) v.effects = rw holds refl in
+    let step : choice_does mail part (branch (test_form b.test) (commands_form b.block.items) b.at (branch_forms (drop (i + 1) bs) last)) f ≡ commands_do mail part (commands_form b.block.items) v.effects = rw holds refl in
     (v.effects, gives.1, ap (λ x. choice_does mail part x f) (first_branch bs i b last lt is) ∙ step)
 
 -- no branch is left
@@ -157,9 +158,9 @@ made_final e m actions stands h = h ∙ ap (λ l. with_implicit_keep l m.implici
 abbrev pub turn_of : Mail → CommandForms → ℕ → Effects → Ending
 turn_of mail cs number e = commands_do mail (Some number) cs e
 
-pub does_loop : (mail : Mail) (part : Option ℕ) (c : Command) (block : Vec Command) → c ≡ ForEveryPart block → (e : Effects)
+pub does_loop : (mail : Mail) (part : Option ℕ) (c : Command) (block : Vec Command) (at : ℕ) → c ≡ ForEveryPart block at → (e : Effects)
     → command_does mail part (command_form c) e ≡ turns (turn_of mail (commands_form block.items)) (visited part mail) e
-does_loop mail part c block is e = ap (λ f. command_does mail part f e) (ap command_form is ∙ form_for_every_part block)
+does_loop mail part c block at is e = ap (λ f. command_does mail part f e) (ap command_form is ∙ form_for_every_part block at)
 
 -- the first of the parts that are left, and those after it
 next_number : (number last : ℕ) → number < last → numbers_from number (last - number) ≡ number ∷ numbers_from (number + 1) (last - (number + 1))

@@ -1,12 +1,13 @@
--- How the evaluator's fields stand for what a script has done.
+-- Private: how the evaluator's fields stand for what a script has done.
 use Rattle.std.specs.Prelude.{◌≡◌, ℕ, Bool, List}
-use Rattle.mail_matching.specs.FirstMatch.{captures_of}
+use Rattle.mail_matching.specs.Private.{captures_of}
 use Rattle.bytecode_format.specs.Actions.{first_occurrences}
 use Rattle.sieve_meaning.specs.declared.evaluator.Evaluator.{Evaluator}
 use Rattle.sieve_meaning.specs.declared.evaluator.Flow.{Flow}
 use Rattle.sieve_meaning.specs.declared.evaluator.Flow.TheVariants.{GoesOn, Stopped, Leaves}
+use Rattle.sieve_meaning.specs.declared.questions.Texts.{Texts as Lists}
 use Rattle.sieve_meaning.specs.Values.{found_in}
-use Rattle.sieve_meaning.specs.Meaning.{Effects, Verdict, Ending, normal, stopped, broken}
+use Rattle.sieve_meaning.specs.Meaning.{Effects, Texts, Verdict, Ending, normal, stopped, broken}
 
 -- the evaluator stands for these effects
 pub record HasEvaluated (effects : Effects) (evaluator : Evaluator) : Type 0 where
@@ -25,3 +26,7 @@ StandsAt (normal effects) GoesOn evaluator = HasEvaluated effects evaluator
 StandsAt (stopped effects) Stopped evaluator = HasEvaluated effects evaluator
 StandsAt (broken loops effects) (Leaves left) evaluator = (left ≡ loops) × HasEvaluated effects evaluator
 StandsAt _ _ evaluator = ⊥
+
+-- the code's texts, as the meaning has them
+abbrev pub texts_in : Lists → Texts
+texts_in texts = record { names = texts.names.items; params = texts.params.items; keys = texts.keys.items }

@@ -1,4 +1,4 @@
 pub mod Meaning
--- how the evaluator stands for the effects; nothing public rests on these
+-- private: how the code goes; no public contract names these
 pub mod Values
 pub mod Evaluation

@@ -1,24 +1,26 @@
--- What a script means.
-use Rattle.std.specs.Prelude.{ℕ, ◌-◌, Bool, true, false, not, nat_lt, bytes_eq, List, [], ◌∷◌, ◌++◌, flat_map, length, map, slice_get, slice_index_or, take, Option, None, Some, if◌then◌else◌}
+-- What a script means. Where its tests and commands stand in it says nothing here.
+use Rattle.std.specs.Prelude.{ℕ, ◌-◌, Bool, true, false, not, nat_lt, bytes_eq, List, [], ◌∷◌, ◌++◌, flat_map, length, map, slice_get, slice_index_or, take, Option, None, Some, option_and_then, if◌then◌else◌}
+use Rattle.std.specs.Bool.{then_some}
 use Rattle.octets.specs.Limits.{max_string, max_value}
 use Rattle.bytecode_format.specs.declared.action.Action.{Action}
-use Rattle.bytecode_format.specs.declared.action.Action.TheVariants.{Keep, File, Store}
+use Rattle.bytecode_format.specs.declared.action.Action.TheVariants as action
 use Rattle.bytecode_format.specs.Actions.{final_actions}
 use Rattle.bytecode_format.specs.Modifiers.{modified}
 use Rattle.mail_matching.specs.FirstMatch.{first_match, no_captures}
 use Rattle.mail_matching.specs.HeaderTests.{exists_in, header_match}
 use Rattle.mail_matching.specs.PartTests.{body_match, digest_match}
-use Rattle.mail_matching.specs.Selection as selection
-use Rattle.mail_matching.specs.Selection.{scope_of}
+use Rattle.mail_matching.specs.Selection.{scope_of, selector_of}
 use Rattle.mime_decode.specs.Mail.{Mail, Part as MailPart, size_of}
-use Rattle.mime_decode.specs.Scope as scopes
 use Rattle.mime_decode.specs.Scope.{visited}
+use Rattle.sieve_check.specs.declared.typed.Act.{Act}
+use Rattle.sieve_check.specs.declared.typed.Act.TheVariants.{Keep, Discard, FileInto, Set, Take, Store, Leave, Stop}
 use Rattle.sieve_check.specs.declared.typed.Order.{Order}
 use Rattle.sieve_check.specs.declared.typed.Order.TheVariants.{Over, Under}
+use Rattle.sieve_check.specs.declared.typed.Question.{Question}
+use Rattle.sieve_check.specs.declared.typed.Question.TheVariants.{Constant, Header, Exists, Size, String, PartSize, PartBody, PartDigest}
 use Rattle.sieve_check.specs.declared.typed.Segment.{Segment}
 use Rattle.sieve_check.specs.declared.typed.Segment.TheVariants.{Text, Variable, Capture}
-use Rattle.sieve_check.specs.Typed as typed
-use Rattle.sieve_check.specs.Typed.{Template, Selected, params_of, TestForm, constant, negation, all_of, any_of, header, exists, size, string, part_size, part_body, part_digest, TestForms, no_test, test, CommandForm, keep, discard, file_into, set, take_first, store, for_every_part, leave, stop, choice, CommandForms, no_command, command, BranchForms, no_branch, otherwise, branch}
+use Rattle.sieve_check.specs.Typed.{Template, Strings, TestForm, asks, negation, all_of, any_of, TestForms, no_test, test, CommandForm, does, for_every_part, choice, CommandForms, no_command, command, BranchForms, no_branch, otherwise, branch}
 
 -- what a script has done so far: the values of variables by their names in lower case, the captures
 -- of the last match that set them, the actions, and whether the implicit keep stands
@@ -46,10 +48,18 @@ expanded effects template = take max_string (flat_map (value_of effects) templat
 abbrev pub all_expanded : Effects → List Template → List (List ℕ)
 all_expanded effects templates = map (expanded effects) templates
 
--- what a test takes of a field, its parameters by their names (RFC 5703, section 4.1)
-abbrev pub selector_of : Effects → Selected → scopes.Selector
-selector_of effects selected =
-    selection.selector_of (typed.selector_of selected) (all_expanded effects (params_of selected))
+-- the texts of a test: its strings, each expanded
+pub record Texts : Type 0 where
+  pub names : List (List ℕ)
+  pub params : List (List ℕ)
+  pub keys : List (List ℕ)
+
+abbrev pub texts_of : Effects → Strings → Texts
+texts_of effects strings = record {
+  names = all_expanded effects strings.names;
+  params = all_expanded effects strings.params;
+  keys = all_expanded effects strings.keys;
+}
 
 -- the values of variables, of which one is new
 abbrev pub with_value : List ℕ → List ℕ → (List ℕ → List ℕ) → List ℕ → List ℕ
@@ -113,8 +123,7 @@ abbrev pub is_size : Order → ℕ → ℕ → Bool
 is_size Over number octets = nat_lt number octets
 is_size Under number octets = nat_lt octets number
 
--- what a test of values comes to, from the captures after their first match, if there is one; where
--- there is none, nothing changes
+-- what a test comes to, from the captures after it, if it is true; where it isn't, nothing changes
 abbrev pub matched : Option (List (List ℕ)) → Effects → Verdict
 matched None effects = verdict false effects
 matched (Some captures) effects = verdict true (record effects { captures = captures })
@@ -126,11 +135,6 @@ abbrev pub current : Mail → Option ℕ → Option MailPart
 current mail None = None
 current mail (Some number) = slice_get mail.parts number
 
--- what a test of the current part comes to; where there is none, as in no checked script, it is false
-abbrev pub of_part : (MailPart → Verdict) → Effects → Option MailPart → Verdict
-of_part does effects None = verdict false effects
-of_part does effects (Some part) = does part
-
 -- the values of variables after the first octets of the current part's content were taken into one,
 -- at most so many; as they were, where there is no part, as in no checked script
 abbrev pub with_taken : ℕ → List ℕ → Option MailPart → (List ℕ → List ℕ) → List ℕ → List ℕ
@@ -140,31 +144,35 @@ with_taken most name (Some part) variables = with_value name (take most part.con
 -- the actions of storing the current part in a folder
 abbrev pub stored : Option ℕ → List ℕ → List Action
 stored None folder = []
-stored (Some number) folder = Store folder number ∷ []
+stored (Some number) folder = action.Store folder number ∷ []
+
+-- the captures after a question that is true of the message, from those before it (RFC 5228, section 5;
+-- RFC 5229, section 5); None where it isn't true. Those of the current part are ours, and true of no
+-- part where there is none, as in no checked script
+abbrev pub answer : Mail → Option ℕ → Question → Texts → List (List ℕ) → Option (List (List ℕ))
+answer mail part (Constant b) texts captures = then_some b captures
+answer mail part (Header fields) texts captures =
+    header_match fields.how (scope_of fields.scope) part (selector_of fields.selector texts.params) texts.names texts.keys mail captures
+answer mail part (Exists scope) texts captures = then_some (exists_in (scope_of scope) part texts.names mail) captures
+answer mail part (Size order number) texts captures = then_some (is_size order number (size_of mail)) captures
+-- the values are those of its sources
+answer mail part (String how) texts captures = first_match how texts.names texts.keys captures
+-- the size of its content, its content and the digest of its content
+answer mail part (PartSize order number) texts captures = option_and_then
+    (λ p. then_some (is_size order number (length p.content)) captures) (current mail part)
+answer mail part (PartBody how) texts captures = option_and_then
+    (λ p. body_match how p texts.keys captures) (current mail part)
+answer mail part PartDigest texts captures = option_and_then
+    (λ p. digest_match p texts.keys captures) (current mail part)
 
 abbrev mutual
-  -- what a test comes to (RFC 5228, section 5; RFC 5229, section 5)
+  -- what a test comes to
   pub test_does : Mail → Option ℕ → TestForm → Effects → Verdict
-  test_does mail part (constant b) effects = verdict b effects
-  test_does mail part (negation t) effects = turned (test_does mail part t effects)
-  test_does mail part (all_of t ts) effects = and_then (test_does mail part t effects) (λ e. all_do mail part ts e)
-  test_does mail part (any_of t ts) effects = or_else (test_does mail part t effects) (λ e. any_do mail part ts e)
-  test_does mail part (header how scope selected names keys) effects =
-      matched (header_match how (scope_of scope) part (selector_of effects selected) (all_expanded effects names)
-      (all_expanded effects keys) mail effects.captures) effects
-  test_does mail part (exists scope names) effects = verdict
-      (exists_in (scope_of scope) part (all_expanded effects names) mail) effects
-  test_does mail part (size order number) effects = verdict (is_size order number (size_of mail)) effects
-  -- the values are those of its sources (RFC 5229, section 5)
-  test_does mail part (string how sources keys) effects = matched
-      (first_match how (all_expanded effects sources) (all_expanded effects keys) effects.captures) effects
-  -- the size of its content, its content and the digest of its content; ours
-  test_does mail part (part_size order number) effects = of_part
-      (λ p. verdict (is_size order number (length p.content)) effects) effects (current mail part)
-  test_does mail part (part_body how keys) effects = of_part
-      (λ p. matched (body_match how p (all_expanded effects keys) effects.captures) effects) effects (current mail part)
-  test_does mail part (part_digest keys) effects = of_part
-      (λ p. matched (digest_match p (all_expanded effects keys) effects.captures) effects) effects (current mail part)
+  test_does mail part (asks question strings at) effects =
+      matched (answer mail part question (texts_of effects strings) effects.captures) effects
+  test_does mail part (negation t at) effects = turned (test_does mail part t effects)
+  test_does mail part (all_of t ts at) effects = and_then (test_does mail part t effects) (λ e. all_do mail part ts e)
+  test_does mail part (any_of t ts at) effects = or_else (test_does mail part t effects) (λ e. any_do mail part ts e)
 
   -- whether all tests are true, from left to right up to the first that isn't
   pub all_do : Mail → Option ℕ → TestForms → Effects → Verdict
@@ -176,25 +184,29 @@ abbrev mutual
   any_do mail part no_test effects = verdict false effects
   any_do mail part (test t ts) effects = or_else (test_does mail part t effects) (λ e. any_do mail part ts e)
 
+-- what an action does with its string, expanded; one that takes none doesn't look at it (RFC 5228, sections 3 and 4; RFC 5229, section 4; RFC 5703, section 3)
+abbrev pub act_does : Mail → Option ℕ → Act → List ℕ → Effects → Ending
+act_does mail part Keep text effects = normal (record effects { actions = effects.actions ++ action.Keep ∷ []; implicit_keep = false })
+act_does mail part Discard text effects = normal (record effects { implicit_keep = false })
+act_does mail part FileInto folder effects = normal (record effects { actions = effects.actions ++ action.File folder ∷ []; implicit_keep = false })
+-- the value is modified and cut
+act_does mail part (Set modifiers name) value effects =
+    normal (record effects { variables = with_value name (take max_value (modified modifiers value)) effects.variables })
+-- all of the content, where it has no more octets than that; ours
+act_does mail part (Take most name) text effects = normal (record effects { variables = with_taken most name (current mail part) effects.variables })
+-- the implicit keep stands as it stood; ours
+act_does mail part Store folder effects = normal (record effects { actions = effects.actions ++ stored part folder })
+act_does mail part (Leave loops) text effects = broken loops effects
+act_does mail part Stop text effects = stopped effects
+
 abbrev mutual
-  -- what a command does (RFC 5228, sections 3 and 4; RFC 5229, section 4; RFC 5703, section 3)
+  -- what a command does
   pub command_does : Mail → Option ℕ → CommandForm → Effects → Ending
-  command_does mail part keep effects = normal (record effects { actions = effects.actions ++ Keep ∷ []; implicit_keep = false })
-  command_does mail part discard effects = normal (record effects { implicit_keep = false })
-  command_does mail part (file_into folder) effects = normal (record effects { actions = effects.actions ++ File (expanded effects folder) ∷ []; implicit_keep = false })
-  -- the value is expanded, modified and cut (RFC 5229, section 4)
-  command_does mail part (set modifiers name value) effects =
-      normal (record effects { variables = with_value name (take max_value (modified modifiers (expanded effects value))) effects.variables })
-  -- all of the content, where it has no more octets than that; ours
-  command_does mail part (take_first most name) effects = normal (record effects { variables = with_taken most name (current mail part) effects.variables })
-  -- the implicit keep stands as it stood; ours
-  command_does mail part (store folder) effects = normal (record effects { actions = effects.actions ++ stored part (expanded effects folder) })
+  command_does mail part (does act string at) effects = act_does mail part act (expanded effects string) effects
   -- outside of loops each part of the message, in a loop each one below its current part, in
   -- preorder (RFC 5703, section 3)
-  command_does mail part (for_every_part cs) effects = turns (λ number e. commands_do mail (Some number) cs e)
+  command_does mail part (for_every_part cs at) effects = turns (λ number e. commands_do mail (Some number) cs e)
       (visited part mail) effects
-  command_does mail part (leave loops) effects = broken loops effects
-  command_does mail part stop effects = stopped effects
   command_does mail part (choice branches) effects = choice_does mail part branches effects
 
   -- what commands do, one after the other
@@ -207,7 +219,7 @@ abbrev mutual
   pub choice_does : Mail → Option ℕ → BranchForms → Effects → Ending
   choice_does mail part no_branch effects = normal effects
   choice_does mail part (otherwise cs) effects = commands_do mail part cs effects
-  choice_does mail part (branch t cs bs) effects =
+  choice_does mail part (branch t cs at bs) effects =
       let v = test_does mail part t effects in
       if v.value then commands_do mail part cs v.effects else choice_does mail part bs v.effects
 

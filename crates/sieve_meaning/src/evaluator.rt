@@ -8,7 +8,7 @@ use bytecode_format::{Action, ActionList, Modifiers};
 use mail_matching::Captured;
 use mime_decode::Message;
 use octets::{MAX_VALUE, Octets};
-use sieve_check::{Checked, Command, Segment};
+use sieve_check::{Act, Checked, Command};
 use std::alloc::{AllocError, Global};
 
 /// What was done so far.
@@ -47,7 +47,7 @@ impl<'s, 'm> Evaluator<'s, 'm> {
     ghost use Rattle.sieve_check.specs.TypedView.{command_form, commands_form};
     ghost use Rattle.octets.specs.Limits.{max_value};
     ghost use Rattle.bytecode_format.specs.Modifiers.{modified};
-    ghost use Rattle.sieve_meaning.specs.Meaning.{Effects, no_effects, command_does, commands_do, current, expanded, stored, turns, with_taken, with_value};
+    ghost use Rattle.sieve_meaning.specs.Meaning.{Effects, no_effects, act_does, command_does, commands_do, current, stored, turns, with_taken, with_value};
     ghost use Rattle.sieve_meaning.specs.Evaluation.{HasEvaluated, StandsAt};
     ghost use Rattle.mime_decode.specs.Scope.{visited};
 
@@ -74,24 +74,23 @@ impl<'s, 'm> Evaluator<'s, 'm> {
         Ok(())
     }
 
-    // Gives a variable its value, which is expanded, modified and cut.
+    // Gives a variable its value: the text, modified and cut.
     fn set(
         &mut self,
         alloc: Global,
         modifiers: Modifiers,
         name: &'s [u8],
-        value: &[Segment],
+        text: &[u8],
     ) -> Result<(), AllocError>
         ensures { (e : Effects) → HasEvaluated e self.old
             → OnOk result (HasEvaluated (record
             e {
-              variables = with_value name.now
-                  (take max_value (modified modifiers (expanded e value.now))) e.variables;
+              variables = with_value name.now (take max_value (modified modifiers text.now))
+                  e.variables;
             })
             self.new) }
     {
-        let text = self.expanded(alloc, value)?;
-        let value = modifiers.apply(alloc, text.as_slice(), MAX_VALUE)?;
+        let value = modifiers.apply(alloc, text, MAX_VALUE)?;
         self.variables.set(name, value)?;
         Ok(())
     }
@@ -132,6 +131,34 @@ impl<'s, 'm> Evaluator<'s, 'm> {
             self.actions.push(Action::Store(folder, part))?;
         }
         Ok(())
+    }
+
+    // Does what the action does with its string, expanded.
+    fn act(
+        &mut self,
+        alloc: Global,
+        act: &'s Act,
+        text: Octets,
+        subject: Subject<'_, 'm>,
+    ) -> Result<Flow, AllocError>
+        ensures { (e : Effects) → HasEvaluated e self.old
+            → IfOk result (λ flow. StandsAt
+            (act_does subject.entry.message.now subject.entry.part act.now text e) flow
+            self.new) }
+    {
+        match act {
+            Act::Keep => self.list(Action::Keep)?,
+            Act::Discard => self.implicit_keep = false,
+            Act::FileInto => self.list(Action::File(text))?,
+            Act::Set { modifiers, name } => {
+                self.set(alloc, *modifiers, name.as_slice(), text.as_slice())?;
+            }
+            Act::Take { most, name } => self.take(alloc, subject, *most, name.as_slice())?,
+            Act::Store => self.store(subject.part, text)?,
+            Act::Leave(loops) => return Ok(Flow::Leaves(usize::from(*loops))),
+            Act::Stop => return Ok(Flow::Stopped),
+        }
+        Ok(Flow::GoesOn)
     }
 
     // Does what the commands do, on each part that a loop visits, up to a turn that stops the script or leaves the loop.
@@ -175,37 +202,23 @@ impl<'s, 'm> Evaluator<'s, 'm> {
             (command_form command.now) e) flow self.new) }
     {
         match command {
-            Command::Keep => self.list(Action::Keep)?,
-            Command::Discard => self.implicit_keep = false,
-            Command::FileInto(folder) => {
-                let folder = self.expanded(alloc, folder)?;
-                self.list(Action::File(folder))?;
+            Command::Does { act, string, .. } => {
+                let text = self.expanded(alloc, string)?;
+                self.act(alloc, act, text, subject)
             }
-            Command::Set {
-                modifiers,
-                name,
-                value,
-            } => self.set(alloc, *modifiers, name.as_slice(), value)?,
-            Command::Take { most, name } => self.take(alloc, subject, *most, name.as_slice())?,
-            Command::Store(folder) => {
-                let folder = self.expanded(alloc, folder)?;
-                self.store(subject.part, folder)?;
-            }
-            Command::ForEveryPart(block) => return self.for_every_part(alloc, block, subject),
-            Command::Break(loops) => return Ok(Flow::Leaves(*loops)),
-            Command::Stop => return Ok(Flow::Stopped),
+            Command::ForEveryPart { block, .. } => self.for_every_part(alloc, block, subject),
             Command::If(branches, otherwise) => {
                 'branches: for branch in branches {
                     if self.is_true(alloc, &branch.test, subject)? {
                         return self.commands(alloc, &branch.block, subject);
                     }
                 }
-                if let Some(block) = otherwise {
-                    return self.commands(alloc, block, subject);
+                match otherwise {
+                    Some(block) => self.commands(alloc, block, subject),
+                    None => Ok(Flow::GoesOn),
                 }
             }
         }
-        Ok(Flow::GoesOn)
     }
 
     /// Does what the commands do, one after the other, up to one that stops the script.

@@ -1,11 +1,12 @@
 // Strings, expanded (RFC 5229, section 3).
 ghost use Rattle.std.specs.Prelude.{◌≡◌, ◌≤◌, ◌++◌, length, take, OnOk};
-ghost use Rattle.octets.specs.Limits.{max_stack, max_string};
+ghost use Rattle.octets.specs.Limits.{max_stack, max_string, max_test_strings};
 ghost use Rattle.mail_matching.specs.Texts.{AreTexts};
 
 use crate::evaluator::Evaluator;
+use crate::questions::Texts;
 use octets::{MAX_STRING, Octets};
-use sieve_check::Segment;
+use sieve_check::{Segment, Strings};
 use std::alloc::{AllocError, Global};
 
 // Appends a value, up to the limit of an expanded string.
@@ -21,9 +22,10 @@ fn append(value: &[u8], text: &mut Vec<u8>) -> Result<(), AllocError>
 
 impl<'s, 'm> Evaluator<'s, 'm> {
     ghost use Rattle.std.specs.Prelude.{IfOk};
-    ghost use Rattle.sieve_check.specs.TypedView.{templates_of};
-    ghost use Rattle.sieve_meaning.specs.Meaning.{Effects, all_expanded, expanded, value_of};
-    ghost use Rattle.sieve_meaning.specs.Evaluation.{HasEvaluated};
+    ghost use Rattle.sieve_check.specs.Typed.{in_order};
+    ghost use Rattle.sieve_check.specs.TypedView.{strings_form, templates_of};
+    ghost use Rattle.sieve_meaning.specs.Meaning.{Effects, all_expanded, expanded, texts_of, value_of};
+    ghost use Rattle.sieve_meaning.specs.Evaluation.{HasEvaluated, texts_in};
 
     // Appends what stands for a segment, up to the limit of an expanded string.
     fn append_segment(&self, segment: &Segment, text: &mut Vec<u8>) -> Result<(), AllocError>
@@ -76,5 +78,26 @@ impl<'s, 'm> Evaluator<'s, 'm> {
             texts.push(self.expanded(alloc, string)?)?;
         }
         Ok(texts)
+    }
+
+    /// The strings of a test, each expanded.
+    ///
+    /// An error comes only where memory was refused.
+    pub fn texts(&self, alloc: Global, strings: &Strings) -> Result<Texts, AllocError>
+        requires { length (in_order (strings_form strings.now)) ≤ max_test_strings }
+        ensures expanded { (e : Effects) → HasEvaluated e self.now
+            → IfOk result (λ texts. texts_in texts ≡ texts_of e (strings_form strings.now)) }
+        ensures names { IfOk result (λ texts. AreTexts texts.names.items) }
+        ensures params { IfOk result (λ texts. AreTexts texts.params.items) }
+        ensures keys { IfOk result (λ texts. AreTexts texts.keys.items) }
+    {
+        let names = self.all_expanded(alloc, &strings.names)?;
+        let params = self.all_expanded(alloc, &strings.params)?;
+        let keys = self.all_expanded(alloc, &strings.keys)?;
+        Ok(Texts {
+            names,
+            params,
+            keys,
+        })
     }
 }

@@ -6,7 +6,7 @@
 
 mod evaluator;
 mod expansion;
-mod part_tests;
+mod questions;
 mod subject;
 mod tests_hold;
 mod variables;

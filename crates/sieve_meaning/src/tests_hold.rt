@@ -1,24 +1,18 @@
 // Whether tests are true.
-ghost use Rattle.std.specs.Prelude.{◌≡◌};
-ghost use Rattle.sieve_meaning.specs.Meaning.{is_size};
-
 use crate::evaluator::Evaluator;
+use crate::questions::answer;
 use crate::subject::Subject;
-use glob_match::Match;
-use mail_matching::{Answer, HeaderTest, Outcome, exists, header, string};
-use sieve_check::{Order, Segment, Test};
+use mail_matching::Outcome;
+use sieve_check::{Question, Strings, Test};
 use std::alloc::{AllocError, Global};
 
 impl<'s, 'm> Evaluator<'s, 'm> {
-    ghost use Rattle.std.specs.Prelude.{◌≡◌, ◌≤◌, IfOk, None, length, map};
-    ghost use Rattle.octets.specs.Limits.{max_test_strings};
-    ghost use Rattle.mail_matching.specs.Selection.{scope_of, selector_of};
-    ghost use Rattle.mail_matching.specs.HeaderTests.{header_match};
-    ghost use Rattle.mail_matching.specs.FirstMatch.{first_match};
+    ghost use Rattle.std.specs.Prelude.{IfOk, map};
     ghost use Rattle.mail_matching.specs.Outcomes.{after};
-    ghost use Rattle.sieve_check.specs.Bounded.{AreBoundedLists, IsBoundedTest, AreBoundedTests};
-    ghost use Rattle.sieve_check.specs.TypedView.{templates_of, test_form, tests_of};
-    ghost use Rattle.sieve_meaning.specs.Meaning.{Effects, all_do, all_expanded, any_do, matched, test_does};
+    ghost use Rattle.sieve_check.specs.Bounded.{AreBoundedStrings, AreBoundedTests, IsBoundedTest};
+    ghost use Rattle.sieve_check.specs.Questions.{row_of};
+    ghost use Rattle.sieve_check.specs.TypedView.{strings_form, test_form, tests_of};
+    ghost use Rattle.sieve_meaning.specs.Meaning.{Effects, all_do, answer, any_do, matched, test_does, texts_of};
     ghost use Rattle.sieve_meaning.specs.Evaluation.{Gives, HasEvaluated};
 
     /// Whether the test is true of the message.
@@ -38,51 +32,24 @@ impl<'s, 'm> Evaluator<'s, 'm> {
             value self.new) }
     {
         match test {
-            Test::Constant(value) => Ok(*value),
-            Test::Not(inner) => Ok(!self.is_true(alloc, inner, subject)?),
-            Test::AllOf(first, others) => {
+            Test::Asks {
+                question,
+                strings,
+                ..
+            } => self.asks(alloc, *question, strings, subject),
+            Test::Not { test, .. } => Ok(!self.is_true(alloc, test, subject)?),
+            Test::AllOf { first, others, .. } => {
                 if !self.is_true(alloc, first, subject)? {
                     return Ok(false);
                 }
                 self.all_true(alloc, others, subject)
             }
-            Test::AnyOf(first, others) => {
+            Test::AnyOf { first, others, .. } => {
                 if self.is_true(alloc, first, subject)? {
                     return Ok(true);
                 }
                 self.any_true(alloc, others, subject)
             }
-            Test::Header {
-                matching,
-                scope,
-                selection,
-                names,
-                keys,
-            } => {
-                let test = HeaderTest {
-                    reach: subject.reach(*scope),
-                    selector: selection.selector(),
-                    how: *matching,
-                };
-                self.matches(alloc, test, names, selection.params(), keys, subject)
-            }
-            Test::Exists(scope, names) => {
-                let names = self.all_expanded(alloc, names)?;
-                Ok(exists(subject.message, subject.reach(*scope), &names).0)
-            }
-            Test::Size(order, number) => Ok(is_size(
-                *order,
-                *number,
-                subject.message.size() as u64,
-            )),
-            Test::String {
-                matching,
-                sources,
-                keys,
-            } => self.texts_match(alloc, *matching, sources, keys),
-            Test::PartSize(order, number) => self.part_size(alloc, subject, *order, *number),
-            Test::PartBody { matching, keys } => self.body_matches(alloc, subject, *matching, keys),
-            Test::PartDigest(keys) => self.digest_matches(alloc, subject, keys),
         }
     }
 
@@ -130,51 +97,22 @@ impl<'s, 'm> Evaluator<'s, 'm> {
         Ok(false)
     }
 
-    // Whether what is selected of the fields of these names matches a key. A match may set captures.
-    fn matches(
+    // Whether what a simple test asks is true. A match may set captures.
+    fn asks(
         &mut self,
         alloc: Global,
-        test: HeaderTest,
-        names: &[Vec<Segment>],
-        params: &[Vec<Segment>],
-        keys: &[Vec<Segment>],
+        question: Question,
+        strings: &Strings,
         subject: Subject<'_, 'm>,
     ) -> Result<bool, AllocError>
-        requires lists { AreBoundedLists (templates_of names.now) (templates_of keys.now) }
-        requires params { length params.now ≤ max_test_strings }
-        requires current { test.reach.current ≡ subject.part }
+        requires { AreBoundedStrings (row_of question).takes (strings_form strings.now) }
         ensures { (e : Effects) → HasEvaluated e self.old
             → IfOk result (λ value. Gives
-            (matched (header_match test.how (scope_of test.reach.scope) subject.entry.part
-            (selector_of test.selector (all_expanded e (templates_of params.now)))
-            (all_expanded e (templates_of names.now))
-            (all_expanded e (templates_of keys.now)) subject.entry.message.now
-            e.captures) e) value self.new) }
+            (matched (answer subject.entry.message.now subject.entry.part question
+            (texts_of e (strings_form strings.now)) e.captures) e) value self.new) }
     {
-        let names = self.all_expanded(alloc, names)?;
-        let params = self.all_expanded(alloc, params)?;
-        let keys = self.all_expanded(alloc, keys)?;
-        let Answer { outcome, .. } = header(alloc, subject.message, test, &names, &params, &keys)?;
-        Ok(self.settle(outcome))
-    }
-
-    // Whether a source matches a key. A match may set captures.
-    fn texts_match(
-        &mut self,
-        alloc: Global,
-        how: Match,
-        sources: &[Vec<Segment>],
-        keys: &[Vec<Segment>],
-    ) -> Result<bool, AllocError>
-        requires { AreBoundedLists (templates_of sources.now) (templates_of keys.now) }
-        ensures { (e : Effects) → HasEvaluated e self.old
-            → IfOk result (λ value. Gives
-            (matched (first_match how (all_expanded e (templates_of sources.now))
-            (all_expanded e (templates_of keys.now)) e.captures) e) value self.new) }
-    {
-        let sources = self.all_expanded(alloc, sources)?;
-        let keys = self.all_expanded(alloc, keys)?;
-        let Answer { outcome, .. } = string(alloc, &sources, &keys, how)?;
+        let texts = self.texts(alloc, strings)?;
+        let outcome = answer(alloc, question, &texts, subject)?;
         Ok(self.settle(outcome))
     }
 
@@ -191,15 +129,5 @@ impl<'s, 'm> Evaluator<'s, 'm> {
                 true
             }
         }
-    }
-}
-
-/// Whether the octets are over or under the number.
-pub fn is_size(order: Order, number: u64, octets: u64) -> bool
-    ensures { result ≡ is_size order number octets }
-{
-    match order {
-        Order::Over => number < octets,
-        Order::Under => octets < number,
     }
 }

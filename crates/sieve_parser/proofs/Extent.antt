@@ -10,8 +10,7 @@ use Rattle.sieve_lexer.specs.declared.token.TokenKind.{TokenKind}
 use Rattle.sieve_lexer.specs.declared.token.TokenKind.TheVariants.{Identifier, Tag, Number, QuotedString, MultiLineString, Semicolon, Comma, OpeningBrace, ClosingBrace, OpeningParenthesis, ClosingParenthesis, OpeningBracket, ClosingBracket}
 use Rattle.sieve_lexer.proofs.Extent.{quoted_fits, multi_line_fits}
 use Rattle.sieve_parser.specs.Grammar.{Placed, commands_spelled, lexemes_placed}
-use Rattle.sieve_parser.specs.Lexemes.{Lexeme, identifier, tag, number, string, semicolon, comma, opening_brace, closing_brace, opening_parenthesis, closing_parenthesis, opening_bracket, closing_bracket, lexeme_of, lexemes_from}
-use Rattle.sieve_parser.specs.Parsing.{lexemes}
+use Rattle.sieve_parser.specs.Lexemes.{Lexeme, identifier, tag, number, string, semicolon, comma, opening_brace, closing_brace, opening_parenthesis, closing_parenthesis, opening_bracket, closing_bracket, lexeme_of, lexemes_from, lexemes}
 use Rattle.sieve_parser.specs.Scripts.{IsParsed}
 use Rattle.sieve_parser.specs.Tree.{CommandsTree}
 

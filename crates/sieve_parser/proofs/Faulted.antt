@@ -6,11 +6,11 @@ use Rattle.std.proofs.lemmas.List.{append_assoc, append-nil}
 use Rattle.sieve_parser.specs.Lexemes.{Lexeme, identifier, tag, number, string, semicolon, comma, opening_brace, closing_brace, opening_parenthesis, closing_parenthesis, opening_bracket, closing_bracket}
 use Rattle.sieve_parser.specs.Tree.{invocation, no_test, last, CommandsTree, no_command}
 use Rattle.sieve_parser.specs.Grammar.{Placed, at_depth, lexemes_placed, commands_spelled, IsViable, IsScript}
-use Rattle.sieve_parser.specs.TokenMachine.{Follow, command_end, test_end, Symbol, body, arguments, ending, tests, strings, more_strings, ended_by, expand, goes, wrong, deep, judged, step, stack_then, advance, IsGrounded, reading_from, reading}
+use Rattle.sieve_parser.specs.TokenMachine.{Follow, command_end, test_end, Symbol, body, arguments, ending, tests, strings, more_strings, ended_by, expand, goes, wrong, deep, judged, step, stack_then, advance, reading_from, reading, IsDone}
 use Rattle.sieve_parser.specs.Faults.{AreWithinDepth, IsViableWithinDepth}
 use Rattle.sieve_parser.specs.Language.{InFollow, InSymbol, InStack, body_end}
 use Rattle.sieve_parser.proofs.Language.{Adds, adds, Expands, takes, single, to_single}
-use Rattle.sieve_parser.specs.Parsing.{IsDone, BeginsText, IsCompletable}
+use Rattle.sieve_parser.specs.Parsing.{BeginsText, IsCompletable, IsGrounded}
 
 split_stack : (xs ys : List Symbol) (zs : List Placed) → InStack (xs ++ ys) zs → (us : List Placed) × ((vs : List Placed) × ((zs ≡ us ++ vs) × InStack xs us × InStack ys vs))
 split_stack [] ys zs p = ([], (zs, (refl, refl, p)))

@@ -7,8 +7,8 @@ use Rattle.sieve_lexer.specs.Values.{string_value}
 use Rattle.sieve_lexer.specs.declared.token.Token.{Token}
 use Rattle.sieve_lexer.specs.declared.token.TokenKind.{TokenKind}
 use Rattle.sieve_lexer.specs.declared.token.TokenKind.TheVariants.{Identifier, Tag, Number, QuotedString, MultiLineString, Semicolon, Comma, OpeningBrace, ClosingBrace, OpeningParenthesis, ClosingParenthesis, OpeningBracket, ClosingBracket}
-use Rattle.sieve_parser.specs.Lexemes.{Lexeme, identifier, tag, number, string, semicolon, comma, opening_brace, closing_brace, opening_parenthesis, closing_parenthesis, opening_bracket, closing_bracket, lexeme, lexeme_of}
-use Rattle.sieve_parser.specs.Parsing.{IsStringAt, IsIdentifierAt, lexeme_at, lexemes, kind_at}
+use Rattle.sieve_parser.specs.Lexemes.{Lexeme, identifier, tag, number, string, semicolon, comma, opening_brace, closing_brace, opening_parenthesis, closing_parenthesis, opening_bracket, closing_bracket, lexeme, lexeme_of, lexemes}
+use Rattle.sieve_parser.specs.Parsing.{IsStringAt, IsIdentifierAt, lexeme_at, kind_at}
 use Rattle.sieve_parser.proofs.Walk.{lexeme_get, length-lexemes}
 
 -- a script's tokens stand in it

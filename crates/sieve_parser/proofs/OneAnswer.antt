@@ -6,7 +6,8 @@ use Rattle.std.proofs.lemmas.List.{append_assoc, append-nil, take_all, take-appe
 use Rattle.sieve_parser.specs.Lexemes.{Lexeme}
 use Rattle.sieve_parser.specs.Tree.{CommandsTree}
 use Rattle.sieve_parser.specs.Grammar.{Placed, lexemes_placed, commands_spelled, BeginsScript, IsViable, IsScript}
-use Rattle.sieve_parser.specs.TokenMachine.{Symbol, IsGrounded, expand}
+use Rattle.sieve_parser.specs.TokenMachine.{Symbol, expand}
+use Rattle.sieve_parser.specs.Parsing.{IsGrounded}
 use Rattle.sieve_parser.specs.Language.{InStack}
 use Rattle.sieve_parser.specs.Faults.{AreWithinDepth, IsViableWithinDepth, IsSyntaxFault, IsTooDeep}
 use Rattle.sieve_parser.proofs.Faulted.{root, root_grounded, word_of_script, stack_takes, grounded}

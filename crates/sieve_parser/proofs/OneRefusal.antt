@@ -2,10 +2,9 @@
 use Rattle.std.proofs.Common.{◌≡◌, ◌≢◌, ℕ, List, refl, ap, subst, arith}
 use Rattle.sieve_lexer.specs.Tokens.{AreTokens, IsFault}
 use Rattle.sieve_lexer.specs.declared.token.Token.{Token}
-use Rattle.sieve_parser.specs.Lexemes.{Lexeme}
+use Rattle.sieve_parser.specs.Lexemes.{Lexeme, lexemes}
 use Rattle.sieve_parser.specs.Tree.{CommandsTree}
 use Rattle.sieve_parser.specs.Faults.{IsSyntaxFault, IsTooDeep}
-use Rattle.sieve_parser.specs.Parsing.{lexemes}
 use Rattle.sieve_parser.specs.Scripts.{IsParsed, IsParseRefusal}
 use Rattle.sieve_parser.specs.declared.error.ParseError.{ParseError}
 use Rattle.sieve_parser.specs.declared.error.ParseError.TheVariants.{Memory, ScriptTooLong, Lexical, Syntax, TooDeep}

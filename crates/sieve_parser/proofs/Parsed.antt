@@ -9,12 +9,12 @@ use Rattle.octets.specs.Limits.{max_script}
 use Rattle.sieve_lexer.specs.declared.token.Token.{Token}
 use Rattle.sieve_parser.specs.declared.error.ParseError.{ParseError}
 use Rattle.sieve_parser.specs.declared.error.ParseError.TheVariants as parser
-use Rattle.sieve_parser.specs.Lexemes.{Lexeme}
+use Rattle.sieve_parser.specs.Lexemes.{Lexeme, lexemes}
 use Rattle.sieve_parser.specs.Tree.{CommandsTree}
 use Rattle.sieve_parser.specs.Grammar.{IsScript, commands_spelled, lexemes_placed}
 use Rattle.sieve_parser.specs.TokenMachine.{body, reading}
 use Rattle.sieve_parser.specs.Faults.{AreWithinDepth, IsSyntaxFault, IsTooDeep}
-use Rattle.sieve_parser.specs.Parsing.{Beginning, IsAt, IsFaultOf, IsSyntaxFaultIn, IsTooDeepIn, IsIdentifierAt, Stands, lexeme_at, lexemes}
+use Rattle.sieve_parser.specs.Parsing.{Beginning, IsAt, IsFaultOf, IsSyntaxFaultIn, IsTooDeepIn, IsIdentifierAt, Stands, lexeme_at}
 use Rattle.sieve_parser.specs.Refusals.{parse_error}
 use Rattle.sieve_parser.specs.Scripts.{IsParsed, IsGrammarRefusal, IsParseRefusal}
 use Rattle.sieve_parser.proofs.Faulted.{root, root_grounded, script_of_word, word_of_script, read_script_within}

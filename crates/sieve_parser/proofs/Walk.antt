@@ -8,8 +8,8 @@ use Rattle.std.proofs.lemmas.List.Sums.{fold-append}
 use Rattle.sieve_lexer.specs.declared.token.Token.{Token}
 use Rattle.sieve_parser.specs.Lexemes.{Lexeme, semicolon, lexeme, lexemes_from}
 use Rattle.sieve_parser.specs.Grammar.{Placed, at_depth, lexemes_placed}
-use Rattle.sieve_parser.specs.TokenMachine.{Symbol, expand, goes, deep, judged, step, stack_then, advance, IsGrounded, reading_from}
-use Rattle.sieve_parser.specs.Parsing.{Beginning, IsAt, IsDone, IsSyntaxFaultIn, IsTooDeepIn, lexeme_at, read_by, Stands}
+use Rattle.sieve_parser.specs.TokenMachine.{Symbol, expand, goes, deep, judged, step, stack_then, advance, reading_from, IsDone}
+use Rattle.sieve_parser.specs.Parsing.{Beginning, IsAt, IsSyntaxFaultIn, IsTooDeepIn, lexeme_at, read_by, Stands, IsGrounded}
 use Rattle.sieve_parser.specs.Language.{InSymbol, InStack}
 use Rattle.sieve_parser.proofs.Language.{Adds, adds}
 use Rattle.sieve_parser.proofs.Faulted.{complete_stack, reads_back, read_is_completable, wrong_begins_no_text, open_is_no_text}

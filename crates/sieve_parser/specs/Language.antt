@@ -1,4 +1,4 @@
--- The language of each symbol: what it is written as.
+-- Private: the language of each symbol: what it is written as.
 use Rattle.std.specs.Prelude.{◌≡◌, ◌⊎◌, ℕ, zero, suc, List, [], ◌∷◌, ◌++◌}
 use Rattle.sieve_parser.specs.Lexemes.{string, semicolon, opening_brace, closing_brace, closing_parenthesis, closing_bracket}
 use Rattle.sieve_parser.specs.Tree.{ArgumentTree, InvocationTree, TestsTree, MoreTests, CommandsTree}

@@ -44,3 +44,7 @@ lexeme script n token = lexeme_of token.kind n (slice_range script token.start t
 abbrev pub lexemes_from : List ℕ → ℕ → List Token → List Lexeme
 lexemes_from script n [] = []
 lexemes_from script n (token ∷ tokens) = lexeme script n token ∷ lexemes_from script (n + 1) tokens
+
+-- what the grammar reads of all tokens of a script
+abbrev pub lexemes : List ℕ → List Token → List Lexeme
+lexemes script tokens = lexemes_from script 0 tokens

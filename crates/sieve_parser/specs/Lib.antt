@@ -2,10 +2,10 @@ pub mod Lexemes
 pub mod Tree
 pub mod Grammar
 pub mod TokenMachine
-pub mod Language
 pub mod Faults
 pub mod View
 pub mod Refusals
 pub mod Scripts
--- how the parser goes; of it public contracts cite `lexemes` and `IsDone` alone
+-- private: how the code goes; no public contract names these
+pub mod Language
 pub mod Parsing

@@ -1,12 +1,12 @@
--- What the functions of the parser answer.
-use Rattle.std.specs.Prelude.{◌≡◌, ℕ, zero, suc, ◌+◌, ◌<◌, ◌≤◌, List, [], ◌∷◌, ◌++◌, length, take, drop, slice_index_or, Option, Some, None, Result, MatchResult, MatchOption, map, option_map}
+-- Private: what the functions of the parser answer.
+use Rattle.std.specs.Prelude.{◌≡◌, ℕ, suc, ◌+◌, ◌<◌, ◌≤◌, List, [], ◌∷◌, ◌++◌, length, take, drop, slice_index_or, Option, Some, None, Result, MatchResult, MatchOption, map, option_map}
 use Rattle.std.specs.List.{slice_get}
 use Rattle.sieve_lexer.specs.declared.token.Token.{Token}
 use Rattle.sieve_lexer.specs.declared.token.TokenKind.{TokenKind}
-use Rattle.sieve_parser.specs.Lexemes.{Lexeme, semicolon, identifier, tag, number, string, opening_bracket, closing_parenthesis, lexemes_from}
+use Rattle.sieve_parser.specs.Lexemes.{Lexeme, semicolon, identifier, tag, number, string, opening_bracket, closing_parenthesis}
 use Rattle.sieve_parser.specs.Grammar.{Placed, at_depth, lexemes_placed, argument_spelled, arguments_spelled, invocation_spelled, more_tests_spelled, command_spelled, commands_spelled}
 use Rattle.sieve_parser.specs.Language.{InStack}
-use Rattle.sieve_parser.specs.TokenMachine.{IsGrounded, reading_from, Follow, command_end, test_end, Symbol, body, arguments, ending, tests, strings, step}
+use Rattle.sieve_parser.specs.TokenMachine.{reading_from, Follow, command_end, test_end, Symbol, body, arguments, ending, tests, strings, step, IsDone}
 use Rattle.sieve_parser.specs.View.{argument_tree, invocation_tree, more_tests_of, command_tree, commands_tree}
 use Rattle.sieve_parser.specs.declared.tree.Argument.{Argument}
 use Rattle.sieve_parser.specs.declared.tree.Invocation.{Invocation}
@@ -18,10 +18,6 @@ use Rattle.sieve_parser.specs.Faults.{AreWithinDepth}
 use Rattle.sieve_parser.specs.declared.error.ParseError.{ParseError}
 use Rattle.sieve_parser.specs.declared.error.ParseError.TheVariants.{Memory, ScriptTooLong, Lexical, Syntax, TooDeep}
 
--- what the grammar reads of all tokens of a script
-abbrev pub lexemes : List ℕ → List Token → List Lexeme
-lexemes script tokens = lexemes_from script 0 tokens
-
 -- the kind of the token with the number, if there is one
 abbrev pub kind_at : List Token → ℕ → Option TokenKind
 kind_at tokens n = option_map (λ (t : Token). t.kind) (slice_get tokens n)
@@ -29,11 +25,10 @@ kind_at tokens n = option_map (λ (t : Token). t.kind) (slice_get tokens n)
 abbrev pub lexeme_at : List Lexeme → ℕ → Lexeme
 lexeme_at ls n = slice_index_or ls n semicolon
 
--- nothing more has to be read
-abbrev pub IsDone : List Symbol → Type 0
-IsDone [] = Unit {0}
-IsDone (body zero ∷ stack) = IsDone stack
-IsDone _ = ⊥
+-- the end of a script stands last, if at all
+abbrev pub IsGrounded : List Symbol → Type 0
+IsGrounded [] = Unit {0}
+IsGrounded (x ∷ stack) = (x ≡ body 0 → stack ≡ []) × IsGrounded stack
 
 -- What a reading has to read, and the place where it begins. The clauses below speak of every
 -- beginning: of that of the script, and of the place where a function begins with its own rule, so

@@ -6,7 +6,7 @@ use Rattle.sieve_lexer.specs.declared.token.Token.{Token}
 use Rattle.sieve_parser.specs.Tree.{CommandsTree}
 use Rattle.sieve_parser.specs.Grammar.{IsScript, commands_spelled}
 use Rattle.sieve_parser.specs.Faults.{AreWithinDepth, IsSyntaxFault, IsTooDeep}
-use Rattle.sieve_parser.specs.Parsing.{lexemes}
+use Rattle.sieve_parser.specs.Lexemes.{lexemes}
 use Rattle.sieve_parser.specs.declared.error.ParseError.{ParseError}
 use Rattle.sieve_parser.specs.declared.error.ParseError.TheVariants.{Memory, ScriptTooLong, Lexical, Syntax, TooDeep}
 

@@ -1,5 +1,5 @@
 -- A machine that reads lexemes from left to right: what is still to be read after each.
-use Rattle.std.specs.Prelude.{◌≡◌, ℕ, suc, nat_le, List, [], ◌∷◌, ◌++◌, Option, Some, None, fold, if◌then◌else◌}
+use Rattle.std.specs.Prelude.{ℕ, suc, nat_le, List, [], ◌∷◌, ◌++◌, Option, Some, None, fold, if◌then◌else◌, zero}
 use Rattle.octets.specs.Limits.{max_nesting}
 use Rattle.sieve_parser.specs.Lexemes.{Lexeme, identifier, tag, number, string, semicolon, comma, opening_brace, closing_brace, opening_parenthesis, closing_parenthesis, opening_bracket, closing_bracket}
 
@@ -76,7 +76,8 @@ reading_from symbols ls = fold advance (Some symbols) ls
 abbrev pub reading : List Lexeme → Option (List Symbol)
 reading ls = reading_from (body 0 ∷ []) ls
 
--- the end of a script stands last, if at all
-abbrev pub IsGrounded : List Symbol → Type 0
-IsGrounded [] = Unit {0}
-IsGrounded (x ∷ stack) = (x ≡ body 0 → stack ≡ []) × IsGrounded stack
+-- nothing more has to be read
+abbrev pub IsDone : List Symbol → Type 0
+IsDone [] = Unit {0}
+IsDone (body zero ∷ stack) = IsDone stack
+IsDone _ = ⊥

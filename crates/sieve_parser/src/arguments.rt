@@ -1,7 +1,8 @@
 // The arguments of a command or test, without its tests.
 ghost use Rattle.std.specs.Prelude.{◌≤◌, ◌<◌, ◌^◌, length};
 ghost use Rattle.sieve_lexer.specs.Tokens.{AreTokens};
-ghost use Rattle.sieve_parser.specs.Parsing.{AreArgumentsAt, IsArgumentAt, lexemes};
+ghost use Rattle.sieve_parser.specs.Parsing.{AreArgumentsAt, IsArgumentAt};
+ghost use Rattle.sieve_parser.specs.Lexemes.{lexemes};
 
 use crate::error::ParseError;
 use crate::strings::string_list;

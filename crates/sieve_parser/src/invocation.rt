@@ -2,7 +2,8 @@
 ghost use Rattle.std.specs.Prelude.{◌≤◌, ◌<◌, ◌^◌, length};
 ghost use Rattle.octets.specs.Limits.{max_nesting};
 ghost use Rattle.sieve_lexer.specs.Tokens.{AreTokens};
-ghost use Rattle.sieve_parser.specs.Parsing.{AreTestsAfter, IsInvocationAt, IsTestAt, lexemes};
+ghost use Rattle.sieve_parser.specs.Parsing.{AreTestsAfter, IsInvocationAt, IsTestAt};
+ghost use Rattle.sieve_parser.specs.Lexemes.{lexemes};
 
 use crate::MAX_NESTING;
 use crate::arguments::arguments;

@@ -4,8 +4,7 @@ ghost use Rattle.std.specs.Prelude.{◌≡◌, ◌≢◌, ◌≤◌, ◌++◌, �
 ghost use Rattle.sieve_parser.specs.Faults.{IsViableWithinDepth};
 ghost use Rattle.sieve_parser.specs.Grammar.{IsViable, IsScript, commands_spelled};
 ghost use Rattle.sieve_parser.specs.Lexemes.{Lexeme};
-ghost use Rattle.sieve_parser.specs.TokenMachine.{Symbol, wrong, reading, step};
-ghost use Rattle.sieve_parser.specs.Parsing.{IsDone};
+ghost use Rattle.sieve_parser.specs.TokenMachine.{Symbol, wrong, reading, step, IsDone};
 ghost use Rattle.sieve_parser.specs.Scripts.{IsParsed, IsParseRefusal};
 ghost use Rattle.sieve_parser.specs.Tree.{CommandsTree};
 ghost use Rattle.sieve_parser.specs.declared.error.ParseError.{ParseError};

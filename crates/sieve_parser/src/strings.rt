@@ -1,7 +1,8 @@
 // Lists of strings.
 ghost use Rattle.std.specs.Prelude.{◌≤◌, ◌<◌, ◌^◌, length};
 ghost use Rattle.sieve_lexer.specs.Tokens.{AreTokens};
-ghost use Rattle.sieve_parser.specs.Parsing.{IsExpectedString, IsListAfter, lexemes};
+ghost use Rattle.sieve_parser.specs.Parsing.{IsExpectedString, IsListAfter};
+ghost use Rattle.sieve_parser.specs.Lexemes.{lexemes};
 
 use crate::error::ParseError;
 use crate::token_at::{stands, string_at};

@@ -2,7 +2,8 @@
 ghost use Rattle.std.specs.Prelude.{◌≡◌, ◌↔◌, IsTrue, IfOk};
 ghost use Rattle.std.specs.List.{slice_get};
 ghost use Rattle.sieve_lexer.specs.Tokens.{AreTokens};
-ghost use Rattle.sieve_parser.specs.Parsing.{IsIdentifierAt, IsStringAt, kind_at, lexemes};
+ghost use Rattle.sieve_parser.specs.Parsing.{IsIdentifierAt, IsStringAt, kind_at};
+ghost use Rattle.sieve_parser.specs.Lexemes.{lexemes};
 
 use octets::Octets;
 use sieve_lexer::{Token, TokenKind, string_of};

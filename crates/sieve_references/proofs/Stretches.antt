@@ -1,5 +1,5 @@
 -- The stretch before the first reference.
-use Rattle.std.proofs.Common.{◌≡◌, ◌≢◌, subst, ℕ, zero, suc, ◌+◌, ◌<◌, ◌≤◌, ◌==◌, ◌&&◌, Bool, true, false, List, [], ◌∷◌, ◌++◌, length, take, drop, Option, Some, None, is_some, All, option_map, if◌then◌else◌, refl, sym, ap, ◌∙◌, inl, inr, arith}
+use Rattle.std.proofs.Common.{◌≡◌, ◌≢◌, subst, ℕ, zero, suc, ◌+◌, ◌-◌, ◌<◌, ◌≤◌, ◌==◌, ◌&&◌, Bool, true, false, List, [], ◌∷◌, ◌++◌, length, take, drop, Option, Some, None, is_some, All, option_map, if◌then◌else◌, refl, sym, ap, ◌∙◌, inl, inr, arith}
 use Rattle.std.specs.Prelude.{nat_le, MatchOption}
 use Rattle.std.specs.List.{list_all}
 use Rattle.std.specs.Option.{option_and_then}
@@ -223,14 +223,34 @@ left_within after rest segment e =
     let f = behind_some after segment rest e in
     omega (arith, ap length f.left, length-drop f.found.rest after)
 
+-- what is left after so many octets is the text's end of that length
+pub end_of : (n : ℕ) (text : List ℕ) → drop n text ≡ drop (length text - length (drop n text)) text
+end_of zero text = let none : length text - length text ≡ 0 = omega arith in rw none refl
+end_of (suc n) [] = refl
+end_of (suc n) (x ∷ xs) =
+    let within = length-drop n xs in
+    let more : length (x ∷ xs) - length (drop n xs) ≡ suc (length xs - length (drop n xs)) = omega (arith, within) in
+    rw more (end_of n xs)
+
+end_behind : (after rest : List ℕ) (segment : Segment) → reference_behind after ≡ Some (found_with rest segment) → rest ≡ drop (length after - length rest) after
+end_behind after rest segment e =
+    let f = behind_some after segment rest e in
+    subst (λ left. left ≡ drop (length after - length left) after) f.left (end_of f.found.rest after)
+
 -- the reference that a text begins with is its first segment
-pub segments_reference : (text rest : List ℕ) (segment : Segment) → found_at text ≡ Some (found_with rest segment) → (segments text ≡ segment ∷ segments rest) × (length rest < length text)
+pub segments_reference : (text rest : List ℕ) (segment : Segment) → found_at text ≡ Some (found_with rest segment)
+    → (segments text ≡ segment ∷ segments rest) × (length rest < length text) × (rest ≡ drop (length text - length rest) text)
 segments_reference [] rest segment e = absurd (cc)
 segments_reference (x ∷ after) rest segment e =
     elim (cases_Bool (x == 36)) [
       | inl dollar ↦
           let here : reference_behind after ≡ Some (found_with rest segment) = rw dollar at e in
-          (ap (λ z. segments (z ∷ after)) (eqb-true x 36 dollar) ∙ segments_behind after rest segment here, omega (arith, left_within after rest segment here))
+          let within = left_within after rest segment here in
+          let more : length (x ∷ after) - length rest ≡ suc (length after - length rest) = omega (arith, within) in (
+            ap (λ z. segments (z ∷ after)) (eqb-true x 36 dollar) ∙ segments_behind after rest segment here,
+            omega (arith, within),
+            end_behind after rest segment here ∙ ap (λ n. drop n (x ∷ after)) (sym more),
+          )
       | inr other ↦ absurd (let none = rw other at e in cc)
     ]
 

@@ -1,5 +1,5 @@
 pub mod References
 pub mod SegmentView
 pub mod WellFormed
--- how references are read; nothing public rests on these
+-- private: how the code goes; no public contract names these
 pub mod Reading

@@ -1,5 +1,5 @@
 // The segments of a string.
-ghost use Rattle.std.specs.Prelude.{◌≡◌, ◌<◌, ◌∷◌, [], length, MatchOption};
+ghost use Rattle.std.specs.Prelude.{◌≡◌, ◌-◌, ◌<◌, ◌∷◌, [], drop, length, MatchOption};
 ghost use Rattle.sieve_references.specs.References.{segments};
 ghost use Rattle.sieve_references.specs.Reading.{octets_before};
 ghost use Rattle.sieve_references.specs.SegmentView.{segment_of};
@@ -22,13 +22,14 @@ pub enum Segment<'s> {
     Foreign,
 }
 
-/// The first segment of a string, and what stands after it; none where nothing is left.
+/// The first segment of a string, and what is after it, which is the end of the text; none where nothing is left.
 ///
 /// Segments that are taken one after the other cost time in proportion to the string's length, whatever it has.
 pub fn first_segment(text: &[u8]) -> Option<(Segment<'_>, &[u8])>
     ensures { MatchOption result (text.now ≡ [])
         (λ f. (segments text.now ≡ segment_of f.0 ∷ segments f.1.now)
-        × (length f.1.now < length text.now)) }
+        × (length f.1.now < length text.now)
+        × (f.1.now ≡ drop (length text.now - length f.1.now) text.now)) }
 {
     if text.is_empty() {
         return None;

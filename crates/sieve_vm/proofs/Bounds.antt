@@ -19,7 +19,7 @@ use Rattle.bytecode_verifier.proofs.Nesting.{nesting}
 use Rattle.sieve_vm.proofs.Opened.{open-length, inside}
 use Rattle.sieve_vm.proofs.Reached.{IsReached, IsSound}
 use Rattle.sieve_vm.proofs.SoundSteps.{step_is_sound, start_is_reached, runs_are_reached}
-use Rattle.sieve_vm.proofs.Falls.{potential-here, potential-start}
+use Rattle.sieve_vm.proofs.Falls.{cap_there, potential-here, potential-start}
 
 -- what holds of all elements holds of those that are left where each stays once
 All-once : {A : Type 0} (same : A → A → Bool) (P : A → Type 0) (xs : List A) → All P xs → All P (each_once same xs)
@@ -45,7 +45,7 @@ module _ (code : Code) (mail : Mail) (is : IsAccepted code) (known : IsMail mail
   falls : (s after : State) → IsReached code mail s → step code mail s ≡ goes after → potential code mail after + after.charge ≤ potential code mail s + s.charge
   falls s after there e =
       let turn = sound s (goes after) there e in
-      omega (arith, turn.2, turn.1.within)
+      omega (arith, turn.2 (cap_there code mail), turn.1.within)
 
   pub falls_along : (n : ℕ) (s after : State) → Run code mail n (start code) s → step code mail s ≡ goes after → potential code mail after + after.charge ≤ potential code mail s + s.charge
   falls_along n s after run e = falls s after (reached n s run) e
@@ -54,7 +54,7 @@ module _ (code : Code) (mail : Mail) (is : IsAccepted code) (known : IsMail mail
   last_falls s end there e =
       let turn = sound s (ends end) there e in
       let depth = open-length mail s.frames _ there.opened in
-      omega (arith, potential-here code mail s.frames s.place depth (inside code mail s.frames s.place (nesting code is) there.opened there.within), turn.0.within)
+      omega (arith, potential-here code mail (cap_there code mail) s.frames s.place depth (inside code mail s.frames s.place (nesting code is) there.opened there.within), turn.0.within)
 
   pub falls_at_end : (n : ℕ) (s end : State) → Run code mail n (start code) s → step code mail s ≡ ends end → end.charge ≤ potential code mail s + s.charge
   falls_at_end n s end run e = last_falls s end (reached n s run) e

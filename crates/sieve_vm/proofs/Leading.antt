@@ -79,7 +79,7 @@ module _ (code : Code) (mail : Mail) (is : IsAccepted code) (known : IsMail mail
               texts = texts;
               stores = stores;
             };
-            falls = subst (Falls code mail s (suc s.place)) (sym frames) (potential-forward code mail s.frames s.place (suc s.place) depth before_end (omega arith));
+            falls = subst (Falls code mail s (suc s.place)) (sym frames) (λ price. potential-forward code mail price s.frames s.place (suc s.place) depth before_end (omega arith));
           },
         )
 
@@ -101,7 +101,7 @@ module _ (code : Code) (mail : Mail) (is : IsAccepted code) (known : IsMail mail
             texts = texts;
             stores = stores;
           };
-          falls = subst (Falls code mail s i.c) (sym frames) (potential-forward code mail s.frames s.place i.c depth before_end (jump_forward code is s.place i here jump));
+          falls = subst (Falls code mail s i.c) (sym frames) (λ price. potential-forward code mail price s.frames s.place i.c depth before_end (jump_forward code is s.place i here jump));
         }
 
     pub sound_jump : is_jump (row_in code i) ≡ true → is_sound_jump (referred_in code) s i ≡ true

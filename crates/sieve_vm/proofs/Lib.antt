@@ -19,6 +19,7 @@ pub mod Chains
 pub mod PlainRuns
 pub mod Versions
 pub mod Bounds
+pub mod Listed
 pub mod Steps
 pub mod StackSteps
 pub mod PartSteps

@@ -15,10 +15,10 @@ use Rattle.bytecode_verifier.proofs.Nesting.{Nesting}
 use Rattle.mime_decode.specs.Mail.{Mail, IsMail}
 use Rattle.sieve_vm.specs.State.{Frame, State, current_part}
 use Rattle.sieve_vm.specs.Machine.{fails, are_partners, open_loop, next_part, next, close, effect, referred_in}
-use Rattle.sieve_vm.specs.Potential.{potential_from}
+use Rattle.sieve_vm.specs.Potential.{left_from}
 use Rattle.mime_decode.specs.Scope.{visited}
 use Rattle.bytecode_verifier.proofs.Nesting.{nesting}
-use Rattle.sieve_vm.proofs.Falls.{depth_at, cap_there, end_of, potential-forward, potential-enter, potential-again, potential-leave, potential-break}
+use Rattle.sieve_vm.proofs.Falls.{depth_at, end_of, potential-forward, potential-enter, potential-again, potential-leave, potential-break}
 use Rattle.sieve_vm.proofs.Opened.{loop_of, IsPart, AreOpen, open-length, last_of_both, is_among, some_left, close-is, AreVisited, are_visited, first_inside, IsUnderWay, visited-inside, under_way, below-left, inside}
 use Rattle.sieve_vm.proofs.Taking.{Describes}
 use Rattle.sieve_vm.proofs.Reached.{HoldsTexts, IsReached, Falls, LeadsTo, Leads, empty-some, no_stack, All-head, All-tail}
@@ -115,7 +115,7 @@ module _ (code : Code) (mail : Mail) (is : IsAccepted code) (known : IsMail mail
         go [] all are =
             leads_to_bracket (suc i.c) s within.2 (shape_after_next code is i.c _ (nested.partners (suc s.place) outer loop [] opened).1) none refl
             (subst (AreOpen mail s.frames) (sym (nested.around (suc s.place) outer loop [] opened).1) from.opened) refl refl refl
-            (potential-forward code mail s.frames s.place (suc i.c) depth before_end (omega (arith, within.1)))
+            (λ price. potential-forward code mail price s.frames s.place (suc i.c) depth before_end (omega (arith, within.1)))
         go (part ∷ rest) all are =
             let way : IsUnderWay mail (at_first part rest) s.frames =
             under_way mail s.place i.c s.frames (first_inside s.frames) part rest known (omega arith) (sym (visited-inside mail s.frames) ∙ all) in (
@@ -123,7 +123,7 @@ module _ (code : Code) (mail : Mail) (is : IsAccepted code) (known : IsMail mail
               leads_to_bracket (suc s.place) (record s { frames = at_first part rest ∷ s.frames }) (omega (arith, within.1, within.2))
                   (shape_after_each code is s.place _ (nested.partners (suc s.place) outer loop [] opened).0) none refl
                   (outer, opened, from.opened, All-head (IsPart mail) part rest are.each, All-tail (IsPart mail) part rest are.each, way) refl refl refl
-                  (potential-enter code mail s.frames s.place i.c part rest depth (omega (arith, within.1)) (ends s.frames from.opened) deeper all are.few (below-left mail (at_first part rest) s.frames way)),
+                  (λ price. potential-enter code mail price s.frames s.place i.c part rest depth (omega (arith, within.1)) (ends s.frames from.opened) deeper all are.few (below-left mail (at_first part rest) s.frames way)),
             )
 
     pub leads_next : operation_of i.op ≡ Some Next → Leads code mail s (effect (referred_in code) mail Next i s)
@@ -159,9 +159,9 @@ module _ (code : Code) (mail : Mail) (is : IsAccepted code) (known : IsMail mail
         turn_of_frame f fs same each_is next_is are way [] rest_is rest deep = (
           refl,
           leads_to_bracket (suc s.place) (record s { frames = fs }) within.2 shape_next_is none refl are refl refl refl
-              (subst (λ gs. potential_from code mail (suc s.place) fs + cap_there code mail s.place ≤ potential_from code mail s.place gs) (sym same)
-              (subst (λ p. potential_from code mail (suc p) fs + cap_there code mail s.place ≤ potential_from code mail s.place (f ∷ fs)) next_is
-              (potential-leave code mail f fs s.place deep (omega (arith, next_is))))),
+              (λ price. subst (λ gs. left_from code mail price (suc s.place) fs + price s.place ≤ left_from code mail price s.place gs) (sym same)
+              (subst (λ p. left_from code mail price (suc p) fs + price s.place ≤ left_from code mail price s.place (f ∷ fs)) next_is
+              (potential-leave code mail price f fs s.place deep (omega (arith, next_is))))),
         )
         turn_of_frame f fs same each_is next_is are way (p ∷ rest) rest_is all deep =
             let after = way.after in
@@ -175,9 +175,9 @@ module _ (code : Code) (mail : Mail) (is : IsAccepted code) (known : IsMail mail
             leads_to_bracket (suc f.each) (record s { frames = record f { part = p; rest = rest } ∷ fs }) (omega (arith, each_is, within.0, from.within))
             (subst (λ n. shape_at code (suc n) ≡ Some []) (sym each_is) shape_each) none refl
             (outer, here_again ∙ ap (λ l. outer ++ l ∷ []) same_loop, are, All-head (IsPart mail) p rest all, All-tail (IsPart mail) p rest all, on) refl refl refl
-            (subst (λ gs. potential_from code mail (suc f.each) (record f { part = p; rest = rest } ∷ fs) + cap_there code mail s.place ≤ potential_from code mail s.place gs) (sym same)
-            (subst (λ n. potential_from code mail (suc f.each) (record f { part = p; rest = rest } ∷ fs) + cap_there code mail n ≤ potential_from code mail n (f ∷ fs)) next_is
-            (potential-again code mail f fs p rest (ap (depth_at code mail) next_is ∙ deep) deeper rest_is (below-left mail (record f { part = p; rest = rest }) fs on))))
+            (λ price. subst (λ gs. left_from code mail price (suc f.each) (record f { part = p; rest = rest } ∷ fs) + price s.place ≤ left_from code mail price s.place gs) (sym same)
+            (subst (λ n. left_from code mail price (suc f.each) (record f { part = p; rest = rest } ∷ fs) + price n ≤ left_from code mail price n (f ∷ fs)) next_is
+            (potential-again code mail price f fs p rest (ap (depth_at code mail) next_is ∙ deep) deeper rest_is (below-left mail (record f { part = p; rest = rest }) fs on))))
 
         go : (fs : List Frame) → s.frames ≡ fs → AreOpen mail fs (open_loops code s.place) → Leads code mail s (next (referred_in code) i.c s fs)
         go [] same are = absurd (omega (arith, ap length (sym closed ∙ are), length-append outer (loop ∷ [])))
@@ -200,4 +200,4 @@ module _ (code : Code) (mail : Mail) (is : IsAccepted code) (known : IsMail mail
         subst (Leads code mail s) (sym (ap (λ n. close n s s.frames) number ∙ close-is (i.a - 1) s s.frames left.0 left.1 left.2))
         (leads_to_bracket (suc left.0.next) (record s { frames = left.1 }) within.2 (shape_after_next code is left.0.next _ partners.1) (no_entries Break e (λ es. refl)) refl
         (subst (AreOpen mail left.1) (sym (nested.around s.place among.outer (loop_of left.0) among.inner among.split).1) among.around) refl refl refl
-        (potential-break code mail (i.a - 1) s.frames left.0 left.1 s.place depth before_end left.2))
+        (λ price. potential-break code mail price (i.a - 1) s.frames left.0 left.1 s.place depth before_end left.2))

@@ -18,7 +18,7 @@ use Rattle.mime_decode.specs.Mail.{Mail, Part}
 use Rattle.sieve_vm.specs.State.{Value, truth, text, Frame, State, Turn, goes, ends, traps}
 use Rattle.sieve_vm.specs.Stores.{NamesPart}
 use Rattle.sieve_vm.specs.Machine.{Effect, on, jumps, halts, fails}
-use Rattle.sieve_vm.specs.Potential.{potential_from, potential}
+use Rattle.sieve_vm.specs.Potential.{left_from}
 use Rattle.glob_match.specs.Matching.{max_captures}
 use Rattle.glob_match.specs.declared.match_type.Match.{Match}
 use Rattle.mail_matching.specs.FirstMatch.{first_match}
@@ -71,9 +71,10 @@ pub record Costs (code : Code) (mail : Mail) (from : State) (charge : ℕ) : Typ
   pub dearer : from.charge < charge
   pub within : charge ≤ from.charge + cap_there code mail from.place
 
--- what a run may still charge at a place and in these loops is less than from the state by the cap of its instruction
+-- whatever price each place has, what a run may still come to at a place and in these loops is less than from the state by the
+-- price of its instruction
 abbrev pub Falls : Code → Mail → State → ℕ → List Frame → Type 0
-Falls code mail from target frames = potential_from code mail target frames + cap_there code mail from.place ≤ potential code mail from
+Falls code mail from target frames = (price : ℕ → ℕ) → left_from code mail price target frames + price from.place ≤ left_from code mail price from.place from.frames
 
 -- what is true of a state at its end holds of its actions
 abbrev pub EndsWell : Mail → State → Type 0

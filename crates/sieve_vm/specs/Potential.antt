@@ -1,4 +1,4 @@
--- What a run may still charge.
+-- What a run may still charge; or, where each place has another price, what it may still come to.
 use Rattle.std.specs.Prelude.{ℕ, suc, ◌+◌, ◌-◌, ◌*◌, ◌==◌, List, [], ◌∷◌, length, nat_le, if◌then◌else◌}
 use Rattle.bytecode_format.specs.Code.{Code}
 use Rattle.bytecode_verifier.specs.Places.{sum_below}
@@ -14,16 +14,19 @@ use Rattle.sieve_vm.specs.State.{Frame, State, current_part}
 abbrev pub cap_value : Mail → Cap → ℕ
 cap_value mail cap = cap.fixed + cap.scaled * (size_of mail + 1)
 
--- what the instruction at a place may charge inside so many loops: its cap, for each turn of the
--- further loops that it stands in, the outermost of which has so many parts to visit
-abbrev pub weight_at : Code → Mail → ℕ → ℕ → ℕ → ℕ
-weight_at code mail visits depth place =
-    cap_value mail (cap_at code place) * turns_left code.version (length mail.parts) visits
-    (length (open_loops code place) - depth)
+-- what the instruction at a place may charge each time
+abbrev pub charge_at : Code → Mail → ℕ → ℕ
+charge_at code mail place = cap_value mail (cap_at code place)
 
--- what the instructions from a place on and before another may charge there
-abbrev pub stretch : Code → Mail → ℕ → ℕ → ℕ → ℕ → ℕ
-stretch code mail visits depth from to = sum_below (λ place. if nat_le from place then weight_at code mail visits depth place else 0) to
+-- what the instruction at a place comes to inside so many loops, where each place has a price: that, for
+-- each turn of the further loops that it stands in, the outermost of which has so many parts to visit
+abbrev pub weight_at : Code → Mail → (ℕ → ℕ) → ℕ → ℕ → ℕ → ℕ
+weight_at code mail price visits depth place =
+    price place * turns_left code.version (length mail.parts) visits (length (open_loops code place) - depth)
+
+-- what the instructions from a place on and before another come to there
+abbrev pub stretch : Code → Mail → (ℕ → ℕ) → ℕ → ℕ → ℕ → ℕ → ℕ
+stretch code mail price visits depth from to = sum_below (λ place. if nat_le from place then weight_at code mail price visits depth place else 0) to
 
 -- how many parts count for a loop that would be opened now: in programs of version 2 those that it
 -- would visit, else all
@@ -33,12 +36,16 @@ visits_now code mail frames = if code.version == 2 then length (visited (current
 -- the rest of the innermost open loop's body, and the whole body again for the parts that the loop
 -- has left; then the same for the loop around it, from after the inner Next; in the end the rest of
 -- the program
+abbrev pub left_from : Code → Mail → (ℕ → ℕ) → ℕ → List Frame → ℕ
+left_from code mail price place [] = stretch code mail price (visits_now code mail []) 0 place (length code.instructions)
+left_from code mail price place (frame ∷ frames) =
+    stretch code mail price (visits_now code mail (frame ∷ frames)) (suc (length frames)) place (suc frame.next)
+    + stretch code mail price (length frame.rest) (length frames) (suc frame.each) (suc frame.next)
+    + left_from code mail price (suc frame.next) frames
+
+-- what a run may still charge at a place and in these loops
 abbrev pub potential_from : Code → Mail → ℕ → List Frame → ℕ
-potential_from code mail place [] = stretch code mail (visits_now code mail []) 0 place (length code.instructions)
-potential_from code mail place (frame ∷ frames) =
-    stretch code mail (visits_now code mail (frame ∷ frames)) (suc (length frames)) place (suc frame.next)
-    + stretch code mail (length frame.rest) (length frames) (suc frame.each) (suc frame.next)
-    + potential_from code mail (suc frame.next) frames
+potential_from code mail place frames = left_from code mail (charge_at code mail) place frames
 
 -- what a run may still charge from a state
 abbrev pub potential : Code → Mail → State → ℕ

@@ -1,4 +1,4 @@
--- Texts that several may hold.
+-- Private: texts that several may hold.
 use Rattle.std.specs.Prelude.{◌≡◌, ℕ, List, [], Option, None, IfSome, slice_index_or}
 use Rattle.sieve_vm.specs.declared.shared_text.SharedText.{SharedText}
 use Rattle.sieve_vm.specs.declared.shared_text.SharedText.TheVariants.{Lent, Shared}

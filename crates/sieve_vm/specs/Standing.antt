@@ -1,4 +1,4 @@
--- How the machine's fields stand for a state of a run.
+-- Private: how the machine's fields stand for a state of a run.
 use Rattle.std.specs.Prelude.{◌≡◌, ◌<◌, ◌+◌, ℕ, true, List, [], map, reverse}
 use Rattle.bytecode_format.specs.Actions.{first_occurrences}
 use Rattle.bytecode_format.specs.Code.{Code}

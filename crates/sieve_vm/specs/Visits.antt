@@ -1,4 +1,4 @@
--- What the open loops of the code stand for.
+-- Private: what the open loops of the code stand for.
 use Rattle.std.specs.Prelude.{◌≡◌, ℕ, suc, ◌-◌, ◌==◌, Bool, true, false, List, [], ◌∷◌, Option, Some, None, IfSome, is_some, length, map, reverse, take, drop, slice_get, slice_index_or, if◌then◌else◌}
 use Rattle.std.specs.Cow.{cow_slice_items}
 use Rattle.std.specs.Option.{option_and_then}

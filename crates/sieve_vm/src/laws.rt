@@ -2,7 +2,10 @@
 ghost use Rattle.std.specs.Prelude.{◌≡◌, ◌≢◌, ℕ, suc, ◌+◌, ◌≤◌, All, List, length};
 ghost use Rattle.bytecode_format.specs.Code.{Code};
 ghost use Rattle.bytecode_verifier.specs.Acceptance.{IsAccepted};
+ghost use Rattle.bytecode_verifier.specs.Counting.{entries_at, times_at};
 ghost use Rattle.bytecode_verifier.specs.Loops.{open_loops};
+ghost use Rattle.bytecode_verifier.specs.declared.counting.Counted.{Counted};
+ghost use Rattle.bytecode_verifier.specs.declared.counting.Counted.TheVariants.{Stores};
 ghost use Rattle.mime_decode.specs.Mail.{Mail, IsMail};
 ghost use Rattle.sieve_vm.specs.State.{State, goes, ends, traps, start};
 ghost use Rattle.sieve_vm.specs.Machine.{step};
@@ -12,6 +15,7 @@ ghost use Rattle.sieve_vm.specs.Chained.{AreChained};
 ghost use Rattle.sieve_vm.specs.Plain.{IsChain, IsPlain};
 ghost use Rattle.bytecode_format.specs.declared.action.Action.{Action};
 ghost use Rattle.sieve_vm.specs.Ending.{IsOutcome};
+ghost use Rattle.sieve_vm.specs.Listed.{number_of};
 ghost use Rattle.sieve_vm.specs.Stores.{NamesPart};
 
 /// Accepted programs never trap: no state that a run reaches from the start steps to a trap.
@@ -53,6 +57,25 @@ pub fn turns_are_chains()
     ensures depth { (code : Code) (mail : Mail) (steps : ℕ) (state : State)
         → Reaches code mail steps state
         → length state.frames ≡ length (open_loops code state.place) }
+{}
+
+/// A run lists at most as many actions as the instructions that list one may run, each once for each
+/// of its turns, and stores parts at most as often as those that do may.
+pub fn runs_list_what_is_counted()
+    ensures { (code : Code) (mail : Mail) (steps : ℕ) (state : State)
+        → Reaches code mail steps state → (counted : Counted)
+        → number_of counted state.actions ≤ times_at counted code (length mail.parts) }
+{}
+
+/// Its final actions are at most one more, for the implicit keep, and those of them that store a part
+/// aren't more.
+pub fn outcomes_have_few_actions()
+    ensures actions { (code : Code) (mail : Mail) (actions : List Action) (charged : ℕ)
+        → IsAccepted code → IsMail mail → IsOutcome code mail actions charged
+        → length actions ≤ entries_at code (length mail.parts) }
+    ensures stores { (code : Code) (mail : Mail) (actions : List Action) (charged : ℕ)
+        → IsAccepted code → IsMail mail → IsOutcome code mail actions charged
+        → number_of Stores actions ≤ times_at Stores code (length mail.parts) }
 {}
 
 /// The run of an accepted program reaches its end, within the budget.

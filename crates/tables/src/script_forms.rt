@@ -1,9 +1,9 @@
 // The typed forms of scripts.
 use crate::printed::Printed;
-use bytecode_format::{Case, Modifiers, Scope};
+use bytecode_format::{Case, Modifiers, Scope, Selector};
 use glob_match::{Comparator, Match, MatchType};
 use refusals::Refusal;
-use sieve_check::{Branch, Command, Order, Segment, Selection, Test};
+use sieve_check::{Act, Branch, Command, Order, Question, Segment, Test};
 use sieve_engine::check_script;
 use std::alloc::{AllocError, Global};
 
@@ -24,36 +24,8 @@ fn put_commands(commands: &[Command], answer: &mut Printed) -> Result<(), AllocE
 #[cycle(commands)]
 fn put_command(command: &Command, answer: &mut Printed) -> Result<(), AllocError> {
     match command {
-        Command::Keep => answer.word("keep"),
-        Command::Discard => answer.word("discard"),
-        Command::Stop => answer.word("stop"),
-        Command::FileInto(folder) => {
-            answer.word("fileinto")?;
-            put_string(folder, answer)
-        }
-        Command::Store(folder) => {
-            answer.word("store")?;
-            put_string(folder, answer)
-        }
-        Command::Take { most, name } => {
-            answer.word("take")?;
-            answer.number(u64::from(*most))?;
-            answer.text(name.as_slice())
-        }
-        Command::Break(loops) => {
-            answer.word("break")?;
-            answer.number(*loops as u64)
-        }
-        Command::Set {
-            modifiers,
-            name,
-            value,
-        } => {
-            put_modifiers(*modifiers, answer)?;
-            answer.text(name.as_slice())?;
-            put_string(value, answer)
-        }
-        Command::ForEveryPart(block) => {
+        Command::Does { act, string, .. } => put_act(act, string, answer),
+        Command::ForEveryPart { block, .. } => {
             answer.word("foreverypart")?;
             put_block(block, answer)
         }
@@ -66,6 +38,37 @@ fn put_command(command: &Command, answer: &mut Printed) -> Result<(), AllocError
                 }
                 None => Ok(()),
             }
+        }
+    }
+}
+
+// Adds an action, with the string of one that takes one.
+fn put_act(act: &Act, string: &[Segment], answer: &mut Printed) -> Result<(), AllocError> {
+    match act {
+        Act::Keep => answer.word("keep"),
+        Act::Discard => answer.word("discard"),
+        Act::Stop => answer.word("stop"),
+        Act::FileInto => {
+            answer.word("fileinto")?;
+            put_string(string, answer)
+        }
+        Act::Store => {
+            answer.word("store")?;
+            put_string(string, answer)
+        }
+        Act::Take { most, name } => {
+            answer.word("take")?;
+            answer.number(u64::from(*most))?;
+            answer.text(name.as_slice())
+        }
+        Act::Leave(loops) => {
+            answer.word("break")?;
+            answer.number(u64::from(*loops))
+        }
+        Act::Set { modifiers, name } => {
+            put_modifiers(*modifiers, answer)?;
+            answer.text(name.as_slice())?;
+            put_string(string, answer)
         }
     }
 }
@@ -92,23 +95,30 @@ fn put_block(block: &[Command], answer: &mut Printed) -> Result<(), AllocError> 
 #[cycle(tests)]
 fn put_test(test: &Test, answer: &mut Printed) -> Result<(), AllocError> {
     match test {
-        Test::Constant(true) => answer.word("true"),
-        Test::Constant(false) => answer.word("false"),
-        Test::Not(inner) => {
-            answer.word("not")?;
-            put_test(inner, answer)
+        Test::Asks {
+            question,
+            strings,
+            ..
+        } => {
+            put_question(*question, answer)?;
+            put_taken(&strings.params, answer)?;
+            put_taken(&strings.names, answer)?;
+            put_taken(&strings.keys, answer)
         }
-        Test::AllOf(first, others) => {
+        Test::Not { test, .. } => {
+            answer.word("not")?;
+            put_test(test, answer)
+        }
+        Test::AllOf { first, others, .. } => {
             answer.word("allof (")?;
             put_test(first, answer)?;
             put_others(others, answer)
         }
-        Test::AnyOf(first, others) => {
+        Test::AnyOf { first, others, .. } => {
             answer.word("anyof (")?;
             put_test(first, answer)?;
             put_others(others, answer)
         }
-        _ => put_simple_test(test, answer),
     }
 }
 
@@ -122,50 +132,32 @@ fn put_others(tests: &[Test], answer: &mut Printed) -> Result<(), AllocError> {
     answer.word(")")
 }
 
-// Adds a test that has no other in it.
-fn put_simple_test(test: &Test, answer: &mut Printed) -> Result<(), AllocError> {
-    match test {
-        Test::Header {
-            matching,
-            scope,
-            selection,
-            names,
-            keys,
-        } => {
+// Adds what a simple test asks.
+fn put_question(question: Question, answer: &mut Printed) -> Result<(), AllocError> {
+    match question {
+        Question::Constant(true) => answer.word("true"),
+        Question::Constant(false) => answer.word("false"),
+        Question::Header(test) => {
             answer.word("header")?;
-            put_match(*matching, answer)?;
-            put_scope(*scope, answer)?;
-            put_selection(selection, answer)?;
-            put_strings(names, answer)?;
-            put_strings(keys, answer)
+            put_match(test.how, answer)?;
+            put_scope(test.scope, answer)?;
+            put_selector(test.selector, answer)
         }
-        Test::Exists(scope, names) => {
+        Question::Exists(scope) => {
             answer.word("exists")?;
-            put_scope(*scope, answer)?;
-            put_strings(names, answer)
+            put_scope(scope, answer)
         }
-        Test::Size(order, size) => put_size("size", *order, *size, answer),
-        Test::String {
-            matching,
-            sources,
-            keys,
-        } => {
+        Question::Size(order, size) => put_size("size", order, size, answer),
+        Question::String(matching) => {
             answer.word("string")?;
-            put_match(*matching, answer)?;
-            put_strings(sources, answer)?;
-            put_strings(keys, answer)
+            put_match(matching, answer)
         }
-        Test::PartSize(order, size) => put_size("partsize", *order, *size, answer),
-        Test::PartBody { matching, keys } => {
+        Question::PartSize(order, size) => put_size("partsize", order, size, answer),
+        Question::PartBody(matching) => {
             answer.word("partbody")?;
-            put_match(*matching, answer)?;
-            put_strings(keys, answer)
+            put_match(matching, answer)
         }
-        Test::PartDigest(keys) => {
-            answer.word("partdigest")?;
-            put_strings(keys, answer)
-        }
-        Test::Constant(_) | Test::Not(_) | Test::AllOf(_, _) | Test::AnyOf(_, _) => Ok(()),
+        Question::PartDigest => answer.word("partdigest"),
     }
 }
 
@@ -200,17 +192,22 @@ fn put_scope(scope: Scope, answer: &mut Printed) -> Result<(), AllocError> {
 }
 
 // Adds nothing for a field's value.
-fn put_selection(selection: &Selection, answer: &mut Printed) -> Result<(), AllocError> {
-    match selection {
-        Selection::Value => Ok(()),
-        Selection::Main => answer.word(":type"),
-        Selection::Sub => answer.word(":subtype"),
-        Selection::ContentType => answer.word(":contenttype"),
-        Selection::Params(names) => {
-            answer.word(":param")?;
-            put_strings(names, answer)
-        }
+fn put_selector(selector: Selector, answer: &mut Printed) -> Result<(), AllocError> {
+    match selector {
+        Selector::Value => Ok(()),
+        Selector::Main => answer.word(":type"),
+        Selector::Sub => answer.word(":subtype"),
+        Selector::ContentType => answer.word(":contenttype"),
+        Selector::Param => answer.word(":param"),
     }
+}
+
+// Adds a list that is taken: it has a string.
+fn put_taken(strings: &[Vec<Segment>], answer: &mut Printed) -> Result<(), AllocError> {
+    if strings.is_empty() {
+        return Ok(());
+    }
+    put_strings(strings, answer)
 }
 
 fn put_strings(strings: &[Vec<Segment>], answer: &mut Printed) -> Result<(), AllocError> {

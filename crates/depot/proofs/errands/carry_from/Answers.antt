@@ -1,4 +1,4 @@
-use Rattle.depot.proofs.Carried.{found_in}
+use Rattle.depot.proofs.Ended.{found_in}
 use Rattle.depot.proofs.errands.carry_from.Goals as goal
 
 pub returns : goal.returns

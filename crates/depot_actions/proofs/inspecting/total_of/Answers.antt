@@ -1,4 +1,4 @@
-use Rattle.part_store.specs.Changes.{contents_tree}
+use Rattle.part_store.specs.Tables.{contents_tree}
 use Rattle.part_store.specs.Totals.{octets_of}
 use Rattle.depot_actions.proofs.StoreFaults.{fault_told, weaker_fault}
 use Rattle.depot_actions.specs.Causes.{IsUncounted}

@@ -1,5 +1,5 @@
 use Rattle.std.proofs.Common.{subst}
-use Rattle.depot_batch.specs.Lines.{EndsSo}
+use Rattle.depot_batch.specs.Private.{EndsSo}
 use Rattle.depot_batch.proofs.LineReading.{taken_so}
 use Rattle.depot_batch.proofs.reading.read_line.Goals as goal
 

@@ -1,8 +1,10 @@
 use Rattle.std.proofs.Common.{◌≡◌, arith, inl, inr, refl, subst, List, ℕ, []}
 use Rattle.encodings.specs.Device.{Output}
 use Rattle.encodings.specs.Supply.{Supply}
-use Rattle.depot_batch.specs.Batch.{HasServedLast, IsAnswered, IsBrokenOff, office}
-use Rattle.depot_batch.specs.Lines.{HasNotTaken, HasTakenNext}
+use Rattle.depot_batch.specs.Batch.{IsAnswered, IsBrokenOff, office}
+use Rattle.depot_batch.specs.Answers.{HasServedLast}
+use Rattle.depot_batch.specs.Lines.{HasNotTaken}
+use Rattle.depot_batch.specs.Private.{HasTakenNext}
 use Rattle.depot_batch.proofs.Batches.{ends, ends_broken, ends_shut, ends_unread, ends_within, stands_first, stands_on}
 use Rattle.depot_batch.proofs.serving.serve_lines.Goals as goal
 

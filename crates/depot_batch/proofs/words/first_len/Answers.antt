@@ -1,5 +1,6 @@
 use Rattle.std.proofs.Common.{◌≡◌, ◌∙◌, ◌+◌, suc, arith, subst, sym, drop, false}
-use Rattle.depot_batch.specs.Words.{parted_at, texts_from}
+use Rattle.depot_batch.specs.Words.{texts_from}
+use Rattle.depot_batch.specs.Private.{parted_at}
 use Rattle.depot_batch.proofs.WordLemmas.{at_end, at_gap, from_place, nothing_from, one_more}
 use Rattle.depot_batch.proofs.words.first_len.Goals as goal
 

@@ -1,5 +1,6 @@
 use Rattle.std.proofs.Common.{◌≡◌, ◌+◌, ◌-◌, ◌≤◌, ℕ, false, length, drop}
-use Rattle.depot_batch.specs.Words.{parted_at, texts_from}
+use Rattle.depot_batch.specs.Words.{texts_from}
+use Rattle.depot_batch.specs.Private.{parted_at}
 use Rattle.depot_batch.proofs.words.first_len.Given as goal
 
 abbrev pub invariant-octets : goal.invariant-octets

@@ -1,6 +1,6 @@
 use Rattle.std.proofs.lemmas.Result.{on_err_weaker}
 use Rattle.depot_jobs.specs.Jobs.{commented}
-use Rattle.depot_jobs.specs.Pieces.{verdict_line}
+use Rattle.depot_jobs.specs.Private.{verdict_line}
 use Rattle.encodings.proofs.Outputs.{broken_first, broken_later, on_err}
 use Rattle.depot_jobs.proofs.job.put_listing.Goals as goal
 

@@ -1,6 +1,7 @@
 use Rattle.std.proofs.Common.{◌<◌, [], arith, length, subst, sym}
 use Rattle.std.proofs.lemmas.Bool.{false≢true}
-use Rattle.mail_matching.specs.Headers.{AreUnfolded, selected_among}
+use Rattle.mail_matching.specs.Headers.{selected_among}
+use Rattle.mail_matching.specs.HeaderTests.{AreUnfolded}
 use Rattle.mail_matching.specs.Selection.{selector_of}
 use Rattle.mail_matching.specs.declared.outcome.Outcome.TheVariants.{Fails}
 use Rattle.mail_matching.proofs.Extents.{all_few}

@@ -1,6 +1,6 @@
 use Rattle.std.proofs.Common.{subst}
 use Rattle.std.specs.Cow.{cow_slice_items}
-use Rattle.mime_params.specs.Reading.{SettlesDisposition}
+use Rattle.mime_params.specs.MediaValue.{SettlesDisposition}
 use Rattle.mail_matching.proofs.TypeTexts.{settled_name}
 use Rattle.mail_matching.proofs.reading.disposition_text.Goals as goal
 

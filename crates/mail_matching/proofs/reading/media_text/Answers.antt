@@ -1,6 +1,6 @@
 use Rattle.std.proofs.Common.{subst}
 use Rattle.std.specs.Cow.{cow_slice_items}
-use Rattle.mime_params.specs.Reading.{SettlesType}
+use Rattle.mime_params.specs.MediaValue.{SettlesType}
 use Rattle.mail_matching.proofs.TypeTexts.{settled_media}
 use Rattle.mail_matching.proofs.reading.media_text.Goals as goal
 

@@ -2,7 +2,8 @@ use Rattle.std.proofs.Common.{◌∙◌, ◌<◌, sym}
 use Rattle.std.proofs.lemmas.Simd.{zip2_of_maps, splat_is_map, Each1-from_get_or}
 use Rattle.std.proofs.lemmas.List.{map-id}
 use Rattle.octet_lanes.specs.Encoding.{upper_of}
-use Rattle.octet_lanes.specs.Lanes.{added, taken, if_below}
+use Rattle.octet_lanes.specs.Lanes.{added}
+use Rattle.octet_lanes.specs.Private.{taken, if_below}
 use Rattle.octet_lanes.proofs.Symbols.{map_same}
 use Rattle.octet_lanes.proofs.classes.ascii_upper_lanes.Goals as goal
 

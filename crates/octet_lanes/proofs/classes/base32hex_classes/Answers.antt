@@ -1,7 +1,8 @@
 use Rattle.std.proofs.Common.{◌∙◌}
 use Rattle.std.proofs.lemmas.Simd.{zip2_of_maps}
 use Rattle.octet_lanes.specs.Encoding.{class_of}
-use Rattle.octet_lanes.specs.Lanes.{added, taken, in_run}
+use Rattle.octet_lanes.specs.Lanes.{added}
+use Rattle.octet_lanes.specs.Private.{taken, in_run}
 use Rattle.octet_lanes.specs.declared.alphabet.Alphabet.TheVariants.{Base32Hex}
 use Rattle.octet_lanes.proofs.Lanes.{then, octets_in}
 use Rattle.octet_lanes.proofs.Symbols.{map_same}

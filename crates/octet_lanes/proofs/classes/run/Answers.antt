@@ -1,6 +1,7 @@
 use Rattle.std.proofs.Common.{◌∙◌}
 use Rattle.std.proofs.lemmas.Simd.{zip2_of_maps}
-use Rattle.octet_lanes.specs.Lanes.{added, taken, if_below}
+use Rattle.octet_lanes.specs.Lanes.{added}
+use Rattle.octet_lanes.specs.Private.{taken, if_below}
 use Rattle.octet_lanes.proofs.Lanes.{then}
 use Rattle.octet_lanes.proofs.classes.run.Goals as goal
 

@@ -3,7 +3,7 @@ use Rattle.std.specs.Simd.Lanes.{mask_l}
 use Rattle.std.specs.Int.RustNames.{count_ones}
 use Rattle.std.proofs.lemmas.List.{length-append, length-take, length-drop}
 use Rattle.octet_lanes.specs.Encoding.{stray, values_among}
-use Rattle.octet_lanes.specs.Lanes.{order_of}
+use Rattle.octet_lanes.specs.Private.{order_of}
 use Rattle.octet_lanes.proofs.Closing.{closed_group, count_group, few_bits, few_values, eight_more, group_of, written_after, lanes_closed}
 use Rattle.octet_lanes.proofs.close.close_up.Goals as goal
 

@@ -1,6 +1,6 @@
 use Rattle.std.proofs.Common.{ap, ◌∙◌, sym, subst, w8}
 use Rattle.std.proofs.lemmas.Simd.{swz_l, SwzOk}
-use Rattle.octet_lanes.specs.Lanes.{order_of}
+use Rattle.octet_lanes.specs.Private.{order_of}
 use Rattle.octet_lanes.proofs.Closing.{placed_16, places_ok_16, row_long, row_small}
 use Rattle.octet_lanes.proofs.close.in_order.Goals as goal
 

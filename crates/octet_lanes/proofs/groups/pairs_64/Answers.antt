@@ -1,7 +1,7 @@
 use Rattle.std.proofs.Common.{w32, ap, ◌∙◌, refl, ◌^◌}
 use Rattle.std.specs.List.{flat_map}
 use Rattle.std.proofs.lemmas.Simd.{below_from_Fits}
-use Rattle.octet_lanes.specs.Lanes.{parts_of}
+use Rattle.octet_lanes.specs.Private.{parts_of}
 use Rattle.octet_lanes.proofs.Relaned.{wider, through_octets}
 use Rattle.octet_lanes.proofs.groups.pairs_64.Goals as goal
 

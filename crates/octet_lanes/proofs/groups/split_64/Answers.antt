@@ -2,7 +2,7 @@ use Rattle.std.proofs.Common.{◌<◌, ◌^◌, ap, ◌∙◌, sym, subst}
 use Rattle.std.specs.List.{flat_map}
 use Rattle.std.specs.Simd.Lanes.{Each1}
 use Rattle.octet_lanes.specs.Encoding.{all_bits}
-use Rattle.octet_lanes.specs.Lanes.{parts_of}
+use Rattle.octet_lanes.specs.Private.{parts_of}
 use Rattle.octet_lanes.proofs.Pairs.{bits-halves, small-halves}
 use Rattle.octet_lanes.proofs.groups.split_64.Goals as goal
 

@@ -1,5 +1,5 @@
 use Rattle.std.proofs.lemmas.Simd.{zip2_splat}
-use Rattle.octet_lanes.specs.Lanes.{taken}
+use Rattle.octet_lanes.specs.Private.{taken}
 use Rattle.octet_lanes.proofs.operations.less.Goals as goal
 
 pub returns : goal.returns

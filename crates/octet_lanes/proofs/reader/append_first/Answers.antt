@@ -1,6 +1,6 @@
 use Rattle.std.proofs.Common.{◌≤◌, ap, ◌∙◌, subst, take, arith, length}
 use Rattle.std.proofs.lemmas.List.{take-take}
-use Rattle.octet_lanes.specs.Held.{IsRead}
+use Rattle.octet_lanes.specs.Private.{IsRead}
 use Rattle.octet_lanes.proofs.Reading.{ok_both, padded_read}
 use Rattle.octet_lanes.proofs.reader.append_first.Goals as goal
 

@@ -1,4 +1,4 @@
-use Rattle.std.proofs.Common.{◌⊎◌, ◌+◌, length, map, subst, sym, ◌∙◌, arith}
+use Rattle.std.proofs.Common.{◌⊎◌, ◌+◌, length, map, subst, sym, arith}
 use Rattle.std.proofs.lemmas.List.{length-map}
 use Rattle.sqlite.specs.State.{HasCleanDisk}
 use Rattle.sqlite.specs.Held.{state}
@@ -18,8 +18,8 @@ returns-clause-filed g c clean =
     let early : HasCleanDisk mid = omega (arith, c.file_all.ensures.survives.clean) in
     let user = c.args.user.now in
     let entries = c.args.entries.now in
-    if_ok c.file_all.result _ _ (λ done files is before stands last_is program_is.
-    let claims = c.in_ok-claim.ensures.claimed early before stands (c.lent.ensures ∙ program_is) (omega (arith, last_is)) in
+    if_ok c.file_all.result _ _ (λ done files is before stands last_is known.
+    let claims = c.in_ok-claim.ensures.claimed early before stands known (omega (arith, last_is)) in
     entered old mid new user c.args.last (length entries) (map draft_of entries) before (sym (length-map entries draft_of)) last_is claims
     (files is (with_last user (c.args.last + length entries) before) claims.stands (can_file old.now before user c.args.last (length entries) stands last_is))) (c.file_all.ensures.filed clean)
 
@@ -30,8 +30,8 @@ returns-clause-other g c clean =
     let early : HasCleanDisk mid = omega (arith, c.file_all.ensures.survives.clean) in
     let user = c.args.user.now in
     let entries = c.args.entries.now in
-    if_ok c.file_all.result _ _ (λ done other is before stands last_is program_is.
-    let claims = c.in_ok-claim.ensures.claimed early before stands (c.lent.ensures ∙ program_is) (omega (arith, last_is)) in
+    if_ok c.file_all.result _ _ (λ done other is before stands last_is known.
+    let claims = c.in_ok-claim.ensures.claimed early before stands known (omega (arith, last_is)) in
     collides_before old mid (map draft_of entries) claims.contents
     (other is (with_last user (c.args.last + length entries) before) claims.stands (can_file old.now before user c.args.last (length entries) stands last_is))) (c.file_all.ensures.other clean)
 
@@ -51,7 +51,7 @@ returns-in_err-claim-clause-cause g c clean =
     passed c.from_residual.result _ _ c.from_residual.ensures.1 (λ inside told.
     claim_refused old new user c.args.last drafts _ (λ is before stands.
     subst (λ n. HasFailed old new ⊎ HasNoUserRoom user (with_last user (c.args.last + n) before) old.now.trees) (sym (length-map entries draft_of))
-    (c.in_err-claim.ensures.cause clean is inside before stands (c.lent.ensures ∙ (told before stands).1))) (λ before stands. (told before stands).0))
+    (c.in_err-claim.ensures.cause clean is inside before stands (told before stands).1)) (λ before stands. (told before stands).0))
 
 pub returns-clause-cause : goal.returns-clause-cause
 returns-clause-cause g c clean =
@@ -65,5 +65,5 @@ returns-clause-cause g c clean =
     files_refused old mid new user c.args.last (length entries) (map draft_of entries) e c.claim.ensures.survives c.file_all.ensures.survives clean
     (λ before stands.
     let last_is = (told before stands).0 in
-    (c.in_ok-claim.ensures.claimed early before stands (c.lent.ensures ∙ (told before stands).1) (omega (arith, last_is)), can_file old.now before user c.args.last (length entries) stands last_is))
+    (c.in_ok-claim.ensures.claimed early before stands (told before stands).1 (omega (arith, last_is)), can_file old.now before user c.args.last (length entries) stands last_is))
     (λ is. cause is (c.in_ok-claim.ensures.inside early))) (c.file_all.ensures.cause clean)

@@ -1,7 +1,7 @@
 use Rattle.std.proofs.Common.{◌≡◌, ◌+◌, length, map, take}
 use Rattle.sqlite.specs.Held.{state}
 use Rattle.part_store.specs.Standing.{draft_of}
-use Rattle.part_store.specs.Sharing.{AreNoted}
+use Rattle.part_store.specs.Noting.{AreNoted}
 use Rattle.part_store.proofs.FiledAll.{Filing}
 use Rattle.part_store.proofs.adding.file_all.Given as goal
 

@@ -1,6 +1,6 @@
 use Rattle.std.proofs.Common.{◌≡◌, length, sym, subst, ◌∙◌, refl}
 use Rattle.sqlite.specs.Held.{state}
-use Rattle.part_store.specs.Changes.{contents_tree}
+use Rattle.part_store.specs.Tables.{contents_tree}
 use Rattle.part_store.specs.Standing.{HasContent}
 use Rattle.part_store.proofs.Runs.{passed}
 use Rattle.part_store.proofs.listing.read_row.Goals as goal

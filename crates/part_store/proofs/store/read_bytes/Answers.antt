@@ -2,7 +2,7 @@ use Rattle.std.proofs.Common.{arith, subst, sym}
 use Rattle.sqlite_trees.specs.Tree.{Trees}
 use Rattle.sqlite.specs.State.{HasCleanDisk}
 use Rattle.sqlite.specs.Held.{state}
-use Rattle.part_store.specs.Changes.{contents_tree}
+use Rattle.part_store.specs.Tables.{contents_tree}
 use Rattle.part_store.specs.Standing.{HasContent}
 use Rattle.part_store.proofs.Entering.{stands_still}
 use Rattle.part_store.proofs.Failing.{later_failed}

@@ -2,8 +2,8 @@ use Rattle.std.proofs.Common.{inl, arith, subst, sym}
 use Rattle.std.proofs.lemmas.Result.{on_ok_weaker}
 use Rattle.sqlite_trees.specs.Tree.{Trees}
 use Rattle.sqlite.specs.State.{HasCleanDisk}
-use Rattle.part_store.specs.Changes.{users_tree}
-use Rattle.part_store.specs.Refusals.{RisesFrom}
+use Rattle.part_store.specs.Tables.{users_tree}
+use Rattle.part_store.specs.Causes.{RisesFrom}
 use Rattle.sqlite.specs.Held.{state}
 use Rattle.part_store.proofs.Replacing.{one_refused, passed_over, replaced_one}
 use Rattle.part_store.proofs.Entering.{stands_still}

@@ -1,6 +1,7 @@
 use Rattle.std.proofs.Common.{[], refl}
 use Rattle.sqlite.specs.Held.{state}
-use Rattle.part_store.specs.Tables.{with_users, contents, contents_text}
+use Rattle.part_store.specs.Tables.{with_users, contents}
+use Rattle.part_store.specs.Statements.{contents_text}
 use Rattle.part_store.proofs.Meaning.{contents_made}
 use Rattle.part_store.proofs.Creation.{makes}
 use Rattle.part_store.proofs.Runs.{executed, on_ok}

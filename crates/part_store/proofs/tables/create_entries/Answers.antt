@@ -1,6 +1,7 @@
 use Rattle.std.proofs.Common.{[], refl}
 use Rattle.sqlite.specs.Held.{state}
-use Rattle.part_store.specs.Tables.{with_contents, entries, entries_text}
+use Rattle.part_store.specs.Tables.{with_contents, entries}
+use Rattle.part_store.specs.Statements.{entries_text}
 use Rattle.part_store.proofs.Meaning.{entries_made}
 use Rattle.part_store.proofs.Creation.{makes}
 use Rattle.part_store.proofs.Runs.{execute_kept, executed, on_ok}

@@ -1,6 +1,7 @@
 use Rattle.std.proofs.Common.{[], refl}
 use Rattle.sqlite.specs.Held.{state}
-use Rattle.part_store.specs.Tables.{no_schema, users, users_text}
+use Rattle.part_store.specs.Tables.{no_schema, users}
+use Rattle.part_store.specs.Statements.{users_text}
 use Rattle.part_store.proofs.Meaning.{users_made}
 use Rattle.part_store.proofs.Creation.{makes}
 use Rattle.part_store.proofs.Runs.{executed, on_ok}

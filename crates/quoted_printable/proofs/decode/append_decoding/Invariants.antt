@@ -1,7 +1,7 @@
 use Rattle.std.proofs.Common.{◌≡◌, ◌++◌, length}
 use Rattle.std.specs.List.{flat_map}
 use Rattle.text_lines.specs.Lines.{lines_left}
-use Rattle.quoted_printable.specs.Pieces.{Extends}
+use Rattle.quoted_printable.specs.Private.{Extends}
 use Rattle.quoted_printable.specs.QuotedPrintable.{decoding_of, decoded_line}
 use Rattle.quoted_printable.proofs.decode.append_decoding.Given as goal
 

@@ -1,5 +1,5 @@
 use Rattle.std.proofs.Common.{◌≡◌, ◌++◌, length}
-use Rattle.quoted_printable.specs.Pieces.{Extends}
+use Rattle.quoted_printable.specs.Private.{Extends}
 use Rattle.quoted_printable.specs.QuotedPrintable.{unescaped}
 use Rattle.quoted_printable.proofs.decode.append_unescaped.Given as goal
 

@@ -1,6 +1,6 @@
 use Rattle.std.proofs.Common.{◌<◌, length, take, subst, sym, ◌∙◌, arith}
 use Rattle.std.proofs.lemmas.List.{length-set, take_more_set}
-use Rattle.quoted_printable.specs.Pieces.{AreFor}
+use Rattle.quoted_printable.specs.Private.{AreFor}
 use Rattle.quoted_printable.proofs.Known.{are_more}
 use Rattle.quoted_printable.proofs.decode.first_octets.Goals as goal
 

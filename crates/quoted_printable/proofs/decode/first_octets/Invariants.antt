@@ -1,5 +1,5 @@
 use Rattle.std.proofs.Common.{◌≡◌, ◌-◌, ◌≤◌, length, take}
-use Rattle.quoted_printable.specs.Pieces.{AreFor}
+use Rattle.quoted_printable.specs.Private.{AreFor}
 use Rattle.quoted_printable.proofs.decode.first_octets.Given as goal
 
 abbrev pub invariant-octets : goal.invariant-octets

@@ -1,5 +1,6 @@
 use Rattle.std.proofs.Common.{◌≡◌, ◌<◌, true, [], length, get_or}
-use Rattle.quoted_printable.specs.Pieces.{Extends, Reads, begins}
+use Rattle.quoted_printable.specs.Pieces.{begins}
+use Rattle.quoted_printable.specs.Private.{Extends, Reads}
 use Rattle.quoted_printable.proofs.decoder.append_octets.Given as goal
 
 abbrev pub invariant-places : goal.invariant-places

@@ -1,6 +1,7 @@
 use Rattle.std.proofs.Common.{◌≡◌, ◌++◌, ◌∷◌, [], ap, ◌∙◌, sym, true}
 use Rattle.std.proofs.lemmas.List.{append_assoc}
-use Rattle.quoted_printable.specs.Pieces.{goes_on, is_held}
+use Rattle.quoted_printable.specs.Pieces.{is_held}
+use Rattle.quoted_printable.specs.Private.{goes_on}
 use Rattle.quoted_printable.proofs.Extended.{extends_more, extends_then}
 use Rattle.quoted_printable.proofs.Held.{held_more}
 use Rattle.quoted_printable.proofs.decoder.hold.Goals as goal

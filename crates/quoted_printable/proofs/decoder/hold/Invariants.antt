@@ -1,5 +1,6 @@
 use Rattle.std.proofs.Common.{◌≡◌, ◌++◌, true, length}
-use Rattle.quoted_printable.specs.Pieces.{Extends, is_held}
+use Rattle.quoted_printable.specs.Pieces.{is_held}
+use Rattle.quoted_printable.specs.Private.{Extends}
 use Rattle.quoted_printable.proofs.decoder.hold.Given as goal
 
 abbrev pub invariant-octets : goal.invariant-octets

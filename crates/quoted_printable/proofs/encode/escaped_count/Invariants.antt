@@ -1,4 +1,4 @@
-use Rattle.std.proofs.Common.{◌≡◌, ◌≤◌, false, ℕ, length, not, take}
+use Rattle.std.proofs.Common.{◌≡◌, ◌≤◌, false, length, not, take}
 use Rattle.std.specs.List.{filter}
 use Rattle.quoted_printable.specs.QuotedPrintable.{stands}
 use Rattle.quoted_printable.proofs.encode.escaped_count.Given as goal

@@ -1,6 +1,6 @@
-use Rattle.std.proofs.Common.{◌+◌, ◌++◌, ◌==◌, false, length, take, get_or, sym, ap, ◌∙◌, arith}
+use Rattle.std.proofs.Common.{◌+◌, ◌++◌, false, length, take, get_or, sym, ap, ◌∙◌, arith}
 use Rattle.quoted_printable.specs.QuotedPrintable.{stands}
-use Rattle.quoted_printable.proofs.Filling.{IsFilled, filled_run, filled_token, filled_stops, filled_ended, written_here}
+use Rattle.quoted_printable.proofs.Filling.{IsFilled, filled_run, filled_token, filled_stops, filled_ended}
 use Rattle.quoted_printable.proofs.encode.fill.Goals as goal
 
 pub tokens-preserved : goal.tokens-preserved

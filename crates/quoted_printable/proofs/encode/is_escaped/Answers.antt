@@ -1,4 +1,4 @@
-use Rattle.std.proofs.Common.{◌≡◌, ◌<◌, ◌==◌, refl, not, ℕ, Bool, true, false, slice_index_or, arith}
+use Rattle.std.proofs.Common.{◌==◌, refl, not, false, slice_index_or, arith}
 use Rattle.std.proofs.lemmas.Bool.{agree_below_at}
 use Rattle.quoted_printable.specs.QuotedPrintable.{stands}
 use Rattle.quoted_printable.specs.declared.encode.TheConstants.{LENGTHS}

@@ -1,4 +1,4 @@
-use Rattle.std.proofs.Common.{◌≡◌, ◌∙◌, ◌+◌, ◌++◌, ◌∷◌, [], ◌/◌, ◌%◌, ap, sym, ℕ, List, Bool, true, false, length, take, if◌then◌else◌, refl, arith}
+use Rattle.std.proofs.Common.{◌≡◌, ◌∙◌, ◌+◌, ◌++◌, ◌∷◌, [], ◌/◌, ◌%◌, ap, sym, ℕ, List, Bool, true, false, length, take, if◌then◌else◌, arith}
 use Rattle.std.proofs.Math.Seq.{take-append-add}
 use Rattle.std.proofs.lemmas.List.{take-take, length-take-le}
 use Rattle.quoted_printable.specs.QuotedPrintable.{stands, hex_of}

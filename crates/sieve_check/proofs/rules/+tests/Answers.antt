@@ -4,7 +4,8 @@ use Rattle.sieve_parser.specs.View.{invocation_tree}
 use Rattle.sieve_parser.specs.declared.tree.Invocation.{Invocation}
 use Rattle.sieve_check.specs.declared.signature.Tests.TheVariants.{One, Bracketed}
 use Rattle.sieve_check.specs.Refusing.{AreVisited, context_of, looks_inside_as, visit_as, visits_as}
-use Rattle.sieve_check.specs.Rules.{Visit, arguments_of, test_visits, more_visits}
+use Rattle.sieve_check.specs.Rules.{Visit, test_visits, more_visits}
+use Rattle.sieve_check.specs.Private.{arguments_of}
 use Rattle.sieve_check.proofs.FaultSteps.{nothing_inside, rest_visits, test_inside, tests_inside, where_left, where_made}
 use Rattle.sieve_check.proofs.FromIndex.{others_of}
 use Rattle.sieve_check.proofs.Visits.{both_visited, fewer_left, none_left}

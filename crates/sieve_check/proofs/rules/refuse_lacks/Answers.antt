@@ -5,7 +5,8 @@ use Rattle.sieve_check.specs.declared.names.Capability.{Capability}
 use Rattle.sieve_check.specs.Causes.{refused_for}
 use Rattle.sieve_check.specs.Names.{command_named}
 use Rattle.sieve_check.specs.Refusing.{AreNoted, lacks_as}
-use Rattle.sieve_check.specs.Rules.{arguments_of, capability_arguments, command_needs, lacking_causes, strings_of, unknown_causes}
+use Rattle.sieve_check.specs.Rules.{capability_arguments, command_needs, lacking_causes, strings_of, unknown_causes}
+use Rattle.sieve_check.specs.Private.{arguments_of}
 use Rattle.sieve_check.proofs.FaultSteps.{lacks_known}
 use Rattle.sieve_check.proofs.Visits.{both_noted}
 use Rattle.sieve_check.proofs.rules.refuse_lacks.Goals as goal

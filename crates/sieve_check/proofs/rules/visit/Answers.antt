@@ -1,8 +1,7 @@
 use Rattle.std.proofs.Common.{◌∙◌, bytes_eq, refl, ap, subst}
 use Rattle.octets.specs.Once.{with_more}
-use Rattle.sieve_check.specs.ReasonView.{cause_view}
+use Rattle.sieve_check.specs.Private.{cause_view, arguments_of}
 use Rattle.sieve_check.specs.Refusing.{Finds, context_of, listed, visit_as}
-use Rattle.sieve_check.specs.Rules.{arguments_of}
 use Rattle.sieve_check.proofs.FaultSteps.{visit_refused}
 use Rattle.sieve_check.proofs.Visits.{one_passed}
 use Rattle.sieve_check.proofs.rules.visit.Goals as goal

@@ -8,7 +8,7 @@ use Rattle.sieve_check.specs.Forming.{head_test}
 use Rattle.sieve_check.specs.Signatures.{◌>>=◌}
 use Rattle.sieve_check.specs.TypedView.{test_form}
 use Rattle.sieve_check.proofs.FromIndex.{others_of}
-use Rattle.sieve_check.proofs.FormSteps.{form_with_test, form_with_tests, test_missing, tests_more}
+use Rattle.sieve_check.proofs.FormSteps.{form_with_test, form_with_tests, no_others, test_missing, tests_more}
 use Rattle.sieve_check.proofs.TestLists.{tests_onto, onto_nothing}
 use Rattle.sieve_check.proofs.test_forms.+tests.Goals as goal
 
@@ -37,12 +37,23 @@ test-returns-in_ok-inner-in-WithTest t c =
     let inner = sym (ap (λ x. test_form_of required (invocation_tree x)) c.deref.ensures) ∙ c.in_ok-inner-in-WithTest.ensures in
     rw (form_with_test required c.args.invocation.now w.head w.inner w.is ∙ ap (λ o. option_map one o >>= λ inner. head_test required w.head inner) inner) (c.negated.ensures required)
 
-pub test-returns-in_ok-others-in-WithTests : goal.test-returns-in_ok-others-in-WithTests
-test-returns-in_ok-others-in-WithTests t c =
+pub test-returns-in_err-others-in-WithTests : goal.test-returns-in_err-others-in-WithTests
+test-returns-in_err-others-in-WithTests t c =
     let w = c.in-WithTests in
     let required = c.args.required in
-    let first = sym (ap (λ x. test_form_of required (invocation_tree x)) c.deref-in-WithTests.ensures) ∙ c.in_ok-first-in-WithTests.ensures in
-    let others = sym (ap (λ xs. more_forms_of required (others_of xs)) c.deref-in-WithTests-2.ensures.value) ∙ c.in_ok-others-in-WithTests.ensures in
+    let none : c.in_err-others-in-WithTests.field-0.0 ≡ Malformed → test_form_of required (invocation_tree c.args.invocation.now) ≡ None = λ malformed.
+    form_with_tests required c.args.invocation.now w.head w.first w.others w.is
+    ∙ ap (λ o. (test_form_of required (invocation_tree w.first.value) >>= λ f. option_map (bracketed f) o) >>= λ inner. head_test required w.head inner)
+    (sym (ap (λ xs. more_forms_of required (others_of xs)) c.deref-in-WithTests.ensures.value) ∙ c.in_err-others-in-WithTests.ensures malformed)
+    ∙ no_others (test_form_of required (invocation_tree w.first.value)) (λ inner. head_test required w.head inner) in
+    search rules
+
+pub test-returns-in_ok-first-in-WithTests : goal.test-returns-in_ok-first-in-WithTests
+test-returns-in_ok-first-in-WithTests t c =
+    let w = c.in-WithTests in
+    let required = c.args.required in
+    let first = sym (ap (λ x. test_form_of required (invocation_tree x)) c.deref-in-WithTests-2.ensures) ∙ c.in_ok-first-in-WithTests.ensures in
+    let others = sym (ap (λ xs. more_forms_of required (others_of xs)) c.deref-in-WithTests.ensures.value) ∙ c.in_ok-others-in-WithTests.ensures in
     rw (form_with_tests required c.args.invocation.now w.head w.first w.others w.is
     ∙ ap (λ o. (o >>= λ f. option_map (bracketed f) (more_forms_of required (others_of w.others.items))) >>= λ inner. head_test required w.head inner) first
     ∙ ap (λ o. option_map (bracketed (test_form c.in_ok-first-in-WithTests.first)) o >>= λ inner. head_test required w.head inner) others)

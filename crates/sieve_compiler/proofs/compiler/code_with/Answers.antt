@@ -5,7 +5,6 @@ use Rattle.sieve_check.specs.TypedView.{commands_form}
 use Rattle.sieve_compiler.specs.Tables.{Tables, tables_of}
 use Rattle.sieve_compiler.proofs.LengthsFit.{commands_within, table_within}
 use Rattle.sieve_compiler.proofs.StringsFit.{strings_few}
-use Rattle.sieve_compiler.proofs.LeavingLemmas.{leave_few}
 use Rattle.sieve_compiler.proofs.compiler.code_with.Goals as goal
 
 few_numbers : (cs : CommandForms) (tables : Tables) → IsBounded cs → tables ≡ tables_of cs → length tables.numbers < 2 ^ 32
@@ -28,6 +27,3 @@ few_variables cs tables short e = omega (arith, short.variables, ap (λ (t : Tab
 
 pub new-coder-requires-clause-variables : goal.new-coder-requires-clause-variables
 new-coder-requires-clause-variables c = few_variables (commands_form c.args.commands.now) c.args.tables.now c.requires.bounded c.requires.tables
-
-pub put_commands-requires-clause-few : goal.put_commands-requires-clause-few
-put_commands-requires-clause-few c = leave_few 0 (commands_form c.args.commands.now) (omega arith) c.requires.bounded.loops

@@ -1,5 +1,6 @@
 use Rattle.std.proofs.Common.{◌≡◌, ◌+◌, drop}
-use Rattle.sieve_check.specs.TypedView.{commands_form, branch_forms, else_form}
+use Rattle.sieve_check.specs.TypedView.{commands_form}
+use Rattle.sieve_check.specs.Private.{branch_forms, else_form}
 use Rattle.sieve_compiler.specs.Lengths.{commands_length, branches_length}
 use Rattle.sieve_compiler.proofs.lengths.+command_lengths.Given as goal
 

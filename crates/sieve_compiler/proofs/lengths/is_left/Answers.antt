@@ -1,7 +1,7 @@
 use Rattle.std.proofs.Common.{◌≡◌, Bool, false, not, ◌==◌, if◌then◌else◌, List, [], ◌∷◌, length}
 use Rattle.sieve_check.specs.declared.typed.Branch.{Branch}
 use Rattle.sieve_check.specs.Typed.{BranchForms}
-use Rattle.sieve_check.specs.TypedView.{branch_forms, else_form}
+use Rattle.sieve_check.specs.Private.{branch_forms, else_form}
 use Rattle.sieve_compiler.specs.Lengths.{leave_length}
 use Rattle.sieve_compiler.proofs.lengths.is_left.Goals as goal
 

@@ -1,5 +1,6 @@
 use Rattle.std.proofs.Common.{◌≡◌, drop, map}
-use Rattle.sieve_explain.specs.Faults.{beginning_of, text_at}
+use Rattle.sieve_explain.specs.Faults.{text_at}
+use Rattle.sieve_explain.specs.Private.{beginning_of}
 use Rattle.sieve_explain.proofs.faults.text_at.Given as goal
 
 abbrev pub invariant-loop-octets : goal.invariant-loop-octets

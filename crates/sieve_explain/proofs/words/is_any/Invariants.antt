@@ -1,7 +1,7 @@
 use Rattle.std.proofs.Common.{◌≡◌, drop}
 use Rattle.std.specs.List.{list_any}
 use Rattle.octets.specs.Ascii.{is_word}
-use Rattle.sieve_explain.specs.Words.{texts_of}
+use Rattle.sieve_explain.specs.Private.{texts_of}
 use Rattle.sieve_explain.proofs.words.is_any.Given as goal
 
 abbrev pub invariant-loop-word : goal.invariant-loop-word

@@ -1,5 +1,6 @@
 use Rattle.std.proofs.Common.{◌≡◌, drop}
-use Rattle.sieve_explain.specs.Words.{nearest_but, texts_of}
+use Rattle.sieve_explain.specs.Words.{nearest_but}
+use Rattle.sieve_explain.specs.Private.{texts_of}
 use Rattle.sieve_explain.proofs.words.nearest_but.Given as goal
 
 abbrev pub invariant-loop-word : goal.invariant-loop-word

@@ -1,5 +1,6 @@
 use Rattle.std.proofs.Common.{◌≡◌, drop, map}
-use Rattle.sieve_explain.specs.Words.{hint_of, words_for}
+use Rattle.sieve_explain.specs.Words.{words_for}
+use Rattle.sieve_explain.specs.Private.{hint_of}
 use Rattle.sieve_explain.proofs.words.words_for.Given as goal
 
 abbrev pub invariant-loop-names : goal.invariant-loop-names

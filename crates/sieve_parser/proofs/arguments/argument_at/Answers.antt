@@ -2,11 +2,11 @@ use Rattle.std.proofs.Common.{[], ◌∷◌, length, refl, sym, ◌∙◌, ap, s
 use Rattle.std.specs.Prelude.{slice_range}
 use Rattle.std.proofs.lemmas.Result.{err_from_is_err_and}
 use Rattle.sieve_lexer.specs.Values.{below_limit, number_value, string_value}
-use Rattle.sieve_parser.specs.Lexemes.{lexeme_of, tag, number, string}
+use Rattle.sieve_parser.specs.Lexemes.{lexeme_of, tag, number, string, lexemes}
 use Rattle.sieve_parser.specs.Tree.{text, amount, label}
 use Rattle.sieve_parser.specs.TokenMachine.{arguments, strings, expand}
 use Rattle.sieve_parser.specs.View.{argument_tree}
-use Rattle.sieve_parser.specs.Parsing.{lexemes, IsNoArgument}
+use Rattle.sieve_parser.specs.Parsing.{IsNoArgument}
 use Rattle.sieve_parser.proofs.Here.{token_here, here, nothing_here, string_here}
 use Rattle.sieve_parser.proofs.ArgumentSteps.{no_argument, one_argument, list_argument}
 use Rattle.sieve_parser.proofs.Walk.{walk}

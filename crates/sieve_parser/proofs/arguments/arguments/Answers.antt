@@ -4,7 +4,8 @@ use Rattle.std.proofs.lemmas.Result.{err_from_is_err_and}
 use Rattle.sieve_parser.specs.Grammar.{argument_spelled, arguments_spelled}
 use Rattle.sieve_parser.specs.TokenMachine.{command_end}
 use Rattle.sieve_parser.specs.View.{argument_tree}
-use Rattle.sieve_parser.specs.Parsing.{Stands, lexemes}
+use Rattle.sieve_parser.specs.Parsing.{Stands}
+use Rattle.sieve_parser.specs.Lexemes.{lexemes}
 use Rattle.sieve_parser.proofs.ArgumentSteps.{arguments_push}
 use Rattle.sieve_parser.proofs.Walk.{stands_both}
 use Rattle.sieve_parser.proofs.arguments.arguments.Goals as goal

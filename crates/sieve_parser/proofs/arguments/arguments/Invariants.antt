@@ -1,7 +1,8 @@
 use Rattle.std.proofs.Common.{ℕ, ◌-◌, ◌≤◌, List, ◌∷◌, length, map}
 use Rattle.sieve_parser.specs.Grammar.{arguments_spelled}
 use Rattle.sieve_parser.specs.TokenMachine.{Follow, Symbol, arguments}
-use Rattle.sieve_parser.specs.Parsing.{Beginning, IsAt, Stands, lexemes}
+use Rattle.sieve_parser.specs.Parsing.{Beginning, IsAt, Stands}
+use Rattle.sieve_parser.specs.Lexemes.{lexemes}
 use Rattle.sieve_parser.specs.View.{argument_tree}
 use Rattle.sieve_parser.proofs.arguments.arguments.Given as goal
 

@@ -2,10 +2,10 @@ use Rattle.std.proofs.Common.{suc, ◌+◌, [], ◌∷◌, refl, sym, ap, subst,
 use Rattle.std.proofs.lemmas.Bool.{false≢true}
 use Rattle.std.proofs.lemmas.Result.{err_from_is_err_and}
 use Rattle.sieve_lexer.specs.declared.token.TokenKind.TheVariants.{Semicolon, OpeningBrace, ClosingBrace}
-use Rattle.sieve_parser.specs.Lexemes.{semicolon, opening_brace, closing_brace}
+use Rattle.sieve_parser.specs.Lexemes.{semicolon, opening_brace, closing_brace, lexemes}
 use Rattle.sieve_parser.specs.Grammar.{commands_spelled}
 use Rattle.sieve_parser.specs.TokenMachine.{command_end, ending, body, expand}
-use Rattle.sieve_parser.specs.Parsing.{Beginning, IsAt, IsIdentifierAt, Stands, lexemes, lexeme_at}
+use Rattle.sieve_parser.specs.Parsing.{Beginning, IsAt, IsIdentifierAt, Stands, lexeme_at}
 use Rattle.sieve_parser.specs.View.{invocation_tree, commands_tree}
 use Rattle.sieve_parser.proofs.Here.{kind_here, not_here}
 use Rattle.sieve_parser.proofs.TestSteps.{from_suc}

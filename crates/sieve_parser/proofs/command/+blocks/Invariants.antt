@@ -1,5 +1,5 @@
 use Rattle.std.proofs.Common.{◌+◌, ◌-◌, ◌*◌, ◌≤◌, length}
-use Rattle.sieve_parser.specs.Parsing.{lexemes}
+use Rattle.sieve_parser.specs.Lexemes.{lexemes}
 use Rattle.sieve_parser.proofs.CommandSteps.{AreCommandsSoFar}
 use Rattle.sieve_parser.proofs.command.+blocks.Given as goal
 

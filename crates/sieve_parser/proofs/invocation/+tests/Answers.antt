@@ -4,9 +4,9 @@ use Rattle.std.proofs.lemmas.List.{append-nil, append_assoc}
 use Rattle.std.proofs.lemmas.Result.{err_from_is_err_and}
 use Rattle.sieve_lexer.specs.declared.token.TokenKind.TheVariants.{Comma, OpeningParenthesis, ClosingParenthesis}
 use Rattle.sieve_parser.specs.Grammar.{at_depth, invocation_spelled, more_tests_spelled}
-use Rattle.sieve_parser.specs.Lexemes.{comma, opening_parenthesis, closing_parenthesis}
+use Rattle.sieve_parser.specs.Lexemes.{comma, opening_parenthesis, closing_parenthesis, lexemes}
 use Rattle.sieve_parser.specs.TokenMachine.{arguments, ending, test_end, tests, expand}
-use Rattle.sieve_parser.specs.Parsing.{IsAt, IsIdentifierAt, IsInvocationAt, Stands, lexemes, lexeme_at}
+use Rattle.sieve_parser.specs.Parsing.{IsAt, IsIdentifierAt, IsInvocationAt, Stands, lexeme_at}
 use Rattle.sieve_parser.specs.Tree.{one_test, test_list}
 use Rattle.sieve_parser.specs.View.{argument_tree, head_tree, invocation_tree, more_tests_of}
 use Rattle.sieve_parser.specs.declared.tree.Head.{Head}

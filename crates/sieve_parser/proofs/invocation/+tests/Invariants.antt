@@ -1,5 +1,5 @@
 use Rattle.std.proofs.Common.{◌+◌, ◌-◌, ◌*◌, ◌≤◌, length}
-use Rattle.sieve_parser.specs.Parsing.{lexemes}
+use Rattle.sieve_parser.specs.Lexemes.{lexemes}
 use Rattle.sieve_parser.specs.View.{invocation_tree}
 use Rattle.sieve_parser.proofs.TestSteps.{AreTestsSoFar}
 use Rattle.sieve_parser.proofs.invocation.+tests.Given as goal

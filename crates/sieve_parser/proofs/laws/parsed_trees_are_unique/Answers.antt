@@ -1,5 +1,5 @@
 use Rattle.std.proofs.Common.{◌∙◌, ap}
-use Rattle.sieve_parser.specs.Parsing.{lexemes}
+use Rattle.sieve_parser.specs.Lexemes.{lexemes}
 use Rattle.sieve_parser.proofs.Unique.{script_unique}
 use Rattle.sieve_parser.proofs.laws.parsed_trees_are_unique.Goals as goal
 

@@ -1,6 +1,6 @@
 use Rattle.std.proofs.Common.{[], sym, subst, arith}
 use Rattle.std.proofs.lemmas.Result.{err_from_is_err_and}
-use Rattle.sieve_parser.specs.Parsing.{lexemes}
+use Rattle.sieve_parser.specs.Lexemes.{lexemes}
 use Rattle.sieve_parser.specs.Scripts.{IsParsed}
 use Rattle.sieve_parser.specs.View.{commands_tree}
 use Rattle.sieve_parser.proofs.Extent.{few_lexemes}

@@ -1,6 +1,7 @@
 use Rattle.std.proofs.Common.{subst}
 use Rattle.sieve_parser.specs.TokenMachine.{strings}
-use Rattle.sieve_parser.specs.Parsing.{IsStringAt, lexemes, lexeme_at}
+use Rattle.sieve_parser.specs.Parsing.{IsStringAt, lexeme_at}
+use Rattle.sieve_parser.specs.Lexemes.{lexemes}
 use Rattle.sieve_parser.proofs.Walk.{stuck_here}
 use Rattle.sieve_parser.proofs.Wrong.{no_string_first}
 use Rattle.sieve_parser.proofs.strings.expected_string.Goals as goal

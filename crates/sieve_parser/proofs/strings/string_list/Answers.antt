@@ -3,9 +3,9 @@ use Rattle.std.proofs.lemmas.Bool.{false≢true}
 use Rattle.std.proofs.lemmas.Result.{err_from_is_err_and}
 use Rattle.sieve_lexer.specs.declared.token.TokenKind.TheVariants.{Comma, ClosingBracket}
 use Rattle.sieve_parser.specs.Grammar.{at_depth, more_strings_spelled}
-use Rattle.sieve_parser.specs.Lexemes.{string, comma, closing_bracket}
+use Rattle.sieve_parser.specs.Lexemes.{string, comma, closing_bracket, lexemes}
 use Rattle.sieve_parser.specs.TokenMachine.{more_strings}
-use Rattle.sieve_parser.specs.Parsing.{lexemes, lexeme_at}
+use Rattle.sieve_parser.specs.Parsing.{lexeme_at}
 use Rattle.sieve_parser.proofs.Here.{kind_here, not_here}
 use Rattle.sieve_parser.proofs.StringLists.{IsListSoFar, list_start, list_more, list_end, comma_read}
 use Rattle.sieve_parser.proofs.Walk.{stuck_here}

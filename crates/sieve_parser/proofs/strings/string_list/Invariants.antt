@@ -1,5 +1,5 @@
 use Rattle.std.proofs.Common.{◌-◌, ◌≤◌, length}
-use Rattle.sieve_parser.specs.Parsing.{lexemes}
+use Rattle.sieve_parser.specs.Lexemes.{lexemes}
 use Rattle.sieve_parser.proofs.StringLists.{IsListSoFar}
 use Rattle.sieve_parser.proofs.strings.string_list.Given as goal
 

@@ -1,7 +1,7 @@
-use Rattle.std.proofs.Common.{◌∙◌, ◌<◌, sym, arith}
+use Rattle.std.proofs.Common.{◌≡◌, ◌∙◌, ◌-◌, ◌<◌, drop, length, subst, sym, arith}
 use Rattle.sieve_references.specs.Reading.{octets_before}
 use Rattle.sieve_references.specs.SegmentView.{segment_of}
-use Rattle.sieve_references.proofs.Stretches.{segments_reference, segments_stretch, before_within, some_before}
+use Rattle.sieve_references.proofs.Stretches.{end_of, segments_reference, segments_stretch, before_within, some_before}
 use Rattle.sieve_references.proofs.segment.first_segment.Goals as goal
 
 pub returns-in-Some : goal.returns-in-Some
@@ -14,5 +14,8 @@ pub returns : goal.returns
 returns c =
     let some : 0 < octets_before c.args.text.now = some_before c.args.text.now (sym c.is_empty.ensures ∙ c.if-is_empty.false) c.in_default.ensures in
     let taken : 0 < c.stretch_len.result = omega (arith, some, c.stretch_len.ensures) in
-    let first = segments_stretch c.args.text.now c.stretch_len.result c.stretch_len.ensures taken in
-    (rw (c.split_at.ensures.front, c.split_at.ensures.back) first, omega (arith, c.split_at.ensures.back_len, taken))
+    let first = segments_stretch c.args.text.now c.stretch_len.result c.stretch_len.ensures taken in (
+      rw (c.split_at.ensures.front, c.split_at.ensures.back) first,
+      omega (arith, c.split_at.ensures.back_len, taken),
+      subst (λ left. left ≡ drop (length c.args.text.now - length left) c.args.text.now) (sym c.split_at.ensures.back) (end_of c.stretch_len.result c.args.text.now),
+    )

@@ -1,7 +1,8 @@
 use Rattle.std.proofs.Common.{◌<◌, ◌∙◌, [], All, arith, length, subst, sym}
 use Rattle.std.proofs.lemmas.Bool.{eqb-true, false≢true}
-use Rattle.mail_matching.specs.Headers.{IsUnfolded, selected_named}
-use Rattle.mail_matching.specs.Outcomes.{GoesOn}
+use Rattle.mail_matching.specs.Headers.{selected_named}
+use Rattle.mail_matching.specs.HeaderTests.{IsUnfolded}
+use Rattle.mail_matching.specs.Private.{GoesOn}
 use Rattle.mail_matching.specs.Selection.{selector_of}
 use Rattle.mail_matching.proofs.Onward.{goes_on_more, goes_on_none, selected_of_none, values_room}
 use Rattle.mail_matching.proofs.progress.Progress.take_header.Goals as goal

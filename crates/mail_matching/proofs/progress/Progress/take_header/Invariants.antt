@@ -1,6 +1,6 @@
 use Rattle.std.proofs.Common.{flat_map, take}
 use Rattle.mail_matching.specs.Headers.{selected_named}
-use Rattle.mail_matching.specs.Outcomes.{GoesOn}
+use Rattle.mail_matching.specs.Private.{GoesOn}
 use Rattle.mail_matching.specs.Selection.{selector_of}
 use Rattle.mail_matching.proofs.progress.Progress.take_header.Given as goal
 

@@ -1,8 +1,8 @@
 use Rattle.std.proofs.Common.{sym, ap, arith, subst}
 use Rattle.std.proofs.lemmas.Bool.{false≢true}
-use Rattle.mail_matching.specs.Headers.{IsUnfolded}
+use Rattle.mail_matching.specs.HeaderTests.{IsUnfolded}
 use Rattle.mail_matching.specs.Costs.{extent_of}
-use Rattle.mail_matching.specs.Outcomes.{GoesOn}
+use Rattle.mail_matching.specs.Private.{GoesOn}
 use Rattle.mail_matching.specs.Selection.{selector_of}
 use Rattle.mail_matching.proofs.Extents.{named_each, where_named}
 use Rattle.mail_matching.proofs.Onward.{goes_on_all, goes_on_more, values_room}

@@ -1,5 +1,5 @@
 use Rattle.std.proofs.Common.{flat_map, take}
-use Rattle.mail_matching.specs.Outcomes.{GoesOn}
+use Rattle.mail_matching.specs.Private.{GoesOn}
 use Rattle.mail_matching.specs.Selection.{selector_of}
 use Rattle.mail_matching.proofs.Extents.{where_named}
 use Rattle.mail_matching.proofs.progress.Progress.take_named.Given as goal

@@ -1,6 +1,6 @@
 use Rattle.std.proofs.Common.{◌<◌, ◌≤◌, [], arith, ap, length, subst, sym}
 use Rattle.std.specs.Prelude.{IfSome}
-use Rattle.mail_matching.specs.Outcomes.{GoesOn}
+use Rattle.mail_matching.specs.Private.{GoesOn}
 use Rattle.mime_params.specs.MediaValue.{value_named}
 use Rattle.mime_decode.specs.Scope.{given, params_of, reading_of}
 use Rattle.octets.specs.Limits.{max_message}

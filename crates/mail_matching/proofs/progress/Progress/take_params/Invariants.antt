@@ -1,7 +1,7 @@
 use Rattle.std.proofs.Common.{take}
 use Rattle.mime_decode.specs.Scope.{params_of, reading_of}
 use Rattle.mail_matching.specs.Headers.{values_of_params}
-use Rattle.mail_matching.specs.Outcomes.{GoesOn}
+use Rattle.mail_matching.specs.Private.{GoesOn}
 use Rattle.mail_matching.proofs.progress.Progress.take_params.Given as goal
 
 abbrev pub invariant-loop-place : goal.invariant-loop-place

@@ -3,7 +3,8 @@ use Rattle.std.proofs.lemmas.List.{length-map}
 use Rattle.sqlite.specs.Held.{state}
 use Rattle.sqlite.specs.State.{HasCleanDisk, Survives}
 use Rattle.part_store.specs.Entries.{Entries, with_entries}
-use Rattle.part_store.specs.Filing.{Adds, Collides, HasRoom}
+use Rattle.part_store.specs.Additions.{Adds}
+use Rattle.part_store.specs.Filing.{Collides, HasRoom}
 use Rattle.part_store.specs.Refusals.{refusal_of, BlamesEntries, LackRoom}
 use Rattle.part_store.specs.Standing.{MayMake, Stands, draft_of}
 use Rattle.part_store.specs.declared.adding.Adding.TheVariants.{Collision, From, NumberFull}

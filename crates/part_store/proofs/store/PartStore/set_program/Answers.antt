@@ -3,7 +3,8 @@ use Rattle.sqlite.specs.Held.{state}
 use Rattle.sqlite.specs.State.{HasCleanDisk, Survives}
 use Rattle.part_store.specs.Entries.{with_program}
 use Rattle.part_store.specs.Refusals.{refusal_of, BlamesRow, HasNoUserRoom}
-use Rattle.part_store.specs.Standing.{Brings, MayMake}
+use Rattle.part_store.specs.Inside.{Brings}
+use Rattle.part_store.specs.Standing.{MayMake}
 use Rattle.part_store.proofs.Failing.{dropped}
 use Rattle.part_store.proofs.Runs.{passed}
 use Rattle.part_store.proofs.Stored.{committed_change}

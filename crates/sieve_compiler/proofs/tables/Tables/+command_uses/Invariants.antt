@@ -1,5 +1,6 @@
 use Rattle.std.proofs.Common.{◌≡◌, drop}
-use Rattle.sieve_check.specs.TypedView.{commands_form, branch_forms, else_form}
+use Rattle.sieve_check.specs.TypedView.{commands_form}
+use Rattle.sieve_check.specs.Private.{branch_forms, else_form}
 use Rattle.sieve_compiler.specs.Growing.{commands_uses, branches_uses, with_uses}
 use Rattle.sieve_compiler.proofs.tables.Tables.+command_uses.Given as goal
 

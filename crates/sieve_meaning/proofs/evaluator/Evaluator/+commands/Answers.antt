@@ -1,12 +1,12 @@
-use Rattle.std.proofs.Common.{◌≡◌, [], ◌∷◌, ◌++◌, false, sym, ap, subst, ◌∙◌, drop, IfOk}
-use Rattle.bytecode_format.specs.declared.action.Action.TheVariants.{File}
+use Rattle.std.proofs.Common.{◌≡◌, sym, ap, subst, ◌∙◌, drop, IfOk}
 use Rattle.mime_decode.specs.Scope.{visited}
-use Rattle.sieve_check.specs.Typed.{file_into, set, store, take_first}
-use Rattle.sieve_check.specs.TypedView.{branch_forms, else_form, command_form, commands_form}
-use Rattle.sieve_meaning.specs.Meaning.{Ending, normal, command_does, choice_does, commands_do, expanded, stored, turns}
+use Rattle.sieve_check.specs.Typed.{does}
+use Rattle.sieve_check.specs.TypedView.{command_form, commands_form}
+use Rattle.sieve_check.specs.Private.{branch_forms, else_form}
+use Rattle.sieve_meaning.specs.Meaning.{Ending, normal, act_does, command_does, choice_does, commands_do, expanded, turns}
 use Rattle.sieve_meaning.specs.declared.evaluator.Flow.TheVariants.{GoesOn, Stopped}
 use Rattle.sieve_meaning.specs.Evaluation.{StandsAt}
-use Rattle.sieve_meaning.proofs.Shapes.{form_file_into, form_set, form_store, form_take}
+use Rattle.sieve_meaning.proofs.Shapes.{form_does}
 use Rattle.sieve_meaning.proofs.MeaningLemmas.{branch_bounded, branches_bounded, commands_bounded, commands_end, commands_on, does_if, does_loop, none_left, passed, taken, turn_is, turn_left, turn_of, turn_on, turn_stopped}
 use Rattle.sieve_meaning.proofs.evaluator.Evaluator.+commands.Goals as goal
 
@@ -35,8 +35,8 @@ command-returns-in-Some t c = λ e stands.
     none_left mail part bs c.branches.branch-index last f c.branches-test.false ∙ ap (λ o. choice_does mail part (else_form o) f) c.in-Some.is ∙ ap (λ cs. commands_do mail part (commands_form cs) f) (sym c.deref-in-Some.ensures.value) in
     subst (λ (x : Ending). IfOk c.commands-in-Some.result (λ flow. StandsAt x flow c.commands-in-Some.new.self)) (sym (all ∙ sym before.2 ∙ block)) (c.commands-in-Some.ensures f before.1)
 
-pub command-returns-in_default : goal.command-returns-in_default
-command-returns-in_default t c = λ e stands.
+pub command-returns-in-None : goal.command-returns-in-None
+command-returns-in-None t c = λ e stands.
     let mail = c.args.subject.message.now in
     let part = c.args.subject.part in
     let bs = c.deref-branch-items.result.now in
@@ -45,8 +45,18 @@ command-returns-in_default t c = λ e stands.
     let f = before.0 in
     let all : command_does mail part (command_form c.args.command.now) e ≡ choice_does mail part (branch_forms bs last) e =
     does_if mail part c.args.command.now c.in-If.branches c.in-If.otherwise c.in-If.is e ∙ ap (λ xs. choice_does mail part (branch_forms xs last) e) (sym c.deref-branch-items.ensures.value) in
-    let none : choice_does mail part (branch_forms (drop c.branches.branch-index bs) last) f ≡ normal f = none_left mail part bs c.branches.branch-index last f c.branches-test.false ∙ ap (λ o. choice_does mail part (else_form o) f) c.in_default.is in
+    let none : choice_does mail part (branch_forms (drop c.branches.branch-index bs) last) f ≡ normal f = none_left mail part bs c.branches.branch-index last f c.branches-test.false ∙ ap (λ o. choice_does mail part (else_form o) f) c.in-None.is in
     subst (λ (x : Ending). StandsAt x GoesOn c.branches.self) (sym (all ∙ sym before.2 ∙ none)) before.1
+
+pub command-returns-in_ok-text-in-Does : goal.command-returns-in_ok-text-in-Does
+command-returns-in_ok-text-in-Does t c = λ e stands.
+    let mail = c.args.subject.message.now in
+    let part = c.args.subject.part in
+    let act = c.in-Does.act in
+    let form : command_form c.args.command.now ≡ does act c.in-Does.string.items c.in-Does.at = ap command_form c.in-Does.is ∙ form_does act c.in-Does.string c.in-Does.at in
+    let text : c.in_ok-text-in-Does.text ≡ expanded e c.in-Does.string.items = c.in_ok-text-in-Does.ensures.text e stands ∙ ap (expanded e) c.deref.ensures.value in
+    subst (λ (x : Ending). IfOk c.act.result (λ flow. StandsAt x flow c.act.new.self))
+    (sym (ap (λ f. command_does mail part f e) form ∙ ap (λ t. act_does mail part act t e) (sym text))) (c.act.ensures e stands)
 
 pub commands-commands-preserved : goal.commands-commands-preserved
 commands-commands-preserved t c = (
@@ -62,34 +72,6 @@ commands-returns-in_default t c = λ e stands.
     let before = c.commands.invariant.1 e stands in
     subst (λ (x : Ending). StandsAt x c.in_ok-flow.flow c.command.new.self) before.2
     (commands_end c.args.subject.message.now c.args.subject.part c.args.commands.now c.commands.command-index c.command-item.result c.in_ok-flow.flow c.command.new.self before.0 c.commands-test.true c.command-item.is (c.in_ok-flow.ensures before.0 before.1) c.in_default.not-GoesOn)
-
-pub command-returns-in_ok-list-in-FileInto : goal.command-returns-in_ok-list-in-FileInto
-command-returns-in_ok-list-in-FileInto t c = λ e stands.
-    let mail = c.args.subject.message.now in
-    let part = c.args.subject.part in
-    let form : command_form c.args.command.now ≡ file_into c.in-FileInto.folder.items = ap command_form c.in-FileInto.is ∙ form_file_into c.in-FileInto.folder in
-    let folder : c.in_ok-folder-in-FileInto.folder ≡ expanded e c.in-FileInto.folder.items = c.in_ok-folder-in-FileInto.ensures.text e stands ∙ ap (expanded e) c.deref.ensures.value in
-    subst (λ x. StandsAt x GoesOn c.list-in-FileInto.new.self)
-    (sym (ap (λ f. command_does mail part f e) form ∙ ap (λ t. normal (record e { actions = e.actions ++ File t ∷ []; implicit_keep = false })) (sym folder)))
-    (c.in_ok-list-in-FileInto.ensures e stands)
-
-pub command-returns-in_ok-set-in-Set : goal.command-returns-in_ok-set-in-Set
-command-returns-in_ok-set-in-Set t c = λ e stands.
-    let mail = c.args.subject.message.now in
-    let part = c.args.subject.part in
-    let m = c.in-Set.modifiers in
-    let form : command_form c.args.command.now ≡ set m c.in-Set.name c.in-Set.value.items = ap command_form c.in-Set.is ∙ form_set m c.in-Set.name c.in-Set.value in
-    let name = ap (λ n. command_does mail part (set m n c.in-Set.value.items) e) (sym c.as_slice.ensures) in
-    let value = ap (λ s. command_does mail part (set m c.as_slice.result.now s) e) (sym c.deref-in-Set.ensures.value) in
-    subst (λ x. StandsAt x GoesOn c.set.new.self) (sym (ap (λ f. command_does mail part f e) form ∙ name ∙ value)) (c.in_ok-set-in-Set.ensures e stands)
-
-pub command-returns-in_ok-take-in-Take : goal.command-returns-in_ok-take-in-Take
-command-returns-in_ok-take-in-Take t c = λ e stands.
-    let mail = c.args.subject.message.now in
-    let part = c.args.subject.part in
-    let form : command_form c.args.command.now ≡ take_first c.in-Take.most c.in-Take.name = ap command_form c.in-Take.is ∙ form_take c.in-Take.most c.in-Take.name in
-    let name = ap (λ n. command_does mail part (take_first c.in-Take.most n) e) (sym c.as_slice-in-Take.ensures) in
-    subst (λ x. StandsAt x GoesOn c.take.new.self) (sym (ap (λ f. command_does mail part f e) form ∙ name)) (c.in_ok-take-in-Take.ensures e stands)
 
 pub command-is_true-requires : goal.command-is_true-requires
 command-is_true-requires t c = branch_bounded c.deref-branch-items.result.now c.branches.branch-index c.branch-item.result (else_form c.in-If.otherwise) c.branches-test.true c.branch-item.is c.branches.invariant.0
@@ -112,19 +94,9 @@ pub command-returns-in-ForEveryPart : goal.command-returns-in-ForEveryPart
 command-returns-in-ForEveryPart t c = λ e stands.
     let mail = c.args.subject.message.now in
     let part = c.args.subject.part in
-    let all = does_loop mail part c.args.command.now c.in-ForEveryPart.block c.in-ForEveryPart.is e in
+    let all = does_loop mail part c.args.command.now c.in-ForEveryPart.block c.in-ForEveryPart.at c.in-ForEveryPart.is e in
     let block = ap (λ cs. turns (turn_of mail (commands_form cs)) (visited part mail) e) (sym c.deref-in-ForEveryPart.ensures.value) in
     subst (λ (x : Ending). IfOk c.for_every_part.result (λ flow. StandsAt x flow c.for_every_part.new.self)) (sym (all ∙ block)) (c.for_every_part.ensures e stands)
-
-pub command-returns-in_ok-store-in-Store : goal.command-returns-in_ok-store-in-Store
-command-returns-in_ok-store-in-Store t c = λ e stands.
-    let mail = c.args.subject.message.now in
-    let part = c.args.subject.part in
-    let form : command_form c.args.command.now ≡ store c.in-Store.folder.items = ap command_form c.in-Store.is ∙ form_store c.in-Store.folder in
-    let folder : c.in_ok-folder-in-Store.folder ≡ expanded e c.in-Store.folder.items = c.in_ok-folder-in-Store.ensures.text e stands ∙ ap (expanded e) c.deref-in-Store.ensures.value in
-    subst (λ x. StandsAt x GoesOn c.store.new.self)
-    (sym (ap (λ f. command_does mail part f e) form ∙ ap (λ t. normal (record e { actions = e.actions ++ stored part t })) (sym folder)))
-    (c.in_ok-store-in-Store.ensures e stands)
 
 pub for_every_part-parts-preserved : goal.for_every_part-parts-preserved
 for_every_part-parts-preserved t c = (

@@ -1,7 +1,8 @@
 use Rattle.std.proofs.Common.{◌≡◌, ◌≤◌, ◌-◌, drop, length, Some}
 use Rattle.mime_decode.specs.Scope.{numbers_from, visited}
 use Rattle.sieve_check.specs.Bounded.{AreBoundedCommands, AreBoundedBranches}
-use Rattle.sieve_check.specs.TypedView.{commands_form, branch_forms, else_form}
+use Rattle.sieve_check.specs.TypedView.{commands_form}
+use Rattle.sieve_check.specs.Private.{branch_forms, else_form}
 use Rattle.sieve_meaning.specs.Meaning.{Effects, commands_do, choice_does, turns}
 use Rattle.sieve_meaning.specs.Evaluation.{HasEvaluated}
 use Rattle.sieve_meaning.proofs.evaluator.Evaluator.+commands.Given as goal

@@ -1,0 +1,87 @@
+-- Saving a program from the open of the files to their close.
+use Rattle.std.proofs.Common.{◌≡◌, ◌⊎◌, inl, inr, IsTrue, List, ℕ, Option, Some, None, Result, Ok, Err, refl, subst, arith}
+use Rattle.sqlite_disk.specs.declared.Disk.{Ghosts}
+use Rattle.sqlite_disk.specs.declared.Files.{Files}
+use Rattle.sqlite.specs.declared.FileStore.{FileStore}
+use Rattle.sqlite.specs.Files.{file_state}
+use Rattle.sqlite.specs.Held.{Held}
+use Rattle.sqlite.specs.Recovery.{Image}
+use Rattle.sqlite.specs.State.{HasCleanDisk, Survives}
+use Rattle.part_store.specs.Entries.{Entries}
+use Rattle.part_store.specs.Opening.{HoldsState, IsAt}
+use Rattle.refusals.specs.declared.refusal.Refusal.{Refusal}
+use Rattle.depot_actions.specs.DepotState.{Accepts, Program, ProgramOf}
+use Rattle.depot_cli.specs.Saving.{HasGiven, HasNotSaved, HasSaved, HasServed, OutlastsSaving}
+use Rattle.depot.specs.Ending.{IsToldAs}
+use Rattle.depot.specs.Private.{IsFound, IsLeftOf, IsShut}
+use Rattle.depot.specs.Programs.{HasEnded, IsAnswered, Save, Tells}
+use Rattle.depot.proofs.Ended.{Came, at_state, ends, still_at, unchanged}
+
+module _ {D : Type 0} (g : Ghosts D) where
+  -- a depot at this state told the program of it
+  tells : (old new : Held (FileStore D g)) (it : Save) (before : Entries) (program : Option (List ℕ)) → IsAt before (file_state old) → HasCleanDisk (file_state new)
+      → HasGiven it.saving.user.now program (file_state old) (file_state new) → Tells it before program
+  tells old new it before program at clean given =
+      let one = (given clean).0.1 before at.0 in
+      subst (λ (e : Entries). Accepts before (ProgramOf it.saving.user.now) (Program program) e) one.1.step.1 one.1
+
+  shows_after : (old new : Held (FileStore D g)) (it : Save) (before : Entries) (program : Option (List ℕ)) → IsAt before (file_state old) → HasCleanDisk (file_state new)
+      → HasGiven it.saving.user.now program (file_state old) (file_state new) → IsTrue (file_state new).is_open → IsAt before (file_state new)
+  shows_after old new it before program at clean given = still_at g old new before (λ is_open. at) (given clean).1
+
+  -- what saving came to, and the depot after it
+  record Done (it : Save) (before : Entries) (new : Held (FileStore D g)) : Type 0 where
+    answered : IsAnswered g it before before
+    shows : IsTrue (file_state new).is_open → IsAt before (file_state new)
+
+  done : (old new : Held (FileStore D g)) (it : Save) (before : Entries) → IsAt before (file_state old) → HasCleanDisk (file_state new)
+      → HasSaved it.saving it.status (file_state old) (file_state new) it.old it.new ⊎ HasNotSaved it.saving it.status (file_state old) (file_state new) it.old it.new → Done it before new
+  done old new it before at clean (inl (program, saved, printed)) = record {
+    answered = (refl, inl (program, tells old new it before (Some program) at clean saved.0, saved.1, printed));
+    shows = shows_after old new it before (Some program) at clean saved.0;
+  }
+  done old new it before at clean (inr (refusal, inl (none, given, same), one, told, quiet)) = record {
+    answered = (refl, inr (refusal, inl (none, tells old new it before None at clean given, same), one, told, quiet));
+    shows = shows_after old new it before None at clean given;
+  }
+  done old new it before at clean (inr (refusal, inr (inl (refused, same)), one, told, quiet)) =
+      let all = refused.1 clean in
+      record {
+        answered = (refl, inr (refusal, inr (inl ((record { may = refused.0; depot = old; shows = λ is_open. at; cause = all.0; left = new; fault = all.1 }, at.2), same)), one, told, quiet));
+        shows = still_at g old new before (λ is_open. at) all.2;
+      }
+  done old new it before at clean (inr (refusal, inr (inr (program, given, unmade)), one, told, quiet)) = record {
+    answered = (refl, inr (refusal, inr (inr (program, tells old new it before (Some program) at clean given, unmade)), one, told, quiet));
+    shows = shows_after old new it before (Some program) at clean given;
+  }
+
+  came : (old new : Held (FileStore D g)) → ((file : D) → g.may_leave file (g.seen file)) → (it : Save) (before : Entries) → IsAt before (file_state old) → HasCleanDisk (file_state new)
+      → HasSaved it.saving it.status (file_state old) (file_state new) it.old it.new ⊎ HasNotSaved it.saving it.status (file_state old) (file_state new) it.old it.new
+      → Survives (file_state old) (file_state new) (λ _. ⊥) → Came g (IsAnswered g it) (λ before after answered held. held ≡ before) before new
+  came old new stays it before at clean saved survives =
+      let one = done old new it before at clean saved in
+      unchanged g old new stays (IsAnswered g it) before one.answered at clean one.shows survives
+
+  -- a program was saved from what opening gave, which was closed then
+  pub ended : (opened mid : Result (Held (FileStore D g)) Refusal) (left : Option (Result (Files D) (FileStore D g))) → ((file : D) → g.may_leave file (g.seen file))
+      → (it : Save) (image : Image) → IsFound image opened → HasServed file_state it.saving it.status opened mid it.old it.new → OutlastsSaving file_state opened mid
+      → IsShut mid left → HasEnded it image left
+  ended (Ok old) (Ok new) left stays it image found served survives shut =
+      ends g (IsAnswered g it) (λ before after answered held. held ≡ before) Refusal _ (HoldsState image) new left shut (λ clean before stood.
+      let early : HasCleanDisk (file_state old) = omega (arith, clean, survives.clean) in
+      came old new stays it before (at_state image old found early before stood) clean served survives)
+  ended (Ok old) (Err refusal) left stays it image found served survives shut = absurd served
+  ended (Err refusal) (Ok new) left stays it image found served survives shut = absurd served
+  ended (Err refusal) (Err same) None stays it image found served survives shut = ((refusal, found, (served.1, served.2, served.3)), served.4)
+  ended (Err refusal) (Err same) (Some left) stays it image found served survives shut = absurd shut
+
+  -- it is left, or the refusal of opening was told
+  pub told : (opened mid : Result (Held (FileStore D g)) Refusal) (left : Option (Result (Files D) (FileStore D g))) → (it : Save)
+      → HasServed file_state it.saving it.status opened mid it.old it.new → IsShut mid left
+      → IsLeftOf (λ e. IsToldAs e it.status it.old.out it.old.err it.new.out it.new.err) opened left
+  told (Ok old) (Ok new) (Some left) it served shut = tt
+  told (Ok old) (Ok new) None it served shut = absurd shut
+  told (Ok old) (Err refusal) left it served shut = absurd served
+  told (Err refusal) (Ok new) left it served shut = absurd served
+  told (Err refusal) (Err same) None it served shut = (served.1, served.2, served.3)
+  told (Err refusal) (Err same) (Some left) it served shut = absurd shut

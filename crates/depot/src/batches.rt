@@ -1,0 +1,71 @@
+//! Batches, from the open of their depot to its close.
+ghost use Rattle.sqlite.specs.Recovery.{Image};
+ghost use Rattle.sqlite.specs.WalFiles.{image_at};
+ghost use Rattle.depot.specs.Batches.{HasEnded, batch_of};
+ghost use Rattle.depot_jobs.specs.Jobs.{world};
+ghost use Rattle.depot.specs.Ending.{IsToldAs};
+ghost use Rattle.depot.specs.Private.{IsFound, IsLeftOf};
+
+use crate::closing::{Left, close};
+use depot_actions::Depot;
+use depot_batch::batch;
+use depot_jobs::Host;
+use encodings::{OfRead, OfWrite, Sink, Source};
+use refusals::Refusal;
+use sqlite::{FileFrom, FileStore, Start};
+use sqlite_disk::Disk;
+use std::alloc::Global;
+use std::io::{BufRead, Write};
+
+/// Opens the depot of this name, has the lines of the input done on it, and closes it. Gives the status, and what is left of the files;
+/// none where the depot wasn't opened.
+///
+/// `B` stands for what the two files held. Where they stood for a state and no lie of the disk was taken for true, the lines bring that
+/// state to the one after them, each line as it was answered, and the files hold that state, also after a crash. Where the close fails or a
+/// crash comes before its end, the files hold that state, too, or what one of the lines makes of it, at which a failure shut the depot. No
+/// clause ties `B` to the name: that the file there is opened is seen in the body.
+pub fn serve_from<B: Start, H: Host, R: BufRead + Drop, W: Write + Drop, E: Sink>(
+    rt: &HostRuntime,
+    name: &str,
+    start: B,
+    host: &mut H,
+    input: &mut OfRead<R>,
+    out: &mut OfWrite<W>,
+    err: &mut E,
+) -> (u8, Option<Left<FileFrom<B>>>)
+    ensures ended { HasEnded
+        (batch_of name.now result.0 (⟦<OfRead<R> as Source>⟧.supply input.old)
+        (⟦<OfRead<R> as Source>⟧.supply input.new)
+        (world (H.state host.old) (⟦<OfWrite<W> as Sink>⟧.output out.old) (E.output err.old))
+        (world (H.state host.new) (⟦<OfWrite<W> as Sink>⟧.output out.new) (E.output err.new)))
+        (image_at B.Start) result.1 }
+{
+    let opened = Depot::open_from(rt, name, start);
+    serve_and_close(rt.alloc(), name, opened, host, input, out, err)
+}
+
+// Has the lines of the input done on what opening gave, and closes that.
+fn serve_and_close<D: Disk + Drop, H: Host, R: BufRead + Drop, W: Write + Drop, E: Sink>(
+    alloc: Global,
+    name: &str,
+    opened: Result<Depot<FileStore<D>>, Refusal>,
+    host: &mut H,
+    input: &mut OfRead<R>,
+    out: &mut OfWrite<W>,
+    err: &mut E,
+) -> (u8, Option<Left<D>>)
+    ensures ended { (image : Image) → IsFound image opened → HasEnded
+        (batch_of name.now result.0 (⟦<OfRead<R> as Source>⟧.supply input.old)
+        (⟦<OfRead<R> as Source>⟧.supply input.new)
+        (world (H.state host.old) (⟦<OfWrite<W> as Sink>⟧.output out.old) (E.output err.old))
+        (world (H.state host.new) (⟦<OfWrite<W> as Sink>⟧.output out.new) (E.output err.new)))
+        image result.1 }
+    ensures told { IsLeftOf (λ e. IsToldAs e result.0
+        (⟦<OfWrite<W> as Sink>⟧.output out.old) (E.output err.old)
+        (⟦<OfWrite<W> as Sink>⟧.output out.new) (E.output err.new)) opened result.1 }
+{
+    let mut opened = opened;
+    let status = batch(alloc, name, &mut opened, host, input, out, err);
+    let left = close(opened);
+    (status, left)
+}

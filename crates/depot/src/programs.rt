@@ -1,0 +1,65 @@
+//! Programs that are saved, from the open of their depot to its close.
+ghost use Rattle.sqlite.specs.Recovery.{Image};
+ghost use Rattle.sqlite.specs.WalFiles.{image_at};
+ghost use Rattle.depot_jobs.specs.Jobs.{world};
+ghost use Rattle.depot.specs.Ending.{IsToldAs};
+ghost use Rattle.depot.specs.Private.{IsFound, IsLeftOf};
+ghost use Rattle.depot.specs.Programs.{HasEnded, save_of};
+
+use crate::closing::{Left, close};
+use depot_actions::Depot;
+use depot_cli::{Saving, save};
+use depot_jobs::Host;
+use encodings::Sink;
+use refusals::Refusal;
+use sqlite::{FileFrom, FileStore, Start};
+use sqlite_disk::Disk;
+use std::alloc::Global;
+
+/// Opens the depot of a user, has his program saved from it, and closes it. Gives the status, and what is left of the files; none where
+/// the depot wasn't opened.
+///
+/// `B` stands for what the two files held. Where they stood for a state and no lie of the disk was taken for true, a status of 0 means
+/// that the user has a program in that state, that it is the file, and that its length is written; a status of 1 that there is no file,
+/// and that this was told for its cause, or that the writing broke off. The files hold the same state then, also after a crash, and where
+/// the close fails or a crash comes before its end. No clause ties `B` to the name: that the file there is opened is seen in the body.
+pub fn save_from<B: Start, H: Host, O: Sink, E: Sink>(
+    rt: &HostRuntime,
+    saving: Saving<'_>,
+    start: B,
+    host: &mut H,
+    out: &mut O,
+    err: &mut E,
+) -> (u8, Option<Left<FileFrom<B>>>)
+    ensures ended { HasEnded
+        (save_of saving.entry result.0
+        (world (H.state host.old) (O.output out.old) (E.output err.old))
+        (world (H.state host.new) (O.output out.new) (E.output err.new)))
+        (image_at B.Start) result.1 }
+{
+    let opened = Depot::open_from(rt, saving.name, start);
+    save_and_close(rt.alloc(), saving, opened, host, out, err)
+}
+
+// Has the program saved from what opening gave, and closes that.
+fn save_and_close<D: Disk + Drop, H: Host, O: Sink, E: Sink>(
+    alloc: Global,
+    saving: Saving<'_>,
+    opened: Result<Depot<FileStore<D>>, Refusal>,
+    host: &mut H,
+    out: &mut O,
+    err: &mut E,
+) -> (u8, Option<Left<D>>)
+    ensures ended { (image : Image) → IsFound image opened → HasEnded
+        (save_of saving.entry result.0
+        (world (H.state host.old) (O.output out.old) (E.output err.old))
+        (world (H.state host.new) (O.output out.new) (E.output err.new)))
+        image result.1 }
+    ensures told { IsLeftOf (λ e. IsToldAs e result.0 (O.output out.old) (E.output err.old)
+        (O.output out.new) (E.output err.new)) opened result.1 }
+{
+    let mut opened = opened;
+    let status = save(alloc, saving, &mut opened, host, out, err);
+    let left = close(opened);
+    (status, left)
+}

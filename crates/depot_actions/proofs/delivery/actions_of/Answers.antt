@@ -1,5 +1,0 @@
-use Rattle.sieve_vm.proofs.Bounds.{outcome_stores}
-use Rattle.depot_actions.proofs.delivery.actions_of.Goals as goal
-
-pub returns-clause-parts : goal.returns-clause-parts
-returns-clause-parts c = outcome_stores _ c.args.message.now c.in_ok-verified.ensures.checked.accepted c.size-size.ensures.mail _ _ c.in_ok-run.ensures

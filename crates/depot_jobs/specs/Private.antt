@@ -1,0 +1,43 @@
+-- Private: how files that are being made are named, what is read, and what an answer is made of.
+use Rattle.std.specs.Prelude.{ℕ, List, ◌++◌, codes, [], ◌∷◌, Option, None, Some, string_bytes}
+use Rattle.std.specs.Fmt.{decimal}
+use Rattle.depot_jobs.specs.Host.{Origin, origin_of}
+use Rattle.depot_jobs.specs.declared.inputs.Inputs.{Inputs}
+use Rattle.depot_jobs.specs.declared.inputs.Inputs.TheVariants.{One, Two}
+use Rattle.depot_jobs.specs.Jobs.{commented}
+use Rattle.depot_jobs.specs.Printed.{line, ok_text, refusal_line, report_text, wrote_text}
+use Rattle.refusals.specs.declared.refusal.Refusal.{Refusal}
+use Rattle.depot_jobs.specs.declared.job.Lines.{Lines}
+use Rattle.depot_jobs.specs.declared.job.Verdict.{Verdict}
+use Rattle.depot_jobs.specs.declared.job.Lines.TheVariants as lines
+use Rattle.depot_jobs.specs.declared.job.Verdict.TheVariants as verdicts
+
+-- the name of a file that is being made, by the number of the process and by how many names were taken
+abbrev pub new_name : ℕ → ℕ → List ℕ
+new_name number n = codes ".depot-" ++ (decimal number ++ (codes "-" ++ decimal n))
+
+-- where what the code says that it reads comes from
+abbrev pub origins_in : Inputs → List Origin
+origins_in (One first) = origin_of first ∷ []
+origins_in (Two first second) = origin_of first ∷ origin_of second ∷ []
+
+-- the line of what the verifier says of a program
+abbrev pub verdict_line : Verdict → List ℕ
+verdict_line (verdicts.Accepted budget) = line (string_bytes budget)
+verdict_line (verdicts.Refused refusal) = refusal_line refusal
+
+-- the text of what an answer is made of
+abbrev pub lines_text : Lines → List ℕ
+lines_text lines.NoFault = line ok_text
+lines_text (lines.Remarks text) = line ok_text ++ text.items
+lines_text (lines.Fault text refusal) = text.items
+lines_text (lines.Wrote octets) = line (wrote_text octets)
+lines_text (lines.Budget text) = line (string_bytes text)
+lines_text (lines.Listing listing verdict) = listing.items ++ commented (verdict_line verdict)
+lines_text (lines.Octets octets) = octets.items
+lines_text (lines.Report report) = report_text report.outcome.actions.items report.outcome.charged report.limit
+
+-- the refusal that goes with it, if there is one
+abbrev pub refusal_in : Lines → Option Refusal
+refusal_in (lines.Fault text refusal) = Some refusal
+refusal_in _ = None

@@ -1,0 +1,32 @@
+-- Private: how causes, arguments and branches of the code are seen.
+use Rattle.sieve_check.specs.declared.causes.Cause.{Cause}
+use Rattle.sieve_check.specs.Causes as causes
+use Rattle.std.specs.Prelude.{List, map, Option, Some, None}
+use Rattle.sieve_parser.specs.Tree.{ArgumentTree}
+use Rattle.sieve_parser.specs.View.{argument_tree}
+use Rattle.sieve_parser.specs.declared.tree.Head.{Head}
+use Rattle.std.specs.Global.{Vec}
+use Rattle.sieve_check.specs.Typed.{CommandForm, BranchForms, no_branch, otherwise}
+use Rattle.sieve_check.specs.declared.typed.Command.{Command}
+use Rattle.sieve_check.specs.declared.typed.Branch.{Branch}
+use Rattle.sieve_check.specs.declared.typed.Command.TheFolds.{fold-Branch}
+use Rattle.sieve_check.specs.TypedView.{GuardedForm, branch_step, branches_of, command_step, commands_form}
+
+abbrev pub cause_view : Cause → causes.Cause
+cause_view cause = record { kind = cause.kind; subject = cause.subject.now }
+
+abbrev pub arguments_of : Head → List ArgumentTree
+arguments_of head = map argument_tree head.arguments.items
+
+-- a branch
+abbrev pub branch_form : Branch → GuardedForm
+branch_form = fold-Branch CommandForm GuardedForm command_step branch_step
+
+-- the block of an else, as the code holds it
+abbrev pub else_form : Option (Vec Command) → BranchForms
+else_form None = no_branch
+else_form (Some cs) = otherwise (commands_form cs.items)
+
+-- branches, as the code holds them, then the else
+abbrev pub branch_forms : List Branch → BranchForms → BranchForms
+branch_forms bs last = branches_of (map branch_form bs) last

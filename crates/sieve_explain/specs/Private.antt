@@ -1,0 +1,48 @@
+-- Private: how tables and sentences of the code are seen, and what is told of a fault first.
+use Rattle.std.specs.Prelude.{ℕ, List, map, ◌≢◌, Option, Some, None, ◌≤◌, length, IfSome}
+use Rattle.std.specs.Borrow.{Bor}
+use Rattle.sieve_explain.specs.Words.{Hint, hint}
+use Rattle.refusals.specs.Scripts.{IsScriptRefusal}
+use Rattle.sieve_explain.specs.declared.explanation.Explanation.{Explanation}
+use Rattle.sieve_explain.specs.Explaining.{IsExplained, TellsFault}
+use Rattle.refusals.specs.declared.refusal.Refusal.TheVariants as refused
+use Rattle.sieve_explain.specs.Faults.{Beginning, beginning}
+use Rattle.sieve_explain.specs.Hints.{Vocabulary}
+use Rattle.sieve_explain.specs.declared.hints.Vocabulary as code
+use Rattle.sieve_lexer.specs.declared.token.Token.{Token}
+use Rattle.sieve_explain.specs.declared.sentence.Sentence.{Sentence}
+use Rattle.sieve_explain.specs.Sentences.{Blanks}
+
+-- texts of the code, and a row of a table
+abbrev pub texts_of : List (Bor (List ℕ)) → List (List ℕ)
+texts_of texts = map (λ (text : Bor (List ℕ)). text.now) texts
+
+abbrev pub hint_of : (Bor (List (Bor (List ℕ))) × Bor (List ℕ)) → Hint
+hint_of row = hint (texts_of row.0.now) row.1.now
+
+-- of the refusal alone, before the file's look is told
+abbrev pub IsFaultTold : List ℕ → List ℕ → Option Explanation → Type 0
+IsFaultTold name script None = IsExplained name script None
+IsFaultTold name script (Some found) = (found.refusal ≢ refused.Memory) × IsScriptRefusal script found.refusal
+    × TellsFault name script found.refusal found.text.items
+
+-- a row of the code
+abbrev pub beginning_of : (Bor (List ℕ) × Bor (List ℕ)) → Beginning
+beginning_of row = beginning row.0.now row.1.now
+
+abbrev pub vocabulary_of : code.Vocabulary → Vocabulary
+vocabulary_of known = record {
+  elsewhere = map hint_of known.elsewhere.now;
+  names = texts_of known.names.now;
+  lacks = known.lacks.now;
+  hinting = known.hinting.now;
+  hinting_two = known.hinting_two.now;
+  alone = known.alone.now;
+}
+
+-- the token, where there is one, stands in the script
+abbrev pub Stands : List ℕ → Option Token → Type 0
+Stands script token = IfSome token (λ t. (t.start ≤ t.end) × (t.end ≤ length script))
+
+abbrev pub blanks_of : Sentence → Blanks
+blanks_of s = record { text = s.text.now; name = s.name.now; subject = s.subject.now; words = s.words.now; others = s.others.now; number = s.number }
