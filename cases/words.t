@@ -394,7 +394,7 @@ Help.
     2>
     2> Status 0: done. 1: refused, or the answer broke off, with one line on standard error.
     2> 2: the words aren't those of a command.
-    2> Refusals: 1, 2, 20 to 27, 45, 46. docs/SPECIFICATION.md says what each means, and what to do.
+    2> Refusals: 1, 2, 20 to 27, 45, 46. `depot help NUMBER` says what each means, and what to do.
     [2]
 
 ## help run
