@@ -9,7 +9,7 @@ use Rattle.depot_jobs.specs.Limits.{max_input}
 use Rattle.depot_jobs.specs.declared.request.Request.{Request}
 use Rattle.depot_jobs.specs.declared.request.Request.TheVariants.{Script, Code, Deliver, List as ListEntries, Export, Remove, Migrate}
 use Rattle.depot_jobs.specs.declared.work.Work.{Work}
-use Rattle.depot_jobs.specs.declared.work.Work.TheVariants.{NoWords, Check, Explain, Compile, Verify, Limit, Run, Disassemble, Assemble, Eval, Parts, Encode, Decode}
+use Rattle.depot_jobs.specs.declared.work.Work.TheVariants.{NoWords, Check, Explain, Compile, Verify, Limit, Run, Disassemble, Assemble, Eval, Trace, Parts, Encode, Decode}
 
 -- what work reads, in the order of its words
 abbrev pub origins_of : Work → List Origin
@@ -23,6 +23,7 @@ origins_of (Run program message) = file program.now ∷ file message.now ∷ []
 origins_of (Disassemble program) = file program.now ∷ []
 origins_of (Assemble listing out) = file listing.now ∷ []
 origins_of (Eval script message) = file script.now ∷ file message.now ∷ []
+origins_of (Trace script message) = file script.now ∷ file message.now ∷ []
 origins_of (Parts message) = file message.now ∷ []
 origins_of (Encode encoding) = standard ∷ []
 origins_of (Decode encoding) = standard ∷ []

@@ -13,7 +13,7 @@ use Rattle.depot_jobs.specs.declared.line.CommandLine.TheVariants.{Alone, OnDepo
 use Rattle.depot_jobs.specs.declared.request.Request.{Request}
 use Rattle.depot_jobs.specs.declared.request.Request.TheVariants.{Script, Code, Deliver, List as ListAll, Export, Remove, Migrate}
 use Rattle.depot_jobs.specs.declared.work.Work.{Work}
-use Rattle.depot_jobs.specs.declared.work.Work.TheVariants.{NoWords, Check, Explain, Compile, Verify, Limit, Run, Disassemble, Assemble, Eval, Parts, Encode, Decode}
+use Rattle.depot_jobs.specs.declared.work.Work.TheVariants.{NoWords, Check, Explain, Compile, Verify, Limit, Run, Disassemble, Assemble, Eval, Trace, Parts, Encode, Decode}
 
 -- the text of an argument, empty where it has none
 abbrev pub argument : Text → List Row → Text
@@ -48,8 +48,8 @@ abbrev pub IsNoWork : Text → Type 0
 IsNoWork name =
     (name ≢ codes "check") × (name ≢ codes "explain") × (name ≢ codes "compile") × (name ≢ codes "verify")
     × (name ≢ codes "limit") × (name ≢ codes "run")
-    × (name ≢ codes "disassemble") × (name ≢ codes "assemble") × (name ≢ codes "eval") × (name ≢ codes "parts")
-    × (name ≢ codes "encode") × (name ≢ codes "decode")
+    × (name ≢ codes "disassemble") × (name ≢ codes "assemble") × (name ≢ codes "eval") × (name ≢ codes "trace")
+    × (name ≢ codes "parts") × (name ≢ codes "encode") × (name ≢ codes "decode")
 
 -- the name isn't that of a command which makes a request of a depot
 abbrev pub IsNoRequest : Text → Type 0
@@ -74,6 +74,9 @@ SaysWork (Compile script out) matches =
     × (out.now ≡ argument (codes "OUT") rows)
 SaysWork (Eval script message) matches =
     (rows : List Row) × IsCommand (codes "eval") matches rows × (script.now ≡ argument (codes "SCRIPT") rows)
+    × (message.now ≡ argument (codes "MESSAGE") rows)
+SaysWork (Trace script message) matches =
+    (rows : List Row) × IsCommand (codes "trace") matches rows × (script.now ≡ argument (codes "SCRIPT") rows)
     × (message.now ≡ argument (codes "MESSAGE") rows)
 SaysWork (Verify program) matches = (rows : List Row) × IsCommand (codes "verify") matches rows
     × (program.now ≡ argument (codes "PROGRAM") rows)

@@ -14,7 +14,7 @@ use Rattle.depot_jobs.specs.Statuses.{refused, success}
 use Rattle.depot_jobs.specs.declared.job.Job.{Job}
 use Rattle.depot_jobs.specs.declared.job.Job.TheVariants as jobs
 use Rattle.depot_jobs.specs.declared.work.Work.{Work}
-use Rattle.depot_jobs.specs.declared.work.Work.TheVariants.{NoWords, Check, Explain, Compile, Verify, Limit, Run, Disassemble, Assemble, Eval, Parts, Encode, Decode}
+use Rattle.depot_jobs.specs.declared.work.Work.TheVariants.{NoWords, Check, Explain, Compile, Verify, Limit, Run, Disassemble, Assemble, Eval, Trace, Parts, Encode, Decode}
 
 -- ---- what is done
 
@@ -52,6 +52,9 @@ IsJobOf (Assemble name out) inputs job =
     × (listing.now ≡ input inputs 0) × (from.now ≡ name.now) × (to.now ≡ out.now)
 IsJobOf (Eval name other) inputs job = (script message : Bor (List ℕ)) × (job ≡ jobs.Eval script message)
     × (script.now ≡ input inputs 0) × (message.now ≡ input inputs 1)
+IsJobOf (Trace name other) inputs job =
+    (script message : Bor (List ℕ)) × (from : Bor Text) × (job ≡ jobs.Trace script from message)
+    × (script.now ≡ input inputs 0) × (from.now ≡ name.now) × (message.now ≡ input inputs 1)
 IsJobOf (Parts name) inputs job = (message : Bor (List ℕ)) × (job ≡ jobs.Parts message) × (message.now ≡ input inputs 0)
 IsJobOf (Encode encoding) inputs job = (octets : Bor (List ℕ)) × (job ≡ jobs.Encode encoding octets)
     × (octets.now ≡ input inputs 0)

@@ -48,6 +48,11 @@ pub enum Work<'a> {
         script: &'a str,
         message: &'a str,
     },
+    /// The same, and what the script asks and does, step by step.
+    Trace {
+        script: &'a str,
+        message: &'a str,
+    },
     /// The parts of a message.
     Parts {
         message: &'a str,

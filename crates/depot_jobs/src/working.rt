@@ -87,6 +87,11 @@ fn job_of<'a>(work: Work<'a>, first: &'a [u8], second: &'a [u8]) -> Job<'a>
             script: first,
             message: second,
         },
+        Work::Trace { script, .. } => Job::Trace {
+            script: first,
+            name: script,
+            message: second,
+        },
         Work::Parts { .. } => Job::Parts { message: first },
         Work::Encode { encoding } => Job::Encode { encoding, octets },
         Work::Decode { encoding } => Job::Decode { encoding, text },

@@ -27,6 +27,11 @@ abbrev pub eval_app : App
 eval_app = with_rule (with_rule (new_app (codes "eval")) (required_rule (codes "SCRIPT")))
     (required_rule (codes "MESSAGE"))
 
+-- trace SCRIPT MESSAGE
+abbrev pub trace_app : App
+trace_app = with_rule (with_rule (new_app (codes "trace")) (required_rule (codes "SCRIPT")))
+    (required_rule (codes "MESSAGE"))
+
 -- verify PROGRAM
 abbrev pub verify_app : App
 verify_app = with_rule (new_app (codes "verify")) (required_rule (codes "PROGRAM"))
@@ -140,9 +145,13 @@ filters_app = with_subcommand bounds_app run_app.top
 abbrev pub listings_app : App
 listings_app = with_subcommand (with_subcommand filters_app disassemble_app.top) assemble_app.top
 
+-- the program with those, and the commands that run a script
+abbrev pub runs_app : App
+runs_app = with_subcommand (with_subcommand listings_app eval_app.top) trace_app.top
+
 -- the program with all commands that take messages, scripts or filter programs
 abbrev pub mail_app : App
-mail_app = with_subcommand (with_subcommand listings_app eval_app.top) parts_app.top
+mail_app = with_subcommand runs_app parts_app.top
 
 -- the program with all commands that need no depot, where these are the names of the encodings
 abbrev pub codecs_app : Texts → App

@@ -2,7 +2,7 @@
 ghost use Rattle.std.specs.Prelude.{◌≡◌, IfOk, codes, false};
 ghost use Rattle.clap.specs.Words.{app_of, new_app, with_subcommand};
 ghost use Rattle.clap.specs.declared.builder.command.Command.TheViews.{out-Command as fields_of};
-ghost use Rattle.depot_words.specs.Commands.{assemble_app, batch_app, bounds_app, check_app, checks_app, code_app, codecs_app, compile_app, decode_app, deliver_app, delivery_app, depot_app, disassemble_app, encode_app, entries_app, eval_app, explain_app, export_app, filing_app, filters_app, inspect_app, keeper_app, keeping_app, list_app, listings_app, mail_app, migrate_app, parts_app, program_app, remove_app, run_app, script_app, scripts_app, user_app, verify_app};
+ghost use Rattle.depot_words.specs.Commands.{assemble_app, batch_app, bounds_app, check_app, checks_app, code_app, codecs_app, compile_app, decode_app, deliver_app, delivery_app, depot_app, disassemble_app, encode_app, entries_app, eval_app, explain_app, export_app, filing_app, filters_app, inspect_app, keeper_app, keeping_app, list_app, listings_app, mail_app, migrate_app, parts_app, program_app, remove_app, run_app, runs_app, script_app, scripts_app, trace_app, user_app, verify_app};
 
 use crate::arguments::{
     any_file, depot_file, encoding_name, entry_number, listing_file, message_file, out_file,
@@ -119,7 +119,15 @@ fn mail_command<'a>(alloc: Global) -> Result<Command<'a>, AllocError>
     ensures app { IfOk result (λ c. app_of c ≡ mail_app) }
     ensures local { IfOk result (λ c. (fields_of c).has_globals ≡ false) }
 {
-    with_eval(alloc)?.subcommand(parts_command(alloc)?)
+    runs_command(alloc)?.subcommand(parts_command(alloc)?)
+}
+
+// The program with the commands that take a script, a filter program, or its listing.
+fn runs_command<'a>(alloc: Global) -> Result<Command<'a>, AllocError>
+    ensures app { IfOk result (λ c. app_of c ≡ runs_app) }
+    ensures local { IfOk result (λ c. (fields_of c).has_globals ≡ false) }
+{
+    with_eval(alloc)?.subcommand(trace_command(alloc)?)
 }
 
 // The program as far as the command eval.
@@ -245,6 +253,18 @@ fn eval_command<'a>(alloc: Global) -> Result<Command<'a>, AllocError>
     Command::new(alloc, "eval")
         .about("Runs a Sieve script on a message, and prints what it does with it")
         .after_help(help::EVAL)
+        .arg(script_file(alloc))?
+        .arg(message_file(alloc))
+}
+
+// The command trace.
+fn trace_command<'a>(alloc: Global) -> Result<Command<'a>, AllocError>
+    ensures app { IfOk result (λ c. app_of c ≡ trace_app) }
+    ensures local { IfOk result (λ c. (fields_of c).has_globals ≡ false) }
+{
+    Command::new(alloc, "trace")
+        .about("Runs a Sieve script on a message, and prints what it asks and does, step by step")
+        .after_help(help::TRACE)
         .arg(script_file(alloc))?
         .arg(message_file(alloc))
 }

@@ -103,6 +103,11 @@ pub const EVAL: &str = script_ending!(
     "1 to 3, 11 to 19, 45, 46"
 );
 
+pub const TRACE: &str = script_ending!(
+    "depot trace filter.sieve mail.eml",
+    "1 to 3, 11 to 19, 45, 46"
+);
+
 pub const PARTS: &str = ending!("depot parts mail.eml", "1 to 3, 45, 46");
 
 pub const ENCODE: &str = ending!("depot encode base64 < file > text", "1, 2, 45, 46");
