@@ -1,8 +1,9 @@
 -- What jobs answer, why they are refused, and what answering does.
-use Rattle.std.specs.Prelude.{◌≡◌, ◌≢◌, ◌<◌, ◌⊎◌, ◌++◌, ℕ, List, length, codes, Option, None, Some}
+use Rattle.std.specs.Prelude.{◌≡◌, ◌≢◌, ◌<◌, ◌⊎◌, ◌++◌, ℕ, List, length, codes, Option, None, Some, ⊤}
 use Rattle.octets.specs.Limits.{max_program, max_script}
 use Rattle.octet_lanes.specs.Encoding.{IsOctets}
-use Rattle.encodings.specs.Device.{HasBroken, HasTaken, Output}
+use Rattle.encodings.specs.Device.{HasTaken, Output}
+use Rattle.encodings.specs.Device as device
 use Rattle.encodings.specs.Texts.{IsUnread, Reads, text_of}
 use Rattle.bytecode_cost.specs.Text.{budget_text}
 use Rattle.bytecode_format.specs.declared.action.Action.{Action}
@@ -22,12 +23,13 @@ use Rattle.mime_decode.specs.Mail.{IsReadable, mail_of}
 use Rattle.depot_jobs.specs.Host.{HasMade, HasNotMade, HostState}
 use Rattle.depot_jobs.specs.Limit.{limit_text}
 use Rattle.depot_jobs.specs.Printed.{line, ok_text, parts_text, refusal_line, report_text, wrote_text}
+use Rattle.depot_jobs.specs.Tracing.{IsTraced}
 use Rattle.refusals.specs.Causes.{of_verifier}
 use Rattle.refusals.specs.Scripts.{IsScriptRefusal}
 use Rattle.refusals.specs.declared.refusal.Refusal.{Refusal}
 use Rattle.refusals.specs.declared.refusal.Refusal.TheVariants as refusals
 use Rattle.depot_jobs.specs.declared.job.Job.{Job}
-use Rattle.depot_jobs.specs.declared.job.Job.TheVariants.{Check, Explain, Compile, Verify, Limit, Run, Disassemble, Assemble, Eval, Parts, Encode, Decode}
+use Rattle.depot_jobs.specs.declared.job.Job.TheVariants.{Check, Explain, Compile, Verify, Limit, Run, Disassemble, Assemble, Eval, Trace, Parts, Encode, Decode}
 
 -- what a program's listing is followed by: a comment with what the verifier says of the program
 abbrev pub commented : List ℕ → List ℕ
@@ -48,8 +50,8 @@ IsFaultless name script text = (remarks : List ℕ) × IsRemarked name script re
 
 -- The text of a job's answer: that the script has no fault, how many octets the program of the
 -- script or the listing has, the budget of the accepted program, how much it may charge and file, the
--- program's listing and what the verifier says of it, the lines of the run, those of the message's parts, or the octets and
--- nothing else. The program of a script or a listing was made a file; no other job asks anything of
+-- program's listing and what the verifier says of it, the lines of the run, those of the trace and of the run, those of the
+-- message's parts, or the octets and nothing else. The program of a script or a listing was made a file; no other job asks anything of
 -- the host.
 abbrev pub IsAnswer : Job → List ℕ → HostState → HostState → Type 0
 IsAnswer (Check script) text old new = (form : CommandForms) × IsScript script.now form × (text ≡ line ok_text)
@@ -73,6 +75,7 @@ IsAnswer (Assemble listing name out) text old new =
 IsAnswer (Eval script message) text old new =
     (actions : List Action) × (charged : ℕ) × (limit : ℕ) × IsEvaluation script.now message.now actions charged limit
     × (text ≡ report_text actions charged limit) × (new ≡ old)
+IsAnswer (Trace script name message) text old new = IsTraced name.now script.now message.now text × (new ≡ old)
 IsAnswer (Parts message) text old new = IsReadable message.now × (text ≡ parts_text (mail_of message.now).parts)
     × (new ≡ old)
 IsAnswer (Encode encoding octets) text old new = (text ≡ text_of encoding octets.now) × (new ≡ old)
@@ -114,6 +117,7 @@ IsJobRefusal (Assemble listing name out) refusal old new =
     ((refusal ≡ refusals.Memory) × (new ≡ old))
     ⊎ ((code : Code) × Lists listing.now code × HasNotMade refusal out.now name.now old new)
 IsJobRefusal (Eval script message) refusal old new = IsEvaluationRefusal script.now message.now refusal × (new ≡ old)
+IsJobRefusal (Trace script name message) refusal old new = IsEvaluationRefusal script.now message.now refusal × (new ≡ old)
 IsJobRefusal (Parts message) refusal old new = engine.IsUnread message.now refusal × (new ≡ old)
 IsJobRefusal (Encode encoding octets) refusal old new = (refusal ≡ refusals.Memory) × (new ≡ old)
 IsJobRefusal (Decode encoding text) refusal old new = IsUnread encoding text.now refusal × (new ≡ old)
@@ -124,6 +128,7 @@ abbrev pub HasLongScript : Job → Type 0
 HasLongScript (Check script) = max_script < length script.now
 HasLongScript (Compile script name out) = max_script < length script.now
 HasLongScript (Eval script message) = max_script < length script.now
+HasLongScript (Trace script name message) = max_script < length script.now
 HasLongScript _ = ⊥
 
 abbrev pub HasLongProgram : Job → Type 0
@@ -159,11 +164,29 @@ HasFound job old new =
     (text : List ℕ) × (refusal : Refusal) × IsFinding job text refusal old.host new.host × HasTaken text old.out new.out
     × HasTold refusal old.err new.err
 
--- the job was done, but its answer, or what it found, broke off
+-- a job whose answer goes out as it is made, so that memory may be refused when some of it is out
+abbrev pub GoesOutAsMade : Job → Type 0
+GoesOutAsMade (Check script) = ⊥
+GoesOutAsMade (Explain script name) = ⊥
+GoesOutAsMade (Compile script name out) = ⊥
+GoesOutAsMade (Verify program) = ⊥
+GoesOutAsMade (Limit program octets parts) = ⊥
+GoesOutAsMade (Run program message) = ⊥
+GoesOutAsMade (Disassemble program) = ⊥
+GoesOutAsMade (Assemble listing name out) = ⊥
+GoesOutAsMade (Eval script message) = ⊥
+GoesOutAsMade (Trace script name message) = ⊤
+GoesOutAsMade (Parts message) = ⊥
+GoesOutAsMade (Encode encoding octets) = ⊥
+GoesOutAsMade (Decode encoding text) = ⊥
+
+-- The job was done, but its answer, or what it found, broke off: a call failed, or memory was refused, which may be only where
+-- the answer goes out as it is made.
 abbrev pub HasStopped : Job → World → World → Type 0
 HasStopped job old new =
-    (text : List ℕ) × (found : Option Refusal) × IsShown job text found old.host new.host
-    × HasBroken text old.out new.out × HasTold refusals.Write old.err new.err
+    (text : List ℕ) × (found : Option Refusal) × (refusal : Refusal) × IsShown job text found old.host new.host
+    × device.HasStopped refusal text old.out new.out × (refusal ≡ refusals.Memory → GoesOutAsMade job)
+    × HasTold refusal old.err new.err
 
 -- the job was refused
 abbrev pub HasRefused : Job → World → World → Type 0

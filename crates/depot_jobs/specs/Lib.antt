@@ -3,6 +3,7 @@ pub mod LimitedReading
 pub mod Host
 pub mod Printed
 pub mod Limit
+pub mod Tracing
 pub mod Jobs
 pub mod Words
 pub mod Statuses

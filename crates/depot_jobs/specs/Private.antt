@@ -1,16 +1,23 @@
 -- Private: how files that are being made are named, what is read, and what an answer is made of.
-use Rattle.std.specs.Prelude.{ℕ, List, ◌++◌, codes, [], ◌∷◌, Option, None, Some, string_bytes}
+use Rattle.std.specs.Prelude.{ℕ, List, ◌++◌, codes, [], ◌∷◌, Option, None, Some, string_bytes, ⊤}
 use Rattle.std.specs.Fmt.{decimal}
 use Rattle.depot_jobs.specs.Host.{Origin, origin_of}
 use Rattle.depot_jobs.specs.declared.inputs.Inputs.{Inputs}
 use Rattle.depot_jobs.specs.declared.inputs.Inputs.TheVariants.{One, Two}
-use Rattle.depot_jobs.specs.Jobs.{commented}
+use Rattle.depot_jobs.specs.Jobs.{GoesOutAsMade, commented}
 use Rattle.depot_jobs.specs.Printed.{line, ok_text, refusal_line, report_text, wrote_text}
 use Rattle.refusals.specs.declared.refusal.Refusal.{Refusal}
+use Rattle.depot_jobs.specs.declared.job.Answer.{Answer}
+use Rattle.depot_jobs.specs.declared.job.Answer.TheVariants as answers
+use Rattle.depot_jobs.specs.declared.job.Job.{Job}
 use Rattle.depot_jobs.specs.declared.job.Lines.{Lines}
 use Rattle.depot_jobs.specs.declared.job.Verdict.{Verdict}
 use Rattle.depot_jobs.specs.declared.job.Lines.TheVariants as lines
 use Rattle.depot_jobs.specs.declared.job.Verdict.TheVariants as verdicts
+use Rattle.depot_jobs.specs.declared.tracing.Traced.{Traced}
+use Rattle.sieve_check.specs.TypedView.{commands_form}
+use Rattle.sieve_trace.specs.Printed.{sheet}
+use Rattle.sieve_trace.specs.Written.{trace_text}
 
 -- the name of a file that is being made, by the number of the process and by how many names were taken
 abbrev pub new_name : ℕ → ℕ → List ℕ
@@ -41,3 +48,23 @@ lines_text (lines.Report report) = report_text report.outcome.actions.items repo
 abbrev pub refusal_in : Lines → Option Refusal
 refusal_in (lines.Fault text refusal) = Some refusal
 refusal_in _ = None
+
+-- the text of a trace and of the report that is behind it
+abbrev pub traced_text : Traced → List ℕ
+traced_text traced =
+    trace_text (sheet traced.name.now traced.places.items traced.message) (commands_form traced.checked.commands)
+    ++ report_text traced.report.outcome.actions.items traced.report.outcome.charged traced.report.limit
+
+-- the text of an answer, and the refusal that goes with it
+abbrev pub answer_text : Answer → List ℕ
+answer_text (answers.Lines lines) = lines_text lines
+answer_text (answers.Trace traced) = traced_text traced
+
+abbrev pub answer_refusal : Answer → Option Refusal
+answer_refusal (answers.Lines lines) = refusal_in lines
+answer_refusal (answers.Trace traced) = None
+
+-- a trace is an answer to jobs whose answer goes out as it is made
+abbrev pub IsAnswerOf : Job → Answer → Type 0
+IsAnswerOf job (answers.Lines lines) = ⊤
+IsAnswerOf job (answers.Trace traced) = GoesOutAsMade job

@@ -18,7 +18,7 @@ ghost use Rattle.sieve_engine.specs.Execution.{IsChecked, IsProgramRefusal};
 ghost use Rattle.depot_jobs.specs.Host.{HasMade, HasNotMade};
 ghost use Rattle.encodings.specs.Device.{HasBroken, HasTaken};
 ghost use Rattle.depot_jobs.specs.Jobs.{HasAnswered, HasFound, HasLongProgram, HasLongScript, HasRefused, HasStopped, HasTold, IsFaultless, IsJobRefusal, IsListing, IsShown, IsUnspelled, commented, world};
-ghost use Rattle.depot_jobs.specs.Private.{lines_text, refusal_in, verdict_line};
+ghost use Rattle.depot_jobs.specs.Private.{IsAnswerOf, answer_refusal, answer_text, lines_text, refusal_in, verdict_line};
 ghost use Rattle.depot_jobs.specs.Printed.{line, ok_text, refusal_line, wrote_text};
 
 use crate::host::Host;
@@ -26,6 +26,7 @@ use crate::limit::limit_lines;
 use crate::listing::parts_lines;
 use crate::making::make_file;
 use crate::printing::{put_line, put_refusal, put_report, put_wrote};
+use crate::tracing::{Traced, put_traced, traced};
 use bytecode_format::Program;
 use bytecode_listing::{ListingError, assemble, disassemble_accepted, disassemble_refused};
 use bytecode_verifier::{Refusal as BrokenRule, Verified, verify};
@@ -95,6 +96,13 @@ pub enum Job<'a> {
         script: &'a [u8],
         message: &'a [u8],
     },
+    /// The same, and what the script asks and does, step by step.
+    Trace {
+        script: &'a [u8],
+        /// The name of the script's file.
+        name: &'a str,
+        message: &'a [u8],
+    },
     /// The parts of a message.
     Parts {
         message: &'a [u8],
@@ -120,7 +128,7 @@ pub enum Verdict {
     Refused(Refusal),
 }
 
-/// What a job's answer is made of.
+/// What a job's answer is made of, when all of it is there.
 #[derive(Drop)]
 pub enum Lines {
     /// A script has no fault.
@@ -141,15 +149,25 @@ pub enum Lines {
     Octets(Vec<u8>),
 }
 
+/// A job's answer.
+#[derive(Drop)]
+pub enum Answer<'a> {
+    /// One that is there.
+    Lines(Lines),
+    /// A trace, which is made as it is written.
+    Trace(Traced<'a>),
+}
+
 /// Carries out a job: writes its answer to `out` and gives 0, or writes the line of its refusal to
 /// `err` and gives 1.
 ///
 /// What is wrong with a script that is to be explained, or with a listing, goes to `out`, and then
 /// the line of its refusal to `err`, with 1.
 ///
-/// Writing follows the job and takes no memory. Where `out` fails, a prefix of the answer is
-/// written there, what the job did stands, the line of `Write` is written to `err`, and the status
-/// is 1. Where `err` fails, a prefix of the line is written there.
+/// Writing follows the job and takes no memory, but for a trace, of which each line is written as it
+/// is made. Where `out` fails, or memory is refused for a line of a trace, a prefix of the answer is
+/// written there, what the job did stands, the line of `Write` or of `Memory` is written to `err`,
+/// and the status is 1. Where `err` fails, a prefix of the line is written there.
 ///
 /// A script or a program above its limit is refused as such, without taking memory; but to explain
 /// a script takes memory.
@@ -185,9 +203,13 @@ pub fn answer<H: Host, O: Sink, E: Sink>(
         × HasTold Spelling (E.output err.old) (E.output err.new) × (out.new ≡ out.old) }
 {
     match carry_out(alloc, job, host) {
-        Ok(lines) => match put_lines(out, &lines) {
+        Ok(Answer::Lines(lines)) => match put_lines(out, &lines) {
             Ok(()) => tell_found(err, &lines),
             Err(DeviceFailed) => tell(err, &Refusal::Write),
+        },
+        Ok(Answer::Trace(traced)) => match put_traced(alloc, out, &traced) {
+            Ok(()) => SUCCESS,
+            Err(why) => tell(err, &why),
         },
         Err(refusal) => tell(err, &refusal),
     }
@@ -220,40 +242,51 @@ pub fn tell<E: Sink>(err: &mut E, refusal: &Refusal) -> u8
     REFUSED
 }
 
-// What the job comes to, with all that its lines are made of.
-fn carry_out<H: Host>(alloc: Global, job: Job<'_>, host: &mut H) -> Result<Lines, Refusal>
-    ensures shown { IfOk result (λ lines. IsShown job.entry (lines_text lines) (refusal_in lines)
-        (H.state host.old) (H.state host.new)) }
+// What the job comes to, with all that its answer is made of.
+fn carry_out<'a, H: Host>(
+    alloc: Global,
+    job: Job<'a>,
+    host: &mut H,
+) -> Result<Answer<'a>, Refusal>
+    ensures shown { IfOk result (λ answer. IsShown job.entry (answer_text answer)
+        (answer_refusal answer) (H.state host.old) (H.state host.new)) }
+    ensures made { IfOk result (IsAnswerOf job.entry) }
     ensures refused { IfErr result (λ refusal. IsJobRefusal job.entry refusal (H.state host.old)
         (H.state host.new)) }
     ensures long_script { HasLongScript job.entry → IsErrAnd result (λ e. e ≡ ScriptTooLong) }
     ensures long_program { HasLongProgram job.entry → IsErrAnd result (λ e. e ≡ Spelling) }
 {
-    match job {
+    let lines = match job {
         Job::Check { script } => {
             let _checked = check_script(alloc, script)?;
-            Ok(Lines::NoFault)
+            Lines::NoFault
         }
-        Job::Explain { script, name } => explain_script(alloc, script, name),
+        Job::Explain { script, name } => explain_script(alloc, script, name)?,
         Job::Compile { script, name, out } => {
             let program = code_octets(alloc, script)?;
             make_file(alloc, host, out, name, &program)?;
-            Ok(Lines::Wrote(program.len()))
+            Lines::Wrote(program.len())
         }
-        Job::Verify { program } => Ok(Lines::Budget(budget_line(alloc, program)?)),
+        Job::Verify { program } => Lines::Budget(budget_line(alloc, program)?),
         Job::Limit {
             program,
             octets,
             parts,
-        } => Ok(Lines::Budget(limit_lines(alloc, program, octets, parts)?)),
-        Job::Run { program, message } => Ok(Lines::Report(execute(alloc, program, message)?)),
-        Job::Disassemble { program } => list_program(alloc, program),
-        Job::Assemble { listing, name, out } => assemble_program(alloc, listing, name, out, host),
-        Job::Eval { script, message } => Ok(Lines::Report(evaluate(alloc, script, message)?)),
-        Job::Parts { message } => Ok(Lines::Octets(parts_lines(alloc, message)?)),
-        Job::Encode { encoding, octets } => Ok(Lines::Octets(encode(alloc, encoding, octets)?)),
-        Job::Decode { encoding, text } => Ok(Lines::Octets(decode(alloc, encoding, text)?)),
-    }
+        } => Lines::Budget(limit_lines(alloc, program, octets, parts)?),
+        Job::Run { program, message } => Lines::Report(execute(alloc, program, message)?),
+        Job::Disassemble { program } => list_program(alloc, program)?,
+        Job::Assemble { listing, name, out } => assemble_program(alloc, listing, name, out, host)?,
+        Job::Eval { script, message } => Lines::Report(evaluate(alloc, script, message)?),
+        Job::Trace {
+            script,
+            name,
+            message,
+        } => return Ok(Answer::Trace(traced(alloc, name, script, message)?)),
+        Job::Parts { message } => Lines::Octets(parts_lines(alloc, message)?),
+        Job::Encode { encoding, octets } => Lines::Octets(encode(alloc, encoding, octets)?),
+        Job::Decode { encoding, text } => Lines::Octets(decode(alloc, encoding, text)?),
+    };
+    Ok(Answer::Lines(lines))
 }
 
 // Whether a script has a fault, and what it is, in words; or what is remarked of it.

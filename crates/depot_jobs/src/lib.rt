@@ -29,6 +29,7 @@ mod process_words;
 mod reading;
 mod request;
 mod system;
+mod tracing;
 mod usage;
 mod work;
 mod working;
