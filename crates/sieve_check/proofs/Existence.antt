@@ -1,16 +1,17 @@
 -- A script of which nothing is wrong has a typed form, which is within the limits.
-use Rattle.std.proofs.Common.{◌≡◌, ℕ, ◌≤◌, true, false, List, [], ◌++◌, length, bytes_eq, Option, Some, None, refl, sym, ap, subst, ◌∙◌, if◌then◌else◌}
+use Rattle.std.proofs.Common.{◌≡◌, ℕ, ◌≤◌, true, false, not, nat_lt, List, [], ◌∷◌, ◌++◌, length, bytes_eq, Option, Some, None, refl, sym, ap, subst, ◌∙◌, if◌then◌else◌}
 use Rattle.std.specs.List.{list_any}
 use Rattle.std.specs.Option.{option_and_then}
 use Rattle.std.proofs.lemmas.Option.{same_Some}
-use Rattle.octets.specs.Limits.{max_variables}
+use Rattle.octets.specs.Limits.{max_loops, max_variables}
 use Rattle.octets.specs.Once.{each_once}
 use Rattle.sieve_parser.specs.Scripts.{IsTree}
-use Rattle.sieve_parser.specs.Tree.{ArgumentTree, InvocationTree, invocation, TestsTree, CommandTree, simple, block, CommandsTree, no_command as no_tree, command as tree}
+use Rattle.sieve_parser.specs.Tree.{ArgumentTree, InvocationTree, invocation, TestsTree, no_test, one_test, test_list, CommandTree, simple, block, CommandsTree, no_command as no_tree, command as tree}
 use Rattle.sieve_check.specs.declared.causes.ReasonKind.TheVariants.{UnknownCommand, ManyLoops, WrongEnding, WrongTests}
 use Rattle.sieve_check.specs.declared.names.CommandName.{CommandName}
 use Rattle.sieve_check.specs.declared.names.CommandName.TheVariants.{Require}
 use Rattle.sieve_check.specs.declared.signature.Tests.{Tests}
+use Rattle.sieve_check.specs.declared.signature.Tests.TheVariants.{One}
 use Rattle.sieve_check.specs.declared.signature.Ending.{Ending}
 use Rattle.sieve_check.specs.declared.signature.Ending.TheVariants.{Semicolon, Block}
 use Rattle.sieve_check.specs.Bounded.{AreBoundedCommands, AreCommandsIn, IsBounded}
@@ -18,7 +19,7 @@ use Rattle.sieve_check.specs.FormOf.{inner_forms_of, simple_of, block_of, simple
 use Rattle.sieve_check.specs.Names.{command_named}
 use Rattle.sieve_check.specs.Arguments.{arguments_cause, reading}
 use Rattle.sieve_check.specs.Causes.{plain}
-use Rattle.sieve_check.specs.Rules.{fault_of, known_command_cause, read_command_cause, ill_formed_command, tests_cause, ending_cause, mention_cause, misplaced, place_cause, long_string_cause, large_mention_cause, many_loops_cause, lacking, lacking_cause, unknown_cause, command_needs, may_stand, opened_by, loops_by, mentions_of, strings_read, lists_read, where_required, command_mentions, names_by, names_mentioned, same_tests, same_ending, kind_of, strings_of, tests_visits, head_visits, command_visits, commands_visits, after_invocation, invocation_of, loops_opened, looks_inside}
+use Rattle.sieve_check.specs.Rules.{fault_of, known_command_cause, read_command_cause, ill_formed_command, tests_cause, ending_cause, mention_cause, misplaced, place_cause, long_string_cause, large_mention_cause, many_loops_cause, lacking, lacking_cause, unknown_cause, command_needs, may_stand, opened_by, loops_by, mentions_of, strings_read, lists_read, where_required, command_mentions, names_by, names_mentioned, same_tests, same_ending, kind_of, strings_of, tests_visits, head_visits, command_visits, commands_visits, after_invocation, invocation_of, loops_opened, looks_inside, past_invocation, past_swallowed, past_tests, takes_tests}
 use Rattle.sieve_check.specs.Signatures.{◌>>=◌, is_positional, command_signature, ending_of}
 use Rattle.sieve_check.specs.Surroundings.{Loop, Context, first_lacking, at_start, in_block, inside, opens_many, following}
 use Rattle.sieve_check.specs.Typed.{CommandForms, no_command, no_branch}
@@ -127,6 +128,53 @@ loops_after s _ strings = refl
 same_loops : (s : Context) (i : InvocationTree) → (after_invocation s i).loops ≡ s.loops
 same_loops s (invocation token word args tests) = loops_after s (command_named word) (strings_of args)
 
+-- ---- what is behind a command that is well formed: it swallowed nothing
+
+one_taken : (taken : Tests) → same_tests taken One ≡ true → takes_tests taken ≡ true
+one_taken One h = refl
+one_taken _ h = absurd (cc)
+
+nothing_swallowed : (s : Context) (o : Option CommandName) (name : CommandName) (tests : TestsTree) → o ≡ Some name → same_tests (command_signature name).tests (kind_of tests) ≡ true → past_tests s o tests ≡ s
+nothing_swallowed s o name no_test is same = refl
+nothing_swallowed s o name (one_test t) is same = ap (λ b. if b then s else past_swallowed s t) (ap (looks_inside command_signature) is ∙ one_taken (command_signature name).tests same)
+nothing_swallowed s o name (test_list t ts) is same = refl
+
+same_block : (opened : List Loop) (s : Context) (name : CommandName) (strings : List (List ℕ)) → same_ending (ending_of name) Block ≡ true → in_block opened (following s (Some name) strings) ≡ in_block opened s
+same_block opened s Require strings h = absurd (cc)
+same_block opened s _ strings h = refl
+
+as_many : (opened : List Loop) (s t : Context) → t.loops ≡ s.loops → opens_many opened t ≡ opens_many opened s
+as_many [] s t same = refl
+as_many (loop ∷ loops) s t same = ap (λ (all : List Loop). not (nat_lt (length all) max_loops)) same
+
+-- behind it, and in its block
+pub record Behind (s : Context) (i : InvocationTree) (ending : Ending) : Type 0 where
+  pub after : past_invocation s i ≡ after_invocation s i
+  pub room : opens_many (loops_opened i) (past_invocation s i) ≡ false
+  pub within : ending ≡ Block → in_block (loops_opened i) (past_invocation s i) ≡ in_block (loops_opened i) s
+
+pub behind : (s : Context) (token : ℕ) (word : List ℕ) (args : List ArgumentTree) (tests : TestsTree) (ending : Ending) (name : CommandName) → command_named word ≡ Some name → CommandWellFormed s name args (kind_of tests) ending
+    → Behind s (invocation token word args tests) ending
+behind s token word args tests ending name is well =
+    let i = invocation token word args tests in
+    let strings = strings_of args in
+    let after = nothing_swallowed (following s (command_named word) strings) (command_named word) name tests is well.same in
+    record {
+      after = after;
+      room = ap (opens_many (loops_opened i)) after ∙ as_many (loops_opened i) s (after_invocation s i) (same_loops s i) ∙ ap (λ o. opens_many (loops_by o args) s) is ∙ well.room;
+      within = λ e. ap (in_block (loops_opened i)) after ∙ ap (λ o. in_block (loops_opened i) (following s o strings)) is
+          ∙ same_block (loops_opened i) s name strings (subst (λ (e : Ending). same_ending (ending_of name) e ≡ true) e well.ends);
+    }
+
+behind_head : (s : Context) (i : InvocationTree) (ending : Ending) → AreFaultless (head_visits s i ending) → Behind s i ending
+behind_head s (invocation token word args tests) ending h =
+    let k = known_command s token word args tests ending h in
+    behind s token word args tests ending k.name k.is_name k.form
+
+behind_command : (s : Context) (c : CommandTree) → AreFaultless (command_visits s c) → past_invocation s (invocation_of c) ≡ after_invocation s (invocation_of c)
+behind_command s (simple i) h = (behind_head s i Semicolon h).after
+behind_command s (block i cs) h = (behind_head s i Block (faultless_both (head_visits s i Block) _ h).0).after
+
 simple_exists : (s : Context) (i : InvocationTree) (rest : Forms) → AreFaultless (head_visits s i Semicolon) → ((after_invocation s i).after_if ≡ false → rest.branches ≡ no_branch) → AreWithin (length s.loops) rest
     → Goes s (names_brought (head_visits s i Semicolon) ++ forms_variables rest) (simple_part s i >>= λ part. put part rest)
 simple_exists s (invocation token word args tests) rest h begins bounded =
@@ -156,9 +204,12 @@ mutual
   command_exists s (simple i) rest h begins bounded = simple_exists s i rest h begins bounded
   command_exists s (block i cs) rest h begins bounded =
       let around = in_block (loops_opened i) s in
-      let parts = faultless_both (head_visits s i Block) (if opens_many (loops_opened i) s then [] else commands_visits around cs) h in
+      let past = past_invocation s i in
+      let inner = if opens_many (loops_opened i) past then [] else commands_visits (in_block (loops_opened i) past) cs in
+      let parts = faultless_both (head_visits s i Block) inner h in
       let few = room_in s i Block parts.0 in
-      let entered : (if opens_many (loops_opened i) s then [] else commands_visits around cs) ≡ commands_visits around cs = ap (λ b. if b then [] else commands_visits around cs) few in
+      let rear = behind_head s i Block parts.0 in
+      let entered : inner ≡ commands_visits around cs = ap (λ b. if b then [] else commands_visits (in_block (loops_opened i) past) cs) rear.room ∙ ap (λ around. commands_visits around cs) (rear.within refl) in
       let body = forms_exist around cs (subst AreFaultless entered parts.1) in
       let alone = body.begins refl in
       let room : inside (loops_opened i) s ≡ Some around = room_inside (loops_opened i) s few in
@@ -174,10 +225,13 @@ mutual
   forms_exist s no_tree h = record { forms = after_none no_command; is = refl; begins = λ _. refl; bounded = record { branches = tt; commands = tt; branches_in = tt; commands_in = tt }; variables = refl }
   forms_exist s (tree c cs) h =
       let after = after_invocation s (invocation_of c) in
-      let parts = faultless_both (command_visits s c) (commands_visits after cs) h in
-      let rest = forms_exist after cs parts.1 in
+      let past = past_invocation s (invocation_of c) in
+      let parts = faultless_both (command_visits s c) (commands_visits past cs) h in
+      let same : past ≡ after = behind_command s c parts.0 in
+      let rest = forms_exist after cs (subst (λ (around : Context). AreFaultless (commands_visits around cs)) same parts.1) in
       along s _ _ _ (part_of s c >>= λ part. put part rest.forms) (ap (λ o. o >>= λ rest. part_of s c >>= λ part. put part rest) rest.is)
-      (ap (λ names. names_brought (command_visits s c) ++ names) rest.variables ∙ both_names (command_visits s c) (commands_visits after cs))
+      (ap (λ names. names_brought (command_visits s c) ++ names) rest.variables ∙ both_names (command_visits s c) (commands_visits after cs)
+      ∙ ap (λ around. names_brought (command_visits s c ++ commands_visits around cs)) (sym same))
       (command_exists s c rest.forms parts.0 rest.begins (subst (λ (loops : List Loop). AreWithin (length loops) rest.forms) (same_loops s (invocation_of c)) rest.bounded))
 
 -- a script's form, with the variables that its visits bring

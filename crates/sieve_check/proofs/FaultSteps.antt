@@ -21,7 +21,7 @@ use Rattle.sieve_check.specs.declared.signature.Ending.TheVariants.{Block}
 use Rattle.sieve_check.specs.Causes.{Cause, refused_for}
 use Rattle.sieve_check.specs.Names.{command_named}
 use Rattle.sieve_check.specs.Refusing.{AreNoted, AreVisited, lacks_as, looks_inside_as, visit_as, visits_as}
-use Rattle.sieve_check.specs.Rules.{Visit, capability_arguments, command_lacks, command_needs, lacking_causes, strings_of, unknown_causes, test_visits, more_visits, head_visits, command_visits, commands_visits, invocation_of, loops_opened, after_invocation}
+use Rattle.sieve_check.specs.Rules.{Visit, capability_arguments, command_lacks, command_needs, lacking_causes, strings_of, unknown_causes, test_visits, more_visits, head_visits, command_visits, commands_visits, invocation_of, loops_opened, past_invocation}
 use Rattle.sieve_check.specs.Private.{arguments_of}
 use Rattle.sieve_check.specs.Surroundings.{Context, in_block, opens_many}
 use Rattle.sieve_check.proofs.FromIndex.{others_of, split_at}
@@ -73,10 +73,10 @@ rest_visits s list i x lt is = ap (λ xs. more_visits s (others_of xs)) (split_a
 
 -- a command with a block
 pub block_visits : (s : Context) (tree : Tree) (i : Invocation) (cs : Vec Tree) → tree ≡ trees.Block i cs
-    → command_visits s (command_tree tree) ≡ head_visits s (invocation_tree i) Block ++ (if opens_many (loops_opened (invocation_tree i)) s then [] else commands_visits (in_block (loops_opened (invocation_tree i)) s) (commands_tree cs.items))
+    → command_visits s (command_tree tree) ≡ head_visits s (invocation_tree i) Block ++ (if opens_many (loops_opened (invocation_tree i)) (past_invocation s (invocation_tree i)) then [] else commands_visits (in_block (loops_opened (invocation_tree i)) (past_invocation s (invocation_tree i))) (commands_tree cs.items))
 block_visits s tree i cs is = ap (λ x. command_visits s x) (ap command_tree is ∙ tree_block i cs)
 
 -- the commands from an index on
 pub next_visits : (s : Context) (list : List Tree) (i : ℕ) (x : Tree) → i < length list → x ≡ get_or list i x
-    → commands_visits s (commands_tree (drop i list)) ≡ command_visits s (command_tree x) ++ commands_visits (after_invocation s (invocation_of (command_tree x))) (commands_tree (drop (i + 1) list))
+    → commands_visits s (commands_tree (drop i list)) ≡ command_visits s (command_tree x) ++ commands_visits (past_invocation s (invocation_of (command_tree x))) (commands_tree (drop (i + 1) list))
 next_visits s list i x lt is = ap (λ xs. commands_visits s (commands_tree xs)) (split_at list i x lt is)

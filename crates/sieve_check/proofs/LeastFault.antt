@@ -31,10 +31,10 @@ use Rattle.sieve_check.specs.Arguments.{Awaiting, arguments_read, awaiting, expe
 use Rattle.sieve_check.specs.Causes.{Cause, Refused, about, fault_of_kind, plain, refusal_for}
 use Rattle.sieve_check.specs.LeastFault.{Seen, all_of_command, all_of_commands, all_of_head, all_of_more, all_of_test, all_of_tests, fault_by_name, fault_read, first_fault, has_large, has_long, has_unknown, has_wrong, known_command_fault, known_test_fault, lacks, least_fault, read_command_fault, read_test_fault}
 use Rattle.sieve_check.specs.Names.{command_named, tag_named, test_named}
-use Rattle.sieve_check.specs.Rules.{Mentions, Visit, after_invocation, capability_arguments, cause_by_name, command_lacks, command_mentions, command_needs, command_visits, commands_visits, ending_cause, expanding, fault_of, has_many_strings, head_visits, invocation_of, is_long_name, kind_of, known_command_cause, known_test_cause, lacking, lacking_cause, large_cause, large_mention_cause, lists_read, long_name, long_string_cause, looks_inside, loops_by, loops_opened, many_loops_cause, many_strings_cause, may_stand, mention_cause, mentions_of, misplaced, more_visits, names_by, opened_by, place_cause, read_command_cause, read_test_cause, reference_cause, reference_kind, refused_among, same_ending, same_reason, same_tests, string_has, strings_of, test_lacks, test_may_stand, test_mentions, test_needs, test_place_cause, test_visits, tests_cause, tests_visits, unknown_cause, where_required}
+use Rattle.sieve_check.specs.Rules.{Mentions, Visit, after_invocation, capability_arguments, cause_by_name, command_lacks, command_mentions, command_needs, command_visits, commands_visits, ending_cause, expanding, fault_of, has_many_strings, head_visits, invocation_of, is_long_name, kind_of, known_command_cause, known_test_cause, lacking, lacking_cause, large_cause, large_mention_cause, lists_read, long_name, long_string_cause, looks_inside, loops_opened, many_loops_cause, many_strings_cause, may_stand, mention_cause, mentions_of, misplaced, more_visits, names_by, opened_by, past_invocation, place_cause, read_command_cause, read_test_cause, reference_cause, reference_kind, refused_among, same_ending, same_reason, same_tests, string_has, strings_of, test_lacks, test_may_stand, test_mentions, test_needs, test_place_cause, test_visits, tests_cause, tests_visits, unknown_cause, where_required}
 use Rattle.sieve_check.specs.Signatures.{Given, Read, add_tag, asks_for_mime, command_signature, ending_of, is_positional, no_tag, nothing_given, takes_tag, test_signature, with_argument}
 use Rattle.sieve_check.specs.Surroundings.{Context, at_start, first_lacking, in_block, opens_many}
-use Rattle.sieve_check.proofs.Existence.{command_well_formed}
+use Rattle.sieve_check.proofs.Existence.{Behind, behind, command_well_formed}
 use Rattle.sieve_check.proofs.Faultless.{told_first}
 use Rattle.sieve_check.proofs.TestExistence.{all_looked_at, known, test_well_formed}
 
@@ -303,9 +303,9 @@ mutual
   more_meet s last = λ names few more others after. after names few
   more_meet s (next t ts) = both_meet (test_visits s t) (more_visits s ts) (all_of_test s t) (all_of_more s ts) (test_meets s t) (more_meet s ts)
 
--- a command with its tests, and its block, which is looked at where there is room for its loop
-head_meets : (s : Context) (i : InvocationTree) (ending : Ending) (vs : List Visit) (ws : List Seen) → (opens_many (loops_opened i) s ≡ false → Meet vs ws) → Meet (head_visits s i ending ++ vs) (all_of_head s i ending ++ ws)
-head_meets s (invocation token name args tests) ending vs ws block_meets =
+-- a command with its tests, and what is behind it, where nothing is wrong with the command itself
+head_meets : (s : Context) (i : InvocationTree) (ending : Ending) (vs : List Visit) (ws : List Seen) → (Behind s i ending → Meet vs ws) → Meet (head_visits s i ending ++ vs) (all_of_head s i ending ++ ws)
+head_meets s (invocation token name args tests) ending vs ws rest_meets =
     let cause = cause_by_name reasons.UnknownCommand (λ known. known_command_cause s known args (kind_of tests) ending) (command_named name) in
     let own = names_by (λ known. command_mentions s known args) (command_named name) in
     let inside = if looks_inside command_signature (command_named name) then tests_visits s tests else [] in
@@ -313,31 +313,36 @@ head_meets s (invocation token name args tests) ending vs ws block_meets =
     let found = known reasons.UnknownCommand (λ known. known_command_cause s known args (kind_of tests) ending) (command_named name) none in
     let well = command_well_formed s found.0 args (kind_of tests) ending found.2 in
     let looked = sym (all_looked_at command_signature s (command_named name) found.0 tests found.1 well.same) in
-    let room = ap (λ o. opens_many (loops_by o args) s) found.1 ∙ well.room in
-    both_meet inside vs (all_of_tests s tests) ws (subst (λ vs. Meet vs (all_of_tests s tests)) looked (tests_meet s tests)) (block_meets room)) in
+    let rear = behind s token name args tests ending found.0 found.1 well in
+    both_meet inside vs (all_of_tests s tests) ws (subst (λ vs. Meet vs (all_of_tests s tests)) looked (tests_meet s tests)) (rest_meets rear)) in
     subst (λ (fault : Option Fault). Meet (head_visits s (invocation token name args tests) ending ++ vs) (record { token = token; names = own; fault = fault } ∷ (all_of_tests s tests ++ ws)))
     (of_named reasons.UnknownCommand (λ known. known_command_cause s known args (kind_of tests) ending) (λ known. known_command_fault s known args (kind_of tests) ending) (command_named name) refl (λ known. of_command s known args (kind_of tests) ending))
     (one_meets token name own cause (command_lacks s.required args (command_named name)) (inside ++ vs) (all_of_tests s tests ++ ws) inner)
-
--- with nothing after them
-alone : (vs : List Visit) (ws : List Seen) → Meet (vs ++ []) (ws ++ []) → Meet vs ws
-alone vs ws both = subst (λ vs. Meet vs ws) (append-nil vs) (subst (λ ws. Meet (vs ++ []) ws) (append-nil ws) both)
 
 nothing_after : Meet [] []
 nothing_after names few more others after = after names few
 
 mutual
-  command_meets : (s : Context) (c : CommandTree) → Meet (command_visits s c) (all_of_command s c)
-  command_meets s (simple i) = alone (head_visits s i Semicolon) (all_of_head s i Semicolon) (head_meets s i Semicolon [] [] (λ room. nothing_after))
-  command_meets s (block i cs) =
-      head_meets s i Block (if opens_many (loops_opened i) s then [] else commands_visits (in_block (loops_opened i) s) cs) (all_of_commands (in_block (loops_opened i) s) cs)
-      (λ room. rw room (commands_meet (in_block (loops_opened i) s) cs))
+  -- a command, and what is behind it, where it swallowed nothing
+  command_meets : (s : Context) (c : CommandTree) (vs : List Visit) (ws : List Seen) → (past_invocation s (invocation_of c) ≡ after_invocation s (invocation_of c) → Meet vs ws) → Meet (command_visits s c ++ vs) (all_of_command s c ++ ws)
+  command_meets s (simple i) vs ws rest_meets = head_meets s i Semicolon vs ws (λ rear. rest_meets rear.after)
+  command_meets s (block i cs) vs ws rest_meets =
+      let past = past_invocation s i in
+      let around = in_block (loops_opened i) s in
+      let inner = if opens_many (loops_opened i) past then [] else commands_visits (in_block (loops_opened i) past) cs in
+      let both = head_meets s i Block (inner ++ vs) (all_of_commands around cs ++ ws) (λ rear. (
+      let entered : inner ≡ commands_visits around cs = ap (λ b. if b then [] else commands_visits (in_block (loops_opened i) past) cs) rear.room ∙ ap (λ around. commands_visits around cs) (rear.within refl) in
+      both_meet inner vs (all_of_commands around cs) ws (subst (λ vs. Meet vs (all_of_commands around cs)) (sym entered) (commands_meet around cs)) (rest_meets rear.after))) in
+      subst (λ vs. Meet vs ((all_of_head s i Block ++ all_of_commands around cs) ++ ws)) (sym (append_assoc (head_visits s i Block) inner vs))
+      (subst (λ ws. Meet (head_visits s i Block ++ (inner ++ vs)) ws) (sym (append_assoc (all_of_head s i Block) (all_of_commands around cs) ws)) both)
 
   commands_meet : (s : Context) (cs : CommandsTree) → Meet (commands_visits s cs) (all_of_commands s cs)
   commands_meet s no_command = nothing_after
   commands_meet s (command c cs) =
       let after = after_invocation s (invocation_of c) in
-      both_meet (command_visits s c) (commands_visits after cs) (all_of_command s c) (all_of_commands after cs) (command_meets s c) (commands_meet after cs)
+      let past = past_invocation s (invocation_of c) in
+      command_meets s c (commands_visits past cs) (all_of_commands after cs)
+      (λ same. subst (λ around. Meet (commands_visits around cs) (all_of_commands after cs)) (sym same) (commands_meet after cs))
 
 -- what is told once is told first where all of it is
 same_first : (all : List Refused) → slice_get (with_more same_reason [] all) 0 ≡ slice_get all 0

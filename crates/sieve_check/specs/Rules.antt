@@ -30,7 +30,7 @@ use Rattle.sieve_check.specs.Arguments.{arguments_cause, reading}
 use Rattle.sieve_check.specs.Causes.{Cause, Refused, about, plain, refusal_for, refused_for}
 use Rattle.sieve_check.specs.Names.{capability_named, command_named, tag_named, test_named}
 use Rattle.sieve_check.specs.Signatures.{Read, command_signature, ending_of, test_signature}
-use Rattle.sieve_check.specs.Surroundings.{Loop, nameless, called, unreadable, Context, at_start, first_lacking, following, has_capability, same_capability, in_block, in_loop, loops_left, opens_many}
+use Rattle.sieve_check.specs.Surroundings.{Loop, nameless, called, unreadable, Context, at_start, first_lacking, following, has_capability, same_capability, swallowing, in_block, in_loop, loops_left, opens_many}
 
 -- the strings of arguments, with those in brackets
 abbrev pub strings_in : ArgumentTree → List (List ℕ)
@@ -500,17 +500,34 @@ abbrev pub after_invocation : Context → InvocationTree → Context
 after_invocation s (invocation token name args tests) = following s (command_named name) (strings_of args)
 
 abbrev mutual
+  -- after the test of a command that is known by that name: a command that takes none has one where the `;` before the next command is
+  -- forgotten, which so reads as a test
+  pub past_tests : Context → Option CommandName → TestsTree → Context
+  past_tests s name no_test = s
+  past_tests s name (one_test t) = if looks_inside command_signature name then s else past_swallowed s t
+  past_tests s name (test_list t ts) = s
+
+  pub past_swallowed : Context → InvocationTree → Context
+  past_swallowed s (invocation token name args tests) =
+      past_tests (swallowing s (command_named name) (strings_of args)) (command_named name) tests
+
+-- after a command, and after those that it swallowed
+abbrev pub past_invocation : Context → InvocationTree → Context
+past_invocation s (invocation token name args tests) =
+    past_tests (following s (command_named name) (strings_of args)) (command_named name) tests
+
+abbrev mutual
   -- the visits of a command: itself, its tests, its block, but where that is a loop too many
   pub command_visits : Context → CommandTree → List Visit
   command_visits s (simple i) = head_visits s i Semicolon
   command_visits s (block i cs) =
       head_visits s i Block
-      ++ (if opens_many (loops_opened i) s then [] else commands_visits (in_block (loops_opened i) s) cs)
+      ++ (let past = past_invocation s i in if opens_many (loops_opened i) past then [] else commands_visits (in_block (loops_opened i) past) cs)
 
   -- the visits of commands, in order
   pub commands_visits : Context → CommandsTree → List Visit
   commands_visits s no_command = []
-  commands_visits s (command c cs) = command_visits s c ++ commands_visits (after_invocation s (invocation_of c)) cs
+  commands_visits s (command c cs) = command_visits s c ++ commands_visits (past_invocation s (invocation_of c)) cs
 
 -- the names so far, with those of a visit, each once
 abbrev pub names_with : List (List ℕ) → Visit → List (List ℕ)

@@ -131,3 +131,21 @@ following s (Some Break) strings = elsewhere s
 following s (Some Store) strings = elsewhere s
 following s (Some Take) strings = elsewhere s
 following s None strings = s
+
+-- after a command that stands behind another as its test, since a `;` before it is forgotten: what it requires is required, and an
+-- elsif or else may stand behind an if or elsif
+abbrev pub swallowing : Context → Option CommandName → List (List ℕ) → Context
+swallowing s (Some Require) strings = record s { required = requiring strings s.required }
+swallowing s (Some If) strings = record s { after_if = true }
+swallowing s (Some Elsif) strings = record s { after_if = true }
+swallowing s (Some Else) strings = s
+swallowing s (Some Stop) strings = s
+swallowing s (Some Keep) strings = s
+swallowing s (Some Discard) strings = s
+swallowing s (Some FileIntoCommand) strings = s
+swallowing s (Some Set) strings = s
+swallowing s (Some ForEveryPartCommand) strings = s
+swallowing s (Some Break) strings = s
+swallowing s (Some Store) strings = s
+swallowing s (Some Take) strings = s
+swallowing s None strings = s

@@ -17,7 +17,7 @@ use crate::signature::{
     Ending, Reading, Signature, Tests, command_signature, ending_of, test_signature,
 };
 use crate::string_faults::{StringFault, has_many_strings};
-use crate::surroundings::{Capabilities, Surroundings};
+use crate::surroundings::{Capabilities, Surroundings, invocation_in};
 use sieve_parser::{Argument, Command, Head, Invocation};
 
 // The capabilities that a command needs.
@@ -534,7 +534,7 @@ fn command<'t>(findings: &mut Findings<'t>, surroundings: &Surroundings<'t>, tre
         }
         Command::Block(first, block) => {
             invocation(findings, surroundings, first, Some(Ending::Block));
-            if let Some(inside) = surroundings.in_block(first) {
+            if let Some(inside) = surroundings.past(first).in_block(first) {
                 commands(findings, &inside, block);
             }
         }
@@ -550,7 +550,7 @@ fn commands<'t>(findings: &mut Findings<'t>, surroundings: &Surroundings<'t>, tr
     let mut around = *surroundings;
     'trees: for tree in trees {
         command(findings, &around, tree);
-        around = around.after(tree);
+        around = around.past(invocation_in(tree));
     }
 }
 

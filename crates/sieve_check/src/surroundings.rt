@@ -1,15 +1,16 @@
 // What surrounds a command or test.
 ghost use Rattle.std.specs.Prelude.{◌≡◌, map};
 ghost use Rattle.sieve_parser.specs.Tree.{TestsTree};
-ghost use Rattle.sieve_parser.specs.View.{argument_tree, head_tree, invocation_tree};
+ghost use Rattle.sieve_parser.specs.View.{argument_tree, command_tree, head_tree, invocation_tree};
 ghost use Rattle.sieve_check.specs.Reading.{loop_in};
-ghost use Rattle.sieve_check.specs.Rules.{loop_read};
+ghost use Rattle.sieve_check.specs.Names.{command_named};
+ghost use Rattle.sieve_check.specs.Rules.{invocation_of, loop_read, looks_inside};
 ghost use Rattle.sieve_check.specs.Arguments.{reading};
 ghost use Rattle.sieve_check.specs.Signatures.{command_signature};
 
 use crate::loops::{LoopName, Loops};
 use crate::names::{Capability, CommandName, capability_named, command_named};
-use crate::signature::command_signature;
+use crate::signature::{Tests, command_signature};
 use octets::Octets;
 use sieve_parser::{Argument, Command, Head, Invocation};
 
@@ -126,6 +127,29 @@ fn head_in(invocation: &Invocation) -> &Head
     }
 }
 
+/// The command without its end and its block.
+pub fn invocation_in(command: &Command) -> &Invocation
+    ensures { invocation_tree result.now ≡ invocation_of (command_tree command.now) }
+{
+    match command {
+        Command::Simple(invocation) => invocation,
+        Command::Block(invocation, _) => invocation,
+    }
+}
+
+// Whether the tests are looked at of a command that begins so: where it takes none, what stands there is meant as something else.
+fn looks_inside(head: &Head) -> bool
+    ensures { result ≡ looks_inside command_signature (command_named head.now.name) }
+{
+    match command_named(head.name.as_slice()) {
+        Some(name) => match command_signature(name).tests {
+            Tests::Nothing => false,
+            Tests::One | Tests::Bracketed => true,
+        },
+        None => true,
+    }
+}
+
 // What the loop is called that a `foreverypart` of these arguments opens.
 fn loop_name(arguments: &[Argument]) -> LoopName<'_>
     ensures { loop_in result ≡ loop_read
@@ -155,13 +179,13 @@ pub struct Surroundings<'t> {
 
 impl<'t> Surroundings<'t> {
     ghost use Rattle.std.specs.Prelude.{◌≡◌, false, List, map, option_map};
-    ghost use Rattle.sieve_parser.specs.Tree.{ArgumentTree};
+    ghost use Rattle.sieve_parser.specs.Tree.{ArgumentTree, one_test};
     ghost use Rattle.sieve_parser.specs.View.{argument_tree, command_tree, invocation_tree};
-    ghost use Rattle.sieve_check.specs.Rules.{after_invocation, invocation_of, loops_by, loops_opened, opened_by, strings_of};
+    ghost use Rattle.sieve_check.specs.Rules.{after_invocation, invocation_of, loops_by, loops_opened, opened_by, past_invocation, past_swallowed, past_tests, strings_of};
     ghost use Rattle.sieve_check.specs.Private.{arguments_of};
     ghost use Rattle.sieve_check.specs.Names.{command_named};
     ghost use Rattle.sieve_check.specs.Refusing.{LoopsWithin, context_of, open_loops};
-    ghost use Rattle.sieve_check.specs.Surroundings.{at_start, following, inside, opens_many};
+    ghost use Rattle.sieve_check.specs.Surroundings.{at_start, following, inside, opens_many, swallowing};
 
     /// Those of the first command of a script.
     pub fn at_start() -> Surroundings<'t>
@@ -256,14 +280,70 @@ impl<'t> Surroundings<'t> {
         }
     }
 
+    // With a command that was read as the test of the one before it.
+    fn swallowing(self, head: &Head) -> Surroundings<'t>
+        ensures { context_of result
+            ≡ swallowing (context_of self.entry) (command_named head.now.name)
+            (strings_of (arguments_of head.now)) }
+    {
+        match command_named(head.name.as_slice()) {
+            Some(CommandName::Require) => Surroundings {
+                required: self.required.requiring(&head.arguments),
+                ..self
+            },
+            Some(CommandName::If | CommandName::Elsif) => Surroundings {
+                after_if: true,
+                ..self
+            },
+            _ => self,
+        }
+    }
+
+    // After the test of a command that begins so.
+    #[cycle(swallowed)]
+    fn past_test(self, head: &Head, test: &Invocation) -> Surroundings<'t>
+        ensures { context_of result
+            ≡ past_tests (context_of self.entry) (command_named head.now.name)
+            (one_test (invocation_tree test.now)) }
+    {
+        if looks_inside(head) {
+            self
+        } else {
+            self.past_swallowed(test)
+        }
+    }
+
+    // After a command that was read as a test.
+    #[cycle(swallowed)]
+    fn past_swallowed(self, test: &Invocation) -> Surroundings<'t>
+        ensures { context_of result
+            ≡ past_swallowed (context_of self.entry) (invocation_tree test.now) }
+    {
+        match test {
+            Invocation::Plain(head) => self.swallowing(head),
+            Invocation::WithTest(head, inner) => self.swallowing(head).past_test(head, inner),
+            Invocation::WithTests(head, _, _) => self.swallowing(head),
+        }
+    }
+
+    /// Those behind a command that begins so, and behind the commands that it swallowed: where a `;` is forgotten, the next command
+    /// reads as the test of the one before it.
+    pub fn past(self, invocation: &Invocation) -> Surroundings<'t>
+        ensures { context_of result
+            ≡ past_invocation (context_of self.entry) (invocation_tree invocation.now) }
+    {
+        match invocation {
+            Invocation::Plain(head) => self.following(head),
+            Invocation::WithTest(head, test) => self.following(head).past_test(head, test),
+            Invocation::WithTests(head, _, _) => self.following(head),
+        }
+    }
+
     /// Those of the command after this one.
     pub fn after(self, command: &Command) -> Surroundings<'t>
         ensures { context_of result
             ≡ after_invocation (context_of self.entry) (invocation_of (command_tree command.now)) }
     {
-        match command {
-            Command::Simple(invocation) => self.following(head_in(invocation)),
-            Command::Block(invocation, _) => self.following(head_in(invocation)),
-        }
+        self.following(head_in(invocation_in(command)))
     }
 }

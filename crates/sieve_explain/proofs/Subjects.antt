@@ -15,7 +15,7 @@ use Rattle.sieve_parser.specs.Tree.{ArgumentTree, label, InvocationTree, invocat
 use Rattle.sieve_check.specs.Arguments.{Awaiting, arguments_cause, arguments_read, awaiting, expected, first_label, is_second_modifier, missing_cause, number_of, positional_cause, reading, rest_read, sound}
 use Rattle.sieve_check.specs.Causes.{Cause, Refused, about, plain, refused_for}
 use Rattle.sieve_check.specs.Names.{command_named, tag_named, test_named}
-use Rattle.sieve_check.specs.Rules.{Mentions, Visit, capability_arguments, cause_by_name, causes_by, command_lacks, command_needs, command_visit, command_visits, commands_visits, ending_cause, has_many_strings, head_visits, ill_formed_command, ill_formed_test, kind_of, known_command_cause, known_test_cause, lacking, lacking_cause, lacking_causes, large_cause, large_mention_cause, lists_read, long_name, long_string_cause, looks_inside, loops_opened, after_invocation, invocation_of, many_strings_cause, may_stand, mention_cause, mentions_of, misplaced, more_visits, names_past, names_with, opened_by, expanding, place_cause, read_command_cause, read_test_cause, reasons_of, reference_cause, reference_kind, refused_after, refused_among, same_ending, same_reason, same_tests, string_has, strings_of, test_lacks, test_may_stand, test_needs, test_place_cause, test_visit, test_visits, tests_cause, tests_visits, unknown_cause, unknown_causes, visit_causes, where_required}
+use Rattle.sieve_check.specs.Rules.{Mentions, Visit, capability_arguments, cause_by_name, causes_by, command_lacks, command_needs, command_visit, command_visits, commands_visits, ending_cause, has_many_strings, head_visits, ill_formed_command, ill_formed_test, kind_of, known_command_cause, known_test_cause, lacking, lacking_cause, lacking_causes, large_cause, large_mention_cause, lists_read, long_name, long_string_cause, looks_inside, loops_opened, past_invocation, invocation_of, many_strings_cause, may_stand, mention_cause, mentions_of, misplaced, more_visits, names_past, names_with, opened_by, expanding, place_cause, read_command_cause, read_test_cause, reasons_of, reference_cause, reference_kind, refused_after, refused_among, same_ending, same_reason, same_tests, string_has, strings_of, test_lacks, test_may_stand, test_needs, test_place_cause, test_visit, test_visits, tests_cause, tests_visits, unknown_cause, unknown_causes, visit_causes, where_required}
 use Rattle.sieve_check.specs.Signatures.{Given, Read, add_tag, asks_for_mime, command_signature, ending_of, is_positional, no_tag, nothing_given, takes_tag, test_signature, with_argument}
 use Rattle.sieve_check.specs.Surroundings.{Context, at_start, first_lacking, has_capability, in_block, opens_many}
 use Rattle.sieve_check.specs.declared.causes.ReasonKind.{ReasonKind}
@@ -324,16 +324,16 @@ mutual
       let open_brace = at_depth (suc d) opening_brace in
       All-append (Stands all) (head_visits s i ending.Block) _
       (head_stands i s d ending.Block all (inside_left all head (open_brace ∷ (word ++ end)) w))
-      (all_if (Stands all) (opens_many (loops_opened i) s) [] (commands_visits (in_block (loops_opened i) s) cs) (All-nil (Stands all))
-      (commands_stand cs (in_block (loops_opened i) s) (suc d) all
+      (all_if (Stands all) (opens_many (loops_opened i) (past_invocation s i)) [] (commands_visits (in_block (loops_opened i) (past_invocation s i)) cs) (All-nil (Stands all))
+      (commands_stand cs (in_block (loops_opened i) (past_invocation s i)) (suc d) all
       (inside_left all word end (inside_next all open_brace (word ++ end) (inside_right all head (open_brace ∷ (word ++ end)) w)))))
 
   commands_stand : (cs : CommandsTree) (s : Context) (d : ℕ) (all : List Placed) → Inside all (commands_spelled d cs) → All (Stands all) (commands_visits s cs)
   commands_stand no_command s d all w = All-nil (Stands all)
   commands_stand (command c cs) s d all w =
-      All-append (Stands all) (command_visits s c) (commands_visits (after_invocation s (invocation_of c)) cs)
+      All-append (Stands all) (command_visits s c) (commands_visits (past_invocation s (invocation_of c)) cs)
       (command_stands c s d all (inside_left all (command_spelled d c) (commands_spelled d cs) w))
-      (commands_stand cs (after_invocation s (invocation_of c)) d all (inside_right all (command_spelled d c) (commands_spelled d cs) w))
+      (commands_stand cs (past_invocation s (invocation_of c)) d all (inside_right all (command_spelled d c) (commands_spelled d cs) w))
 
 -- ---- what is told
 
