@@ -1,5 +1,5 @@
 -- What commands, tests, tags, capabilities and comparators are called.
-use Rattle.std.specs.Prelude.{ℕ, true, false, if◌then◌else◌, List, Option, Some, None, bytes_eq, codes}
+use Rattle.std.specs.Prelude.{ℕ, true, false, if◌then◌else◌, List, Option, Some, None, option_map, bytes_eq, codes}
 use Rattle.std.specs.Option.{option_or}
 use Rattle.octets.specs.Ascii.{is_word}
 use Rattle.glob_match.specs.declared.comparator.Comparator.{Comparator as ComparatorName}
@@ -14,6 +14,8 @@ use Rattle.sieve_check.specs.declared.names.TestName.TheVariants.{Constant, Not,
 use Rattle.sieve_check.specs.declared.names.Tag.{Tag}
 use Rattle.sieve_check.specs.declared.names.Tag.TheVariants.{Order, Kind, Comparator, Letters, FirstLetter, QuoteWildcard, Length, Mime as MimeTag, AnyChild, Select, Name, First}
 use Rattle.bytecode_format.specs.declared.selection.Selector.TheVariants.{Main, Sub, ContentType, Param}
+use Rattle.sieve_check.specs.declared.signature.Ending.{Ending}
+use Rattle.sieve_check.specs.Rows.{Row, command_row, is_test, test_row}
 use Rattle.sieve_check.specs.declared.names.Capability.{Capability}
 use Rattle.sieve_check.specs.declared.names.Capability.TheVariants.{FileInto as FileIntoCapability, Variables, Mime, ForEveryPart as ForEveryPartCapability, Depot, OctetComparator, CasemapComparator}
 
@@ -109,3 +111,14 @@ comparator_named name =
     if bytes_eq name (codes "i;octet") then Some Octet else
     if bytes_eq name (codes "i;ascii-casemap") then Some Casemap else
     None
+
+-- what is known of the command or test of that name
+abbrev pub command_known : List ℕ → Option Row
+command_known word = option_map command_row (command_named word)
+
+abbrev pub test_known : List ℕ → Option Row
+test_known word = option_map test_row (test_named word)
+
+-- of what has an ending, which is a command, or of a test
+abbrev pub row_named : Option Ending → List ℕ → Option Row
+row_named ending word = if is_test ending then test_known word else command_known word

@@ -36,6 +36,7 @@ mod signature;
 mod string_faults;
 mod strings;
 mod surroundings;
+mod table;
 mod test_forms;
 mod typed;
 mod variable_names;
