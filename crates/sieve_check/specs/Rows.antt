@@ -153,3 +153,17 @@ test_row PartDigest = record {
   word = codes "partdigest"; needs = capability.Depot ∷ []; signature = record (bare tests.Nothing) { positional = positional.OneList };
   ending = None; place = InLoop; role = Expanded; counted = true; opens = false; follows = Others;
 }
+
+-- all of them
+abbrev pub all_commands : List CommandName
+all_commands = Require ∷ If ∷ Elsif ∷ Else ∷ Stop ∷ Keep ∷ Discard ∷ FileInto ∷ Set ∷ ForEveryPart ∷ Break ∷ Store ∷ Take ∷ []
+
+abbrev pub all_tests : List TestName
+all_tests =
+    Constant true ∷ Constant false ∷ Not ∷ AllOf ∷ AnyOf ∷ Header ∷ Exists ∷ Size ∷ String ∷ PartSize ∷ PartBody ∷ PartDigest ∷ []
+
+abbrev pub command_word : CommandName → List ℕ
+command_word name = (command_row name).word
+
+abbrev pub test_word : TestName → List ℕ
+test_word name = (test_row name).word

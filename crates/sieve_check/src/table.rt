@@ -1,13 +1,16 @@
 // What is known of each command and test, one row each (RFC 5228, sections 3 to 5; RFC 5229, sections 4 and 5; RFC 5703, sections 3 and
 // 4).
 ghost use Rattle.std.specs.Prelude.{◌≡◌, option_map};
+ghost use Rattle.std.specs.List.{find};
+ghost use Rattle.octets.specs.Ascii.{is_word};
 ghost use Rattle.sieve_check.specs.Private.{row_view};
-ghost use Rattle.sieve_check.specs.Rows.{bare, command_row, is_test, test_row};
-ghost use Rattle.sieve_check.specs.Names.{command_known, row_named, test_known};
+ghost use Rattle.sieve_check.specs.Rows.{bare, command_row, command_word, is_test, test_row, test_word};
+ghost use Rattle.sieve_check.specs.Names.{command_known, command_named, row_named, test_known, test_named};
 ghost use Rattle.sieve_check.specs.Signatures.{command_signature, test_signature};
 
-use crate::names::{Capability, CommandName, TestName, command_named, test_named};
+use crate::names::{Capability, CommandName, TestName};
 use crate::signature::{Ending, Positional, Signature, Tests};
+use octets::is_word;
 
 /// Where a command or test may stand.
 #[derive(Clone, Copy)]
@@ -414,6 +417,77 @@ pub fn test_row(name: TestName) -> Row
             follows: Follows::Others,
         },
     }
+}
+
+// The commands.
+const COMMANDS: &[CommandName] = &[
+    CommandName::Require,
+    CommandName::If,
+    CommandName::Elsif,
+    CommandName::Else,
+    CommandName::Stop,
+    CommandName::Keep,
+    CommandName::Discard,
+    CommandName::FileInto,
+    CommandName::Set,
+    CommandName::ForEveryPart,
+    CommandName::Break,
+    CommandName::Store,
+    CommandName::Take,
+];
+
+// The tests.
+const TESTS: &[TestName] = &[
+    TestName::Constant(true),
+    TestName::Constant(false),
+    TestName::Not,
+    TestName::AllOf,
+    TestName::AnyOf,
+    TestName::Header,
+    TestName::Exists,
+    TestName::Size,
+    TestName::String,
+    TestName::PartSize,
+    TestName::PartBody,
+    TestName::PartDigest,
+];
+
+// The first of the commands that is called so.
+fn first_command(name: &[u8], commands: &[CommandName]) -> Option<CommandName>
+    ensures { result ≡ find (λ known. is_word name.now (command_word known)) commands.now }
+{
+    for known in commands {
+        if is_word(name, command_row(*known).word) {
+            return Some(*known);
+        }
+    }
+    None
+}
+
+// The first of the tests that is called so.
+fn first_test(name: &[u8], tests: &[TestName]) -> Option<TestName>
+    ensures { result ≡ find (λ known. is_word name.now (test_word known)) tests.now }
+{
+    for known in tests {
+        if is_word(name, test_row(*known).word) {
+            return Some(*known);
+        }
+    }
+    None
+}
+
+/// The command of that name, if it is known. ASCII case is ignored.
+pub fn command_named(name: &[u8]) -> Option<CommandName>
+    ensures { result ≡ command_named name.now }
+{
+    first_command(name, COMMANDS)
+}
+
+/// The test of that name, if it is known. ASCII case is ignored.
+pub fn test_named(name: &[u8]) -> Option<TestName>
+    ensures { result ≡ test_named name.now }
+{
+    first_test(name, TESTS)
 }
 
 /// What the command takes.
