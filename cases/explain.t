@@ -709,6 +709,49 @@ Semicolons, braces and tests.
     2> refused 18 BadArguments at 0
     [1]
 
+## require without its semicolon before an if
+    $ printf 'require "fileinto"\nif header "subject" "x" { fileinto "a"; }\nfileinto "b";\n' > script
+    $ depot explain script
+    script:1:1: error: `require` takes no test: is a semicolon missing at its end?
+      require "fileinto"
+      ^
+    2> refused 18 BadArguments at 0
+    [1]
+
+## two of them
+    $ printf 'require "fileinto"\nrequire "variables"\nif true { set "a" "b"; fileinto "${a}"; }\n' > script
+    $ depot explain script
+    script:1:1: error: `require` takes no test: is a semicolon missing at its end?
+      require "fileinto"
+      ^
+    2> refused 18 BadArguments at 0
+    [1]
+
+## missing semicolon before an if with an else
+    $ cat > script << 'END'
+    > keep
+    > if true {
+    >     stop;
+    > } elsif false {
+    >     stop;
+    > } else {
+    >     fileinto "a";
+    > }
+    > else { stop; }
+    > END
+    $ depot explain script
+    script:1:1: error: `keep` takes no test: is a semicolon missing at its end?
+      keep
+      ^
+    script:7:5: error: `fileinto` needs `require "fileinto"` before it
+          fileinto "a";
+          ^
+    script:9:1: error: `else` stands directly after an `if` or `elsif`
+      else { stop; }
+      ^
+    2> refused 18 BadArguments at 0
+    [1]
+
 ## block too many
     $ printf 'keep { discard; }' > script
     $ depot explain script

@@ -1,5 +1,5 @@
 -- A command of a known name, of which nothing is wrong, has a form, before commands that go on as they may behind it.
-use Rattle.std.proofs.Common.{◌≡◌, ℕ, zero, suc, ◌<◌, ◌≤◌, Bool, true, false, List, [], ◌∷◌, ◌++◌, length, drop, All, Option, Some, None, option_map, refl, sym, ap, subst, ◌∙◌, arith, if◌then◌else◌, inl, inr}
+use Rattle.std.proofs.Common.{◌≡◌, ℕ, zero, suc, ◌<◌, ◌≤◌, Bool, true, false, List, [], ◌∷◌, ◌++◌, length, drop, take, All, Option, Some, None, option_map, refl, sym, ap, subst, ◌∙◌, arith, if◌then◌else◌, inl, inr}
 use Rattle.std.specs.List.{list_any}
 use Rattle.std.specs.Prelude.{min, unwrap_or}
 use Rattle.std.proofs.Math.Nat.{min-le_right}
@@ -21,10 +21,13 @@ use Rattle.sieve_check.specs.declared.typed.Act.TheVariants as act
 use Rattle.sieve_check.specs.Acts.{act_row, act_strings}
 use Rattle.sieve_check.specs.Bounded.{IsBoundedString, IsBoundedAct, IsBoundedCommand, AreBoundedCommands, AreBoundedBranches, IsCommandIn, AreCommandsIn, AreBranchesIn}
 use Rattle.sieve_check.specs.FormOf.{InnerForms, none, one, template_of, most_of, PartForm, action, with_text, setting_in, taking_in, act_of, action_at, simple_of, block_of, Forms, closed, closed_by, after_none, put}
-use Rattle.sieve_check.specs.Rules.{command_needs, may_stand, opened_by, expanding, mentions_of, same_tests, same_ending, strings_of}
+use Rattle.sieve_check.specs.Rules.{ending_cause, expanding, may_stand, mentions_by, needs_of, opened_by, same_tests, strings_of}
+use Rattle.sieve_check.specs.Rows.{command_row}
+use Rattle.sieve_check.specs.declared.table.Place.TheVariants.{ToLeave}
+use Rattle.sieve_check.specs.declared.table.Role.TheVariants.{Expanded, NameThenValue, NameAlone}
 use Rattle.sieve_check.specs.Arguments.{reading}
-use Rattle.sieve_check.specs.Signatures.{◌>>=◌, Read, is_positional, command_signature, ending_of}
-use Rattle.sieve_check.specs.Surroundings.{Loop, Context, first_lacking, is_meant, loops_left, opens_many, following}
+use Rattle.sieve_check.specs.Signatures.{◌>>=◌, Read, is_positional, command_signature}
+use Rattle.sieve_check.specs.Surroundings.{Loop, Context, first_lacking, in_loop, is_meant, loops_left, opens_many, following}
 use Rattle.sieve_check.specs.Typed.{Template, CommandForm, does, for_every_part, choice, CommandForms, command, no_branch, otherwise, branch}
 use Rattle.sieve_check.specs.Variables.{string_variables, strings_variables, test_variables, command_variables, commands_variables, branches_variables}
 use Rattle.sieve_check.proofs.Lists.{expands, has_long_string, is_large, texted, both_texted}
@@ -62,7 +65,7 @@ shut rest h = ap (λ b. closed_by b rest.commands) h
 
 -- the names that a command brings by its own arguments
 abbrev pub own_names : Context → CommandName → Read → List (List ℕ)
-own_names s name read = mentioned_at (expands s) (mentions_of name (strings_of read.positional))
+own_names s name read = mentioned_at (expands s) (mentions_by (command_row name).role [] read.positional)
 
 -- variables of a command before others that go on with no branch
 behind : (own names : List (List ℕ)) (rest : Forms) → own ≡ names → rest.branches ≡ no_branch → own ++ commands_variables rest.commands ≡ (names ++ []) ++ forms_variables rest
@@ -113,13 +116,23 @@ bare_act s own act bounded plain unset around nameless =
       variables = ap (λ strings. strings_variables strings ++ (act_row act).sets) no_string ∙ unset ∙ nameless;
     }
 
+-- what takes no argument brings no name
+bare_names : (b : Bool) (xs : List ArgumentTree) → is_positional positional.Nothing xs ≡ true → [] ≡ mentioned_at b (mentions_by Expanded [] xs)
+bare_names b [] h = unnamed b [] h
+bare_names b (x ∷ xs) h = absurd (cc)
+
+-- one string is the first of the arguments
+one_half : (xs : List ArgumentTree) → is_positional positional.Text xs ≡ true → xs ≡ take 1 xs ++ [] ++ drop 1 xs
+one_half (text x ∷ []) h = refl
+one_half _ h = absurd (cc)
+
 -- one that takes a folder
 filed : (s : Context) (act : Act) (read : Read) → IsBoundedAct act → (act_row act).string ≡ true → (act_row act).sets ≡ [] → (act_row act).loops ≤ length s.loops
-    → is_positional positional.Text read.positional ≡ true → has_long_string read.positional ≡ false → (expands s ≡ true → list_any is_large (strings_of read.positional) ≡ false)
-    → Acted s (mentioned_at (expands s) (expanding (strings_of read.positional))) (with_text s.required act read.positional)
+    → is_positional positional.Text read.positional ≡ true → has_long_string read.positional ≡ false → (expands s ≡ true → list_any is_large (mentions_by Expanded [] read.positional).expanded ≡ false)
+    → Acted s (mentioned_at (expands s) (mentions_by Expanded [] read.positional)) (with_text s.required act read.positional)
 filed s act read bounded stringed unset around positional short few =
     let b = expands s in
-    let folder = texted b read.positional positional short few in
+    let folder = texted b read.positional positional short (λ yes. ap (λ xs. list_any is_large (strings_of xs)) (one_half read.positional positional) ∙ few yes) in
     let t = template_of s.required folder.0 in
     let strings : act_strings act t ≡ t ∷ [] = ap (λ b. if b then t ∷ [] else []) stringed in
     record {
@@ -129,7 +142,7 @@ filed s act read bounded stringed unset around positional short few =
       bounded = (bounded, subst (All IsBoundedString) (sym strings) (one_bounded t (template_bounded b folder.0 folder.2)));
       around = around;
       variables = ap (λ strings. strings_variables strings ++ (act_row act).sets) strings ∙ ap (λ names. (string_variables t ++ []) ++ names) unset ∙ append-nil (string_variables t ++ []) ∙ append-nil (string_variables t) ∙ template_names b folder.0
-          ∙ sym (append-nil (names_at b folder.0)) ∙ sym (expanding_names b (folder.0 ∷ [])) ∙ ap (λ xs. mentioned_at b (expanding (strings_of xs))) (sym folder.1);
+          ∙ sym (append-nil (names_at b folder.0)) ∙ sym (expanding_names b (folder.0 ∷ [])) ∙ ap (λ xs. mentioned_at b (mentions_by Expanded [] xs)) (sym folder.1);
     }
 
 -- what is needed first is there
@@ -142,7 +155,7 @@ set_names : (b : Bool) (name x : List ℕ) → b ≡ true → names_at b x ++ lo
 set_names true name x h = ap (λ names. names ++ lowercase_of name ∷ []) (sym (append-nil (names_in x)))
 set_names false name x h = absurd (cc)
 
-assigned : (s : Context) (read : Read) → first_lacking (command_needs Set) s.required ≡ None → is_positional (command_signature Set).positional read.positional ≡ true → has_long_string read.positional ≡ false → (expands s ≡ true → list_any is_large (drop 1 (strings_of read.positional)) ≡ false)
+assigned : (s : Context) (read : Read) → first_lacking (capability.Variables ∷ []) s.required ≡ None → is_positional (command_signature Set).positional read.positional ≡ true → has_long_string read.positional ≡ false → (expands s ≡ true → list_any is_large (strings_of (drop 1 read.positional)) ≡ false)
     → Acted s (own_names s Set read) (act_of s Set read)
 assigned s read has positional short few =
     let b = expands s in
@@ -157,7 +170,7 @@ assigned s read has positional short few =
       is = ap (setting_in s.required modifiers) both.2;
       bounded = (tt, one_bounded t (template_bounded b x both.3));
       around = omega arith;
-      variables = ap (λ names. names ++ lowercase_of name ∷ []) (append-nil (string_variables t) ∙ template_names b x) ∙ set_names b name x (there b capability.Variables None has) ∙ ap (λ xs. mentioned_at b (mentions_of Set (strings_of xs))) (sym both.2);
+      variables = ap (λ names. names ++ lowercase_of name ∷ []) (append-nil (string_variables t) ∙ template_names b x) ∙ set_names b name x (there b capability.Variables None has) ∙ ap (λ xs. mentioned_at b (mentions_by NameThenValue [] xs)) (sym both.2);
     }
 
 -- what a `take` brings, where variables were required
@@ -178,7 +191,7 @@ most_some (Some n) some = (least n max_value (some n refl) (omega arith), min-le
   least (suc a) zero h k = absurd (omega (arith, k))
   least (suc a) (suc b) h k = omega arith
 
-taken : (s : Context) (args : List ArgumentTree) (read : Read) → reading (command_signature Take) args ≡ Some read → first_lacking (command_needs Take) s.required ≡ None → may_stand s Take read ≡ true → is_positional positional.Text read.positional ≡ true
+taken : (s : Context) (args : List ArgumentTree) (read : Read) → reading (command_signature Take) args ≡ Some read → first_lacking (needs_of (command_row Take) args) s.required ≡ None → in_loop s ≡ true → is_positional positional.Text read.positional ≡ true
     → Acted s (own_names s Take read) (act_of s Take read)
 taken s args read is has stands positional =
     let b = expands s in
@@ -189,7 +202,7 @@ taken s args read is has stands positional =
       is = ap (taking_in read.tags) name.1;
       bounded = (most_some read.tags.first (number_read (command_signature Take) args read is), All-nil IsBoundedString);
       around = ltb-true 0 (length s.loops) stands;
-      variables = taken_name b name.0 (there b capability.Variables _ has) ∙ ap (λ xs. mentioned_at b (mentions_of Take (strings_of xs))) (sym name.1);
+      variables = taken_name b name.0 (there b capability.Variables _ has) ∙ ap (λ xs. mentioned_at b (mentions_by NameAlone [] xs)) (sym name.1);
     }
 
 -- those that are left are open
@@ -207,7 +220,7 @@ left_there name (loop ∷ loops) n h =
           (omega (arith, one_more), omega (arith, one_more, there.1))
     ]
 
-left : (s : Context) (read : Read) → may_stand s Break read ≡ true → is_positional positional.Nothing read.positional ≡ true → Acted s (own_names s Break read) (act_of s Break read)
+left : (s : Context) (read : Read) → may_stand s ToLeave read.name ≡ true → is_positional positional.Nothing read.positional ≡ true → Acted s (own_names s Break read) (act_of s Break read)
 left s read stands positional =
     let loops = some_of (loops_left read.name s.loops) stands in
     let there = left_there read.name s.loops loops.0 loops.1 in
@@ -217,12 +230,12 @@ left s read stands positional =
       is = ap (option_map (λ left. (act.Leave left, []))) loops.1;
       bounded = (there.0, All-nil IsBoundedString);
       around = there.1;
-      variables = unnamed (expands s) read.positional positional;
+      variables = bare_names (expands s) read.positional positional;
     }
 
-pub simple_goes : (s : Context) (name : CommandName) (at : ℕ) (args : List ArgumentTree) (read : Read) (inner : InnerForms) (rest : Forms) → reading (command_signature name) args ≡ Some read → may_stand s name read ≡ true → first_lacking (command_needs name) s.required ≡ None → is_positional (command_signature name).positional read.positional ≡ true → same_ending (ending_of name) Semicolon ≡ true
-    → same_tests (command_signature name).tests (inner_kind inner) ≡ true → has_long_string read.positional ≡ false → (expands s ≡ true → list_any is_large (mentions_of name (strings_of read.positional)).expanded ≡ false)
-    → ((following s (Some name) (strings_of args)).after_if ≡ false → rest.branches ≡ no_branch) → AreWithin (length s.loops) rest → Goes s ((own_names s name read ++ inner_variables inner) ++ forms_variables rest) (simple_of s name at read inner >>= λ part. put part rest)
+pub simple_goes : (s : Context) (name : CommandName) (at : ℕ) (args : List ArgumentTree) (read : Read) (inner : InnerForms) (rest : Forms) → reading (command_signature name) args ≡ Some read → may_stand s (command_row name).place read.name ≡ true → first_lacking (needs_of (command_row name) args) s.required ≡ None → is_positional (command_signature name).positional read.positional ≡ true → ending_cause (command_row name).ending (Some Semicolon) ≡ None
+    → same_tests (command_signature name).tests (inner_kind inner) ≡ true → has_long_string read.positional ≡ false → (expands s ≡ true → list_any is_large (mentions_by (command_row name).role [] read.positional).expanded ≡ false)
+    → ((following s (Some (command_row name)) (strings_of args)).after_if ≡ false → rest.branches ≡ no_branch) → AreWithin (length s.loops) rest → Goes s ((own_names s name read ++ inner_variables inner) ++ forms_variables rest) (simple_of s name at read inner >>= λ part. put part rest)
 simple_goes s Require at args read none rest is stands has positional ends same short few begins bounded = record {
   forms = after_none rest.commands;
   is = ap (option_map after_none) (shut rest (begins refl));
@@ -230,9 +243,9 @@ simple_goes s Require at args read none rest is stands has positional ends same 
   bounded = record { branches = tt; commands = bounded.commands; branches_in = tt; commands_in = bounded.commands_in };
   variables = behind [] (own_names s Require read) rest (sym (nothing_mentioned (expands s))) (begins refl);
 }
-simple_goes s Stop at args read none rest is stands has positional ends same short few begins bounded = acted s Stop at read rest refl (bare_act s (own_names s Stop read) act.Stop tt refl refl (omega arith) (unnamed (expands s) read.positional positional)) (begins refl) bounded
-simple_goes s Keep at args read none rest is stands has positional ends same short few begins bounded = acted s Keep at read rest refl (bare_act s (own_names s Keep read) act.Keep tt refl refl (omega arith) (unnamed (expands s) read.positional positional)) (begins refl) bounded
-simple_goes s Discard at args read none rest is stands has positional ends same short few begins bounded = acted s Discard at read rest refl (bare_act s (own_names s Discard read) act.Discard tt refl refl (omega arith) (unnamed (expands s) read.positional positional)) (begins refl) bounded
+simple_goes s Stop at args read none rest is stands has positional ends same short few begins bounded = acted s Stop at read rest refl (bare_act s (own_names s Stop read) act.Stop tt refl refl (omega arith) (bare_names (expands s) read.positional positional)) (begins refl) bounded
+simple_goes s Keep at args read none rest is stands has positional ends same short few begins bounded = acted s Keep at read rest refl (bare_act s (own_names s Keep read) act.Keep tt refl refl (omega arith) (bare_names (expands s) read.positional positional)) (begins refl) bounded
+simple_goes s Discard at args read none rest is stands has positional ends same short few begins bounded = acted s Discard at read rest refl (bare_act s (own_names s Discard read) act.Discard tt refl refl (omega arith) (bare_names (expands s) read.positional positional)) (begins refl) bounded
 simple_goes s FileInto at args read none rest is stands has positional ends same short few begins bounded = acted s FileInto at read rest refl (filed s act.FileInto read tt refl refl (omega arith) positional short few) (begins refl) bounded
 simple_goes s Store at args read none rest is stands has positional ends same short few begins bounded = acted s Store at read rest refl (filed s act.Store read tt refl refl (ltb-true 0 (length s.loops) stands) positional short few) (begins refl) bounded
 simple_goes s Break at args read none rest is stands has positional ends same short few begins bounded = acted s Break at read rest refl (left s read stands positional) (begins refl) bounded
@@ -246,23 +259,23 @@ branch_behind names tests within rest same =
     append_assoc (tests ++ within) (branches_variables rest.branches) (commands_variables rest.commands)
     ∙ ap (λ vs. ((vs ++ tests) ++ within) ++ forms_variables rest) same
 
-pub block_goes : (s : Context) (name : CommandName) (at : ℕ) (args : List ArgumentTree) (read : Read) (inner : InnerForms) (body : CommandForms) (rest : Forms) → is_positional (command_signature name).positional read.positional ≡ true → may_stand s name read ≡ true → opens_many (opened_by name args) s ≡ false → same_ending (ending_of name) Block ≡ true
-    → same_tests (command_signature name).tests (inner_kind inner) ≡ true → ((following s (Some name) (strings_of args)).after_if ≡ false → rest.branches ≡ no_branch) → IsBoundedInner inner → IsInnerIn (length s.loops) inner
-    → AreBoundedCommands body → AreCommandsIn (length (opened_by name args ++ s.loops)) body → AreWithin (length s.loops) rest
+pub block_goes : (s : Context) (name : CommandName) (at : ℕ) (args : List ArgumentTree) (read : Read) (inner : InnerForms) (body : CommandForms) (rest : Forms) → is_positional (command_signature name).positional read.positional ≡ true → may_stand s (command_row name).place read.name ≡ true → opens_many (opened_by (command_row name) args) s ≡ false → ending_cause (command_row name).ending (Some Block) ≡ None
+    → same_tests (command_signature name).tests (inner_kind inner) ≡ true → ((following s (Some (command_row name)) (strings_of args)).after_if ≡ false → rest.branches ≡ no_branch) → IsBoundedInner inner → IsInnerIn (length s.loops) inner
+    → AreBoundedCommands body → AreCommandsIn (length (opened_by (command_row name) args ++ s.loops)) body → AreWithin (length s.loops) rest
     → Goes s (((own_names s name read ++ inner_variables inner) ++ commands_variables body) ++ forms_variables rest) (block_of name at inner body >>= λ part. put part rest)
 block_goes s If at args read (one f) body rest positional stands room ends same begins tests tests_in within within_in bounded = record {
   forms = after_none (command (choice (branch f body at rest.branches)) rest.commands);
   is = refl;
   begins = λ _. refl;
   bounded = record { branches = tt; commands = ((tests, within, bounded.branches), bounded.commands); branches_in = tt; commands_in = ((tests_in, within_in, bounded.branches_in), bounded.commands_in) };
-  variables = branch_behind (own_names s If read) (test_variables f) (commands_variables body) rest (unnamed (expands s) read.positional positional);
+  variables = branch_behind (own_names s If read) (test_variables f) (commands_variables body) rest (bare_names (expands s) read.positional positional);
 }
 block_goes s Elsif at args read (one f) body rest positional stands room ends same begins tests tests_in within within_in bounded = record {
   forms = record { branches = branch f body at rest.branches; commands = rest.commands };
   is = refl;
   begins = λ h. absurd (not_both s.after_if stands h);
   bounded = record { branches = (tests, within, bounded.branches); commands = bounded.commands; branches_in = (tests_in, within_in, bounded.branches_in); commands_in = bounded.commands_in };
-  variables = branch_behind (own_names s Elsif read) (test_variables f) (commands_variables body) rest (unnamed (expands s) read.positional positional);
+  variables = branch_behind (own_names s Elsif read) (test_variables f) (commands_variables body) rest (bare_names (expands s) read.positional positional);
 }
 block_goes s Else at args read none body rest positional stands room ends same begins tests tests_in within within_in bounded = record {
   forms = record { branches = otherwise body; commands = rest.commands };
@@ -270,7 +283,7 @@ block_goes s Else at args read none body rest positional stands room ends same b
   begins = λ h. absurd (not_both s.after_if stands h);
   bounded = record { branches = within; commands = bounded.commands; branches_in = within_in; commands_in = bounded.commands_in };
   variables = ap (λ bs. commands_variables body ++ (branches_variables bs ++ commands_variables rest.commands)) (sym (begins refl))
-      ∙ ap (λ vs. ((vs ++ []) ++ commands_variables body) ++ forms_variables rest) (unnamed (expands s) read.positional positional);
+      ∙ ap (λ vs. ((vs ++ []) ++ commands_variables body) ++ forms_variables rest) (bare_names (expands s) read.positional positional);
 }
 block_goes s ForEveryPart at args read none body rest positional stands room ends same begins tests tests_in within within_in bounded = record {
   forms = after_none (command (for_every_part body at) rest.commands);
@@ -278,6 +291,6 @@ block_goes s ForEveryPart at args read none body rest positional stands room end
   begins = λ _. refl;
   bounded = record { branches = tt; commands = (within, bounded.commands); branches_in = tt; commands_in = ((ltb-true (length s.loops) max_loops (not_false _ room), within_in), bounded.commands_in) };
   variables = ap (λ bs. commands_variables body ++ (branches_variables bs ++ commands_variables rest.commands)) (sym (begins refl))
-      ∙ ap (λ vs. ((vs ++ []) ++ commands_variables body) ++ forms_variables rest) (unnamed (expands s) read.positional positional);
+      ∙ ap (λ vs. ((vs ++ []) ++ commands_variables body) ++ forms_variables rest) (bare_names (expands s) read.positional positional);
 }
 block_goes s _ at args read _ body rest positional stands room ends same begins tests tests_in within within_in bounded = absurd (cc)

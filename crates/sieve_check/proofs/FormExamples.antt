@@ -21,7 +21,8 @@ use Rattle.sieve_check.specs.declared.typed.Question.TheVariants.{Constant, Head
 use Rattle.bytecode_format.specs.declared.selection.Scope.TheVariants.{Message, Part, PartAndBelow}
 use Rattle.sieve_check.specs.declared.typed.Segment.TheVariants.{Text, Variable, Capture}
 use Rattle.sieve_check.specs.FormOf.{IsFormOf, form_of, template_of, test_form_of}
-use Rattle.sieve_check.specs.Rules.{names_mentioned, test_mentions}
+use Rattle.sieve_check.specs.Rows.{test_row}
+use Rattle.sieve_check.specs.Rules.{names_by}
 use Rattle.sieve_check.specs.Arguments.{reading}
 use Rattle.sieve_check.specs.Signatures.{no_tag, command_signature}
 use Rattle.sieve_check.specs.Surroundings.{Context, at_start, in_block}
@@ -129,7 +130,7 @@ inside_too = refl
 abbrev expanded_params : List ArgumentTree
 expanded_params = tag "mime" ∷ tag "param" ∷ str "${b}" ∷ str "${a}" ∷ str "${C}" ∷ []
 
-names_between : names_mentioned (test_mentions with_variables test.Header expanded_params) ≡ codes "a" ∷ codes "b" ∷ codes "c" ∷ []
+names_between : names_by with_variables.required expanded_params (Some (test_row test.Header)) ≡ codes "a" ∷ codes "b" ∷ codes "c" ∷ []
 names_between = refl
 
 strings_as_written : Gives (template_of at_start.required) (

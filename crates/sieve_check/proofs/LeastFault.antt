@@ -16,9 +16,8 @@ use Rattle.sieve_check.specs.declared.error.CheckError.{CheckError}
 use Rattle.sieve_check.specs.declared.error.Fault.{Fault}
 use Rattle.sieve_check.specs.declared.error.Fault.TheVariants.{UnknownCommand, MissingCapability, UnknownCapability, BadArguments, Limit}
 use Rattle.sieve_check.specs.declared.names.Capability.{Capability}
-use Rattle.sieve_check.specs.declared.names.CommandName.{CommandName}
-use Rattle.sieve_check.specs.declared.names.CommandName.TheVariants.{Break, Require}
-use Rattle.sieve_check.specs.declared.names.TestName.{TestName}
+use Rattle.sieve_check.specs.declared.table.Place.{Place}
+use Rattle.sieve_check.specs.declared.table.Place.TheVariants.{ToLeave}
 use Rattle.sieve_check.specs.declared.signature.Ending.{Ending}
 use Rattle.sieve_check.specs.declared.signature.Ending.TheVariants.{Semicolon, Block}
 use Rattle.sieve_check.specs.declared.signature.Positional.{Positional}
@@ -29,14 +28,15 @@ use Rattle.sieve_check.specs.declared.string_faults.StringFault.TheVariants.{Unk
 use Rattle.sieve_check.specs.declared.surroundings.Capabilities.{Capabilities}
 use Rattle.sieve_check.specs.Arguments.{Awaiting, arguments_read, awaiting, expected, first_label, is_second_modifier, missing_cause, number_of, positional_cause, rest_read, sound}
 use Rattle.sieve_check.specs.Causes.{Cause, Refused, about, fault_of_kind, plain, refusal_for}
-use Rattle.sieve_check.specs.LeastFault.{Seen, all_of_command, all_of_commands, all_of_head, all_of_more, all_of_test, all_of_tests, fault_by_name, fault_read, first_fault, has_large, has_long, has_unknown, has_wrong, known_command_fault, known_test_fault, lacks, least_fault, read_command_fault, read_test_fault}
-use Rattle.sieve_check.specs.Names.{command_named, tag_named, test_named}
-use Rattle.sieve_check.specs.Rules.{Mentions, Visit, after_invocation, capability_arguments, cause_by_name, command_lacks, command_mentions, command_needs, command_visits, commands_visits, ending_cause, expanding, fault_of, has_many_strings, head_visits, invocation_of, is_long_name, kind_of, known_command_cause, known_test_cause, lacking, lacking_cause, large_cause, large_mention_cause, lists_read, long_name, long_string_cause, looks_inside, loops_by, loops_opened, many_loops_cause, many_strings_cause, may_stand, mention_cause, mentions_of, misplaced, more_visits, names_by, opened_by, place_cause, read_command_cause, read_test_cause, reference_cause, reference_kind, refused_among, same_ending, same_reason, same_tests, string_has, strings_of, test_lacks, test_may_stand, test_mentions, test_needs, test_place_cause, test_visits, tests_cause, tests_visits, unknown_cause, where_required}
-use Rattle.sieve_check.specs.Signatures.{Given, Read, add_tag, asks_for_mime, command_signature, ending_of, is_positional, no_tag, nothing_given, takes_tag, test_signature, with_argument}
+use Rattle.sieve_check.specs.LeastFault.{Seen, all_of, all_of_command, all_of_commands, all_of_more, all_of_tests, ends_otherwise, fault_by, fault_read, first_fault, has_large, has_long, has_unknown, has_wrong, known_fault, lacks, least_fault, read_fault}
+use Rattle.sieve_check.specs.Names.{row_named, tag_named}
+use Rattle.sieve_check.specs.Rules.{Mentions, Visit, after_invocation, are_many, capability_arguments, cause_of, command_visits, commands_visits, ending_cause, fault_of, invocation_of, is_long_name, kind_of, known_cause, lacking, lacking_cause, lacks_by, large_cause, large_mention_cause, long_name, long_string_cause, looks_inside, loops_opened, many_loops_cause, many_strings_cause, may_stand, mention_cause, mentions_of, misplaced, more_visits, names_by, needs_of, opened_by, past_invocation, place_cause, read_cause, reference_cause, reference_kind, refused_among, same_ending, same_reason, same_tests, string_has, strings_of, tests_cause, tests_visits, unknown_as, unknown_cause, visits_of, where_required}
+use Rattle.sieve_check.specs.Rows.{Row}
+use Rattle.sieve_check.specs.Signatures.{Given, Read, add_tag, asks_for_mime, is_positional, no_tag, nothing_given, takes_tag, with_argument}
 use Rattle.sieve_check.specs.Surroundings.{Context, at_start, first_lacking, in_block, opens_many}
-use Rattle.sieve_check.proofs.Existence.{command_well_formed}
+use Rattle.sieve_check.proofs.Existence.{Behind, behind_sound}
 use Rattle.sieve_check.proofs.Faultless.{told_first}
-use Rattle.sieve_check.proofs.TestExistence.{all_looked_at, known, test_well_formed}
+use Rattle.sieve_check.proofs.TestExistence.{all_looked_at, known_row, row_well_formed}
 
 -- ---- causes as faults
 
@@ -182,74 +182,70 @@ unnamed : (o : Option (List ℕ)) → fault_of_kind (option_map_or (about reason
 unnamed None = refl
 unnamed (Some name) = refl
 
-of_misplaced : (name : CommandName) (read : Read) → fault_of_kind (misplaced name read).kind ≡ BadArguments
-of_misplaced Break read = unnamed read.name
-of_misplaced _ read = refl
+of_misplaced : (place : Place) (name : Option (List ℕ)) → fault_of_kind (misplaced place name).kind ≡ BadArguments
+of_misplaced ToLeave name = unnamed name
+of_misplaced _ name = refl
+
+of_ending : (wanted ending : Option Ending) → fault_for (ending_cause wanted ending) ≡ when (ends_otherwise wanted ending) BadArguments
+of_ending None ending = refl
+of_ending (Some wanted) None = refl
+of_ending (Some wanted) (Some ending) = of_unless (same_ending wanted ending) _ BadArguments refl
 
 of_lacking : (required : Capabilities) (needed : List Capability) → fault_for (lacking_cause required needed) ≡ when (lacks required needed) MissingCapability
 of_lacking required needed = of_map lacking MissingCapability (first_lacking needed required) (λ capability. refl)
 
-of_unknown : (name : CommandName) (args : List ArgumentTree) → fault_for (unknown_cause name args) ≡ when (has_unknown (capability_arguments name args)) UnknownCapability
-of_unknown Require args = of_found (about reasons.UnknownCapability) UnknownCapability (string_has Unknown) (strings_of args) (λ string. refl)
-of_unknown _ args = refl
+of_unknown : (row : Row) (args : List ArgumentTree) → fault_for (unknown_cause row args) ≡ when (has_unknown (capability_arguments row.follows args)) UnknownCapability
+of_unknown row args = of_found (about reasons.UnknownCapability) UnknownCapability (string_has Unknown) (strings_of (capability_arguments row.follows args)) (λ string. refl)
 
 -- ---- of a command or test
 
 -- the causes that are of bad arguments, then those that are of a limit
-two_groups : (a b c d e f g : Bool) → option_or (option_or (when a BadArguments) (option_or (when b BadArguments) (when c BadArguments))) (option_or (when d BadArguments) (option_or (when e Limit) (option_or (when f Limit) (when g Limit))))
-    ≡ (if a || b || c || d then Some BadArguments else if e || f || g then Some Limit else None)
-two_groups true b c d e f g = refl
-two_groups false true c d e f g = refl
-two_groups false false true d e f g = refl
-two_groups false false false true e f g = refl
-two_groups false false false false true f g = refl
-two_groups false false false false false true g = refl
-two_groups false false false false false false g = refl
+two_groups : (a b c d e f g h : Bool) → option_or (option_or (when a BadArguments) (option_or (when b BadArguments) (when c BadArguments))) (option_or (when d BadArguments) (option_or (when e Limit) (option_or (when f Limit) (option_or (when g Limit) (when h Limit)))))
+    ≡ (if a || b || c || d then Some BadArguments else if e || f || g || h then Some Limit else None)
+two_groups true b c d e f g h = refl
+two_groups false true c d e f g h = refl
+two_groups false false true d e f g h = refl
+two_groups false false false true e f g h = refl
+two_groups false false false false true f g h = refl
+two_groups false false false false false true g h = refl
+two_groups false false false false false false true h = refl
+two_groups false false false false false false false h = refl
 
-of_groups : (o p q r u v w : Option Cause) (a b c d e f g : Bool)
+of_groups : (o p q r u v w x : Option Cause) (a b c d e f g h : Bool)
     → fault_for o ≡ when a BadArguments → fault_for p ≡ when b BadArguments → fault_for q ≡ when c BadArguments → fault_for r ≡ when d BadArguments
-    → fault_for u ≡ when e Limit → fault_for v ≡ when f Limit → fault_for w ≡ when g Limit
-    → fault_for (option_or (option_or o (option_or p q)) (option_or r (option_or u (option_or v w)))) ≡ (if a || b || c || d then Some BadArguments else if e || f || g then Some Limit else None)
-of_groups o p q r u v w a b c d e f g is_o is_p is_q is_r is_u is_v is_w =
+    → fault_for u ≡ when e Limit → fault_for v ≡ when f Limit → fault_for w ≡ when g Limit → fault_for x ≡ when h Limit
+    → fault_for (option_or (option_or o (option_or p q)) (option_or r (option_or u (option_or v (option_or w x))))) ≡ (if a || b || c || d then Some BadArguments else if e || f || g || h then Some Limit else None)
+of_groups o p q r u v w x a b c d e f g h is_o is_p is_q is_r is_u is_v is_w is_x =
     of_either (option_or o (option_or p q)) _
-    ∙ ap (λ x. option_or x (fault_for (option_or r (option_or u (option_or v w))))) (of_either o (option_or p q) ∙ ap (λ x. option_or (fault_for o) x) (of_either p q))
-    ∙ ap (λ x. option_or (option_or (fault_for o) (option_or (fault_for p) (fault_for q))) x)
-    (of_either r _ ∙ ap (λ x. option_or (fault_for r) x) (of_either u _ ∙ ap (λ x. option_or (fault_for u) x) (of_either v w)))
-    ∙ rw (is_o, is_p, is_q, is_r, is_u, is_v, is_w) (two_groups a b c d e f g)
+    ∙ ap (λ y. option_or y (fault_for (option_or r (option_or u (option_or v (option_or w x)))))) (of_either o (option_or p q) ∙ ap (λ y. option_or (fault_for o) y) (of_either p q))
+    ∙ ap (λ y. option_or (option_or (fault_for o) (option_or (fault_for p) (fault_for q))) y)
+    (of_either r _ ∙ ap (λ y. option_or (fault_for r) y) (of_either u _ ∙ ap (λ y. option_or (fault_for u) y) (of_either v _ ∙ ap (λ y. option_or (fault_for v) y) (of_either w x))))
+    ∙ rw (is_o, is_p, is_q, is_r, is_u, is_v, is_w, is_x) (two_groups a b c d e f g h)
 
-of_read_command : (s : Context) (name : CommandName) (args : List ArgumentTree) (tests : Tests) (ending : Ending) (read : Read) → fault_for (read_command_cause s name args tests ending read) ≡ read_command_fault s name args tests ending read
-of_read_command s name args tests ending read =
-    let mentions = where_required s.required (mentions_of name (strings_of (lists_read read))) in
-    of_groups (tests_cause (command_signature name) tests) (ending_cause name ending) (mention_cause mentions) (place_cause s name read) (long_string_cause args) (large_mention_cause mentions) (many_loops_cause s name args) _ _ _ _ _ _ _
-    (of_tests (command_signature name) tests) (of_unless (same_ending (ending_of name) ending) _ BadArguments refl) (of_mentions mentions)
-    (of_unless (may_stand s name read) _ BadArguments (of_misplaced name read))
-    (of_long args) (of_large mentions) (of_if (opens_many (opened_by name args) s) _ Limit refl)
+of_read : (s : Context) (row : Row) (args : List ArgumentTree) (tests : Tests) (ending : Option Ending) (read : Read) → fault_for (read_cause s row args tests ending read) ≡ read_fault s row args tests ending read
+of_read s row args tests ending read =
+    let mentions = where_required s.required (mentions_of row.role read) in
+    of_groups (tests_cause row.signature tests) (ending_cause row.ending ending) (mention_cause mentions) (place_cause s row.place read.name)
+    (long_string_cause args) (many_strings_cause row.counted read) (large_mention_cause mentions) (many_loops_cause s (opened_by row args)) _ _ _ _ _ _ _ _
+    (of_tests row.signature tests) (of_ending row.ending ending) (of_mentions mentions)
+    (of_unless (may_stand s row.place read.name) _ BadArguments (of_misplaced row.place read.name))
+    (of_long args) (of_if (are_many row.counted read) _ Limit refl) (of_large mentions) (of_if (opens_many (opened_by row args) s) _ Limit refl)
 
-of_command : (s : Context) (name : CommandName) (args : List ArgumentTree) (tests : Tests) (ending : Ending) → fault_for (known_command_cause s name args tests ending) ≡ known_command_fault s name args tests ending
-of_command s name args tests ending =
-    of_first (lacking_cause s.required (command_needs name)) _ (lacks s.required (command_needs name)) MissingCapability _ (of_lacking s.required (command_needs name))
-    (of_first (unknown_cause name args) _ (has_unknown (capability_arguments name args)) UnknownCapability _ (of_unknown name args)
-    (of_reading (arguments_read (command_signature name) args) (read_command_cause s name args tests ending) (read_command_fault s name args tests ending)
-    (bad_rest (command_signature name) args nothing_given None args) (of_read_command s name args tests ending)))
+of_known : (s : Context) (args : List ArgumentTree) (tests : Tests) (ending : Option Ending) (row : Row) → fault_for (known_cause s args tests ending row) ≡ known_fault s args tests ending row
+of_known s args tests ending row =
+    of_first (lacking_cause s.required (needs_of row args)) _ (lacks s.required (needs_of row args)) MissingCapability _ (of_lacking s.required (needs_of row args))
+    (of_first (unknown_cause row args) _ (has_unknown (capability_arguments row.follows args)) UnknownCapability _ (of_unknown row args)
+    (of_reading (arguments_read row.signature args) (read_cause s row args tests ending) (read_fault s row args tests ending)
+    (bad_rest row.signature args nothing_given None args) (of_read s row args tests ending)))
 
-of_read_test : (s : Context) (name : TestName) (args : List ArgumentTree) (tests : Tests) (read : Read) → fault_for (read_test_cause s name args tests read) ≡ read_test_fault s name args tests read
-of_read_test s name args tests read =
-    let mentions = where_required s.required (expanding (strings_of (lists_read read))) in
-    of_groups None (tests_cause (test_signature name) tests) (mention_cause mentions) (test_place_cause s name) (long_string_cause args) (many_strings_cause read) (large_mention_cause mentions) false _ _ _ _ _ _
-    refl (of_tests (test_signature name) tests) (of_mentions mentions)
-    (of_unless (test_may_stand s name) _ BadArguments refl)
-    (of_long args) (of_if (has_many_strings read) _ Limit refl) (of_large mentions)
+of_unnamed : (ending : Option Ending) → fault_of_kind (unknown_as ending) ≡ UnknownCommand
+of_unnamed None = refl
+of_unnamed (Some ending) = refl
 
-of_test : (s : Context) (name : TestName) (args : List ArgumentTree) (tests : Tests) → fault_for (known_test_cause s name args tests) ≡ known_test_fault s name args tests
-of_test s name args tests =
-    of_first (lacking_cause s.required (test_needs name args)) _ (lacks s.required (test_needs name args)) MissingCapability _ (of_lacking s.required (test_needs name args))
-    (of_reading (arguments_read (test_signature name) args) (read_test_cause s name args tests) (read_test_fault s name args tests)
-    (bad_rest (test_signature name) args nothing_given None args) (of_read_test s name args tests))
-
-of_named : {Name : Type 0} (unknown : ReasonKind) (cause : Name → Option Cause) (fault : Name → Option Fault) (o : Option Name) → fault_of_kind unknown ≡ UnknownCommand → ((name : Name) → fault_for (cause name) ≡ fault name)
-    → fault_for (cause_by_name unknown cause o) ≡ fault_by_name fault o
-of_named unknown cause fault None h same = ap Some h
-of_named unknown cause fault (Some name) h same = same name
+of_any : (s : Context) (args : List ArgumentTree) (tests : Tests) (ending : Option Ending) (o : Option Row)
+    → fault_for (cause_of (unknown_as ending) (known_cause s args tests ending) o) ≡ fault_by (known_fault s args tests ending) o
+of_any s args tests ending None = ap Some (of_unnamed ending)
+of_any s args tests ending (Some row) = of_known s args tests ending row
 
 -- ---- one after the other
 
@@ -280,45 +276,6 @@ one_meets token name own None lacks vs ws inner names few more others after =
           rw (fits, take_all max_variables (with_more bytes_eq names own) room) (inner refl (with_more bytes_eq names own) room more others after)
     ]
 
-mutual
-  test_meets : (s : Context) (i : InvocationTree) → Meet (test_visits s i) (all_of_test s i)
-  test_meets s (invocation token name args tests) =
-      let cause = cause_by_name reasons.UnknownTest (λ known. known_test_cause s known args (kind_of tests)) (test_named name) in
-      let own = names_by (λ known. test_mentions s known args) (test_named name) in
-      let inside = if looks_inside test_signature (test_named name) then tests_visits s tests else [] in
-      let inner : cause ≡ None → Meet inside (all_of_tests s tests) = λ none. (
-      let found = known reasons.UnknownTest (λ known. known_test_cause s known args (kind_of tests)) (test_named name) none in
-      let well = test_well_formed s found.0 args (kind_of tests) found.2 in
-      subst (λ vs. Meet vs (all_of_tests s tests)) (sym (all_looked_at test_signature s (test_named name) found.0 tests found.1 well.same)) (tests_meet s tests)) in
-      subst (λ (fault : Option Fault). Meet (test_visits s (invocation token name args tests)) (record { token = token; names = own; fault = fault } ∷ all_of_tests s tests))
-      (of_named reasons.UnknownTest (λ known. known_test_cause s known args (kind_of tests)) (λ known. known_test_fault s known args (kind_of tests)) (test_named name) refl (λ known. of_test s known args (kind_of tests)))
-      (one_meets token name own cause (test_lacks s.required args (test_named name)) inside (all_of_tests s tests) inner)
-
-  tests_meet : (s : Context) (ts : TestsTree) → Meet (tests_visits s ts) (all_of_tests s ts)
-  tests_meet s no_test = λ names few more others after. after names few
-  tests_meet s (one_test t) = test_meets s t
-  tests_meet s (test_list t ts) = both_meet (test_visits s t) (more_visits s ts) (all_of_test s t) (all_of_more s ts) (test_meets s t) (more_meet s ts)
-
-  more_meet : (s : Context) (ts : MoreTests) → Meet (more_visits s ts) (all_of_more s ts)
-  more_meet s last = λ names few more others after. after names few
-  more_meet s (next t ts) = both_meet (test_visits s t) (more_visits s ts) (all_of_test s t) (all_of_more s ts) (test_meets s t) (more_meet s ts)
-
--- a command with its tests, and its block, which is looked at where there is room for its loop
-head_meets : (s : Context) (i : InvocationTree) (ending : Ending) (vs : List Visit) (ws : List Seen) → (opens_many (loops_opened i) s ≡ false → Meet vs ws) → Meet (head_visits s i ending ++ vs) (all_of_head s i ending ++ ws)
-head_meets s (invocation token name args tests) ending vs ws block_meets =
-    let cause = cause_by_name reasons.UnknownCommand (λ known. known_command_cause s known args (kind_of tests) ending) (command_named name) in
-    let own = names_by (λ known. command_mentions s known args) (command_named name) in
-    let inside = if looks_inside command_signature (command_named name) then tests_visits s tests else [] in
-    let inner : cause ≡ None → Meet (inside ++ vs) (all_of_tests s tests ++ ws) = λ none. (
-    let found = known reasons.UnknownCommand (λ known. known_command_cause s known args (kind_of tests) ending) (command_named name) none in
-    let well = command_well_formed s found.0 args (kind_of tests) ending found.2 in
-    let looked = sym (all_looked_at command_signature s (command_named name) found.0 tests found.1 well.same) in
-    let room = ap (λ o. opens_many (loops_by o args) s) found.1 ∙ well.room in
-    both_meet inside vs (all_of_tests s tests) ws (subst (λ vs. Meet vs (all_of_tests s tests)) looked (tests_meet s tests)) (block_meets room)) in
-    subst (λ (fault : Option Fault). Meet (head_visits s (invocation token name args tests) ending ++ vs) (record { token = token; names = own; fault = fault } ∷ (all_of_tests s tests ++ ws)))
-    (of_named reasons.UnknownCommand (λ known. known_command_cause s known args (kind_of tests) ending) (λ known. known_command_fault s known args (kind_of tests) ending) (command_named name) refl (λ known. of_command s known args (kind_of tests) ending))
-    (one_meets token name own cause (command_lacks s.required args (command_named name)) (inside ++ vs) (all_of_tests s tests ++ ws) inner)
-
 -- with nothing after them
 alone : (vs : List Visit) (ws : List Seen) → Meet (vs ++ []) (ws ++ []) → Meet vs ws
 alone vs ws both = subst (λ vs. Meet vs ws) (append-nil vs) (subst (λ ws. Meet (vs ++ []) ws) (append-nil ws) both)
@@ -326,18 +283,61 @@ alone vs ws both = subst (λ vs. Meet vs ws) (append-nil vs) (subst (λ ws. Meet
 nothing_after : Meet [] []
 nothing_after names few more others after = after names few
 
+-- nothing is wrong with a command, which ends so, or a test by itself
+abbrev IsSound : Option Ending → Context → InvocationTree → Type 0
+IsSound ending s (invocation token word args tests) = cause_of (unknown_as ending) (known_cause s args (kind_of tests) ending) (row_named ending word) ≡ None
+
 mutual
-  command_meets : (s : Context) (c : CommandTree) → Meet (command_visits s c) (all_of_command s c)
-  command_meets s (simple i) = alone (head_visits s i Semicolon) (all_of_head s i Semicolon) (head_meets s i Semicolon [] [] (λ room. nothing_after))
-  command_meets s (block i cs) =
-      head_meets s i Block (if opens_many (loops_opened i) s then [] else commands_visits (in_block (loops_opened i) s) cs) (all_of_commands (in_block (loops_opened i) s) cs)
-      (λ room. rw room (commands_meet (in_block (loops_opened i) s) cs))
+  -- a command or test with its tests, and what is behind it, where nothing is wrong with it by itself
+  invocation_meets : (ending : Option Ending) (s : Context) (i : InvocationTree) (vs : List Visit) (ws : List Seen) → (IsSound ending s i → Meet vs ws) → Meet (visits_of ending s i ++ vs) (all_of ending s i ++ ws)
+  invocation_meets ending s (invocation token word args tests) vs ws rest_meets =
+      let o = row_named ending word in
+      let cause = cause_of (unknown_as ending) (known_cause s args (kind_of tests) ending) o in
+      let own = names_by s.required args o in
+      let inside = if looks_inside o then tests_visits s tests else [] in
+      let inner : cause ≡ None → Meet (inside ++ vs) (all_of_tests s tests ++ ws) = λ none. (
+      let found = known_row (unknown_as ending) (known_cause s args (kind_of tests) ending) o none in
+      let well = row_well_formed s args (kind_of tests) ending found.0 found.2 in
+      let looked = sym (all_looked_at s o found.0 tests found.1 well.same) in
+      both_meet inside vs (all_of_tests s tests) ws (subst (λ vs. Meet vs (all_of_tests s tests)) looked (tests_meet s tests)) (rest_meets none)) in
+      subst (λ (fault : Option Fault). Meet (visits_of ending s (invocation token word args tests) ++ vs) (record { token = token; names = own; fault = fault } ∷ (all_of_tests s tests ++ ws)))
+      (of_any s args (kind_of tests) ending o)
+      (one_meets token word own cause (lacks_by s.required args o) (inside ++ vs) (all_of_tests s tests ++ ws) inner)
+
+  tests_meet : (s : Context) (ts : TestsTree) → Meet (tests_visits s ts) (all_of_tests s ts)
+  tests_meet s no_test = nothing_after
+  tests_meet s (one_test t) = alone (visits_of None s t) (all_of None s t) (invocation_meets None s t [] [] (λ sound. nothing_after))
+  tests_meet s (test_list t ts) = invocation_meets None s t (more_visits s ts) (all_of_more s ts) (λ sound. more_meet s ts)
+
+  more_meet : (s : Context) (ts : MoreTests) → Meet (more_visits s ts) (all_of_more s ts)
+  more_meet s last = nothing_after
+  more_meet s (next t ts) = invocation_meets None s t (more_visits s ts) (all_of_more s ts) (λ sound. more_meet s ts)
+
+rear : (s : Context) (i : InvocationTree) (ending : Ending) → IsSound (Some ending) s i → Behind s i ending
+rear s (invocation token word args tests) ending sound = behind_sound s token word args tests ending sound
+
+mutual
+  -- a command, and what is behind it, where it swallowed nothing
+  command_meets : (s : Context) (c : CommandTree) (vs : List Visit) (ws : List Seen) → (past_invocation s (invocation_of c) ≡ after_invocation s (invocation_of c) → Meet vs ws) → Meet (command_visits s c ++ vs) (all_of_command s c ++ ws)
+  command_meets s (simple i) vs ws rest_meets = invocation_meets (Some Semicolon) s i vs ws (λ sound. rest_meets (rear s i Semicolon sound).after)
+  command_meets s (block i cs) vs ws rest_meets =
+      let past = past_invocation s i in
+      let around = in_block (loops_opened i) s in
+      let inner = if opens_many (loops_opened i) past then [] else commands_visits (in_block (loops_opened i) past) cs in
+      let both = invocation_meets (Some Block) s i (inner ++ vs) (all_of_commands around cs ++ ws) (λ sound. (
+      let rear = rear s i Block sound in
+      let entered : inner ≡ commands_visits around cs = ap (λ b. if b then [] else commands_visits (in_block (loops_opened i) past) cs) rear.room ∙ ap (λ around. commands_visits around cs) (rear.within refl) in
+      both_meet inner vs (all_of_commands around cs) ws (subst (λ vs. Meet vs (all_of_commands around cs)) (sym entered) (commands_meet around cs)) (rest_meets rear.after))) in
+      subst (λ vs. Meet vs ((all_of (Some Block) s i ++ all_of_commands around cs) ++ ws)) (sym (append_assoc (visits_of (Some Block) s i) inner vs))
+      (subst (λ ws. Meet (visits_of (Some Block) s i ++ (inner ++ vs)) ws) (sym (append_assoc (all_of (Some Block) s i) (all_of_commands around cs) ws)) both)
 
   commands_meet : (s : Context) (cs : CommandsTree) → Meet (commands_visits s cs) (all_of_commands s cs)
   commands_meet s no_command = nothing_after
   commands_meet s (command c cs) =
       let after = after_invocation s (invocation_of c) in
-      both_meet (command_visits s c) (commands_visits after cs) (all_of_command s c) (all_of_commands after cs) (command_meets s c) (commands_meet after cs)
+      let past = past_invocation s (invocation_of c) in
+      command_meets s c (commands_visits past cs) (all_of_commands after cs)
+      (λ same. subst (λ around. Meet (commands_visits around cs) (all_of_commands after cs)) (sym same) (commands_meet after cs))
 
 -- what is told once is told first where all of it is
 same_first : (all : List Refused) → slice_get (with_more same_reason [] all) 0 ≡ slice_get all 0

@@ -228,7 +228,7 @@ texted b (text x ∷ []) h short few = (x, refl, sound b x (either_false (string
 texted b _ h short few = absurd (cc)
 
 -- a name, which isn't expanded, and a string
-pub both_texted : (b : Bool) (xs : List ArgumentTree) → is_positional positional.TwoTexts xs ≡ true → has_long_string xs ≡ false → (b ≡ true → list_any is_large (drop 1 (strings_of xs)) ≡ false)
+pub both_texted : (b : Bool) (xs : List ArgumentTree) → is_positional positional.TwoTexts xs ≡ true → has_long_string xs ≡ false → (b ≡ true → list_any is_large (strings_of (drop 1 xs)) ≡ false)
     → (name x : List ℕ) × (xs ≡ text name ∷ text x ∷ []) × IsSound b x
 both_texted b (text name ∷ text x ∷ []) h short few =
     let shorts = either_false (string_has Long name) (list_any (string_has Long) (x ∷ [])) short in

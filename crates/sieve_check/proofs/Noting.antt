@@ -1,6 +1,8 @@
 -- What is lacking and what is no capability, one after another.
-use Rattle.std.proofs.Common.{◌≡◌, ℕ, ◌+◌, ◌<◌, not, false, List, [], ◌∷◌, ◌++◌, map, filter, drop, length, get_or, refl, sym, ap, ◌∙◌, add-one}
+use Rattle.std.proofs.Common.{◌≡◌, ℕ, ◌+◌, ◌<◌, not, false, List, [], ◌∷◌, ◌++◌, map, filter, drop, length, get_or, refl, sym, ap, ◌∙◌, add-one, inl, inr}
+use Rattle.std.specs.Option.{option_or}
 use Rattle.std.proofs.Math.Seq.{drop-cons}
+use Rattle.std.proofs.lemmas.Bool.{cases_Bool}
 use Rattle.std.proofs.lemmas.List.{map-append}
 use Rattle.std.proofs.lemmas.List.Elements.{filter-append}
 use Rattle.sieve_parser.specs.View.{argument_tree}
@@ -10,17 +12,22 @@ use Rattle.sieve_check.specs.declared.names.Capability.{Capability}
 use Rattle.sieve_check.specs.declared.string_faults.StringFault.TheVariants.{Unknown}
 use Rattle.sieve_check.specs.declared.surroundings.Capabilities.{Capabilities}
 use Rattle.sieve_check.specs.Causes.{about, refused_for}
-use Rattle.sieve_check.specs.Rules.{lacking, lacking_causes, string_has, strings_in, strings_of, unknown_causes}
+use Rattle.sieve_check.specs.Rules.{lacking, lacking_cause, lacking_causes, string_has, strings_in, strings_of, unknown_causes}
 use Rattle.sieve_check.specs.Surroundings.{has_capability}
 use Rattle.sieve_check.proofs.FromIndex.{split_at}
 
-lacking_both : (required : Capabilities) (xs ys : List Capability) → lacking_causes required (xs ++ ys) ≡ lacking_causes required xs ++ lacking_causes required ys
+pub lacking_both : (required : Capabilities) (xs ys : List Capability) → lacking_causes required (xs ++ ys) ≡ lacking_causes required xs ++ lacking_causes required ys
 lacking_both required xs ys =
     let lacks = λ (c : Capability). not (has_capability c required) in
     ap (map lacking) (filter-append lacks xs ys) ∙ map-append lacking (filter lacks xs) (filter lacks ys)
 
 unknown_both : (xs ys : List (List ℕ)) → unknown_causes (xs ++ ys) ≡ unknown_causes xs ++ unknown_causes ys
 unknown_both xs ys = ap (map (about UnknownCapability)) (filter-append (string_has Unknown) xs ys) ∙ map-append (about UnknownCapability) (filter (string_has Unknown) xs) (filter (string_has Unknown) ys)
+
+-- the first that is lacking of both
+pub first_of_both : (required : Capabilities) (xs ys : List Capability) → lacking_cause required (xs ++ ys) ≡ option_or (lacking_cause required xs) (lacking_cause required ys)
+first_of_both required [] ys = refl
+first_of_both required (x ∷ xs) ys = elim (cases_Bool (has_capability x required)) [ inl has ↦ rw has (first_of_both required xs ys) | inr lacks ↦ rw lacks refl ]
 
 -- a string that is a capability
 pub none_unknown : (s : List ℕ) → string_has Unknown s ≡ false → unknown_causes (s ∷ []) ≡ []

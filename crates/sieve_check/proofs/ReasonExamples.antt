@@ -1,7 +1,7 @@
 -- Reasons that were worked out by hand.
 use Rattle.std.proofs.Common.{◌≡◌, ℕ, List, [], ◌∷◌, Option, Some, refl}
 use Rattle.std.specs.Prelude.{codes, map, slice_get}
-use Rattle.sieve_parser.specs.Tree.{ArgumentTree, amount, InvocationTree, invocation, one_test, test_list, last, next, CommandsTree, simple, no_command, command}
+use Rattle.sieve_parser.specs.Tree.{ArgumentTree, amount, InvocationTree, invocation, one_test, test_list, last, next, CommandsTree, simple, block, no_command, command}
 use Rattle.sieve_check.specs.declared.names.Capability.TheVariants as capability
 use Rattle.sieve_check.specs.declared.names.Tag.TheVariants.{Comparator, Select, Name, First}
 use Rattle.bytecode_format.specs.declared.selection.Selector.TheVariants.{Param}
@@ -172,3 +172,23 @@ each_unknown_told : map refused_string
     (last_at 10 "require" (str "copy" ∷ []))))
     ≡ (0, codes "copy") ∷ (0, codes "regex") ∷ (0, codes "x") ∷ (10, codes "copy") ∷ []
 each_unknown_told = refl
+
+-- NAME ARGUMENTS before the command that it swallowed, with its block, before others
+abbrev swallowed : String → List ArgumentTree → InvocationTree → CommandsTree → CommandsTree → CommandsTree
+swallowed name args test body others = command (block (invocation 0 (codes name) args (one_test test)) body) others
+
+abbrev if_true : InvocationTree
+if_true = invocation 3 (codes "if") [] (one_test (plain_at 4 "true" []))
+
+-- behind a forgotten semicolon nothing is told that isn't wrong
+nothing_false_told : Gives (λ script. map refusal_for (reasons_of script)) (
+    -- require "fileinto" if true { fileinto "a"; } fileinto "b";
+    (swallowed "require" (str "fileinto" ∷ []) if_true (last_at 6 "fileinto" (str "a" ∷ [])) (last_at 10 "fileinto" (str "b" ∷ [])), BadArguments 0 ∷ []) ∷
+    -- require "fileinto" require "variables" if true { set "a" "b"; fileinto "a"; }
+    (swallowed "require" (str "fileinto" ∷ []) (invocation 2 (codes "require") (str "variables" ∷ []) (one_test if_true)) (simple_at 6 "set" (str "a" ∷ str "b" ∷ []) (last_at 10 "fileinto" (str "a" ∷ []))) no_command, BadArguments 0 ∷ []) ∷
+    -- keep if true {} else {} else {}
+    (swallowed "keep" [] if_true no_command (block_at 7 "else" [] no_command (block_at 10 "else" [] no_command no_command)), BadArguments 0 ∷ BadArguments 10 ∷ []) ∷
+    -- if keep {} require "fileinto";
+    (swallowed "if" [] (plain_at 1 "keep" []) no_command (last_at 4 "require" (str "fileinto" ∷ [])), Unknown 1 ∷ BadArguments 4 ∷ []) ∷
+    [])
+nothing_false_told = refl

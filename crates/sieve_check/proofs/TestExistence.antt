@@ -9,7 +9,7 @@ use Rattle.std.proofs.lemmas.List.{append-nil}
 use Rattle.octets.specs.Limits.{max_test_strings}
 use Rattle.sieve_parser.specs.Tree.{ArgumentTree, amount, InvocationTree, invocation, TestsTree, no_test, one_test, test_list, MoreTests, last as no_more, next}
 use Rattle.sieve_check.specs.declared.causes.ReasonKind.{ReasonKind}
-use Rattle.sieve_check.specs.declared.causes.ReasonKind.TheVariants.{UnknownTest, LongString, ManyStrings, Misplaced, WrongTests}
+use Rattle.sieve_check.specs.declared.causes.ReasonKind.TheVariants.{UnknownTest, LongString, ManyLoops, ManyStrings, WrongTests}
 use Rattle.sieve_check.specs.declared.names.TestName.{TestName}
 use Rattle.sieve_check.specs.declared.names.TestName.TheVariants.{Constant, Not, AllOf, AnyOf, Header, Exists, Size, String, PartSize, PartBody, PartDigest}
 use Rattle.sieve_check.specs.declared.signature.Positional.TheVariants as positional
@@ -25,13 +25,17 @@ use Rattle.sieve_check.specs.declared.signature.Tests.{Tests}
 use Rattle.sieve_check.specs.declared.signature.Tests.TheVariants.{Nothing, One, Bracketed}
 use Rattle.sieve_check.specs.Bounded.{IsBoundedTest, AreBoundedTests, IsTestIn, AreTestsIn}
 use Rattle.sieve_check.specs.FormOf.{InnerForms, none, one, bracketed, number_in, match_of, scope_of, size_of, question_of, strings_in, asking_of, test_of, test_form_of, inner_forms_of, more_forms_of}
-use Rattle.sieve_check.specs.Names.{test_named}
+use Rattle.sieve_check.specs.declared.table.Role.TheVariants.{Expanded}
+use Rattle.sieve_check.specs.declared.signature.Ending.{Ending}
+use Rattle.sieve_check.specs.declared.surroundings.Capabilities.{Capabilities}
+use Rattle.sieve_check.specs.Names.{test_known, test_named}
+use Rattle.sieve_check.specs.Rows.{Row, test_row}
 use Rattle.sieve_check.specs.Arguments.{arguments_cause, reading}
 use Rattle.sieve_check.specs.Causes.{Cause, about, plain}
 use Rattle.sieve_check.specs.Questions.{row_of, no_list, names_alone, keys_alone, names_and_keys, takes_params}
-use Rattle.sieve_check.specs.Rules.{Visit, where_required, names_by, cause_by_name, known_test_cause, read_test_cause, ill_formed_test, tests_cause, test_place_cause, long_string_cause, many_strings_cause, large_cause, large_mention_cause, lacking_cause, string_has, test_needs, test_may_stand, has_many_strings, Mentions, no_mention, expanding, strings_read, lists_read, test_mentions, names_mentioned, same_tests, kind_of, strings_of, test_visits, tests_visits, more_visits, looks_inside, takes_tests}
+use Rattle.sieve_check.specs.Rules.{Visit, are_many, cause_of, ending_cause, expanding, ill_formed, kind_of, known_cause, lacking, lacking_cause, large_cause, large_mention_cause, lists_read, long_string_cause, looks_inside, many_loops_cause, many_strings_cause, may_stand, mention_cause, Mentions, mentions_of, mentions_read, misplaced, more_visits, names_by, names_mentioned, needs_of, no_mention, opened_by, place_cause, read_cause, row_mentions, same_tests, string_has, strings_of, takes_tests, tests_cause, tests_visits, unknown_cause, visits_of, where_required}
 use Rattle.sieve_check.specs.Signatures.{◌>>=◌, Read, is_positional, test_signature}
-use Rattle.sieve_check.specs.Surroundings.{Context}
+use Rattle.sieve_check.specs.Surroundings.{Context, first_lacking, opens_many}
 use Rattle.sieve_check.specs.Typed.{TestForm, asks, negation, all_of, any_of, TestForms, no_test as no_other, test}
 use Rattle.sieve_check.specs.Variables.{test_variables, tests_variables}
 use Rattle.sieve_check.proofs.Faultless.{AreFaultless, faultless_both, names_brought}
@@ -45,15 +49,20 @@ use Rattle.sieve_check.proofs.Templates.{IsSound, mentioned_at, expanding_names}
 -- ---- what follows from there being no fault
 
 -- a name that is known
-pub known : {Name : Type 0} (unknown : ReasonKind) (cause : Name → Option Cause) (o : Option Name) → cause_by_name unknown cause o ≡ None → (name : Name) × (o ≡ Some name) × (cause name ≡ None)
-known unknown cause None h = absurd (cc)
-known unknown cause (Some name) h = (name, refl, h)
+pub known : {Name : Type 0} (row : Name → Row) (unknown : ReasonKind) (cause : Row → Option Cause) (o : Option Name) → cause_of unknown cause (option_map row o) ≡ None → (name : Name) × (o ≡ Some name) × (cause (row name) ≡ None)
+known row unknown cause None h = absurd (cc)
+known row unknown cause (Some name) h = (name, refl, h)
+
+-- the same without a name
+pub known_row : (unknown : ReasonKind) (cause : Row → Option Cause) (o : Option Row) → cause_of unknown cause o ≡ None → (row : Row) × (o ≡ Some row) × (cause row ≡ None)
+known_row unknown cause None h = absurd (cc)
+known_row unknown cause (Some row) h = (row, refl, h)
 
 -- what it brings by itself and by what is inside
-pub names_found : {Name : Type 0} (mentions : Name → Mentions) (o : Option Name) (name : Name) (own inner brought : List (List ℕ)) → o ≡ Some name → own ≡ names_mentioned (mentions name) → inner ≡ brought
-    → own ++ inner ≡ names_by mentions o ++ brought
-names_found mentions o name own inner brought is same inside =
-    ap (λ names. names ++ inner) (same ∙ ap (names_by mentions) (sym is)) ∙ ap (λ names. names_by mentions o ++ names) inside
+pub names_found : {Name : Type 0} (row : Name → Row) (required : Capabilities) (args : List ArgumentTree) (o : Option Name) (name : Name) (own inner brought : List (List ℕ)) → o ≡ Some name → own ≡ names_mentioned (row_mentions required (row name) args) → inner ≡ brought
+    → own ++ inner ≡ names_by required args (option_map row o) ++ brought
+names_found row required args o name own inner brought is same inside =
+    ap (λ names. names ++ inner) (same ∙ ap (λ o. names_by required args (option_map row o)) (sym is)) ∙ ap (λ names. names_by required args (option_map row o) ++ names) inside
 
 -- arguments that were read
 pub record WellFormed (signature : Signature) (args : List ArgumentTree) : Type 0 where
@@ -85,36 +94,80 @@ none_large false mentions h expands = absurd (cc)
 pub none_long : (args : List ArgumentTree) → long_string_cause args ≡ None → has_long_string args ≡ false
 none_long args h = none_where (string_has Long) (strings_of args) (map_none (about LongString) (find (string_has Long) (strings_of args)) h)
 
--- the same of a test, whose strings are within the limits
+-- a command or test of which nothing is wrong has what it needs, its arguments were read, and all is within the limits
+pub record RowWellFormed (s : Context) (row : Row) (args : List ArgumentTree) (tests : Tests) (ending : Option Ending) : Type 0 where
+  pub has : first_lacking (needs_of row args) s.required ≡ None
+  pub form : WellFormed row.signature args
+  pub same : same_tests row.signature.tests tests ≡ true
+  pub ends : ending_cause row.ending ending ≡ None
+  pub stands : may_stand s row.place form.read.name ≡ true
+  pub few : are_many row.counted form.read ≡ false
+  pub room : opens_many (opened_by row args) s ≡ false
+  pub short : has_long_string args ≡ false
+  pub large : large_mention_cause (where_required s.required (mentions_of row.role form.read)) ≡ None
+
+pub row_well_formed : (s : Context) (args : List ArgumentTree) (tests : Tests) (ending : Option Ending) (row : Row) → known_cause s args tests ending row ≡ None → RowWellFormed s row args tests ending
+row_well_formed s args tests ending row h =
+    let a = both_none (lacking_cause s.required (needs_of row args)) _ h in
+    let b = both_none (unknown_cause row args) _ a.1 in
+    let c = both_none (arguments_cause row.signature args) _ b.1 in
+    let form = well_formed row.signature args c.0 in
+    let read = form.read in
+    let mentions = where_required s.required (mentions_of row.role read) in
+    let rest : read_cause s row args tests ending read ≡ None = sym (ap (option_and_then (read_cause s row args tests ending)) form.is) ∙ c.1 in
+    let d = both_none (ill_formed row tests ending mentions) _ rest in
+    let e = both_none (tests_cause row.signature tests) _ d.0 in
+    let f = both_none (ending_cause row.ending ending) (mention_cause mentions) e.1 in
+    let g = both_none (place_cause s row.place read.name) _ d.1 in
+    let i = both_none (long_string_cause args) _ g.1 in
+    let j = both_none (many_strings_cause row.counted read) _ i.1 in
+    let k = both_none (large_mention_cause mentions) (many_loops_cause s (opened_by row args)) j.1 in
+    record {
+      has = map_none lacking (first_lacking (needs_of row args) s.required) a.0;
+      form = form;
+      same = unless_none (same_tests row.signature.tests tests) (plain (WrongTests row.signature.tests)) e.0;
+      ends = f.0;
+      stands = unless_none (may_stand s row.place read.name) (misplaced row.place read.name) g.0;
+      few = (if_none (are_many row.counted read) (plain ManyStrings) None j.0).0;
+      room = (if_none (opens_many (opened_by row args) s) (plain ManyLoops) None k.1).0;
+      short = none_long args i.0;
+      large = k.0;
+    }
+
+-- the strings of a test are within the limits
 pub record TestWellFormed (s : Context) (name : TestName) (args : List ArgumentTree) (tests : Tests) : Type 0 where
-  pub stands : test_may_stand s name ≡ true
+  pub stands : may_stand s (test_row name).place None ≡ true
   pub same : same_tests (test_signature name).tests tests ≡ true
   pub form : WellFormed (test_signature name) args
   pub params : HasArgument form.read.tags.selector form.read.params
   pub few : length (strings_of (lists_read form.read)) ≤ max_test_strings
   pub sound : All (IsSound (expands s)) (strings_of (lists_read form.read))
 
-pub test_well_formed : (s : Context) (name : TestName) (args : List ArgumentTree) (tests : Tests) → known_test_cause s name args tests ≡ None → TestWellFormed s name args tests
+are_counted : (name : TestName) → (test_row name).counted ≡ true
+are_counted (Constant b) = refl
+are_counted _ = refl
+
+are_expanded : (name : TestName) → (test_row name).role ≡ Expanded
+are_expanded (Constant b) = refl
+are_expanded _ = refl
+
+-- no test names a loop
+stands_unnamed : (s : Context) (name : TestName) (loop : Option (List ℕ)) → may_stand s (test_row name).place loop ≡ may_stand s (test_row name).place None
+stands_unnamed s (Constant b) loop = refl
+stands_unnamed s _ loop = refl
+
+pub test_well_formed : (s : Context) (name : TestName) (args : List ArgumentTree) (tests : Tests) → known_cause s args tests None (test_row name) ≡ None → TestWellFormed s name args tests
 test_well_formed s name args tests h =
-    let a = both_none (lacking_cause s.required (test_needs name args)) _ h in
-    let b = both_none (arguments_cause (test_signature name) args) _ a.1 in
-    let form = well_formed (test_signature name) args b.0 in
-    let read = form.read in
-    let mentions = expanding (strings_of (lists_read read)) in
-    let rest : read_test_cause s name args tests read ≡ None = sym (ap (option_and_then (read_test_cause s name args tests)) form.is) ∙ b.1 in
-    let c = both_none (ill_formed_test name tests (where_required s.required mentions)) _ rest in
-    let d = both_none (tests_cause (test_signature name) tests) _ c.0 in
-    let e = both_none (test_place_cause s name) _ c.1 in
-    let f = both_none (long_string_cause args) _ e.1 in
-    let g = both_none (many_strings_cause read) (large_mention_cause (where_required s.required mentions)) f.1 in
-    let few = if_none (has_many_strings read) (plain ManyStrings) None g.0 in
+    let well = row_well_formed s args tests None (test_row name) h in
+    let read = well.form.read in
     record {
-      stands = unless_none (test_may_stand s name) (plain Misplaced) e.0;
-      same = unless_none (same_tests (test_signature name).tests tests) (plain (WrongTests (test_signature name).tests)) d.0;
-      form = form;
-      params = (selecting_read (test_signature name) args read form.is).params;
-      few = ltb-false max_test_strings (length (strings_of (lists_read read))) few.0;
-      sound = all_sound (expands s) (strings_of (lists_read read)) (read_short (test_signature name) args read form.is (none_long args f.0)) (none_large (expands s) mentions g.1);
+      stands = sym (stands_unnamed s name read.name) ∙ well.stands;
+      same = well.same;
+      form = well.form;
+      params = (selecting_read (test_signature name) args read well.form.is).params;
+      few = ltb-false max_test_strings (length (strings_of (lists_read read))) (ap (λ counted. are_many counted read) (sym (are_counted name)) ∙ well.few);
+      sound = all_sound (expands s) (strings_of (lists_read read)) (read_short (test_signature name) args read well.form.is well.short)
+          (none_large (expands s) (expanding (strings_of (lists_read read))) (ap (λ role. large_mention_cause (where_required s.required (mentions_of role read))) (sym (are_expanded name)) ∙ well.large));
     }
 
 -- ---- the tests behind arguments
@@ -200,7 +253,7 @@ given_params _ params h = h
 
 made : (s : Context) (name : TestName) (at : ℕ) (read : Read) (inner : InnerForms) → IsComplete (test_signature name) read → ((test_signature name).selecting ≡ false → lists_read read ≡ read.positional) → ((test_signature name).selecting ≡ false → read.params ≡ [])
     → same_tests (test_signature name).tests (inner_kind inner) ≡ true → HasArgument read.tags.selector read.params → length (strings_of (lists_read read)) ≤ max_test_strings → All (IsSound (expands s)) (strings_of (lists_read read)) → IsBoundedInner inner
-    → test_may_stand s name ≡ true → IsInnerIn (length s.loops) inner → Made (length s.loops) (own_names s read ++ inner_variables inner) (test_of s.required name at read inner)
+    → may_stand s (test_row name).place None ≡ true → IsInnerIn (length s.loops) inner → Made (length s.loops) (own_names s read ++ inner_variables inner) (test_of s.required name at read inner)
 made s (Constant b) at read none complete alone unselected same params few sound inside stands around =
     asked s (Constant b) at read (question.Constant b) refl (none_listed s read (ap strings_of (alone refl ∙ no_argument read.positional complete.positional))) (omega arith)
 made s Not at read (one f) complete alone unselected same params few sound inside stands around = record { form = negation f at; is = refl; bounded = inside; around = around; variables = ap (λ names. names ++ test_variables f) (none_own s (test_signature Not) read refl complete (alone refl)) }
@@ -251,25 +304,24 @@ pub both_names : (vs ws : List Visit) → names_brought vs ++ names_brought ws �
 both_names vs ws = sym (flat_map-append (λ (v : Visit). v.names) vs ws)
 
 -- where the tests are those that are taken, all are looked at
-module _ {Name : Type 0} (signature : Name → Signature) (s : Context) where
-  pub all_looked_at : (o : Option Name) (name : Name) (tests : TestsTree) → o ≡ Some name → same_tests (signature name).tests (kind_of tests) ≡ true
-      → (if looks_inside signature o then tests_visits s tests else []) ≡ tests_visits s tests
-  all_looked_at o name tests is same = ap (λ o. if looks_inside signature o then tests_visits s tests else []) is ∙ step (signature name).tests tests same
-    where
-      step : (taken : Tests) (tests : TestsTree) → same_tests taken (kind_of tests) ≡ true → (if takes_tests taken then tests_visits s tests else []) ≡ tests_visits s tests
-      step Nothing no_test h = refl
-      step Nothing (one_test t) h = absurd (cc)
-      step Nothing (test_list t ts) h = absurd (cc)
-      step One tests h = refl
-      step Bracketed tests h = refl
+pub all_looked_at : (s : Context) (o : Option Row) (row : Row) (tests : TestsTree) → o ≡ Some row → same_tests row.signature.tests (kind_of tests) ≡ true
+    → (if looks_inside o then tests_visits s tests else []) ≡ tests_visits s tests
+all_looked_at s o row tests is same = ap (λ o. if looks_inside o then tests_visits s tests else []) is ∙ step row.signature.tests tests same
+  where
+    step : (taken : Tests) (tests : TestsTree) → same_tests taken (kind_of tests) ≡ true → (if takes_tests taken then tests_visits s tests else []) ≡ tests_visits s tests
+    step Nothing no_test h = refl
+    step Nothing (one_test t) h = absurd (cc)
+    step Nothing (test_list t ts) h = absurd (cc)
+    step One tests h = refl
+    step Bracketed tests h = refl
 
 mutual
-  pub test_exists : (s : Context) (i : InvocationTree) → AreFaultless (test_visits s i) → Made (length s.loops) (names_brought (test_visits s i)) (test_form_of s.required i)
+  pub test_exists : (s : Context) (i : InvocationTree) → AreFaultless (visits_of None s i) → Made (length s.loops) (names_brought (visits_of None s i)) (test_form_of s.required i)
   test_exists s (invocation token word args tests) h =
-      let name = known UnknownTest (λ known. known_test_cause s known args (kind_of tests)) (test_named word) h.0 in
+      let name = known test_row UnknownTest (known_cause s args (kind_of tests) None) (test_named word) h.0 in
       let well = test_well_formed s name.0 args (kind_of tests) name.2 in
       let read = well.form.read in
-      let looked = all_looked_at test_signature s (test_named word) name.0 tests name.1 well.same in
+      let looked = all_looked_at s (test_known word) (test_row name.0) tests (ap (option_map test_row) name.1) well.same in
       let inner = inner_exists s tests (subst AreFaultless looked h.1) in
       let f = made s name.0 token read inner.inner well.form.complete well.form.alone well.form.unselected (ap (same_tests (test_signature name.0).tests) inner.kind ∙ well.same) well.params well.few well.sound inner.bounded well.stands inner.around in
       record {
@@ -279,8 +331,9 @@ mutual
         bounded = f.bounded;
         around = f.around;
         variables = f.variables
-            ∙ names_found (λ known. test_mentions s known args) (test_named word) name.0 (own_names s read) (inner_variables inner.inner) _ name.1
-            (ap (λ o. names_mentioned (where_required s.required (expanding (strings_read o)))) (sym well.form.is)) (inner.variables ∙ ap names_brought (sym looked));
+            ∙ names_found test_row s.required args (test_named word) name.0 (own_names s read) (inner_variables inner.inner) _ name.1
+            (ap (λ role. names_mentioned (where_required s.required (mentions_of role read))) (sym (are_expanded name.0))
+            ∙ ap (λ o. names_mentioned (where_required s.required (mentions_read (test_row name.0).role o))) (sym well.form.is)) (inner.variables ∙ ap names_brought (sym looked));
       }
 
   pub inner_exists : (s : Context) (tests : TestsTree) → AreFaultless (tests_visits s tests) → Inner s tests
@@ -289,7 +342,7 @@ mutual
       let f = test_exists s t h in
       record { inner = one f.form; is = ap (option_map one) f.is; kind = refl; bounded = f.bounded; around = f.around; variables = f.variables }
   inner_exists s (test_list t ts) h =
-      let parts = faultless_both (test_visits s t) (more_visits s ts) h in
+      let parts = faultless_both (visits_of None s t) (more_visits s ts) h in
       let f = test_exists s t parts.0 in
       let fs = more_exist s ts parts.1 in
       record {
@@ -298,13 +351,13 @@ mutual
         kind = refl;
         bounded = (f.bounded, fs.bounded);
         around = (f.around, fs.around);
-        variables = ap (λ names. names ++ tests_variables fs.forms) f.variables ∙ ap (λ names. names_brought (test_visits s t) ++ names) fs.variables ∙ both_names (test_visits s t) (more_visits s ts);
+        variables = ap (λ names. names ++ tests_variables fs.forms) f.variables ∙ ap (λ names. names_brought (visits_of None s t) ++ names) fs.variables ∙ both_names (visits_of None s t) (more_visits s ts);
       }
 
   more_exist : (s : Context) (ts : MoreTests) → AreFaultless (more_visits s ts) → Others s ts
   more_exist s no_more h = record { forms = no_other; is = refl; bounded = tt; around = tt; variables = refl }
   more_exist s (next t ts) h =
-      let parts = faultless_both (test_visits s t) (more_visits s ts) h in
+      let parts = faultless_both (visits_of None s t) (more_visits s ts) h in
       let f = test_exists s t parts.0 in
       let fs = more_exist s ts parts.1 in
       record {
@@ -312,5 +365,5 @@ mutual
         is = ap (λ o. o >>= λ f. option_map (test f) (more_forms_of s.required ts)) f.is ∙ ap (option_map (test f.form)) fs.is;
         bounded = (f.bounded, fs.bounded);
         around = (f.around, fs.around);
-        variables = ap (λ names. names ++ tests_variables fs.forms) f.variables ∙ ap (λ names. names_brought (test_visits s t) ++ names) fs.variables ∙ both_names (test_visits s t) (more_visits s ts);
+        variables = ap (λ names. names ++ tests_variables fs.forms) f.variables ∙ ap (λ names. names_brought (visits_of None s t) ++ names) fs.variables ∙ both_names (visits_of None s t) (more_visits s ts);
       }

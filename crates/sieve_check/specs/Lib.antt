@@ -5,6 +5,7 @@ pub mod TypedView
 pub mod Extent
 pub mod Variables
 pub mod Bounded
+pub mod Rows
 pub mod Names
 pub mod Signatures
 pub mod Surroundings

@@ -1,5 +1,6 @@
 -- What commands, tests, tags, capabilities and comparators are called.
-use Rattle.std.specs.Prelude.{ℕ, true, false, if◌then◌else◌, List, Option, Some, None, bytes_eq, codes}
+use Rattle.std.specs.Prelude.{ℕ, if◌then◌else◌, List, Option, Some, None, option_map, bytes_eq, codes}
+use Rattle.std.specs.List.{find}
 use Rattle.std.specs.Option.{option_or}
 use Rattle.octets.specs.Ascii.{is_word}
 use Rattle.glob_match.specs.declared.comparator.Comparator.{Comparator as ComparatorName}
@@ -8,49 +9,22 @@ use Rattle.glob_match.specs.declared.match_type.MatchType.TheVariants.{Is, Conta
 use Rattle.bytecode_format.specs.declared.modifiers.Case.TheVariants.{Lower, Upper}
 use Rattle.sieve_check.specs.declared.typed.Order.TheVariants.{Over, Under}
 use Rattle.sieve_check.specs.declared.names.CommandName.{CommandName}
-use Rattle.sieve_check.specs.declared.names.CommandName.TheVariants.{Require, If, Elsif, Else, Stop, Keep, Discard, FileInto, Set, ForEveryPart, Break, Store, Take}
 use Rattle.sieve_check.specs.declared.names.TestName.{TestName}
-use Rattle.sieve_check.specs.declared.names.TestName.TheVariants.{Constant, Not, AllOf, AnyOf, Header, Exists, Size, String, PartSize, PartBody, PartDigest}
 use Rattle.sieve_check.specs.declared.names.Tag.{Tag}
 use Rattle.sieve_check.specs.declared.names.Tag.TheVariants.{Order, Kind, Comparator, Letters, FirstLetter, QuoteWildcard, Length, Mime as MimeTag, AnyChild, Select, Name, First}
 use Rattle.bytecode_format.specs.declared.selection.Selector.TheVariants.{Main, Sub, ContentType, Param}
+use Rattle.sieve_check.specs.declared.signature.Ending.{Ending}
+use Rattle.sieve_check.specs.Rows.{Row, all_commands, all_tests, command_row, command_word, is_test, test_row, test_word}
 use Rattle.sieve_check.specs.declared.names.Capability.{Capability}
 use Rattle.sieve_check.specs.declared.names.Capability.TheVariants.{FileInto as FileIntoCapability, Variables, Mime, ForEveryPart as ForEveryPartCapability, Depot, OctetComparator, CasemapComparator}
 
 -- the command of that name, if it is known
 abbrev pub command_named : List ℕ → Option CommandName
-command_named name =
-    if is_word name (codes "require") then Some Require else
-    if is_word name (codes "if") then Some If else
-    if is_word name (codes "elsif") then Some Elsif else
-    if is_word name (codes "else") then Some Else else
-    if is_word name (codes "stop") then Some Stop else
-    if is_word name (codes "keep") then Some Keep else
-    if is_word name (codes "discard") then Some Discard else
-    if is_word name (codes "fileinto") then Some FileInto else
-    if is_word name (codes "set") then Some Set else
-    if is_word name (codes "foreverypart") then Some ForEveryPart else
-    if is_word name (codes "break") then Some Break else
-    if is_word name (codes "store") then Some Store else
-    if is_word name (codes "take") then Some Take else
-    None
+command_named name = find (λ known. is_word name (command_word known)) all_commands
 
 -- the test of that name, if it is known
 abbrev pub test_named : List ℕ → Option TestName
-test_named name =
-    if is_word name (codes "true") then Some (Constant true) else
-    if is_word name (codes "false") then Some (Constant false) else
-    if is_word name (codes "not") then Some Not else
-    if is_word name (codes "allof") then Some AllOf else
-    if is_word name (codes "anyof") then Some AnyOf else
-    if is_word name (codes "header") then Some Header else
-    if is_word name (codes "exists") then Some Exists else
-    if is_word name (codes "size") then Some Size else
-    if is_word name (codes "string") then Some String else
-    if is_word name (codes "partsize") then Some PartSize else
-    if is_word name (codes "partbody") then Some PartBody else
-    if is_word name (codes "partdigest") then Some PartDigest else
-    None
+test_named name = find (λ known. is_word name (test_word known)) all_tests
 
 -- the tag of that name, if it is one that says how values are compared (RFC 5228)
 abbrev pub test_tag_named : List ℕ → Option Tag
@@ -109,3 +83,14 @@ comparator_named name =
     if bytes_eq name (codes "i;octet") then Some Octet else
     if bytes_eq name (codes "i;ascii-casemap") then Some Casemap else
     None
+
+-- what is known of the command or test of that name
+abbrev pub command_known : List ℕ → Option Row
+command_known word = option_map command_row (command_named word)
+
+abbrev pub test_known : List ℕ → Option Row
+test_known word = option_map test_row (test_named word)
+
+-- of what has an ending, which is a command, or of a test
+abbrev pub row_named : Option Ending → List ℕ → Option Row
+row_named ending word = if is_test ending then test_known word else command_known word

@@ -1,6 +1,8 @@
 -- Private: how causes, arguments and branches of the code are seen.
 use Rattle.sieve_check.specs.declared.causes.Cause.{Cause}
 use Rattle.sieve_check.specs.Causes as causes
+use Rattle.sieve_check.specs.Rows.{Row}
+use Rattle.sieve_check.specs.declared.table.Row as rows
 use Rattle.std.specs.Prelude.{List, map, Option, Some, None}
 use Rattle.sieve_parser.specs.Tree.{ArgumentTree}
 use Rattle.sieve_parser.specs.View.{argument_tree}
@@ -14,6 +16,10 @@ use Rattle.sieve_check.specs.TypedView.{GuardedForm, branch_step, branches_of, c
 
 abbrev pub cause_view : Cause → causes.Cause
 cause_view cause = record { kind = cause.kind; subject = cause.subject.now }
+
+-- what is known of a command or test, as the code holds it
+abbrev pub row_view : rows.Row → Row
+row_view row = record { word = row.word.now; needs = row.needs.now; signature = row.signature; ending = row.ending; place = row.place; role = row.role; counted = row.counted; opens = row.opens; follows = row.follows }
 
 abbrev pub arguments_of : Head → List ArgumentTree
 arguments_of head = map argument_tree head.arguments.items

@@ -4,16 +4,12 @@ use Rattle.std.specs.Borrow.{Bor}
 use Rattle.octets.specs.Ascii.{lowercase_of}
 use Rattle.octets.specs.Limits.{max_variables}
 use Rattle.octets.specs.Once.{with_more}
-use Rattle.sieve_parser.specs.Tree.{ArgumentTree, InvocationTree}
 use Rattle.sieve_check.specs.declared.causes.Cause.{Cause}
 use Rattle.sieve_check.specs.declared.causes.ReasonKind.{ReasonKind}
 use Rattle.sieve_check.specs.declared.causes.ReasonKind.TheVariants.{ManyVariables}
 use Rattle.sieve_check.specs.declared.findings.Findings.{Findings}
 use Rattle.sieve_check.specs.declared.mentions.Mentions.{Mentions}
 use Rattle.sieve_check.specs.declared.loops.Loops.{Loops}
-use Rattle.sieve_check.specs.declared.signature.Ending.{Ending}
-use Rattle.sieve_check.specs.declared.signature.Tests.{Tests}
-use Rattle.sieve_check.specs.declared.surroundings.Capabilities.{Capabilities}
 use Rattle.sieve_check.specs.declared.surroundings.Surroundings.{Surroundings}
 use Rattle.sieve_check.specs.declared.variable_names.VariableNames.{VariableNames}
 use Rattle.sieve_check.specs.Reading.{all_lists, loop_in}
@@ -21,9 +17,7 @@ use Rattle.sieve_check.specs.ReasonView.{refused_view}
 use Rattle.sieve_check.specs.Private.{cause_view}
 use Rattle.sieve_check.specs.Causes as causes
 use Rattle.sieve_check.specs.Rules as rules
-use Rattle.sieve_check.specs.Rules.{Visit, command_visit, command_lacks, head_visits, looks_inside, max_found, names_mentioned, names_past, refused_among, same_reason, strings_of, test_lacks, test_visit, test_visits}
-use Rattle.sieve_check.specs.Names.{command_named, test_named}
-use Rattle.sieve_check.specs.Signatures.{command_signature, test_signature}
+use Rattle.sieve_check.specs.Rules.{Visit, max_found, names_mentioned, names_past, refused_among, same_reason, strings_of}
 use Rattle.sieve_check.specs.Surroundings.{Loop, Context, opens_many}
 
 -- the loops that are open, the innermost first
@@ -61,26 +55,6 @@ abbrev pub Finds : List (List ℕ) → Option causes.Cause → Result Mentions C
 Finds names cause result =
     MatchResult result (λ m. (cause ≡ None) × (names_mentioned (mentions_in m) ≡ names))
     (λ found. cause ≡ Some (cause_view found))
-
--- the visit of a command, which has an ending, or of a test
-abbrev pub visit_as : Option Ending → Context → ℕ → List ℕ → List ArgumentTree → Tests → Visit
-visit_as None s token name args tests = test_visit s token name args tests
-visit_as (Some ending) s token name args tests = command_visit s token name args tests ending
-
--- what it lacks
-abbrev pub lacks_as : Option Ending → Capabilities → List ℕ → List ArgumentTree → List causes.Cause
-lacks_as None required name args = test_lacks required args (test_named name)
-lacks_as (Some ending) required name args = command_lacks required args (command_named name)
-
--- its visit, with those of its tests behind it
-abbrev pub visits_as : Option Ending → Context → InvocationTree → List Visit
-visits_as None s t = test_visits s t
-visits_as (Some ending) s t = head_visits s t ending
-
--- whether the tests are looked at of a command, which has an ending, or of a test
-abbrev pub looks_inside_as : Option Ending → List ℕ → Bool
-looks_inside_as None name = looks_inside test_signature (test_named name)
-looks_inside_as (Some ending) name = looks_inside command_signature (command_named name)
 
 -- the names with more of them are more than there may be: as many as may be are kept
 pub record Overflows (names more after : List (List ℕ)) : Type 0 where

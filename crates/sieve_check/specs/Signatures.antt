@@ -4,76 +4,29 @@ use Rattle.std.specs.Prelude.{ℕ, Bool, true, false, not, ◌&&◌, ◌||◌, �
 use Rattle.sieve_parser.specs.Tree.{ArgumentTree, text, text_list, amount}
 use Rattle.bytecode_format.specs.Modifiers.{no_modifiers}
 use Rattle.sieve_check.specs.declared.names.CommandName.{CommandName}
-use Rattle.sieve_check.specs.declared.names.CommandName.TheVariants.{Require, If, Elsif, Else, Stop, Keep, Discard, FileInto, Set, ForEveryPart, Break, Store, Take}
 use Rattle.sieve_check.specs.declared.names.TestName.{TestName}
-use Rattle.sieve_check.specs.declared.names.TestName.TheVariants.{Constant, Not, AllOf, AnyOf, Header, Exists, Size, String, PartSize, PartBody, PartDigest}
 use Rattle.sieve_check.specs.declared.names.Tag.{Tag}
 use Rattle.sieve_check.specs.declared.names.Tag.TheVariants.{Order, Kind, Comparator, Letters, FirstLetter, QuoteWildcard, Length, Mime, AnyChild, Select, Name, First}
 use Rattle.bytecode_format.specs.declared.selection.Selector.{Selector}
 use Rattle.bytecode_format.specs.declared.selection.Selector.TheVariants.{Value, Main, Sub, ContentType, Param}
 use Rattle.sieve_check.specs.declared.signature.Positional.{Positional}
 use Rattle.sieve_check.specs.declared.signature.Positional.TheVariants as positional
-use Rattle.sieve_check.specs.declared.signature.Tests.{Tests}
-use Rattle.sieve_check.specs.declared.signature.Tests.TheVariants as tests
-use Rattle.sieve_check.specs.declared.signature.Ending.{Ending}
-use Rattle.sieve_check.specs.declared.signature.Ending.TheVariants.{Semicolon, Block}
 use Rattle.sieve_check.specs.declared.signature.Signature.{Signature}
 use Rattle.sieve_check.specs.declared.signature.Tags.{Tags}
 use Rattle.sieve_check.specs.Names.{comparator_named}
+use Rattle.sieve_check.specs.Rows.{command_row, test_row}
 
 infixl 10 ◌>>=◌
 abbrev pub ◌>>=◌ : {A B : Type 0} → Option A → (A → Option B) → Option B
 (Some x) >>= f = f x
 None >>= f = None
 
--- no argument, and these tests
-abbrev pub bare : Tests → Signature
-bare after = record { order = false; matching = false; modifying = false; scoped = false; selecting = false; naming = false; limiting = false; positional = positional.Nothing; tests = after }
-
--- what each command takes, and how it ends
+-- what each command and test takes
 abbrev pub command_signature : CommandName → Signature
-command_signature Require = record (bare tests.Nothing) { positional = positional.OneList }
-command_signature If = bare tests.One
-command_signature Elsif = bare tests.One
-command_signature Else = bare tests.Nothing
-command_signature Stop = bare tests.Nothing
-command_signature Keep = bare tests.Nothing
-command_signature Discard = bare tests.Nothing
-command_signature FileInto = record (bare tests.Nothing) { positional = positional.Text }
-command_signature Set = record (bare tests.Nothing) { modifying = true; positional = positional.TwoTexts }
-command_signature ForEveryPart = record (bare tests.Nothing) { naming = true }
-command_signature Break = record (bare tests.Nothing) { naming = true }
-command_signature Store = record (bare tests.Nothing) { positional = positional.Text }
-command_signature Take = record (bare tests.Nothing) { limiting = true; positional = positional.Text }
+command_signature name = (command_row name).signature
 
-abbrev pub ending_of : CommandName → Ending
-ending_of Require = Semicolon
-ending_of If = Block
-ending_of Elsif = Block
-ending_of Else = Block
-ending_of Stop = Semicolon
-ending_of Keep = Semicolon
-ending_of Discard = Semicolon
-ending_of FileInto = Semicolon
-ending_of Set = Semicolon
-ending_of ForEveryPart = Block
-ending_of Break = Semicolon
-ending_of Store = Semicolon
-ending_of Take = Semicolon
-
--- what each test takes
 abbrev pub test_signature : TestName → Signature
-test_signature (Constant b) = bare tests.Nothing
-test_signature Not = bare tests.One
-test_signature AllOf = bare tests.Bracketed
-test_signature AnyOf = bare tests.Bracketed
-test_signature Header = record (bare tests.Nothing) { matching = true; scoped = true; selecting = true; positional = positional.TwoLists }
-test_signature Exists = record (bare tests.Nothing) { scoped = true; positional = positional.OneList }
-test_signature Size = record (bare tests.Nothing) { order = true; positional = positional.Number }
-test_signature String = record (bare tests.Nothing) { matching = true; positional = positional.TwoLists }
-test_signature PartSize = record (bare tests.Nothing) { order = true; positional = positional.Number }
-test_signature PartBody = record (bare tests.Nothing) { matching = true; positional = positional.OneList }
-test_signature PartDigest = record (bare tests.Nothing) { positional = positional.OneList }
+test_signature name = (test_row name).signature
 
 -- arguments that were read: the tags, one of each group at most, the argument of `:param` and that
 -- of `:name`, if they stand there, and those behind the tags

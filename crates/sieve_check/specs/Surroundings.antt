@@ -3,10 +3,11 @@ use Rattle.std.specs.Prelude.{ℕ, suc, Bool, true, false, not, nat_lt, bytes_eq
 use Rattle.octets.specs.Limits.{max_loops}
 use Rattle.sieve_check.specs.declared.names.Capability.{Capability}
 use Rattle.sieve_check.specs.declared.names.Capability.TheVariants.{FileInto, Variables, Mime, ForEveryPart, Depot, OctetComparator, CasemapComparator}
-use Rattle.sieve_check.specs.declared.names.CommandName.{CommandName}
-use Rattle.sieve_check.specs.declared.names.CommandName.TheVariants.{Require, If, Elsif, Else, Stop, Keep, Discard, FileInto as FileIntoCommand, Set, ForEveryPart as ForEveryPartCommand, Break, Store, Take}
 use Rattle.sieve_check.specs.declared.surroundings.Capabilities.{Capabilities}
+use Rattle.sieve_check.specs.declared.table.Follows.{Follows}
+use Rattle.sieve_check.specs.declared.table.Follows.TheVariants.{Requires, Branches, Others}
 use Rattle.sieve_check.specs.Names.{capability_named}
+use Rattle.sieve_check.specs.Rows.{Row}
 
 -- a loop that is open: it has no name, or this one; or its arguments can't be read, so that any may be its name
 pub data Loop : Type 0 where
@@ -115,19 +116,24 @@ loops_left name (loop ∷ loops) = if is_meant name loop then Some 1 else option
 abbrev pub elsewhere : Context → Context
 elsewhere s = record s { takes_require = false; after_if = false }
 
--- after a command that is known by that name, and has these strings; after one that isn't known, as before it
-abbrev pub following : Context → Option CommandName → List (List ℕ) → Context
-following s (Some Require) strings = record s { required = requiring strings s.required; after_if = false }
-following s (Some If) strings = record s { takes_require = false; after_if = true }
-following s (Some Elsif) strings = record s { takes_require = false; after_if = true }
-following s (Some Else) strings = elsewhere s
-following s (Some Stop) strings = elsewhere s
-following s (Some Keep) strings = elsewhere s
-following s (Some Discard) strings = elsewhere s
-following s (Some FileIntoCommand) strings = elsewhere s
-following s (Some Set) strings = elsewhere s
-following s (Some ForEveryPartCommand) strings = elsewhere s
-following s (Some Break) strings = elsewhere s
-following s (Some Store) strings = elsewhere s
-following s (Some Take) strings = elsewhere s
+-- after a command that means this for those behind it, and has these strings
+abbrev pub followed : Context → Follows → List (List ℕ) → Context
+followed s Requires strings = record s { required = requiring strings s.required; after_if = false }
+followed s Branches strings = record s { takes_require = false; after_if = true }
+followed s Others strings = elsewhere s
+
+-- after a command of which that is known; after one that isn't known, as before it
+abbrev pub following : Context → Option Row → List (List ℕ) → Context
 following s None strings = s
+following s (Some row) strings = followed s row.follows strings
+
+-- after a command that stands behind another as its test, since a `;` before it is forgotten: what it requires is required, and an
+-- elsif or else may stand behind an if or elsif
+abbrev pub swallowed : Context → Follows → List (List ℕ) → Context
+swallowed s Requires strings = record s { required = requiring strings s.required }
+swallowed s Branches strings = record s { after_if = true }
+swallowed s Others strings = s
+
+abbrev pub swallowing : Context → Option Row → List (List ℕ) → Context
+swallowing s None strings = s
+swallowing s (Some row) strings = swallowed s row.follows strings

@@ -9,9 +9,10 @@ ghost use Rattle.sieve_check.specs.Sequences.{part_form};
 ghost use Rattle.sieve_check.specs.TypedView.{commands_form, test_form};
 
 use crate::form_error::FormError;
-use crate::names::{CommandName, command_named};
+use crate::names::CommandName;
+use crate::table::{command_named, command_signature};
 use crate::sequence::{Part, Sequence};
-use crate::signature::{Reading, Tags, command_signature};
+use crate::signature::{Reading, Tags};
 use crate::strings::template;
 use crate::surroundings::{Capabilities, Surroundings};
 use crate::test_forms::test;

@@ -1,18 +1,17 @@
 // Which strings of a command or test variables have to do with.
-ghost use Rattle.std.specs.Prelude.{◌≡◌, map, option_map, true};
+ghost use Rattle.std.specs.Prelude.{◌≡◌, map, option_map};
 ghost use Rattle.sieve_parser.specs.View.{argument_tree};
 ghost use Rattle.sieve_references.specs.References.{segments};
 ghost use Rattle.sieve_references.specs.SegmentView.{segment_of};
-ghost use Rattle.sieve_check.specs.declared.signature.Positional.TheVariants.{Text, TwoTexts};
-ghost use Rattle.sieve_check.specs.Reading.{left_of, name_in, read_of};
+ghost use Rattle.sieve_check.specs.Reading.{name_in, read_of};
 ghost use Rattle.sieve_check.specs.Private.{cause_view};
-ghost use Rattle.sieve_check.specs.Refusing.{Adds, listed, mentions_in};
-ghost use Rattle.sieve_check.specs.Rules.{expanding, large_cause, large_mention_cause, lists_read, long_name, mention_cause, mentions_of, names_mentioned, no_mention, reference_kind, strings_of, where_required};
-ghost use Rattle.sieve_check.specs.Signatures.{command_signature, is_positional};
+ghost use Rattle.sieve_check.specs.Refusing.{Adds, listed, mentions_in, set_in};
+ghost use Rattle.sieve_check.specs.Rules.{first_text, large_cause, large_mention_cause, long_name, mention_cause, mentions_of, names_mentioned, no_mention, reference_kind, where_required};
 
 use crate::causes::{Cause, ReasonKind};
-use crate::names::{Capability, CommandName};
+use crate::names::Capability;
 use crate::references::is_long_name;
+use crate::table::Role;
 use crate::signature::{Lists, Reading};
 use crate::string_faults::StringFault;
 use crate::surroundings::Capabilities;
@@ -66,6 +65,19 @@ fn large_cause(string: &[u8]) -> Cause<'_>
     }
 }
 
+// The first argument, where it is one string.
+fn first_text(arguments: &[Argument]) -> Option<&Octets>
+    ensures { set_in result ≡ first_text (map argument_tree arguments.now) }
+{
+    let [first, ..] = arguments else {
+        return None;
+    };
+    match first {
+        Argument::Text(name) => Some(name),
+        Argument::TextList(_, _) | Argument::Number(_) | Argument::Tag(_) => None,
+    }
+}
+
 /// The strings of a command or test that variables have to do with.
 #[derive(Clone, Copy)]
 pub struct Mentions<'t> {
@@ -86,77 +98,28 @@ impl<'t> Mentions<'t> {
         }
     }
 
-    // Those of a `set`, by its arguments: the first is the name, which is taken as it is written.
-    fn of_set(reading: Reading<'t>) -> Mentions<'t>
-        requires { is_positional TwoTexts (map argument_tree reading.positional.now) ≡ true }
+    /// Those of arguments, by what variables have to do with them: none where variables weren't required.
+    pub fn of(required: Capabilities, role: Role, reading: Reading<'t>) -> Mentions<'t>
         ensures { mentions_in result
-            ≡ mentions_of CommandName.Set (strings_of (lists_read (read_of reading.entry))) }
-    {
-        match reading.positional {
-            [Argument::Text(name), value @ ..] => Mentions {
-                expanded: Lists {
-                    first: &[],
-                    params: reading.params,
-                    others: value,
-                },
-                set: Some(name),
-            },
-            _ => unreachable!(),
-        }
-    }
-
-    // Those of a `take`, by its arguments: the name, which is taken as it is written.
-    fn of_take(reading: Reading<'t>) -> Mentions<'t>
-        requires { is_positional Text (map argument_tree reading.positional.now) ≡ true }
-        ensures { mentions_in result
-            ≡ mentions_of CommandName.Take (strings_of (lists_read (read_of reading.entry))) }
-    {
-        match reading.positional {
-            [Argument::Text(name), ..] => Mentions {
-                expanded: Lists::none(),
-                set: Some(name),
-            },
-            _ => unreachable!(),
-        }
-    }
-
-    /// Those of a command that is known by that name, by its arguments: none where variables weren't required.
-    pub fn of_command(
-        required: Capabilities,
-        name: CommandName,
-        reading: Reading<'t>,
-    ) -> Mentions<'t>
-        requires { is_positional (command_signature name).positional (left_of reading) ≡ true }
-        ensures { mentions_in result
-            ≡ where_required required
-            (mentions_of name (strings_of (lists_read (read_of reading.entry)))) }
+            ≡ where_required required (mentions_of role (read_of reading.entry)) }
     {
         if !required.has(Capability::Variables) {
             return Mentions::none();
         }
-        match name {
-            CommandName::Require => Mentions::none(),
-            CommandName::Set => Mentions::of_set(reading),
-            CommandName::Take => Mentions::of_take(reading),
-            _ => Mentions {
+        match role {
+            Role::Expanded => Mentions {
                 expanded: reading.lists(),
                 set: None,
             },
-        }
-    }
-
-    /// Those of a test, by its arguments.
-    pub fn of_test(required: Capabilities, reading: Reading<'t>) -> Mentions<'t>
-        ensures { mentions_in result
-            ≡ where_required required
-            (expanding (strings_of (lists_read (read_of reading.entry)))) }
-    {
-        if !required.has(Capability::Variables) {
-            return Mentions::none();
-        }
-        Mentions {
-            expanded: reading.lists(),
-            set: None,
+            Role::AsWritten => Mentions::none(),
+            Role::NameThenValue => Mentions {
+                expanded: reading.later_lists(),
+                set: first_text(reading.positional),
+            },
+            Role::NameAlone => Mentions {
+                expanded: Lists::none(),
+                set: first_text(reading.positional),
+            },
         }
     }
 

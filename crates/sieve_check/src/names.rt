@@ -1,6 +1,6 @@
 // What commands, tests, tags, capabilities and comparators are called. ASCII case is ignored but in the last two.
 ghost use Rattle.std.specs.Prelude.{◌≡◌};
-ghost use Rattle.sieve_check.specs.Names.{capability_named, command_named, comparator_named, modifier_named, part_tag_named, tag_named, test_named, test_tag_named};
+ghost use Rattle.sieve_check.specs.Names.{capability_named, comparator_named, modifier_named, part_tag_named, tag_named, test_tag_named};
 
 use crate::typed::Order;
 use bytecode_format::{Case, Selector};
@@ -112,74 +112,6 @@ pub enum Capability {
     OctetComparator,
     /// `comparator-i;ascii-casemap` (RFC 5228, section 2.7.3), which is always there.
     CasemapComparator,
-}
-
-/// The command of that name, if it is known.
-pub fn command_named(name: &[u8]) -> Option<CommandName>
-    ensures { result ≡ command_named name.now }
-{
-    if is_word(name, b"require") {
-        Some(CommandName::Require)
-    } else if is_word(name, b"if") {
-        Some(CommandName::If)
-    } else if is_word(name, b"elsif") {
-        Some(CommandName::Elsif)
-    } else if is_word(name, b"else") {
-        Some(CommandName::Else)
-    } else if is_word(name, b"stop") {
-        Some(CommandName::Stop)
-    } else if is_word(name, b"keep") {
-        Some(CommandName::Keep)
-    } else if is_word(name, b"discard") {
-        Some(CommandName::Discard)
-    } else if is_word(name, b"fileinto") {
-        Some(CommandName::FileInto)
-    } else if is_word(name, b"set") {
-        Some(CommandName::Set)
-    } else if is_word(name, b"foreverypart") {
-        Some(CommandName::ForEveryPart)
-    } else if is_word(name, b"break") {
-        Some(CommandName::Break)
-    } else if is_word(name, b"store") {
-        Some(CommandName::Store)
-    } else if is_word(name, b"take") {
-        Some(CommandName::Take)
-    } else {
-        None
-    }
-}
-
-/// The test of that name, if it is known.
-pub fn test_named(name: &[u8]) -> Option<TestName>
-    ensures { result ≡ test_named name.now }
-{
-    if is_word(name, b"true") {
-        Some(TestName::Constant(true))
-    } else if is_word(name, b"false") {
-        Some(TestName::Constant(false))
-    } else if is_word(name, b"not") {
-        Some(TestName::Not)
-    } else if is_word(name, b"allof") {
-        Some(TestName::AllOf)
-    } else if is_word(name, b"anyof") {
-        Some(TestName::AnyOf)
-    } else if is_word(name, b"header") {
-        Some(TestName::Header)
-    } else if is_word(name, b"exists") {
-        Some(TestName::Exists)
-    } else if is_word(name, b"size") {
-        Some(TestName::Size)
-    } else if is_word(name, b"string") {
-        Some(TestName::String)
-    } else if is_word(name, b"partsize") {
-        Some(TestName::PartSize)
-    } else if is_word(name, b"partbody") {
-        Some(TestName::PartBody)
-    } else if is_word(name, b"partdigest") {
-        Some(TestName::PartDigest)
-    } else {
-        None
-    }
 }
 
 // The tag of that name, if it is one that says how values are compared (RFC 5228).

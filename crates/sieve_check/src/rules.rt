@@ -1,38 +1,22 @@
 // The static rules: what is wrong with commands and tests (RFC 5228, section 8.2, and each command's own section).
-ghost use Rattle.std.specs.Prelude.{◌≡◌, [], ◌∷◌, map, option_map, take, true};
+ghost use Rattle.std.specs.Prelude.{◌≡◌, [], ◌∷◌, map, option_map, take, None};
 ghost use Rattle.sieve_parser.specs.View.{argument_tree, command_tree, commands_tree, invocation_tree, more_tests_of};
-ghost use Rattle.sieve_check.specs.Reading.{left_of, read_of};
+ghost use Rattle.sieve_check.specs.Reading.{read_of};
 ghost use Rattle.sieve_check.specs.Causes.{refused_for};
-ghost use Rattle.sieve_check.specs.Private.{cause_view, arguments_of};
-ghost use Rattle.sieve_check.specs.Rules.{capability_arguments, command_mentions, command_needs, command_visit, command_visits, commands_visits, expanding, head_visits, ill_formed_command, ill_formed_test, is_mime_tag, known_command_cause, known_test_cause, lacking_cause, lists_read, long_string_cause, looks_inside, max_found, mentions_of, mime_where_given, misplaced, more_visits, names_mentioned, oversized_command, oversized_test, place_cause, read_command_cause, read_test_cause, reasons_of, strings_of, takes_tests, test_mentions, test_needs, test_place_cause, test_visit, test_visits, tests_cause, unknown_cause, where_required};
-ghost use Rattle.sieve_check.specs.Signatures.{command_signature, is_positional, test_signature};
-ghost use Rattle.sieve_check.specs.Names.{command_named, test_named};
-ghost use Rattle.sieve_check.specs.Refusing.{AreNoted, AreVisited, Finds, context_of, lacks_as, looks_inside_as, mentions_in, refused_in, visit_as, visits_as};
+ghost use Rattle.sieve_check.specs.Private.{arguments_of, cause_view, row_view};
+ghost use Rattle.sieve_check.specs.Rules.{capability_arguments, cause_of, command_visits, commands_visits, ending_cause, ill_formed, is_mime_tag, known_cause, lacking_cause, lacks_by, long_string_cause, looks_inside, max_found, mentions_of, mime_needs, mime_where_given, misplaced, more_visits, names_by, names_mentioned, needs_of, oversized, place_cause, read_cause, reasons_of, row_mentions, strings_of, tests_cause, unknown_as, unknown_cause, visit_of, visits_of, where_required};
+ghost use Rattle.sieve_check.specs.Names.{row_named};
+ghost use Rattle.sieve_check.specs.Refusing.{AreNoted, AreVisited, Finds, context_of, mentions_in, refused_in};
 
 use crate::causes::{Cause, ReasonKind};
 use crate::findings::Findings;
 use crate::mentions::Mentions;
-use crate::names::{Capability, CommandName, Tag, TestName, command_named, tag_named, test_named};
-use crate::signature::{
-    Ending, Reading, Signature, Tests, command_signature, ending_of, test_signature,
-};
+use crate::names::{Capability, Tag, tag_named};
+use crate::table::{Follows, Place, Row, is_test, row_named};
+use crate::signature::{Ending, Reading, Signature, Tests};
 use crate::string_faults::{StringFault, has_many_strings};
-use crate::surroundings::{Capabilities, Surroundings};
+use crate::surroundings::{Capabilities, Surroundings, invocation_in, looks_inside};
 use sieve_parser::{Argument, Command, Head, Invocation};
-
-// The capabilities that a command needs.
-fn command_needs(name: CommandName) -> &'static [Capability]
-    ensures { result.now ≡ command_needs name }
-{
-    match name {
-        CommandName::FileInto => &[Capability::FileInto],
-        CommandName::Set => &[Capability::Variables],
-        CommandName::ForEveryPart | CommandName::Break => &[Capability::ForEveryPart],
-        CommandName::Store => &[Capability::Depot],
-        CommandName::Take => &[Capability::Variables, Capability::Depot],
-        _ => &[],
-    }
-}
 
 // Whether the argument is `:mime`.
 fn is_mime_tag(argument: &Argument) -> bool
@@ -56,62 +40,49 @@ fn mime_where_given(arguments: &[Argument]) -> &'static [Capability]
     &[]
 }
 
-// The capabilities that a test with these arguments needs.
-fn test_needs(name: TestName, head: &Head) -> &'static [Capability]
-    ensures { result.now ≡ test_needs name (arguments_of head.now) }
+// What is needed for `:mime`, where that is taken and stands there.
+fn mime_needs(signature: Signature, head: &Head) -> &'static [Capability]
+    ensures { result.now ≡ mime_needs signature (arguments_of head.now) }
 {
-    match name {
-        TestName::Header | TestName::Exists => mime_where_given(&head.arguments),
-        TestName::String => &[Capability::Variables],
-        TestName::PartSize | TestName::PartBody | TestName::PartDigest => &[Capability::Depot],
-        _ => &[],
+    if signature.scoped {
+        mime_where_given(&head.arguments)
+    } else {
+        &[]
     }
 }
 
-// What is wrong with a command at a wrong place.
-fn misplaced<'t>(name: CommandName, reading: Reading<'t>) -> Cause<'t>
-    ensures { cause_view result ≡ misplaced name (read_of reading.entry) }
+// What is wrong with what stands at a wrong place.
+fn misplaced<'t>(place: Place, reading: Reading<'t>) -> Cause<'t>
+    ensures { cause_view result ≡ misplaced place (read_of reading.entry).name }
 {
-    match name {
-        CommandName::Break => match reading.name {
+    match place {
+        Place::ToLeave => match reading.name {
             Some(loop_name) => Cause::about(ReasonKind::NoSuchLoop, loop_name),
             None => Cause::plain(ReasonKind::Misplaced),
         },
-        _ => Cause::plain(ReasonKind::Misplaced),
+        Place::Anywhere | Place::AtTop | Place::AfterIf | Place::InLoop => {
+            Cause::plain(ReasonKind::Misplaced)
+        }
     }
 }
 
-// What is wrong with the place of a command, where it may not stand there.
+// What is wrong with the place of a command or test, where it may not stand there.
 fn place_cause<'t>(
     surroundings: &Surroundings<'_>,
-    name: CommandName,
+    place: Place,
     reading: Reading<'t>,
 ) -> Option<Cause<'t>>
     ensures { option_map cause_view result
-        ≡ place_cause (context_of surroundings.now) name (read_of reading.entry) }
+        ≡ place_cause (context_of surroundings.now) place (read_of reading.entry).name }
 {
-    let may_stand = match name {
-        CommandName::Require => surroundings.takes_require,
-        CommandName::Elsif | CommandName::Else => surroundings.after_if,
-        CommandName::Break => surroundings.loops.left_by(reading.name).is_some(),
-        CommandName::Store | CommandName::Take => surroundings.loops.are_some(),
-        _ => true,
+    let stands = match place {
+        Place::Anywhere => true,
+        Place::AtTop => surroundings.takes_require,
+        Place::AfterIf => surroundings.after_if,
+        Place::InLoop => surroundings.loops.are_some(),
+        Place::ToLeave => surroundings.loops.left_by(reading.name).is_some(),
     };
-    (!may_stand).then_some(misplaced(name, reading))
-}
-
-// What is wrong with the place of a test, where it may not stand there.
-fn test_place_cause<'t>(surroundings: &Surroundings<'_>, name: TestName) -> Option<Cause<'t>>
-    ensures { option_map cause_view result
-        ≡ test_place_cause (context_of surroundings.now) name }
-{
-    let may_stand = match name {
-        TestName::PartSize | TestName::PartBody | TestName::PartDigest => {
-            surroundings.loops.are_some()
-        }
-        _ => true,
-    };
-    (!may_stand).then_some(Cause::plain(ReasonKind::Misplaced))
+    (!stands).then_some(misplaced(place, reading))
 }
 
 // The first capability that is needed and wasn't required.
@@ -123,17 +94,33 @@ fn lacking_cause<'t>(required: Capabilities, needed: &[Capability]) -> Option<Ca
     Some(Cause::plain(ReasonKind::MissingCapability(capability)))
 }
 
-// The first string of a `require` that is no capability.
-fn unknown_cause(name: CommandName, head: &Head) -> Option<Cause<'_>>
-    ensures { option_map cause_view result ≡ unknown_cause name (arguments_of head.now) }
+// The first capability that a command or test with these arguments needs and that wasn't required.
+fn needs_cause<'t>(required: Capabilities, row: &Row, head: &Head) -> Option<Cause<'t>>
+    ensures { option_map cause_view result
+        ≡ lacking_cause required (needs_of (row_view row.now) (arguments_of head.now)) }
 {
-    match name {
-        CommandName::Require => {
-            let string = StringFault::Unknown.first_in(&head.arguments)?;
-            Some(Cause::about(ReasonKind::UnknownCapability, string))
-        }
-        _ => None,
+    match lacking_cause(required, row.needs) {
+        Some(cause) => Some(cause),
+        None => lacking_cause(required, mime_needs(row.signature, head)),
     }
+}
+
+// The arguments whose strings have to be capabilities.
+fn capability_arguments(follows: Follows, head: &Head) -> &[Argument]
+    ensures { map argument_tree result.now ≡ capability_arguments follows (arguments_of head.now) }
+{
+    match follows {
+        Follows::Requires => &head.arguments,
+        Follows::Branches | Follows::Others => &[],
+    }
+}
+
+// The first of their strings that is none.
+fn unknown_cause<'t>(row: &Row, head: &'t Head) -> Option<Cause<'t>>
+    ensures { option_map cause_view result ≡ unknown_cause (row_view row.now) (arguments_of head.now) }
+{
+    let string = StringFault::Unknown.first_in(capability_arguments(row.follows, head))?;
+    Some(Cause::about(ReasonKind::UnknownCapability, string))
 }
 
 // What is wrong with the tests behind the arguments.
@@ -141,6 +128,15 @@ fn tests_cause<'t>(signature: Signature, tests: Tests) -> Option<Cause<'t>>
     ensures { option_map cause_view result ≡ tests_cause signature tests }
 {
     (signature.tests != tests).then_some(Cause::plain(ReasonKind::WrongTests(signature.tests)))
+}
+
+// What is wrong with the end of a command.
+fn ending_cause<'t>(wanted: Option<Ending>, ending: Option<Ending>) -> Option<Cause<'t>>
+    ensures { option_map cause_view result ≡ ending_cause wanted ending }
+{
+    let wanted = wanted?;
+    let ending = ending?;
+    (wanted != ending).then_some(Cause::plain(ReasonKind::WrongEnding(wanted)))
 }
 
 // The string that is longer than the limit, if one is.
@@ -151,305 +147,152 @@ fn long_string_cause(head: &Head) -> Option<Cause<'_>>
     Some(Cause::about(ReasonKind::LongString, string))
 }
 
-// What is wrong behind the arguments of a command, or with references and names among them.
-fn ill_formed_command<'t>(
-    name: CommandName,
+// What is wrong behind the arguments, or with references and names among them.
+fn ill_formed<'t>(
+    row: &Row,
     tests: Tests,
-    ending: Ending,
+    ending: Option<Ending>,
     mentions: Mentions<'t>,
 ) -> Option<Cause<'t>>
     ensures { option_map cause_view result
-        ≡ ill_formed_command name tests ending (mentions_in mentions.entry) }
+        ≡ ill_formed (row_view row.now) tests ending (mentions_in mentions.entry) }
 {
-    if let Some(cause) = tests_cause(command_signature(name), tests) {
+    if let Some(cause) = tests_cause(row.signature, tests) {
         return Some(cause);
     }
-    let wanted = ending_of(name);
-    if wanted != ending {
-        return Some(Cause::plain(ReasonKind::WrongEnding(wanted)));
-    }
-    mentions.wrong_cause()
-}
-
-// What of a command is beyond a limit.
-fn oversized_command<'t>(
-    surroundings: &Surroundings<'_>,
-    name: CommandName,
-    head: &'t Head,
-    mentions: Mentions<'t>,
-) -> Option<Cause<'t>>
-    ensures { option_map cause_view result
-        ≡ oversized_command (context_of surroundings.now) name (arguments_of head.now)
-        (mentions_in mentions.entry) }
-{
-    if let Some(cause) = long_string_cause(head) {
-        return Some(cause);
-    }
-    if let Some(cause) = mentions.large_cause() {
-        return Some(cause);
-    }
-    surroundings
-        .opens_many(name)
-        .then_some(Cause::plain(ReasonKind::ManyLoops))
-}
-
-// Whether a command or test takes tests.
-fn takes_tests(signature: Signature) -> bool
-    ensures { result ≡ takes_tests signature.tests }
-{
-    match signature.tests {
-        Tests::Nothing => false,
-        Tests::One | Tests::Bracketed => true,
-    }
-}
-
-// What a command whose arguments were read has to do with variables, where nothing is wrong with it.
-fn read_command<'t>(
-    surroundings: &Surroundings<'_>,
-    name: CommandName,
-    head: &'t Head,
-    tests: Tests,
-    ending: Ending,
-    reading: Reading<'t>,
-) -> Result<Mentions<'t>, Cause<'t>>
-    requires { is_positional (command_signature name).positional (left_of reading) ≡ true }
-    ensures { Finds (names_mentioned (where_required (context_of surroundings.now).required
-        (mentions_of name (strings_of (lists_read (read_of reading.entry))))))
-        (read_command_cause (context_of surroundings.now) name (arguments_of head.now) tests
-        ending (read_of reading.entry)) result }
-{
-    let mentions = Mentions::of_command(surroundings.required, name, reading);
-    if let Some(cause) = ill_formed_command(name, tests, ending, mentions) {
-        return Err(cause);
-    }
-    if let Some(cause) = place_cause(surroundings, name, reading) {
-        return Err(cause);
-    }
-    match oversized_command(surroundings, name, head, mentions) {
-        Some(cause) => Err(cause),
-        None => Ok(mentions),
-    }
-}
-
-// The same of a command that is known by that name.
-fn known_command<'t>(
-    surroundings: &Surroundings<'_>,
-    name: CommandName,
-    head: &'t Head,
-    tests: Tests,
-    ending: Ending,
-) -> Result<Mentions<'t>, Cause<'t>>
-    ensures { Finds (names_mentioned
-        (command_mentions (context_of surroundings.now) name (arguments_of head.now)))
-        (known_command_cause (context_of surroundings.now) name (arguments_of head.now) tests
-        ending) result }
-{
-    if let Some(cause) = lacking_cause(surroundings.required, command_needs(name)) {
-        return Err(cause);
-    }
-    if let Some(cause) = unknown_cause(name, head) {
-        return Err(cause);
-    }
-    match command_signature(name).read(&head.arguments) {
-        Ok(reading) => read_command(surroundings, name, head, tests, ending, reading),
-        Err(cause) => Err(cause),
-    }
-}
-
-// What was found out about a command or test, apart from what stands below it.
-struct Outcome<'t> {
-    // What it has to do with variables, where nothing is wrong with it.
-    mentions: Result<Mentions<'t>, Cause<'t>>,
-    // Whether its tests are looked at.
-    looks_inside: bool,
-}
-
-// The same of any command.
-fn found_command<'t>(
-    surroundings: &Surroundings<'_>,
-    head: &'t Head,
-    tests: Tests,
-    ending: Ending,
-) -> Outcome<'t>
-    ensures found { Finds (command_visit (context_of surroundings.now) head.now.token
-        head.now.name (arguments_of head.now) tests ending).names
-        (command_visit (context_of surroundings.now) head.now.token head.now.name
-        (arguments_of head.now) tests ending).cause result.mentions }
-    ensures inside { result.looks_inside ≡ looks_inside command_signature (command_named head.now.name) }
-{
-    match command_named(head.name.as_slice()) {
-        Some(name) => {
-            let mentions = known_command(surroundings, name, head, tests, ending);
-            let looks_inside = takes_tests(command_signature(name));
-            Outcome {
-                mentions,
-                looks_inside,
-            }
-        }
-        None => Outcome {
-            mentions: Err(Cause::plain(ReasonKind::UnknownCommand)),
-            looks_inside: true,
-        },
-    }
-}
-
-// What is wrong behind the arguments of a test, or with references among them.
-fn ill_formed_test<'t>(name: TestName, tests: Tests, mentions: Mentions<'t>) -> Option<Cause<'t>>
-    ensures { option_map cause_view result
-        ≡ ill_formed_test name tests (mentions_in mentions.entry) }
-{
-    if let Some(cause) = tests_cause(test_signature(name), tests) {
+    if let Some(cause) = ending_cause(row.ending, ending) {
         return Some(cause);
     }
     mentions.wrong_cause()
 }
 
-// What of a test is beyond a limit.
-fn oversized_test<'t>(
+// What is beyond a limit.
+fn oversized<'t>(
+    surroundings: &Surroundings<'_>,
+    row: &Row,
     head: &'t Head,
     reading: Reading<'_>,
     mentions: Mentions<'t>,
 ) -> Option<Cause<'t>>
     ensures { option_map cause_view result
-        ≡ oversized_test (arguments_of head.now) (read_of reading.entry)
-        (mentions_in mentions.entry) }
+        ≡ oversized (context_of surroundings.now) (row_view row.now) (arguments_of head.now)
+        (read_of reading.entry) (mentions_in mentions.entry) }
 {
     if let Some(cause) = long_string_cause(head) {
         return Some(cause);
     }
-    if has_many_strings(reading) {
+    if row.counted && has_many_strings(reading) {
         return Some(Cause::plain(ReasonKind::ManyStrings));
     }
-    mentions.large_cause()
+    if let Some(cause) = mentions.large_cause() {
+        return Some(cause);
+    }
+    surroundings
+        .opens_many(row)
+        .then_some(Cause::plain(ReasonKind::ManyLoops))
 }
 
-// What a test whose arguments were read has to do with variables, where nothing is wrong with it.
-fn read_test<'t>(
+// What a command or test whose arguments were read has to do with variables, where nothing is wrong with it.
+fn read<'t>(
     surroundings: &Surroundings<'_>,
-    name: TestName,
+    row: &Row,
     head: &'t Head,
     tests: Tests,
+    ending: Option<Ending>,
     reading: Reading<'t>,
 ) -> Result<Mentions<'t>, Cause<'t>>
     ensures { Finds (names_mentioned (where_required (context_of surroundings.now).required
-        (expanding (strings_of (lists_read (read_of reading.entry))))))
-        (read_test_cause (context_of surroundings.now) name (arguments_of head.now) tests
-        (read_of reading.entry)) result }
+        (mentions_of (row_view row.now).role (read_of reading.entry))))
+        (read_cause (context_of surroundings.now) (row_view row.now) (arguments_of head.now) tests
+        ending (read_of reading.entry)) result }
 {
-    let mentions = Mentions::of_test(surroundings.required, reading);
-    if let Some(cause) = ill_formed_test(name, tests, mentions) {
+    let mentions = Mentions::of(surroundings.required, row.role, reading);
+    if let Some(cause) = ill_formed(row, tests, ending, mentions) {
         return Err(cause);
     }
-    if let Some(cause) = test_place_cause(surroundings, name) {
+    if let Some(cause) = place_cause(surroundings, row.place, reading) {
         return Err(cause);
     }
-    match oversized_test(head, reading, mentions) {
+    match oversized(surroundings, row, head, reading, mentions) {
         Some(cause) => Err(cause),
         None => Ok(mentions),
     }
 }
 
-// The same of a test that is known by that name.
-fn known_test<'t>(
+// The same of one of which that is known.
+fn known<'t>(
     surroundings: &Surroundings<'_>,
-    name: TestName,
+    row: &Row,
     head: &'t Head,
     tests: Tests,
+    ending: Option<Ending>,
 ) -> Result<Mentions<'t>, Cause<'t>>
     ensures { Finds (names_mentioned
-        (test_mentions (context_of surroundings.now) name (arguments_of head.now)))
-        (known_test_cause (context_of surroundings.now) name (arguments_of head.now) tests)
-        result }
+        (row_mentions (context_of surroundings.now).required (row_view row.now) (arguments_of head.now)))
+        (known_cause (context_of surroundings.now) (arguments_of head.now) tests ending
+        (row_view row.now)) result }
 {
-    if let Some(cause) = lacking_cause(surroundings.required, test_needs(name, head)) {
+    if let Some(cause) = needs_cause(surroundings.required, row, head) {
         return Err(cause);
     }
-    match test_signature(name).read(&head.arguments) {
-        Ok(reading) => read_test(surroundings, name, head, tests, reading),
+    if let Some(cause) = unknown_cause(row, head) {
+        return Err(cause);
+    }
+    match row.signature.read(&head.arguments) {
+        Ok(reading) => read(surroundings, row, head, tests, ending, reading),
         Err(cause) => Err(cause),
     }
 }
 
-// The same of any test.
-fn found_test<'t>(surroundings: &Surroundings<'_>, head: &'t Head, tests: Tests) -> Outcome<'t>
-    ensures found { Finds (test_visit (context_of surroundings.now) head.now.token
-        head.now.name (arguments_of head.now) tests).names
-        (test_visit (context_of surroundings.now) head.now.token head.now.name
-        (arguments_of head.now) tests).cause result.mentions }
-    ensures inside { result.looks_inside ≡ looks_inside test_signature (test_named head.now.name) }
+// What it is that isn't known.
+fn unknown_as(ending: Option<Ending>) -> ReasonKind
+    ensures { result ≡ unknown_as ending }
 {
-    match test_named(head.name.as_slice()) {
-        Some(name) => {
-            let mentions = known_test(surroundings, name, head, tests);
-            let looks_inside = takes_tests(test_signature(name));
-            Outcome {
-                mentions,
-                looks_inside,
-            }
-        }
-        None => Outcome {
-            mentions: Err(Cause::plain(ReasonKind::UnknownTest)),
-            looks_inside: true,
-        },
+    if is_test(ending) {
+        ReasonKind::UnknownTest
+    } else {
+        ReasonKind::UnknownCommand
     }
 }
 
-// The same of a command, which ends so, or of a test.
+// The same of any.
 fn found<'t>(
     surroundings: &Surroundings<'_>,
+    known_as: &Option<Row>,
     head: &'t Head,
     tests: Tests,
     ending: Option<Ending>,
-) -> Outcome<'t>
-    ensures found { Finds (visit_as ending (context_of surroundings.now) head.now.token
-        head.now.name (arguments_of head.now) tests).names
-        (visit_as ending (context_of surroundings.now) head.now.token head.now.name
-        (arguments_of head.now) tests).cause result.mentions }
-    ensures inside { result.looks_inside ≡ looks_inside_as ending head.now.name }
+) -> Result<Mentions<'t>, Cause<'t>>
+    ensures { Finds (names_by (context_of surroundings.now).required (arguments_of head.now)
+        (option_map row_view known_as.now))
+        (cause_of (unknown_as ending)
+        (known_cause (context_of surroundings.now) (arguments_of head.now) tests ending)
+        (option_map row_view known_as.now)) result }
 {
-    match ending {
-        Some(ending) => found_command(surroundings, head, tests, ending),
-        None => found_test(surroundings, head, tests),
+    match known_as {
+        Some(row) => known(surroundings, row, head, tests, ending),
+        None => Err(Cause::plain(unknown_as(ending))),
     }
 }
 
-// The arguments of a command whose strings have to be capabilities.
-fn capability_arguments(name: CommandName, head: &Head) -> &[Argument]
-    ensures { map argument_tree result.now ≡ capability_arguments name (arguments_of head.now) }
-{
-    match name {
-        CommandName::Require => &head.arguments,
-        _ => &[],
-    }
-}
-
-// Notes all that a command lacks, which ends so, or a test.
+// Notes all that a command or test lacks.
 fn refuse_lacks<'t>(
     findings: &mut Findings<'t>,
     required: Capabilities,
+    known_as: &Option<Row>,
     head: &'t Head,
-    ending: Option<Ending>,
 )
     ensures { AreNoted findings.old (map (refused_for head.now.token head.now.name)
-        (lacks_as ending required head.now.name (arguments_of head.now))) findings.new }
+        (lacks_by required (arguments_of head.now) (option_map row_view known_as.now))) findings.new }
 {
-    match ending {
-        Some(_) => {
-            if let Some(name) = command_named(head.name.as_slice()) {
-                findings.refuse_lacking(head, required, command_needs(name));
-                findings.refuse_arguments(head, capability_arguments(name, head));
-            }
-        }
-        None => {
-            if let Some(name) = test_named(head.name.as_slice()) {
-                findings.refuse_lacking(head, required, test_needs(name, head));
-            }
-        }
+    if let Some(row) = known_as {
+        findings.refuse_lacking(head, required, row.needs);
+        findings.refuse_lacking(head, required, mime_needs(row.signature, head));
+        findings.refuse_arguments(head, capability_arguments(row.follows, head));
     }
 }
 
-// Looks at a command or test, apart from its tests and its block. Says whether its tests are looked at: of one that takes none, what
-// stands there may be meant as something else.
+// Looks at a command, which ends so, or a test, apart from its tests and its block. Says whether its tests are looked at.
 fn visit<'t>(
     findings: &mut Findings<'t>,
     surroundings: &Surroundings<'_>,
@@ -458,15 +301,13 @@ fn visit<'t>(
     ending: Option<Ending>,
 ) -> bool
     ensures visited { AreVisited findings.old
-        (visit_as ending (context_of surroundings.now) head.now.token head.now.name
+        (visit_of ending (context_of surroundings.now) head.now.token head.now.name
         (arguments_of head.now) tests ∷ []) findings.new }
-    ensures inside { result ≡ looks_inside_as ending head.now.name }
+    ensures inside { result ≡ looks_inside (row_named ending head.now.name) }
 {
-    let Outcome {
-        mentions,
-        looks_inside,
-    } = found(surroundings, head, tests, ending);
-    match mentions {
+    let known_as = row_named(ending, head.name.as_slice());
+    let inside = looks_inside(&known_as);
+    match found(surroundings, &known_as, head, tests, ending) {
         Ok(mentions) => {
             if let Err(kind) = mentions.add_to(&mut findings.names) {
                 findings.refuse(head, Cause::plain(kind));
@@ -474,10 +315,10 @@ fn visit<'t>(
         }
         Err(cause) => {
             findings.refuse(head, cause);
-            refuse_lacks(findings, surroundings.required, head, ending);
+            refuse_lacks(findings, surroundings.required, &known_as, head);
         }
     }
-    looks_inside
+    inside
 }
 
 // Looks at a command and its tests, apart from its block, or at a test and its own tests.
@@ -489,7 +330,7 @@ fn invocation<'t>(
     ending: Option<Ending>,
 )
     ensures { AreVisited findings.old
-        (visits_as ending (context_of surroundings.now) (invocation_tree tree.now))
+        (visits_of ending (context_of surroundings.now) (invocation_tree tree.now))
         findings.new }
 {
     match tree {
@@ -534,7 +375,7 @@ fn command<'t>(findings: &mut Findings<'t>, surroundings: &Surroundings<'t>, tre
         }
         Command::Block(first, block) => {
             invocation(findings, surroundings, first, Some(Ending::Block));
-            if let Some(inside) = surroundings.in_block(first) {
+            if let Some(inside) = surroundings.past(first).in_block(first) {
                 commands(findings, &inside, block);
             }
         }
@@ -550,7 +391,7 @@ fn commands<'t>(findings: &mut Findings<'t>, surroundings: &Surroundings<'t>, tr
     let mut around = *surroundings;
     'trees: for tree in trees {
         command(findings, &around, tree);
-        around = around.after(tree);
+        around = around.past(invocation_in(tree));
     }
 }
 

@@ -2,9 +2,9 @@
 // and 4).
 ghost use Rattle.std.specs.Prelude.{◌≡◌};
 ghost use Rattle.sieve_parser.specs.View.{argument_tree};
-ghost use Rattle.sieve_check.specs.Signatures.{bare, command_signature, ending_of, is_list, test_signature};
+ghost use Rattle.sieve_check.specs.Signatures.{is_list};
 
-use crate::names::{CommandName, Tag, TestName};
+use crate::names::Tag;
 use crate::typed::Order;
 use bytecode_format::{Modifiers, Selector};
 use glob_match::{Comparator, MatchType};
@@ -156,7 +156,7 @@ impl<'a> Lists<'a> {
 }
 
 impl<'a> Reading<'a> {
-    ghost use Rattle.std.specs.Prelude.{◌≡◌};
+    ghost use Rattle.std.specs.Prelude.{◌≡◌, ◌++◌, drop};
     ghost use Rattle.sieve_check.specs.Reading.{all_lists, read_of};
     ghost use Rattle.sieve_check.specs.Rules.{lists_read};
 
@@ -171,108 +171,17 @@ impl<'a> Reading<'a> {
             others,
         }
     }
-}
 
-// What takes tests alone.
-fn bare(tests: Tests) -> Signature
-    ensures { result ≡ bare tests }
-{
-    Signature {
-        order: false,
-        matching: false,
-        modifying: false,
-        scoped: false,
-        selecting: false,
-        naming: false,
-        limiting: false,
-        positional: Positional::Nothing,
-        tests,
-    }
-}
-
-/// What the command takes.
-pub fn command_signature(name: CommandName) -> Signature
-    ensures { result ≡ command_signature name }
-{
-    match name {
-        CommandName::Require => Signature {
-            positional: Positional::OneList,
-            ..bare(Tests::Nothing)
-        },
-        CommandName::FileInto | CommandName::Store => Signature {
-            positional: Positional::Text,
-            ..bare(Tests::Nothing)
-        },
-        CommandName::Set => Signature {
-            modifying: true,
-            positional: Positional::TwoTexts,
-            ..bare(Tests::Nothing)
-        },
-        CommandName::ForEveryPart | CommandName::Break => Signature {
-            naming: true,
-            ..bare(Tests::Nothing)
-        },
-        CommandName::Take => Signature {
-            limiting: true,
-            positional: Positional::Text,
-            ..bare(Tests::Nothing)
-        },
-        CommandName::If | CommandName::Elsif => bare(Tests::One),
-        _ => bare(Tests::Nothing),
-    }
-}
-
-/// How the command ends.
-pub fn ending_of(name: CommandName) -> Ending
-    ensures { result ≡ ending_of name }
-{
-    match name {
-        CommandName::If | CommandName::Elsif | CommandName::Else | CommandName::ForEveryPart => {
-            Ending::Block
+    /// The lists without the first behind the tags.
+    pub fn later_lists(self) -> Lists<'a>
+        ensures { all_lists result ≡ (read_of self.entry).params ++ drop 1 (read_of self.entry).positional }
+    {
+        let (_, others) = self.positional.split_at(self.positional.len().min(1));
+        Lists {
+            first: &[],
+            params: self.params,
+            others,
         }
-        _ => Ending::Semicolon,
-    }
-}
-
-/// What the test takes.
-pub fn test_signature(name: TestName) -> Signature
-    ensures { result ≡ test_signature name }
-{
-    match name {
-        TestName::Constant(_) => bare(Tests::Nothing),
-        TestName::Not => bare(Tests::One),
-        TestName::AllOf | TestName::AnyOf => bare(Tests::Bracketed),
-        TestName::Header => Signature {
-            matching: true,
-            scoped: true,
-            selecting: true,
-            positional: Positional::TwoLists,
-            ..bare(Tests::Nothing)
-        },
-        TestName::String => Signature {
-            matching: true,
-            positional: Positional::TwoLists,
-            ..bare(Tests::Nothing)
-        },
-        TestName::Exists => Signature {
-            scoped: true,
-            positional: Positional::OneList,
-            ..bare(Tests::Nothing)
-        },
-        TestName::Size | TestName::PartSize => Signature {
-            order: true,
-            positional: Positional::Number,
-            ..bare(Tests::Nothing)
-        },
-        TestName::PartBody => Signature {
-            matching: true,
-            positional: Positional::OneList,
-            ..bare(Tests::Nothing)
-        },
-        TestName::PartDigest => Signature {
-            positional: Positional::OneList,
-            ..bare(Tests::Nothing)
-        },
     }
 }
 

@@ -1,15 +1,16 @@
 // What surrounds a command or test.
-ghost use Rattle.std.specs.Prelude.{◌≡◌, map};
+ghost use Rattle.std.specs.Prelude.{◌≡◌, map, option_map};
 ghost use Rattle.sieve_parser.specs.Tree.{TestsTree};
-ghost use Rattle.sieve_parser.specs.View.{argument_tree, head_tree, invocation_tree};
+ghost use Rattle.sieve_parser.specs.View.{argument_tree, command_tree, head_tree, invocation_tree};
 ghost use Rattle.sieve_check.specs.Reading.{loop_in};
-ghost use Rattle.sieve_check.specs.Rules.{loop_read};
+ghost use Rattle.sieve_check.specs.Private.{row_view};
+ghost use Rattle.sieve_check.specs.Rules.{invocation_of, loop_read, looks_inside};
 ghost use Rattle.sieve_check.specs.Arguments.{reading};
-ghost use Rattle.sieve_check.specs.Signatures.{command_signature};
 
 use crate::loops::{LoopName, Loops};
-use crate::names::{Capability, CommandName, capability_named, command_named};
-use crate::signature::command_signature;
+use crate::names::{Capability, capability_named};
+use crate::table::{Follows, Row, command_known};
+use crate::signature::{Signature, Tests};
 use octets::Octets;
 use sieve_parser::{Argument, Command, Head, Invocation};
 
@@ -126,12 +127,35 @@ fn head_in(invocation: &Invocation) -> &Head
     }
 }
 
-// What the loop is called that a `foreverypart` of these arguments opens.
-fn loop_name(arguments: &[Argument]) -> LoopName<'_>
-    ensures { loop_in result ≡ loop_read
-        (reading (command_signature CommandName.ForEveryPart) (map argument_tree arguments.now)) }
+/// The command without its end and its block.
+pub fn invocation_in(command: &Command) -> &Invocation
+    ensures { invocation_tree result.now ≡ invocation_of (command_tree command.now) }
 {
-    match command_signature(CommandName::ForEveryPart).read(arguments) {
+    match command {
+        Command::Simple(invocation) => invocation,
+        Command::Block(invocation, _) => invocation,
+    }
+}
+
+/// Whether the tests are looked at of a command or test of which that is known: where it takes none, what stands there may be meant as
+/// something else.
+pub fn looks_inside(known: &Option<Row>) -> bool
+    ensures { result ≡ looks_inside (option_map row_view known.now) }
+{
+    match known {
+        Some(row) => match row.signature.tests {
+            Tests::Nothing => false,
+            Tests::One | Tests::Bracketed => true,
+        },
+        None => true,
+    }
+}
+
+// What the loop is called that a command of this signature and these arguments opens.
+fn loop_name(signature: Signature, arguments: &[Argument]) -> LoopName<'_>
+    ensures { loop_in result ≡ loop_read (reading signature (map argument_tree arguments.now)) }
+{
+    match signature.read(arguments) {
         Ok(reading) => match reading.name {
             Some(name) => LoopName::Named(name),
             None => LoopName::Nameless,
@@ -155,13 +179,13 @@ pub struct Surroundings<'t> {
 
 impl<'t> Surroundings<'t> {
     ghost use Rattle.std.specs.Prelude.{◌≡◌, false, List, map, option_map};
-    ghost use Rattle.sieve_parser.specs.Tree.{ArgumentTree};
+    ghost use Rattle.sieve_parser.specs.Tree.{ArgumentTree, one_test};
     ghost use Rattle.sieve_parser.specs.View.{argument_tree, command_tree, invocation_tree};
-    ghost use Rattle.sieve_check.specs.Rules.{after_invocation, invocation_of, loops_by, loops_opened, opened_by, strings_of};
-    ghost use Rattle.sieve_check.specs.Private.{arguments_of};
-    ghost use Rattle.sieve_check.specs.Names.{command_named};
+    ghost use Rattle.sieve_check.specs.Rules.{after_invocation, invocation_of, loops_by, loops_opened, opened_by, past_invocation, past_swallowed, past_tests, strings_of};
+    ghost use Rattle.sieve_check.specs.Private.{arguments_of, row_view};
+    ghost use Rattle.sieve_check.specs.Names.{command_known};
     ghost use Rattle.sieve_check.specs.Refusing.{LoopsWithin, context_of, open_loops};
-    ghost use Rattle.sieve_check.specs.Surroundings.{at_start, following, inside, opens_many};
+    ghost use Rattle.sieve_check.specs.Surroundings.{at_start, following, inside, opens_many, swallowing};
 
     /// Those of the first command of a script.
     pub fn at_start() -> Surroundings<'t>
@@ -184,13 +208,13 @@ impl<'t> Surroundings<'t> {
     // The loops around the block of a command that begins so. Nothing where there would be too many.
     fn loops_within(self, head: &'t Head) -> Option<Loops<'t>>
         ensures { LoopsWithin (context_of self.entry)
-            (loops_by (command_named head.now.name) (arguments_of head.now)) result }
+            (loops_by (command_known head.now.name) (arguments_of head.now)) result }
     {
-        let Some(name) = command_named(head.name.as_slice()) else {
-            return Some(self.loops);
-        };
-        match name {
-            CommandName::ForEveryPart => self.loops.with(loop_name(&head.arguments)),
+        match command_known(head.name.as_slice()) {
+            Some(row) if row.opens => {
+                let name = loop_name(row.signature, &head.arguments);
+                self.loops.with(name)
+            }
             _ => Some(self.loops),
         }
     }
@@ -221,38 +245,97 @@ impl<'t> Surroundings<'t> {
         Some(self.within(loops))
     }
 
-    /// Whether the block of a command that is known by that name would have more loops around it than there may be.
-    pub fn opens_many(self, name: CommandName) -> bool
+    /// Whether the block of a command of which that is known would have more loops around it than there may be.
+    pub fn opens_many(self, row: &Row) -> bool
         ensures { (args : List ArgumentTree)
-            → result ≡ opens_many (opened_by name args) (context_of self.entry) }
+            → result ≡ opens_many (opened_by (row_view row.now) args) (context_of self.entry) }
     {
-        match name {
-            CommandName::ForEveryPart => self.loops.are_full(),
-            _ => false,
-        }
+        row.opens && self.loops.are_full()
     }
 
     // Those of the command after one that begins so: where that isn't known, these.
     fn following(self, head: &Head) -> Surroundings<'t>
         ensures { context_of result
-            ≡ following (context_of self.entry) (command_named head.now.name)
+            ≡ following (context_of self.entry) (command_known head.now.name)
             (strings_of (arguments_of head.now)) }
     {
-        let after = self.within(self.loops);
-        let Some(name) = command_named(head.name.as_slice()) else {
+        let Some(row) = command_known(head.name.as_slice()) else {
             return self;
         };
-        match name {
-            CommandName::Require => Surroundings {
+        let after = self.within(self.loops);
+        match row.follows {
+            Follows::Requires => Surroundings {
                 required: self.required.requiring(&head.arguments),
                 after_if: false,
                 ..self
             },
-            CommandName::If | CommandName::Elsif => Surroundings {
+            Follows::Branches => Surroundings {
                 after_if: true,
                 ..after
             },
-            _ => after,
+            Follows::Others => after,
+        }
+    }
+
+    // With a command that was read as the test of the one before it.
+    fn swallowing(self, head: &Head) -> Surroundings<'t>
+        ensures { context_of result
+            ≡ swallowing (context_of self.entry) (command_known head.now.name)
+            (strings_of (arguments_of head.now)) }
+    {
+        let Some(row) = command_known(head.name.as_slice()) else {
+            return self;
+        };
+        match row.follows {
+            Follows::Requires => Surroundings {
+                required: self.required.requiring(&head.arguments),
+                ..self
+            },
+            Follows::Branches => Surroundings {
+                after_if: true,
+                ..self
+            },
+            Follows::Others => self,
+        }
+    }
+
+    // After the test of a command that begins so.
+    #[cycle(swallowed)]
+    fn past_test(self, head: &Head, test: &Invocation) -> Surroundings<'t>
+        ensures { context_of result
+            ≡ past_tests (context_of self.entry) (command_known head.now.name)
+            (one_test (invocation_tree test.now)) }
+    {
+        if looks_inside(&command_known(head.name.as_slice())) {
+            self
+        } else {
+            self.past_swallowed(test)
+        }
+    }
+
+    // After a command that was read as a test.
+    #[cycle(swallowed)]
+    fn past_swallowed(self, test: &Invocation) -> Surroundings<'t>
+        ensures { context_of result
+            ≡ past_swallowed (context_of self.entry) (invocation_tree test.now) }
+    {
+        match test {
+            Invocation::Plain(head) => self.swallowing(head),
+            Invocation::WithTest(head, inner) => self.swallowing(head).past_test(head, inner),
+            Invocation::WithTests(head, _, _) => self.swallowing(head),
+        }
+    }
+
+    /// Those behind a command that begins so, and behind the commands that it swallowed: where a `;` is forgotten, the next command
+    /// reads as the test of the one before it.
+    pub fn past(self, invocation: &Invocation) -> Surroundings<'t>
+        ensures { context_of result
+            ≡ past_invocation (context_of self.entry) (invocation_tree invocation.now) }
+    {
+        match invocation {
+            Invocation::Plain(head) => self.following(head),
+            Invocation::WithTest(head, test) => self.following(head).past_test(head, test),
+            Invocation::WithTests(head, _, _) => self.following(head),
         }
     }
 
@@ -261,9 +344,6 @@ impl<'t> Surroundings<'t> {
         ensures { context_of result
             ≡ after_invocation (context_of self.entry) (invocation_of (command_tree command.now)) }
     {
-        match command {
-            Command::Simple(invocation) => self.following(head_in(invocation)),
-            Command::Block(invocation, _) => self.following(head_in(invocation)),
-        }
+        self.following(head_in(invocation_in(command)))
     }
 }

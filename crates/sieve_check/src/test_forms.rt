@@ -8,8 +8,9 @@ ghost use Rattle.sieve_check.specs.declared.surroundings.Capabilities.{Capabilit
 ghost use Rattle.sieve_check.specs.TypedView.{test_form, tests_of};
 
 use crate::form_error::FormError;
-use crate::names::{TestName, test_named};
-use crate::signature::{Reading, Tags, test_signature};
+use crate::names::TestName;
+use crate::table::{test_named, test_signature};
+use crate::signature::{Reading, Tags};
 use crate::strings::strings_in;
 use crate::surroundings::Capabilities;
 use crate::typed::{Question, Test};

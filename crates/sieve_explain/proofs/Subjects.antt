@@ -14,16 +14,18 @@ use Rattle.sieve_parser.specs.Lexemes.{identifier, opening_parenthesis, closing_
 use Rattle.sieve_parser.specs.Tree.{ArgumentTree, label, InvocationTree, invocation, TestsTree, no_test, one_test, test_list, MoreTests, last, next, CommandTree, simple, block, CommandsTree, no_command, command}
 use Rattle.sieve_check.specs.Arguments.{Awaiting, arguments_cause, arguments_read, awaiting, expected, first_label, is_second_modifier, missing_cause, number_of, positional_cause, reading, rest_read, sound}
 use Rattle.sieve_check.specs.Causes.{Cause, Refused, about, plain, refused_for}
-use Rattle.sieve_check.specs.Names.{command_named, tag_named, test_named}
-use Rattle.sieve_check.specs.Rules.{Mentions, Visit, capability_arguments, cause_by_name, causes_by, command_lacks, command_needs, command_visit, command_visits, commands_visits, ending_cause, has_many_strings, head_visits, ill_formed_command, ill_formed_test, kind_of, known_command_cause, known_test_cause, lacking, lacking_cause, lacking_causes, large_cause, large_mention_cause, lists_read, long_name, long_string_cause, looks_inside, loops_opened, after_invocation, invocation_of, many_strings_cause, may_stand, mention_cause, mentions_of, misplaced, more_visits, names_past, names_with, opened_by, expanding, place_cause, read_command_cause, read_test_cause, reasons_of, reference_cause, reference_kind, refused_after, refused_among, same_ending, same_reason, same_tests, string_has, strings_of, test_lacks, test_may_stand, test_needs, test_place_cause, test_visit, test_visits, tests_cause, tests_visits, unknown_cause, unknown_causes, visit_causes, where_required}
-use Rattle.sieve_check.specs.Signatures.{Given, Read, add_tag, asks_for_mime, command_signature, ending_of, is_positional, no_tag, nothing_given, takes_tag, test_signature, with_argument}
+use Rattle.sieve_check.specs.Names.{row_named, tag_named}
+use Rattle.sieve_check.specs.Rows.{Row}
+use Rattle.sieve_check.specs.Rules.{Mentions, Visit, are_many, capability_arguments, cause_of, causes_by, command_visits, commands_visits, ending_cause, ill_formed, invocation_of, kind_of, known_cause, lacking, lacking_cause, lacking_causes, lacks_by, large_cause, large_mention_cause, long_name, long_string_cause, looks_inside, loops_opened, many_strings_cause, may_stand, mention_cause, mentions_of, misplaced, more_visits, names_past, names_with, needs_of, opened_by, past_invocation, place_cause, read_cause, reasons_of, reference_cause, reference_kind, refused_after, refused_among, same_ending, same_reason, same_tests, string_has, strings_of, tests_cause, tests_visits, unknown_as, unknown_cause, unknown_causes, visit_causes, visit_of, visits_of, where_required}
+use Rattle.sieve_check.specs.Signatures.{Given, Read, add_tag, asks_for_mime, is_positional, no_tag, nothing_given, takes_tag, with_argument}
 use Rattle.sieve_check.specs.Surroundings.{Context, at_start, first_lacking, has_capability, in_block, opens_many}
 use Rattle.sieve_check.specs.declared.causes.ReasonKind.{ReasonKind}
 use Rattle.sieve_check.specs.declared.causes.ReasonKind.TheVariants as reasons
 use Rattle.sieve_check.specs.declared.names.Capability.{Capability}
-use Rattle.sieve_check.specs.declared.names.CommandName.{CommandName}
-use Rattle.sieve_check.specs.declared.names.CommandName.TheVariants.{Break, Require}
-use Rattle.sieve_check.specs.declared.names.TestName.{TestName}
+use Rattle.sieve_check.specs.declared.table.Follows.{Follows}
+use Rattle.sieve_check.specs.declared.table.Follows.TheVariants.{Requires, Branches, Others}
+use Rattle.sieve_check.specs.declared.table.Place.{Place}
+use Rattle.sieve_check.specs.declared.table.Place.TheVariants.{ToLeave}
 use Rattle.sieve_check.specs.declared.signature.Ending.{Ending}
 use Rattle.sieve_check.specs.declared.signature.Ending.TheVariants as ending
 use Rattle.sieve_check.specs.declared.signature.Positional.{Positional}
@@ -145,29 +147,26 @@ unnamed : (o : Option (List ℕ)) → marks_string (option_map_or (about reasons
 unnamed None = refl
 unnamed (Some name) = refl
 
-other_misplaced : (name : CommandName) (read : Read) → marks_string (misplaced name read).kind ≡ false
-other_misplaced Break read = unnamed read.name
-other_misplaced _ read = refl
+other_misplaced : (place : Place) (name : Option (List ℕ)) → marks_string (misplaced place name).kind ≡ false
+other_misplaced ToLeave name = unnamed name
+other_misplaced _ name = refl
 
-other_read_command : (s : Context) (name : CommandName) (args : List ArgumentTree) (tests : Tests) (end : Ending) (read : Read) → Other (read_command_cause s name args tests end read)
-other_read_command s name args tests end read =
-    let mentions = where_required s.required (mentions_of name (strings_of (lists_read read))) in
-    other_or (ill_formed_command name tests end mentions) _
-    (other_or (tests_cause (command_signature name) tests) _ (other_tests (command_signature name) tests)
-    (other_or (ending_cause name end) _ (other_if (same_ending (ending_of name) end) None _ tt refl) (other_mention mentions)))
-    (other_or (place_cause s name read) _ (other_if (may_stand s name read) None _ tt (other_misplaced name read))
+other_ending : (wanted end : Option Ending) → Other (ending_cause wanted end)
+other_ending None end = tt
+other_ending (Some wanted) None = tt
+other_ending (Some wanted) (Some end) = other_if (same_ending wanted end) None _ tt refl
+
+other_read : (s : Context) (row : Row) (args : List ArgumentTree) (tests : Tests) (end : Option Ending) (read : Read) → Other (read_cause s row args tests end read)
+other_read s row args tests end read =
+    let mentions = where_required s.required (mentions_of row.role read) in
+    other_or (ill_formed row tests end mentions) _
+    (other_or (tests_cause row.signature tests) _ (other_tests row.signature tests)
+    (other_or (ending_cause row.ending end) _ (other_ending row.ending end) (other_mention mentions)))
+    (other_or (place_cause s row.place read.name) _ (other_if (may_stand s row.place read.name) None _ tt (other_misplaced row.place read.name))
     (other_or (long_string_cause args) _ (other_long_string args)
+    (other_or (many_strings_cause row.counted read) _ (other_if (are_many row.counted read) _ None refl tt)
     (other_or (large_mention_cause mentions) _ (other_large_mention mentions)
-    (other_if (opens_many (opened_by name args) s) _ None refl tt))))
-
-other_read_test : (s : Context) (name : TestName) (args : List ArgumentTree) (tests : Tests) (read : Read) → Other (read_test_cause s name args tests read)
-other_read_test s name args tests read =
-    let mentions = where_required s.required (expanding (strings_of (lists_read read))) in
-    other_or (ill_formed_test name tests mentions) _
-    (other_or (tests_cause (test_signature name) tests) _ (other_tests (test_signature name) tests) (other_mention mentions))
-    (other_or (test_place_cause s name) _ (other_if (test_may_stand s name) None _ tt refl)
-    (other_or (long_string_cause args) _ (other_long_string args)
-    (other_or (many_strings_cause read) _ (other_if (has_many_strings read) _ None refl tt) (other_large_mention mentions))))
+    (other_if (opens_many (opened_by row args) s) _ None refl tt)))))
 
 -- a string that is no capability is among the arguments
 abbrev Good : List ArgumentTree → Option Cause → Type 0
@@ -185,37 +184,33 @@ good_found : (args : List ArgumentTree) (o : Option (List ℕ)) → ((s : List �
 good_found args None h = tt
 good_found args (Some s) h = λ e. h s refl
 
-good_unknown : (name : CommandName) (args : List ArgumentTree) → Good args (unknown_cause name args)
-good_unknown Require args = good_found args (find (string_has Unknown) (strings_of args)) (λ s e. found_among (string_has Unknown) (strings_of args) s e)
-good_unknown _ args = tt
+-- the strings of a require's arguments are among those of all
+named_among : (follows : Follows) (args : List ArgumentTree) (s : List ℕ) → IsAmong s (strings_of (capability_arguments follows args)) → IsAmong s (strings_of args)
+named_among Requires args s among = among
+named_among Branches args s among = absurd among
+named_among Others args s among = absurd among
 
-good_command : (s : Context) (name : CommandName) (args : List ArgumentTree) (tests : Tests) (end : Ending) → Good args (known_command_cause s name args tests end)
-good_command s name args tests end =
-    let read = reading (command_signature name) args in
-    let rest = option_and_then (read_command_cause s name args tests end) read in
-    let behind = other_or (arguments_cause (command_signature name) args) rest (other_arguments (command_signature name) args)
-    (other_then (read_command_cause s name args tests end) read (λ r. other_read_command s name args tests end r)) in
-    good_or args (lacking_cause s.required (command_needs name)) _ (good_other args _ (other_lacking s.required (command_needs name)))
-    (good_or args (unknown_cause name args) _ (good_unknown name args)
-    (good_other args (option_or (arguments_cause (command_signature name) args) rest) behind))
+good_unknown : (row : Row) (args : List ArgumentTree) → Good args (unknown_cause row args)
+good_unknown row args =
+    let strings = strings_of (capability_arguments row.follows args) in
+    good_found args (find (string_has Unknown) strings) (λ s e. named_among row.follows args s (found_among (string_has Unknown) strings s e))
 
-other_test : (s : Context) (name : TestName) (args : List ArgumentTree) (tests : Tests) → Other (known_test_cause s name args tests)
-other_test s name args tests =
-    other_or (lacking_cause s.required (test_needs name args)) _ (other_lacking s.required (test_needs name args))
-    (other_or (arguments_cause (test_signature name) args) _ (other_arguments (test_signature name) args)
-    (other_then (read_test_cause s name args tests) (reading (test_signature name) args) (λ r. other_read_test s name args tests r)))
+good_known : (s : Context) (args : List ArgumentTree) (tests : Tests) (end : Option Ending) (row : Row) → Good args (known_cause s args tests end row)
+good_known s args tests end row =
+    let read = reading row.signature args in
+    let rest = option_and_then (read_cause s row args tests end) read in
+    let behind = other_or (arguments_cause row.signature args) rest (other_arguments row.signature args)
+    (other_then (read_cause s row args tests end) read (λ r. other_read s row args tests end r)) in
+    good_or args (lacking_cause s.required (needs_of row args)) _ (good_other args _ (other_lacking s.required (needs_of row args)))
+    (good_or args (unknown_cause row args) _ (good_unknown row args)
+    (good_other args (option_or (arguments_cause row.signature args) rest) behind))
 
-good_command_visit : (s : Context) (token : ℕ) (name : List ℕ) (args : List ArgumentTree) (tests : Tests) (end : Ending) → Good args (command_visit s token name args tests end).cause
-good_command_visit s token name args tests end = step (command_named name) where
-  step : (o : Option CommandName) → Good args (cause_by_name reasons.UnknownCommand (λ known. known_command_cause s known args tests end) o)
-  step None = λ e. absurd (cc)
-  step (Some known) = good_command s known args tests end
-
-good_test_visit : (s : Context) (token : ℕ) (name : List ℕ) (args : List ArgumentTree) (tests : Tests) → Good args (test_visit s token name args tests).cause
-good_test_visit s token name args tests = step (test_named name) where
-  step : (o : Option TestName) → Good args (cause_by_name reasons.UnknownTest (λ known. known_test_cause s known args tests) o)
-  step None = λ e. absurd (cc)
-  step (Some known) = good_other args (known_test_cause s known args tests) (other_test s known args tests)
+good_visit : (end : Option Ending) (s : Context) (token : ℕ) (name : List ℕ) (args : List ArgumentTree) (tests : Tests) → Good args (visit_of end s token name args tests).cause
+good_visit end s token name args tests = step end (row_named end name) where
+  step : (end : Option Ending) (o : Option Row) → Good args (cause_of (unknown_as end) (known_cause s args tests end) o)
+  step None None = λ e. absurd (cc)
+  step (Some ending) None = λ e. absurd (cc)
+  step end (Some row) = good_known s args tests end row
 
 -- what it lacks
 abbrev IsGood : List ArgumentTree → Cause → Type 0
@@ -239,18 +234,12 @@ good_strings args strings h =
     (All-weaker (λ s. IsAmong s (strings_of args)) (λ s. IsGood args (about reasons.UnknownCapability s)) (λ s among e. among) (filter (string_has Unknown) strings)
     (All-filter (string_has Unknown) (λ s. IsAmong s (strings_of args)) strings h))
 
-good_names : (name : CommandName) (args : List ArgumentTree) → All (IsGood args) (unknown_causes (strings_of (capability_arguments name args)))
-good_names Require args = good_strings args (strings_of args) (each_among (strings_of args) (strings_of args) (λ s among. among))
-good_names _ args = All-nil (IsGood args)
-
-good_command_lacks : (required : Capabilities) (args : List ArgumentTree) (o : Option CommandName) → All (IsGood args) (command_lacks required args o)
-good_command_lacks required args None = All-nil (IsGood args)
-good_command_lacks required args (Some name) =
-    All-append (IsGood args) (lacking_causes required (command_needs name)) (unknown_causes (strings_of (capability_arguments name args))) (good_lacking args required (command_needs name)) (good_names name args)
-
-good_test_lacks : (required : Capabilities) (args : List ArgumentTree) (o : Option TestName) → All (IsGood args) (test_lacks required args o)
-good_test_lacks required args None = All-nil (IsGood args)
-good_test_lacks required args (Some name) = good_lacking args required (test_needs name args)
+good_lacks : (required : Capabilities) (args : List ArgumentTree) (o : Option Row) → All (IsGood args) (lacks_by required args o)
+good_lacks required args None = All-nil (IsGood args)
+good_lacks required args (Some row) =
+    let strings = strings_of (capability_arguments row.follows args) in
+    All-append (IsGood args) (lacking_causes required (needs_of row args)) (unknown_causes strings) (good_lacking args required (needs_of row args))
+    (good_strings args strings (each_among (strings_of args) strings (λ s among. named_among row.follows args s among)))
 
 -- ---- places
 
@@ -277,24 +266,24 @@ all_if P true xs ys p q = p
 all_if P false xs ys p q = q
 
 mutual
-  test_stands : (t : InvocationTree) (s : Context) (d : ℕ) (all : List Placed) → Inside all (invocation_spelled d t) → All (Stands all) (test_visits s t)
-  test_stands (invocation token name args tests) s d all w =
+  invocation_stands : (end : Option Ending) (t : InvocationTree) (s : Context) (d : ℕ) (all : List Placed) → Inside all (invocation_spelled d t) → All (Stands all) (visits_of end s t)
+  invocation_stands end (invocation token name args tests) s d all w =
       let own = at_depth d (identifier token name) ∷ arguments_spelled d args in
-      All-cons (Stands all) (test_visit s token name args (kind_of tests)) _
-      (d, (args, (inside_left all own (tests_spelled d tests) w, good_test_visit s token name args (kind_of tests), good_test_lacks s.required args (test_named name))))
-      (all_if (Stands all) (looks_inside test_signature (test_named name)) (tests_visits s tests) []
+      All-cons (Stands all) (visit_of end s token name args (kind_of tests)) _
+      (d, (args, (inside_left all own (tests_spelled d tests) w, good_visit end s token name args (kind_of tests), good_lacks s.required args (row_named end name))))
+      (all_if (Stands all) (looks_inside (row_named end name)) (tests_visits s tests) []
       (tests_stand tests s d all (inside_right all own (tests_spelled d tests) w)) (All-nil (Stands all)))
 
   tests_stand : (ts : TestsTree) (s : Context) (d : ℕ) (all : List Placed) → Inside all (tests_spelled d ts) → All (Stands all) (tests_visits s ts)
   tests_stand no_test s d all w = All-nil (Stands all)
-  tests_stand (one_test t) s d all w = test_stands t s (suc d) all w
+  tests_stand (one_test t) s d all w = invocation_stands None t s (suc d) all w
   tests_stand (test_list t ts) s d all w =
       let first = invocation_spelled (suc d) t in
       let more = more_tests_spelled d ts in
       let end = at_depth d closing_parenthesis ∷ [] in
       let inner = inside_next all (at_depth d opening_parenthesis) (first ++ (more ++ end)) w in
-      All-append (Stands all) (test_visits s t) (more_visits s ts)
-      (test_stands t s (suc d) all (inside_left all first (more ++ end) inner))
+      All-append (Stands all) (visits_of None s t) (more_visits s ts)
+      (invocation_stands None t s (suc d) all (inside_left all first (more ++ end) inner))
       (more_stand ts s d all (inside_left all more end (inside_right all first (more ++ end) inner)))
 
   more_stand : (ts : MoreTests) (s : Context) (d : ℕ) (all : List Placed) → Inside all (more_tests_spelled d ts) → All (Stands all) (more_visits s ts)
@@ -302,38 +291,30 @@ mutual
   more_stand (next t ts) s d all w =
       let first = invocation_spelled (suc d) t in
       let inner = inside_next all (at_depth d comma) (first ++ more_tests_spelled d ts) w in
-      All-append (Stands all) (test_visits s t) (more_visits s ts)
-      (test_stands t s (suc d) all (inside_left all first (more_tests_spelled d ts) inner))
+      All-append (Stands all) (visits_of None s t) (more_visits s ts)
+      (invocation_stands None t s (suc d) all (inside_left all first (more_tests_spelled d ts) inner))
       (more_stand ts s d all (inside_right all first (more_tests_spelled d ts) inner))
-
-head_stands : (i : InvocationTree) (s : Context) (d : ℕ) (end : Ending) (all : List Placed) → Inside all (invocation_spelled d i) → All (Stands all) (head_visits s i end)
-head_stands (invocation token name args tests) s d end all w =
-    let own = at_depth d (identifier token name) ∷ arguments_spelled d args in
-    All-cons (Stands all) (command_visit s token name args (kind_of tests) end) _
-    (d, (args, (inside_left all own (tests_spelled d tests) w, good_command_visit s token name args (kind_of tests) end, good_command_lacks s.required args (command_named name))))
-    (all_if (Stands all) (looks_inside command_signature (command_named name)) (tests_visits s tests) []
-    (tests_stand tests s d all (inside_right all own (tests_spelled d tests) w)) (All-nil (Stands all)))
 
 mutual
   command_stands : (c : CommandTree) (s : Context) (d : ℕ) (all : List Placed) → Inside all (command_spelled d c) → All (Stands all) (command_visits s c)
-  command_stands (simple i) s d all w = head_stands i s d ending.Semicolon all (inside_left all (invocation_spelled d i) (at_depth d semicolon ∷ []) w)
+  command_stands (simple i) s d all w = invocation_stands (Some ending.Semicolon) i s d all (inside_left all (invocation_spelled d i) (at_depth d semicolon ∷ []) w)
   command_stands (block i cs) s d all w =
       let head = invocation_spelled d i in
       let word = commands_spelled (suc d) cs in
       let end = at_depth (suc d) closing_brace ∷ [] in
       let open_brace = at_depth (suc d) opening_brace in
-      All-append (Stands all) (head_visits s i ending.Block) _
-      (head_stands i s d ending.Block all (inside_left all head (open_brace ∷ (word ++ end)) w))
-      (all_if (Stands all) (opens_many (loops_opened i) s) [] (commands_visits (in_block (loops_opened i) s) cs) (All-nil (Stands all))
-      (commands_stand cs (in_block (loops_opened i) s) (suc d) all
+      All-append (Stands all) (visits_of (Some ending.Block) s i) _
+      (invocation_stands (Some ending.Block) i s d all (inside_left all head (open_brace ∷ (word ++ end)) w))
+      (all_if (Stands all) (opens_many (loops_opened i) (past_invocation s i)) [] (commands_visits (in_block (loops_opened i) (past_invocation s i)) cs) (All-nil (Stands all))
+      (commands_stand cs (in_block (loops_opened i) (past_invocation s i)) (suc d) all
       (inside_left all word end (inside_next all open_brace (word ++ end) (inside_right all head (open_brace ∷ (word ++ end)) w)))))
 
   commands_stand : (cs : CommandsTree) (s : Context) (d : ℕ) (all : List Placed) → Inside all (commands_spelled d cs) → All (Stands all) (commands_visits s cs)
   commands_stand no_command s d all w = All-nil (Stands all)
   commands_stand (command c cs) s d all w =
-      All-append (Stands all) (command_visits s c) (commands_visits (after_invocation s (invocation_of c)) cs)
+      All-append (Stands all) (command_visits s c) (commands_visits (past_invocation s (invocation_of c)) cs)
       (command_stands c s d all (inside_left all (command_spelled d c) (commands_spelled d cs) w))
-      (commands_stand cs (after_invocation s (invocation_of c)) d all (inside_right all (command_spelled d c) (commands_spelled d cs) w))
+      (commands_stand cs (past_invocation s (invocation_of c)) d all (inside_right all (command_spelled d c) (commands_spelled d cs) w))
 
 -- ---- what is told
 

@@ -1,6 +1,7 @@
 -- What is said of a name that isn't known where it stands. ASCII case doesn't count.
-use Rattle.std.specs.Prelude.{ℕ, if◌then◌else◌, List, [], ◌∷◌, is_some, codes}
+use Rattle.std.specs.Prelude.{ℕ, if◌then◌else◌, List, [], ◌∷◌, is_some, map, codes}
 use Rattle.sieve_check.specs.Names.{command_named, test_named}
+use Rattle.sieve_check.specs.Rows.{all_commands, all_tests, command_word, test_word}
 use Rattle.sieve_explain.specs.Words.{Hint, hint, nearest, nearest_but, with_words, words_for}
 use Rattle.sieve_explain.specs.Sentences.{Blanks, plain}
 
@@ -67,9 +68,7 @@ known_commands = record {
       ∷ hint (codes "save" ∷ []) (codes "store")
       ∷ hint (codes "exit" ∷ codes "return" ∷ []) (codes "stop")
       ∷ [];
-  names =
-      codes "require" ∷ codes "if" ∷ codes "elsif" ∷ codes "else" ∷ codes "stop" ∷ codes "keep" ∷ codes "discard" ∷ codes "fileinto"
-      ∷ codes "set" ∷ codes "foreverypart" ∷ codes "break" ∷ codes "store" ∷ codes "take" ∷ [];
+  names = map command_word all_commands;
   lacks = codes "depot has no @: &";
   hinting = codes "unknown command @, did you mean `&`?";
   hinting_two = codes "unknown command @, did you mean `&` or `~`?";
@@ -85,9 +84,7 @@ known_tests = record {
       (codes "header")
       ∷ hint (codes "filesize" ∷ []) (codes "size")
       ∷ [];
-  names =
-      codes "true" ∷ codes "false" ∷ codes "not" ∷ codes "allof" ∷ codes "anyof" ∷ codes "header" ∷ codes "exists" ∷ codes "size"
-      ∷ codes "string" ∷ codes "partsize" ∷ codes "partbody" ∷ codes "partdigest" ∷ [];
+  names = map test_word all_tests;
   lacks = codes "depot has no @: &";
   hinting = codes "unknown test @, did you mean `&`?";
   hinting_two = codes "unknown test @, did you mean `&` or `~`?";

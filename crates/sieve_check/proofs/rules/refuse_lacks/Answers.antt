@@ -1,30 +1,36 @@
-use Rattle.std.proofs.Common.{◌∙◌, List, ap, map, subst, sym}
+use Rattle.std.proofs.Common.{◌≡◌, ◌∙◌, ◌++◌, List, ap, map, subst, refl}
 use Rattle.std.proofs.lemmas.List.{map-append}
 use Rattle.sieve_parser.specs.Tree.{ArgumentTree}
 use Rattle.sieve_check.specs.declared.names.Capability.{Capability}
-use Rattle.sieve_check.specs.Causes.{refused_for}
-use Rattle.sieve_check.specs.Names.{command_named}
-use Rattle.sieve_check.specs.Refusing.{AreNoted, lacks_as}
-use Rattle.sieve_check.specs.Rules.{capability_arguments, command_needs, lacking_causes, strings_of, unknown_causes}
-use Rattle.sieve_check.specs.Private.{arguments_of}
-use Rattle.sieve_check.proofs.FaultSteps.{lacks_known}
+use Rattle.sieve_check.specs.Causes.{Refused, refused_for}
+use Rattle.sieve_check.specs.Refusing.{AreNoted}
+use Rattle.sieve_check.specs.Rules.{capability_arguments, lacking_causes, lacks_by, mime_needs, strings_of, unknown_causes}
+use Rattle.sieve_check.specs.Private.{arguments_of, row_view}
+use Rattle.std.specs.Prelude.{option_map}
+use Rattle.sieve_check.proofs.Noting.{lacking_both}
 use Rattle.sieve_check.proofs.Visits.{both_noted}
 use Rattle.sieve_check.proofs.rules.refuse_lacks.Goals as goal
 
-pub returns-in-Some-command_named : goal.returns-in-Some-command_named
-returns-in-Some-command_named c =
+pub returns-in-Some : goal.returns-in-Some
+returns-in-Some c =
     let old = c.args.findings.now in
-    let between = c.refuse_lacking.new.self in
+    let first = c.refuse_lacking.new.self in
+    let between = c.refuse_lacking-in-Some.new.self in
     let new = c.refuse_arguments.new.self in
     let head = c.args.head.now in
     let args = arguments_of head in
     let required = c.args.required in
-    let name = c.in-Some-command_named.name in
+    let row = c.in-Some.row in
     let f = refused_for head.token head.name in
-    let lacking = lacking_causes required (command_needs name) in
-    let unknown = unknown_causes (strings_of (capability_arguments name args)) in
-    both_noted old between new (map f (lacks_as c.args.ending required head.name args)) (map f lacking) (map f unknown)
-    (ap (map f) (lacks_known c.args.ending c.in-Some.field-0 required head.name args name c.in-Some.is (sym (c.command_named.ensures ∙ ap command_named c.as_slice.ensures) ∙ c.in-Some-command_named.is))
-    ∙ map-append f lacking unknown)
-    (subst (λ (xs : List Capability). AreNoted old (map f (lacking_causes required xs)) between) c.command_needs.ensures c.refuse_lacking.ensures)
+    let mime = mime_needs row.signature args in
+    let own = lacking_causes required row.needs.now in
+    let with_mime = lacking_causes required mime in
+    let unknown = unknown_causes (strings_of (capability_arguments row.follows args)) in
+    let lacks = lacking_causes required (row.needs.now ++ mime) in
+    let is : map f (lacks_by required args (option_map row_view c.args.known_as.now)) ≡ map f lacks ++ map f unknown =
+        ap (λ known. map f (lacks_by required args (option_map row_view known))) c.in-Some.is ∙ map-append f lacks unknown in
+    both_noted old between new (map f (lacks_by required args (option_map row_view c.args.known_as.now))) (map f lacks) (map f unknown) is
+    (both_noted old first between (map f lacks) (map f own) (map f with_mime) (ap (map f) (lacking_both required row.needs.now mime) ∙ map-append f own with_mime)
+    c.refuse_lacking.ensures
+    (subst (λ (xs : List Capability). AreNoted first (map f (lacking_causes required xs)) between) c.mime_needs.ensures c.refuse_lacking-in-Some.ensures))
     (subst (λ (xs : List ArgumentTree). AreNoted between (map f (unknown_causes (strings_of xs))) new) c.capability_arguments.ensures c.refuse_arguments.ensures)
