@@ -3,12 +3,14 @@ ghost use Rattle.std.specs.Prelude.{◌≡◌, ◌-◌, ◌≤◌, length, take,
 ghost use Rattle.std.specs.Option.{option_map};
 ghost use Rattle.mime_params.specs.MediaValue.{value_named};
 ghost use Rattle.mime_tree.specs.PartTree.{body_of, default_below, without_params, default_media};
+ghost use Rattle.mime_tree.specs.TypeTexts.{AreTypeTexts};
 ghost use Rattle.mime_tree.specs.OpenParts.{boundary_inside, holds_message, part_read};
 
 use crate::error::MessageError;
 use crate::media::{
     DefaultType, encoding_of, is_plain, media_of, media_param, media_without_params,
 };
+use crate::type_texts::TypeTexts;
 use header_fields::Header;
 use mime_params::{MediaType, TransferEncoding};
 use octets::{Octets, is_word, trim_trailing_blanks};
@@ -29,6 +31,8 @@ pub(crate) struct Part<'a> {
     default: DefaultType,
     // Its media type without the parameters, which may be millions and are read where they are asked for.
     names: MediaType,
+    // Its long fields' types.
+    types: TypeTexts,
     encoding: TransferEncoding,
 }
 
@@ -51,9 +55,11 @@ impl<'a> Model for Part<'a> {
     } };
 
     ghost use Rattle.mime_tree.specs.PartTree.{without_params};
+    ghost use Rattle.mime_tree.specs.TypeTexts.{AreTypeTexts};
 
-    ghost invariant = { λ p. p.names ≡ without_params (media_or (default_media p.default)
-        (first_value (codes "Content-Type") p.header.fields)) };
+    ghost invariant = { λ p. (p.names ≡ without_params (media_or (default_media p.default)
+        (first_value (codes "Content-Type") p.header.fields)))
+        × AreTypeTexts p.header.fields p.types };
 }
 
 impl<'a> Part<'a> {
@@ -76,6 +82,7 @@ impl<'a> Part<'a> {
     {
         let header = Header::read(alloc, &rest[..header])?;
         let names = media_without_params(alloc, header.fields(), default)?;
+        let types = TypeTexts::read(alloc, header.fields())?;
         let encoding = encoding_of(alloc, header.fields())?;
         Ok(Part {
             depth,
@@ -85,6 +92,7 @@ impl<'a> Part<'a> {
             header,
             default,
             names,
+            types,
             encoding,
         })
     }
@@ -183,6 +191,13 @@ impl<'a> Part<'a> {
         ensures { result.now ≡ without_params self.now.media }
     {
         &self.names
+    }
+
+    /// The texts with the types of its long fields.
+    pub(crate) fn type_texts(&self) -> &TypeTexts
+        ensures { AreTypeTexts self.now.header.fields result.now }
+    {
+        &self.types
     }
 
     /// Its media type.

@@ -5,6 +5,7 @@ ghost use Rattle.octets.specs.Limits.{max_message};
 ghost use Rattle.mime_params.specs.MediaValue.{value_named};
 ghost use Rattle.mime_tree.specs.PartTree.{tree_of, body_of, without_params};
 ghost use Rattle.mime_tree.specs.Readable.{IsReadable, IsTree};
+ghost use Rattle.mime_tree.specs.TypeTexts.{AreTypeTexts};
 ghost use Rattle.mime_tree.specs.Refusals.{IsTreeRefusal};
 ghost use Rattle.mime_tree.specs.declared.error.MessageError.TheVariants.{MessageTooLarge};
 
@@ -12,6 +13,7 @@ use crate::MAX_MESSAGE;
 use crate::error::MessageError;
 use crate::part::Part;
 use crate::reader::message_parts;
+use crate::type_texts::TypeTexts;
 use header_fields::Header;
 use mime_params::{MediaType, TransferEncoding};
 use octets::Octets;
@@ -142,6 +144,14 @@ impl<'a> Tree<'a> {
             self.now part }
     {
         self.parts[part].media_param(alloc, name)
+    }
+
+    /// The texts that are kept with the types of a part's long fields.
+    pub fn type_texts(&self, part: usize) -> &TypeTexts
+        requires { part < length self.now }
+        ensures { HoldsAt (λ p. AreTypeTexts p.header.fields result.now) self.now part }
+    {
+        self.parts[part].type_texts()
     }
 
     /// How the body of a part is encoded: by its first Content-Transfer-Encoding, or 7bit (RFC 2045, section 6.1).
