@@ -11,6 +11,7 @@ ghost use Rattle.mime_tree.specs.declared.error.MessageError.TheVariants.{Messag
 
 use crate::MAX_MESSAGE;
 use crate::error::MessageError;
+use crate::media::DefaultType;
 use crate::part::Part;
 use crate::reader::message_parts;
 use crate::type_texts::TypeTexts;
@@ -27,6 +28,9 @@ use std::marker::Model;
 #[derive(Drop)]
 pub struct Tree<'a> {
     parts: Vec<Part<'a>>,
+    // The two types that parts without a Content-Type have.
+    text: MediaType,
+    message: MediaType,
 }
 
 impl<'a> Model for Tree<'a> {
@@ -38,7 +42,11 @@ impl<'a> Model for Tree<'a> {
 
     ghost view = { λ t. t.parts.items };
 
-    ghost invariant = { λ t. IsTree t.parts.items };
+    ghost use Rattle.std.specs.Prelude.{◌≡◌};
+    ghost use Rattle.mime_tree.specs.PartTree.{text_plain, message_rfc822};
+
+    ghost invariant = { λ t. IsTree t.parts.items × (t.text ≡ text_plain)
+        × (t.message ≡ message_rfc822) };
 }
 
 impl<'a> Tree<'a> {
@@ -56,7 +64,11 @@ impl<'a> Tree<'a> {
             return Err(MessageError::MessageTooLarge);
         }
         let parts = message_parts(alloc, octets)?;
-        Ok(Tree { parts })
+        Ok(Tree {
+            parts,
+            text: DefaultType::Text.media(alloc)?,
+            message: DefaultType::Message.media(alloc)?,
+        })
     }
 
     /// The number of its parts: 1 to [`MAX_PARTS`].
@@ -125,7 +137,7 @@ impl<'a> Tree<'a> {
         requires { part < length self.now }
         ensures { HoldsAt (λ p. result.now ≡ without_params p.media) self.now part }
     {
-        self.parts[part].media_without_params()
+        self.parts[part].media_without_params(&self.text, &self.message)
     }
 
     /// The value of the first parameter of this name, without ASCII case, that a part's media type has. No other is kept.
