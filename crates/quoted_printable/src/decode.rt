@@ -51,6 +51,9 @@ fn append_line(content: &[u8], line_break: &[u8], out: &mut Vec<u8>) -> Result<(
         ++ decoded_line record { content = content.now; break = line_break.now }) }
     ensures more { Extends out.old.items out.new.items }
 {
+    if content.is_empty() {
+        return out.extend_from_slice(line_break);
+    }
     let kept = trim_trailing_blanks(content);
     if ends_in_equals(kept) {
         let (before, _) = kept.split_at(kept.len() - 1);
