@@ -1,5 +1,5 @@
 // A field of a header.
-ghost use Rattle.std.specs.Prelude.{◌≡◌, ◌↔◌, false, IsTrue, IfOk, IsOk, length};
+ghost use Rattle.std.specs.Prelude.{◌≡◌, ◌↔◌, ◌≤◌, false, IsTrue, IfOk, IsOk, length};
 ghost use Rattle.std.specs.Cow.{cow_slice_items, IsBorrowedSlice};
 ghost use Rattle.octets.specs.Ascii.{EqualIgnoringCase};
 ghost use Rattle.octets.specs.Blank.{without_outer_blanks, without_trailing_blanks};
@@ -44,6 +44,14 @@ impl<'a> Field<'a> {
         ensures { result.now ≡ self.now.name }
     {
         self.lines.split_at(name_length(self.lines)).0
+    }
+
+    /// How many octets its lines have, its name and the breaks between them counted: no fewer than its value has. It is known
+    /// without a look at them.
+    pub fn extent(&self) -> usize
+        ensures { length self.now.value ≤ result }
+    {
+        self.lines.len()
     }
 }
 

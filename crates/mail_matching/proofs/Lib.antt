@@ -7,3 +7,4 @@ pub mod Scopes
 pub mod TenCaptures
 pub mod AskedFor
 pub mod TypeTexts
+pub mod Typing

@@ -9,6 +9,7 @@ ghost use Rattle.mail_matching.specs.HeaderTests.{headers_in_scope};
 ghost use Rattle.mail_matching.specs.Selection.{scope_of};
 
 use crate::selection::Reach;
+use crate::typed::TypedFields;
 use bytecode_format::Scope;
 use header_fields::Field;
 use mime_decode::Message;
@@ -66,6 +67,16 @@ impl<'a, 'm> Headers<'a, 'm> {
         ensures { result.now ≡ slice_index_or self.now place [] }
     {
         self.message.tree().header(self.first + place).fields()
+    }
+
+    /// The same with what is kept of their types.
+    pub(crate) fn typed(&self, place: usize) -> TypedFields<'a, 'm>
+        requires { place < length self.now }
+        ensures { result ≡ slice_index_or self.now place [] }
+    {
+        let tree = self.message.tree();
+        let part = self.first + place;
+        TypedFields::new(tree.header(part).fields(), tree.type_texts(part))
     }
 }
 

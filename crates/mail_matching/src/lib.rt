@@ -22,6 +22,7 @@ mod reading;
 mod selection;
 mod string_test;
 mod texts;
+mod typed;
 
 pub use existence::exists;
 pub use header_test::header;

@@ -18,6 +18,7 @@ use crate::existence::is_named;
 use crate::outcome::Outcome;
 use crate::reading::{content_type_of, main_of, params_in, sub_of, type_text};
 use crate::texts::Texts;
+use crate::typed::{TypedField, TypedFields};
 use bytecode_format::Selector;
 use glob_match::Match;
 use header_fields::{Field, unfold, unfolded_length};
@@ -46,7 +47,7 @@ impl<'m> Progress<'m> {
     pub(crate) fn take_header<N: Texts, P: Texts, K: Texts>(
         &mut self,
         alloc: Global,
-        fields: &[Field<'m>],
+        fields: &TypedFields<'_, 'm>,
         names: &N,
         test: &Comparison<'_, P, K>,
     ) -> Result<(), AllocError>
@@ -75,7 +76,7 @@ impl<'m> Progress<'m> {
     fn take_named<P: Texts, K: Texts>(
         &mut self,
         alloc: Global,
-        fields: &[Field<'m>],
+        fields: &TypedFields<'_, 'm>,
         name: &[u8],
         test: &Comparison<'_, P, K>,
     ) -> Result<(), AllocError>
@@ -91,8 +92,8 @@ impl<'m> Progress<'m> {
         ensures told { test.now.selector ≡ Value → All (IsUnfolded name.now) fields.now
             → IsOk result }
     {
-        for field in fields {
-            self.take_where_named(alloc, field, name, test)?;
+        for place in 0..fields.count() {
+            self.take_where_named(alloc, &fields.at(place), name, test)?;
         }
         Ok(())
     }
@@ -101,7 +102,7 @@ impl<'m> Progress<'m> {
     fn take_where_named<P: Texts, K: Texts>(
         &mut self,
         alloc: Global,
-        field: &Field<'m>,
+        field: &TypedField<'_, 'm>,
         name: &[u8],
         test: &Comparison<'_, P, K>,
     ) -> Result<(), AllocError>
@@ -116,7 +117,7 @@ impl<'m> Progress<'m> {
             (field.now ∷ []) name.now) (K.texts test.now.keys.now) self.old self.new) }
         ensures told { test.now.selector ≡ Value → IsUnfolded name.now field.now → IsOk result }
     {
-        if is_named(field, name) {
+        if is_named(field.field(), name) {
             self.take_field(alloc, field, test)?;
         }
         Ok(())
@@ -126,7 +127,7 @@ impl<'m> Progress<'m> {
     fn take_field<P: Texts, K: Texts>(
         &mut self,
         alloc: Global,
-        field: &Field<'m>,
+        field: &TypedField<'_, 'm>,
         test: &Comparison<'_, P, K>,
     ) -> Result<(), AllocError>
         requires params { AreTexts (P.texts test.now.params.now) }
@@ -141,7 +142,7 @@ impl<'m> Progress<'m> {
         ensures told { test.now.selector ≡ Value → field.now.folded ≡ false → IsOk result }
     {
         match test.selector {
-            Selector::Value => self.take_value(alloc, field, test.keys, test.how),
+            Selector::Value => self.take_value(alloc, field.field(), test.keys, test.how),
             Selector::Main => {
                 let text = type_text(alloc, field)?;
                 self.take_lent(alloc, main_of(field, text.as_slice()), test.keys, test.how)
@@ -156,7 +157,7 @@ impl<'m> Progress<'m> {
                 self.take(alloc, &content_type, test.keys, test.how)
             }
             Selector::Param => {
-                let text = unfold(alloc, field)?;
+                let text = unfold(alloc, field.field())?;
                 self.take_params(alloc, field, text.as_slice(), test)
             }
         }
@@ -190,7 +191,7 @@ impl<'m> Progress<'m> {
     fn take_params<P: Texts, K: Texts>(
         &mut self,
         alloc: Global,
-        field: &Field<'m>,
+        field: &TypedField<'_, 'm>,
         value: &[u8],
         test: &Comparison<'_, P, K>,
     ) -> Result<(), AllocError>

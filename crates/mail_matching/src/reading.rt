@@ -4,40 +4,35 @@ ghost use Rattle.std.specs.Cow.{cow_slice_items};
 ghost use Rattle.mime_params.specs.MediaValue.{disposition_name, disposition_of, media_type_of, type_names};
 ghost use Rattle.octets.specs.Ascii.{is_word};
 ghost use Rattle.mime_decode.specs.Scope.{as_disposition, as_media, content_type_of, main_of, params_of, reading_of, sub_of};
-ghost use Rattle.mail_matching.specs.Readings.{IsTypeText};
+ghost use Rattle.mime_tree.specs.TypeTexts.{IsTypeText};
 
 use crate::existence::is_named;
+use crate::typed::TypedField;
 use header_fields::{Field, unfold, unfold_start};
 use mime_params::{
     LentParameters, disposition_name, settles_disposition, settles_type, type_names,
 };
+use mime_tree::TYPE_START;
 use std::alloc::{AllocError, Global};
 use std::borrow::CowSlice;
 
-/// How many octets of a folded value are unfolded at first, where its type is read: more than a type has that isn't made to take
-/// time.
-const TYPE_START: usize = 1024;
-
-/// How many times as many are unfolded then, where those don't settle the type.
-const TYPE_MORE: usize = 16;
-
-/// Where more than so many octets don't, all are unfolded.
-const LONGEST_START: usize = 4_194_304;
-
-/// A text that the field's type is read in: a beginning of its value that settles it, or the whole of it; an empty one if the
-/// field is none of the two that have a type.
+/// A text that the field's type is read in: the short one that is kept of a long field, a beginning of its value that settles it, or
+/// the whole of it; an empty one if the field is none of the two that have a type.
 ///
 /// An error comes only where memory was refused.
 pub(crate) fn type_text<'a>(
     alloc: Global,
-    field: &Field<'a>,
+    field: &TypedField<'a, '_>,
 ) -> Result<CowSlice<'a, u8>, AllocError>
     ensures { IfOk result (λ text. IsTypeText field.now (cow_slice_items text)) }
 {
+    if let Some(text) = field.type_text() {
+        return Ok(CowSlice::Borrowed(text));
+    }
     if is_content_type(field) {
-        media_text(alloc, field)
+        media_text(alloc, field.field())
     } else if is_content_disposition(field) {
-        disposition_text(alloc, field)
+        disposition_text(alloc, field.field())
     } else {
         Ok(CowSlice::Borrowed(b""))
     }
@@ -47,13 +42,9 @@ pub(crate) fn type_text<'a>(
 fn media_text<'a>(alloc: Global, field: &Field<'a>) -> Result<CowSlice<'a, u8>, AllocError>
     ensures { IfOk result (λ text. type_names (cow_slice_items text) ≡ type_names field.now.value) }
 {
-    let mut most = TYPE_START;
-    'starts: while most <= LONGEST_START {
-        let start = unfold_start(alloc, field, most)?;
-        if settles_type(start.as_slice()) {
-            return Ok(start);
-        }
-        most *= TYPE_MORE;
+    let start = unfold_start(alloc, field, TYPE_START)?;
+    if settles_type(start.as_slice()) {
+        return Ok(start);
     }
     Ok(unfold(alloc, field)?)
 }
@@ -63,19 +54,15 @@ fn disposition_text<'a>(alloc: Global, field: &Field<'a>) -> Result<CowSlice<'a,
     ensures { IfOk result (λ text. disposition_name (cow_slice_items text)
         ≡ disposition_name field.now.value) }
 {
-    let mut most = TYPE_START;
-    'starts: while most <= LONGEST_START {
-        let start = unfold_start(alloc, field, most)?;
-        if settles_disposition(start.as_slice()) {
-            return Ok(start);
-        }
-        most *= TYPE_MORE;
+    let start = unfold_start(alloc, field, TYPE_START)?;
+    if settles_disposition(start.as_slice()) {
+        return Ok(start);
     }
     Ok(unfold(alloc, field)?)
 }
 
 /// The type, or the disposition, that stands in the text; an empty one where there is none.
-pub(crate) fn main_of<'t>(field: &Field, text: &'t [u8]) -> &'t [u8]
+pub(crate) fn main_of<'t>(field: &TypedField, text: &'t [u8]) -> &'t [u8]
     requires { IsTypeText field.now text.now }
     ensures { result.now ≡ main_of (reading_of field.now) }
 {
@@ -89,7 +76,7 @@ pub(crate) fn main_of<'t>(field: &Field, text: &'t [u8]) -> &'t [u8]
 }
 
 /// The subtype that stands in the text; an empty one where there is none.
-pub(crate) fn sub_of<'t>(field: &Field, text: &'t [u8]) -> &'t [u8]
+pub(crate) fn sub_of<'t>(field: &TypedField, text: &'t [u8]) -> &'t [u8]
     requires { IsTypeText field.now text.now }
     ensures { result.now ≡ sub_of (reading_of field.now) }
 {
@@ -104,7 +91,7 @@ pub(crate) fn sub_of<'t>(field: &Field, text: &'t [u8]) -> &'t [u8]
 /// An error comes only where memory was refused.
 pub(crate) fn content_type_of<'v>(
     alloc: Global,
-    field: &Field,
+    field: &TypedField,
     text: &[u8],
 ) -> Result<CowSlice<'v, u8>, AllocError>
     requires { IsTypeText field.now text.now }
@@ -119,7 +106,7 @@ pub(crate) fn content_type_of<'v>(
 }
 
 /// The parameters of the field's value.
-pub(crate) fn params_in<'v>(field: &Field, value: &'v [u8]) -> LentParameters<'v>
+pub(crate) fn params_in<'v>(field: &TypedField, value: &'v [u8]) -> LentParameters<'v>
     requires { value.now ≡ field.now.value }
     ensures { result ≡ params_of (reading_of field.now) }
 {
@@ -173,14 +160,14 @@ fn disposition_in(text: &[u8]) -> &[u8]
     disposition_name(text).unwrap_or(b"")
 }
 
-fn is_content_type(field: &Field) -> bool
+fn is_content_type(field: &TypedField) -> bool
     ensures { result ≡ is_word field.now.name (codes "Content-Type") }
 {
-    is_named(field, b"Content-Type")
+    is_named(field.field(), b"Content-Type")
 }
 
-fn is_content_disposition(field: &Field) -> bool
+fn is_content_disposition(field: &TypedField) -> bool
     ensures { result ≡ is_word field.now.name (codes "Content-Disposition") }
 {
-    is_named(field, b"Content-Disposition")
+    is_named(field.field(), b"Content-Disposition")
 }

@@ -1,4 +1,4 @@
--- A body that is fed line by line.
+-- A body in base64, which is fed line by line.
 use Rattle.std.proofs.Common.{◌≡◌, ℕ, ◌+◌, ◌-◌, ◌<◌, ◌≤◌, List, [], ◌∷◌, ◌++◌, length, drop, sym, ap, ◌∙◌, arith, append-nil}
 use Rattle.std.specs.List.{slice_range}
 use Rattle.std.proofs.lemmas.List.{append_assoc, drop-drop, nil_from_length, length-drop, take-append-drop}
@@ -6,8 +6,6 @@ use Rattle.octet_lanes.specs.Encoding.{octets_of}
 use Rattle.lanes_base64_mime.specs.MimeBase64.{mime_decoding_of}
 use Rattle.lanes_base64_mime.specs.Pieces.{Kept, bits_with, kept_with, nothing_kept}
 use Rattle.lanes_base64_mime.proofs.Pieces.{mime_octets_of, octets_in_turn-joined}
-use Rattle.quoted_printable.specs.Pieces.{HasFed}
-use Rattle.quoted_printable.specs.QuotedPrintable.{decoding_of}
 
 -- what is left of a text is a piece of it and what is left then
 left_in_two : (text : List ℕ) (place start stop : ℕ) → start ≡ place → start ≤ stop → drop place text ≡ slice_range text start stop ++ drop stop text
@@ -19,8 +17,6 @@ left_in_two text place start stop at forward =
 
 none_left : (text : List ℕ) (place : ℕ) → place ≡ length text → drop place text ≡ []
 none_left text place ended = nil_from_length (drop place text) (omega (arith, length-drop place text))
-
--- ---- base64
 
 -- the octets of what is kept and of a text in two
 bits_in_two : (kept : Kept) (piece rest : List ℕ) → length kept.bits < 8
@@ -58,24 +54,4 @@ base64_ended text octets kept whole place ended few so_far =
     sym (append-nil octets)
     ∙ ap (λ r. octets ++ r) (octets_in_turn-joined [] kept few)
     ∙ ap (λ t. octets ++ octets_of (bits_with kept t)) (sym (none_left text place ended))
-    ∙ so_far
-
--- ---- quoted-printable
-
-pub qp_fed : (text octets new held left whole : List ℕ) (place start stop : ℕ) → start ≡ place → start ≤ stop → HasFed held (slice_range text start stop) left octets new
-    → octets ++ decoding_of (held ++ drop place text) ≡ whole → new ++ decoding_of (left ++ drop stop text) ≡ whole
-qp_fed text octets new held left whole place start stop at forward fed so_far =
-    let piece = slice_range text start stop in
-    let rest = drop stop text in
-    ap (λ n. n ++ decoding_of (left ++ rest)) fed.appended
-    ∙ append_assoc octets fed.more (decoding_of (left ++ rest))
-    ∙ ap (λ r. octets ++ r) (sym (fed.stands rest))
-    ∙ ap (λ t. octets ++ decoding_of t) (append_assoc held piece rest ∙ ap (λ t. held ++ t) (sym (left_in_two text place start stop at forward)))
-    ∙ so_far
-
-pub qp_ended : (text octets new held whole : List ℕ) (place : ℕ) → place ≡ length text → new ≡ octets ++ decoding_of held
-    → octets ++ decoding_of (held ++ drop place text) ≡ whole → new ≡ whole
-qp_ended text octets new held whole place ended finished so_far =
-    finished
-    ∙ ap (λ t. octets ++ decoding_of t) (sym (append-nil held) ∙ ap (λ t. held ++ t) (sym (none_left text place ended)))
     ∙ so_far

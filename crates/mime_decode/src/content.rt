@@ -8,7 +8,7 @@ ghost use Rattle.mime_decode.specs.Content.{content_of, digest_of, is_decoded};
 use hex::encode_to_slice;
 use lanes_base64_mime::{Decoder, decoding_room};
 use mime_params::TransferEncoding;
-use quoted_printable::QpDecoder;
+use quoted_printable::decode_qp;
 use sha2::{Digest, Sha256};
 use std::alloc::{AllocError, Global};
 use std::borrow::CowSlice;
@@ -27,7 +27,7 @@ pub(crate) fn decoded<'a>(
 {
     match encoding {
         TransferEncoding::Base64 => Ok(CowSlice::Owned(decoded_base64(alloc, body)?)),
-        TransferEncoding::QuotedPrintable => Ok(CowSlice::Owned(decoded_qp(alloc, body)?)),
+        TransferEncoding::QuotedPrintable => Ok(CowSlice::Owned(decode_qp(alloc, body)?)),
         TransferEncoding::SevenBit
         | TransferEncoding::EightBit
         | TransferEncoding::Binary
@@ -45,19 +45,6 @@ fn decoded_base64(alloc: Global, body: &[u8]) -> Result<Vec<u8>, AllocError>
         decoder.feed(&body[line.start..line.stop], &mut octets)?;
     }
     decoder.finish();
-    Ok(octets)
-}
-
-// The same in quoted-printable, of which no text stands for more octets than it has.
-fn decoded_qp(alloc: Global, body: &[u8]) -> Result<Vec<u8>, AllocError>
-    ensures { IfOk result (λ octets. octets.items ≡ decoding_of body.now) }
-{
-    let mut octets = Vec::with_capacity(alloc, body.len())?;
-    let mut decoder = QpDecoder::new(alloc);
-    for line in Lines::new(body) {
-        decoder.feed(&body[line.start..line.stop], &mut octets)?;
-    }
-    decoder.finish(&mut octets)?;
     Ok(octets)
 }
 

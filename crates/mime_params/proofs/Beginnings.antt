@@ -123,15 +123,15 @@ ends_none text is some = λ more.
 -- ---- types
 
 -- the names alone
-abbrev sub_named : Word → Option Word → Option (List ℕ × List ℕ)
+abbrev pub sub_named : Word → Option Word → Option (List ℕ × List ℕ)
 sub_named main None = None
 sub_named main (Some sub) = Some (main.octets, sub.octets)
 
-abbrev slash_named : Word → Option (List ℕ) → Option (List ℕ × List ℕ)
+abbrev pub slash_named : Word → Option (List ℕ) → Option (List ℕ × List ℕ)
 slash_named main None = None
 slash_named main (Some after) = sub_named main (token (after_gap after))
 
-abbrev named : Option Word → Option (List ℕ × List ℕ)
+abbrev pub named : Option Word → Option (List ℕ × List ℕ)
 named None = None
 named (Some main) = slash_named main (after_octet 47 (after_gap main.rest))
 
@@ -150,7 +150,7 @@ mains_are : (o : Option Word)
 mains_are None = refl
 mains_are (Some main) = slashes_are main (after_octet 47 (after_gap main.rest))
 
-names_are : (text : List ℕ) → type_names text ≡ named (token (after_gap text))
+pub names_are : (text : List ℕ) → type_names text ≡ named (token (after_gap text))
 unfolding media_type_of
 names_are text = mains_are (token (after_gap text))
 
@@ -203,7 +203,7 @@ dispositions_are : (o : Option Word) → option_map (λ (disposition : Dispositi
 dispositions_are None = refl
 dispositions_are (Some main) = refl
 
-name_is : (text : List ℕ) → disposition_name text ≡ option_map (λ (w : Word). w.octets) (token (after_gap text))
+pub name_is : (text : List ℕ) → disposition_name text ≡ option_map (λ (w : Word). w.octets) (token (after_gap text))
 unfolding disposition_of
 name_is text = dispositions_are (token (after_gap text))
 

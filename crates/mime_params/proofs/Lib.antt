@@ -1,3 +1,4 @@
 pub mod Beginnings
 pub mod Gaps
 pub mod Lists
+pub mod Naming

@@ -7,6 +7,7 @@
 //! A value may have millions of parameters. [`type_names`] and [`disposition_name`] read none of them, [`type_param`] and
 //! [`disposition_param`] keep one alone; [`LentParameters`] gives them one after the other, as they are written.
 //! Of a long value the beginning may be enough: [`settles_type`] and [`settles_disposition`] say whether it is.
+//! [`type_text`] and [`disposition_text`] give a short text that has the same type.
 #![tactic(auto)]
 
 mod beginning;
@@ -16,6 +17,7 @@ mod lent;
 mod lookup;
 mod media;
 mod params;
+mod short_text;
 mod words;
 
 pub use beginning::{settles_disposition, settles_type};
@@ -26,3 +28,4 @@ pub use media::{
     type_names, type_param,
 };
 pub use params::{Parameter, Params, param, parameters_of};
+pub use short_text::{disposition_text, type_text};

@@ -16,3 +16,4 @@ pub mod Quiet
 pub mod Ranges
 pub mod Runs
 pub mod Together
+pub mod Typing

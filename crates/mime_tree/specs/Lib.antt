@@ -1,5 +1,7 @@
 pub mod PartTree
 pub mod Readable
+-- the types of long fields
+pub mod TypeTexts
 pub mod Refusals
 -- where parts stand
 pub mod Order

@@ -15,9 +15,11 @@ mod part;
 mod reader;
 mod run;
 mod tree;
+mod type_texts;
 
 pub use error::MessageError;
 pub use tree::Tree;
+pub use type_texts::{TypeText, TypeTexts};
 
 /// The most octets of a message.
 pub const MAX_MESSAGE: usize = 67_108_864;
@@ -27,3 +29,7 @@ pub const MAX_PARTS: usize = 4096;
 
 /// The greatest depth of a part, the message's own being 1.
 pub const MAX_DEPTH: usize = 32;
+
+/// How many octets of a field are read for its type wherever that is asked for; where they don't settle it, a short text with it is
+/// kept.
+pub const TYPE_START: usize = 128;

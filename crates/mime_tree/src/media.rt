@@ -1,6 +1,6 @@
 // The media type and the encoding of a part, by its header.
 ghost use Rattle.std.specs.Prelude.{◌≡◌, [], IfOk, IfErr, codes};
-ghost use Rattle.std.specs.Option.{option_map};
+ghost use Rattle.std.specs.Option.{option_map, unwrap_or};
 ghost use Rattle.std.specs.Cow.{cow_slice_items};
 ghost use Rattle.octets.specs.Ascii.{is_word};
 ghost use Rattle.header_fields.specs.Fields.{first_value};
@@ -25,14 +25,42 @@ pub(crate) enum DefaultType {
 }
 
 impl DefaultType {
-    // The media type.
-    fn media(self, alloc: Global) -> Result<MediaType, AllocError>
+    /// The media type.
+    ///
+    /// An error comes only where memory was refused.
+    pub(crate) fn media(self, alloc: Global) -> Result<MediaType, AllocError>
         ensures { IfOk result (λ media. media ≡ default_media self) }
     {
         match self {
             DefaultType::Text => without_params(alloc, b"text", b"plain"),
             DefaultType::Message => without_params(alloc, b"message", b"rfc822"),
         }
+    }
+}
+
+/// The type of a part that has this one, or else its default.
+pub(crate) fn main_of(names: &Option<MediaType>, default: DefaultType) -> &[u8]
+    ensures { result.now ≡ (unwrap_or names.now (default_media default)).main }
+{
+    match names {
+        Some(media) => media.main.as_slice(),
+        None => match default {
+            DefaultType::Text => b"text",
+            DefaultType::Message => b"message",
+        },
+    }
+}
+
+/// The same of the subtype.
+pub(crate) fn sub_of(names: &Option<MediaType>, default: DefaultType) -> &[u8]
+    ensures { result.now ≡ (unwrap_or names.now (default_media default)).sub }
+{
+    match names {
+        Some(media) => media.sub.as_slice(),
+        None => match default {
+            DefaultType::Text => b"plain",
+            DefaultType::Message => b"rfc822",
+        },
     }
 }
 
@@ -67,21 +95,23 @@ pub(crate) fn media_of(
     }
 }
 
-/// That media type without its parameters, which aren't read.
+/// That media type without its parameters, which aren't read; nothing where the default stands, since no field gives another.
+///
+/// An error comes only where memory was refused.
 pub(crate) fn media_without_params(
     alloc: Global,
     fields: &[Field],
-    default: DefaultType,
-) -> Result<MediaType, AllocError>
-    ensures { IfOk result (λ media. media ≡ without_params (media_or (default_media default)
+) -> Result<Option<MediaType>, AllocError>
+    ensures { IfOk result (λ media. (default : DefaultType) → unwrap_or media (default_media default)
+        ≡ without_params (media_or (default_media default)
         (first_value (codes "Content-Type") fields.now))) }
 {
     let Some(value) = first_value(alloc, fields, b"Content-Type")? else {
-        return default.media(alloc);
+        return Ok(None);
     };
     match type_names(value.as_slice()) {
-        Some((main, sub)) => without_params(alloc, main, sub),
-        None => DefaultType::Text.media(alloc),
+        Some((main, sub)) => Ok(Some(without_params(alloc, main, sub)?)),
+        None => Ok(Some(DefaultType::Text.media(alloc)?)),
     }
 }
 

@@ -2,13 +2,16 @@
 ghost use Rattle.std.specs.Prelude.{◌≡◌, ◌-◌, ◌≤◌, length, take, IfOk, IfErr};
 ghost use Rattle.std.specs.Option.{option_map};
 ghost use Rattle.mime_params.specs.MediaValue.{value_named};
-ghost use Rattle.mime_tree.specs.PartTree.{body_of, default_below, without_params, default_media};
+ghost use Rattle.mime_tree.specs.PartTree.{body_of, default_below, without_params, default_media, message_rfc822, text_plain};
+ghost use Rattle.mime_tree.specs.TypeTexts.{AreTypeTexts};
 ghost use Rattle.mime_tree.specs.OpenParts.{boundary_inside, holds_message, part_read};
 
 use crate::error::MessageError;
 use crate::media::{
-    DefaultType, encoding_of, is_plain, media_of, media_param, media_without_params,
+    DefaultType, encoding_of, is_plain, main_of, media_of, media_param, media_without_params,
+    sub_of,
 };
+use crate::type_texts::TypeTexts;
 use header_fields::Header;
 use mime_params::{MediaType, TransferEncoding};
 use octets::{Octets, is_word, trim_trailing_blanks};
@@ -27,8 +30,11 @@ pub(crate) struct Part<'a> {
     header: Header<'a>,
     // The type that it has without a Content-Type.
     default: DefaultType,
-    // Its media type without the parameters, which may be millions and are read where they are asked for.
-    names: MediaType,
+    // Its media type without the parameters, which may be millions and are read where they are asked for. Where it is the default,
+    // nothing is kept.
+    names: Option<MediaType>,
+    // Its long fields' types.
+    types: TypeTexts,
     encoding: TransferEncoding,
 }
 
@@ -51,9 +57,12 @@ impl<'a> Model for Part<'a> {
     } };
 
     ghost use Rattle.mime_tree.specs.PartTree.{without_params};
+    ghost use Rattle.mime_tree.specs.TypeTexts.{AreTypeTexts};
+    ghost use Rattle.std.specs.Option.{unwrap_or};
 
-    ghost invariant = { λ p. p.names ≡ without_params (media_or (default_media p.default)
-        (first_value (codes "Content-Type") p.header.fields)) };
+    ghost invariant = { λ p. (unwrap_or p.names (default_media p.default) ≡ without_params (media_or (default_media p.default)
+        (first_value (codes "Content-Type") p.header.fields)))
+        × AreTypeTexts p.header.fields p.types };
 }
 
 impl<'a> Part<'a> {
@@ -75,7 +84,8 @@ impl<'a> Part<'a> {
         ensures refused { IfErr result (λ e. e ≡ MessageError.Memory) }
     {
         let header = Header::read(alloc, &rest[..header])?;
-        let names = media_without_params(alloc, header.fields(), default)?;
+        let names = media_without_params(alloc, header.fields())?;
+        let types = TypeTexts::read(alloc, header.fields())?;
         let encoding = encoding_of(alloc, header.fields())?;
         Ok(Part {
             depth,
@@ -85,6 +95,7 @@ impl<'a> Part<'a> {
             header,
             default,
             names,
+            types,
             encoding,
         })
     }
@@ -121,7 +132,7 @@ impl<'a> Part<'a> {
         ensures { IfOk result (λ boundary. option_map (λ v. v.items) boundary
             ≡ boundary_inside self.now) }
     {
-        if !is_plain(self.encoding) || !is_word(self.names.main.as_slice(), b"multipart") {
+        if !is_plain(self.encoding) || !is_word(self.main(), b"multipart") {
             return Ok(None);
         }
         let Some(value) = self.media_param(alloc, b"boundary")? else {
@@ -139,17 +150,15 @@ impl<'a> Part<'a> {
         ensures { result ≡ holds_message self.now }
     {
         is_plain(self.encoding)
-            && is_word(self.names.main.as_slice(), b"message")
-            && is_word(self.names.sub.as_slice(), b"rfc822")
+            && is_word(self.main(), b"message")
+            && is_word(self.sub(), b"rfc822")
     }
 
     /// The media type of a child of it that has no Content-Type.
     pub(crate) fn default_below(&self) -> DefaultType
         ensures { default_media result ≡ default_below self.now.media }
     {
-        if is_word(self.names.main.as_slice(), b"multipart")
-            && is_word(self.names.sub.as_slice(), b"digest")
-        {
+        if is_word(self.main(), b"multipart") && is_word(self.sub(), b"digest") {
             DefaultType::Message
         } else {
             DefaultType::Text
@@ -178,11 +187,44 @@ impl<'a> Part<'a> {
         &self.header
     }
 
-    /// Its media type without the parameters.
-    pub(crate) fn media_without_params(&self) -> &MediaType
+    /// Its media type without the parameters: what its header gives, or one of these two, which a part without a Content-Type has.
+    pub(crate) fn media_without_params<'s>(
+        &'s self,
+        text: &'s MediaType,
+        message: &'s MediaType,
+    ) -> &'s MediaType
+        requires text { text.now ≡ text_plain }
+        requires message { message.now ≡ message_rfc822 }
         ensures { result.now ≡ without_params self.now.media }
     {
-        &self.names
+        match &self.names {
+            Some(media) => media,
+            None => match self.default {
+                DefaultType::Text => text,
+                DefaultType::Message => message,
+            },
+        }
+    }
+
+    // Its type.
+    fn main(&self) -> &[u8]
+        ensures { result.now ≡ self.now.media.main }
+    {
+        main_of(&self.names, self.default)
+    }
+
+    // Its subtype.
+    fn sub(&self) -> &[u8]
+        ensures { result.now ≡ self.now.media.sub }
+    {
+        sub_of(&self.names, self.default)
+    }
+
+    /// The texts with the types of its long fields.
+    pub(crate) fn type_texts(&self) -> &TypeTexts
+        ensures { AreTypeTexts self.now.header.fields result.now }
+    {
+        &self.types
     }
 
     /// Its media type.

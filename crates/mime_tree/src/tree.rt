@@ -5,13 +5,16 @@ ghost use Rattle.octets.specs.Limits.{max_message};
 ghost use Rattle.mime_params.specs.MediaValue.{value_named};
 ghost use Rattle.mime_tree.specs.PartTree.{tree_of, body_of, without_params};
 ghost use Rattle.mime_tree.specs.Readable.{IsReadable, IsTree};
+ghost use Rattle.mime_tree.specs.TypeTexts.{AreTypeTexts};
 ghost use Rattle.mime_tree.specs.Refusals.{IsTreeRefusal};
 ghost use Rattle.mime_tree.specs.declared.error.MessageError.TheVariants.{MessageTooLarge};
 
 use crate::MAX_MESSAGE;
 use crate::error::MessageError;
+use crate::media::DefaultType;
 use crate::part::Part;
 use crate::reader::message_parts;
+use crate::type_texts::TypeTexts;
 use header_fields::Header;
 use mime_params::{MediaType, TransferEncoding};
 use octets::Octets;
@@ -25,6 +28,9 @@ use std::marker::Model;
 #[derive(Drop)]
 pub struct Tree<'a> {
     parts: Vec<Part<'a>>,
+    // The two types that parts without a Content-Type have.
+    text: MediaType,
+    message: MediaType,
 }
 
 impl<'a> Model for Tree<'a> {
@@ -36,7 +42,11 @@ impl<'a> Model for Tree<'a> {
 
     ghost view = { λ t. t.parts.items };
 
-    ghost invariant = { λ t. IsTree t.parts.items };
+    ghost use Rattle.std.specs.Prelude.{◌≡◌};
+    ghost use Rattle.mime_tree.specs.PartTree.{text_plain, message_rfc822};
+
+    ghost invariant = { λ t. IsTree t.parts.items × (t.text ≡ text_plain)
+        × (t.message ≡ message_rfc822) };
 }
 
 impl<'a> Tree<'a> {
@@ -54,7 +64,11 @@ impl<'a> Tree<'a> {
             return Err(MessageError::MessageTooLarge);
         }
         let parts = message_parts(alloc, octets)?;
-        Ok(Tree { parts })
+        Ok(Tree {
+            parts,
+            text: DefaultType::Text.media(alloc)?,
+            message: DefaultType::Message.media(alloc)?,
+        })
     }
 
     /// The number of its parts: 1 to [`MAX_PARTS`].
@@ -123,7 +137,7 @@ impl<'a> Tree<'a> {
         requires { part < length self.now }
         ensures { HoldsAt (λ p. result.now ≡ without_params p.media) self.now part }
     {
-        self.parts[part].media_without_params()
+        self.parts[part].media_without_params(&self.text, &self.message)
     }
 
     /// The value of the first parameter of this name, without ASCII case, that a part's media type has. No other is kept.
@@ -142,6 +156,14 @@ impl<'a> Tree<'a> {
             self.now part }
     {
         self.parts[part].media_param(alloc, name)
+    }
+
+    /// The texts that are kept with the types of a part's long fields.
+    pub fn type_texts(&self, part: usize) -> &TypeTexts
+        requires { part < length self.now }
+        ensures { HoldsAt (λ p. AreTypeTexts p.header.fields result.now) self.now part }
+    {
+        self.parts[part].type_texts()
     }
 
     /// How the body of a part is encoded: by its first Content-Transfer-Encoding, or 7bit (RFC 2045, section 6.1).

@@ -122,16 +122,6 @@ has_fed held piece left was now kept extends reads =
       kept = kept;
     }
 
--- a text in one piece
-pub fed_whole : (held text left was now last : List ℕ) → held ≡ [] → was ≡ [] → HasFed held text left was now → last ≡ now ++ decoding_of left → last ≡ decoding_of text
-fed_whole held text left was now last start none fed e =
-    e
-    ∙ ap (λ l. l ++ decoding_of left) (fed.appended ∙ ap (λ l. l ++ fed.more) none)
-    ∙ ap (λ l. fed.more ++ decoding_of l) (sym (append-nil left))
-    ∙ sym (fed.stands [])
-    ∙ ap (λ l. decoding_of (l ++ text ++ [])) start
-    ∙ ap decoding_of (append-nil text)
-
 pub ok_fed : {T E : Type 0} (r : Result T E) (held kept piece left was now : List ℕ) → held ≡ kept → OnOk r (is_held left ≡ true) → Extends was now → OnOk r (Reads was (kept ++ piece) now left)
     → OnOk r (HasFed held piece left was now)
 ok_fed (Ok x) held kept piece left was now same is extends reads =

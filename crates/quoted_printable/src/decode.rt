@@ -4,7 +4,6 @@ ghost use Rattle.text_lines.specs.Lines.{text_line};
 ghost use Rattle.quoted_printable.specs.Private.{AreFor, Extends, Decodes};
 ghost use Rattle.quoted_printable.specs.QuotedPrintable.{decoded_line, decoding_of, ends_in_equals, unescaped};
 
-use crate::decoder::QpDecoder;
 use memchr::memchr;
 use octets::{octet_of_digits, trim_trailing_blanks};
 use std::alloc::{AllocError, Global};
@@ -19,7 +18,7 @@ pub(crate) const STRETCH: usize = 32;
 ///
 /// SP and TAB at the end of a line or of the text are deleted. Then `=` with two hexadecimal digits of either case is the
 /// octet of that value, `=` at the end of a line goes together with the line's break, and any other `=` is literal. All
-/// else stays as it stands, line breaks too.
+/// else stays as it stands, line breaks too. No octet is kept aside, however many blanks a line has.
 ///
 /// # Errors
 ///
@@ -28,9 +27,7 @@ pub fn decode_qp(alloc: Global, text: &[u8]) -> Result<Vec<u8>, AllocError>
     ensures { IfOk result (λ octets. octets.items ≡ decoding_of text.now) }
 {
     let mut out = Vec::with_capacity(alloc, text.len())?;
-    let mut decoder = QpDecoder::new(alloc);
-    decoder.feed(text, &mut out)?;
-    decoder.finish(&mut out)?;
+    append_decoding(text, &mut out)?;
     Ok(out)
 }
 
@@ -54,6 +51,9 @@ fn append_line(content: &[u8], line_break: &[u8], out: &mut Vec<u8>) -> Result<(
         ++ decoded_line record { content = content.now; break = line_break.now }) }
     ensures more { Extends out.old.items out.new.items }
 {
+    if content.is_empty() {
+        return out.extend_from_slice(line_break);
+    }
     let kept = trim_trailing_blanks(content);
     if ends_in_equals(kept) {
         let (before, _) = kept.split_at(kept.len() - 1);

@@ -6,5 +6,5 @@ use Rattle.mail_matching.proofs.reading.disposition_text.Goals as goal
 
 pub returns-then-settles_disposition : goal.returns-then-settles_disposition
 returns-then-settles_disposition c =
-    settled_name c.starts.most c.args.field.now.value (cow_slice_items c.in_ok-start.start) c.in_ok-start.ensures.start
+    settled_name 128 c.args.field.now.value (cow_slice_items c.in_ok-start.start) c.in_ok-start.ensures.start
     (subst SettlesDisposition c.as_slice.ensures.value (c.settles_disposition.ensures c.if-settles_disposition.true))

@@ -1,4 +1,4 @@
-use Rattle.std.proofs.Common.{sym, ap, arith, subst}
+use Rattle.std.proofs.Common.{◌<◌, sym, ap, arith, length, subst}
 use Rattle.std.proofs.lemmas.Bool.{false≢true}
 use Rattle.mail_matching.specs.HeaderTests.{IsUnfolded}
 use Rattle.mail_matching.specs.Costs.{extent_of}
@@ -13,18 +13,20 @@ take_where_named-requires-clause-room g c =
     let selector = selector_of c.args.test.now.selector (g.P.Texts.texts c.args.test.now.params.now) in
     let name = c.args.name.now in
     let fields = c.args.fields.now in
+    let lt : c.loop-place.place < length fields = omega (arith, c.loop-place-test.true, c.count-place-end.ensures) in
     omega (
       arith,
       c.requires.room,
-      c.loop-field.invariant.extent,
+      c.loop-place.invariant.extent,
       ap extent_of (named_each selector name fields),
-      values_room (where_named selector name) fields c.loop-field.field-index c.field-item.result c.field-item.result c.loop-field-test.true c.field-item.is,
+      values_room (where_named selector name) fields c.loop-place.place c.at.result c.at.result lt c.at.ensures,
     )
 
-pub loop-field-preserved : goal.loop-field-preserved
-loop-field-preserved g c =
+pub loop-place-preserved : goal.loop-place-preserved
+loop-place-preserved g c =
     let selector = selector_of c.args.test.now.selector (g.P.Texts.texts c.args.test.now.params.now) in
-    goes_on_more c.args.test.now.how (g.K.Texts.texts c.args.test.now.keys.now) (where_named selector c.args.name.now) c.args.fields.now c.loop-field.field-index c.field-item.result c.field-item.result c.args.self.now c.loop-field.self c.take_where_named.new.self c.loop-field-test.true c.field-item.is c.loop-field.invariant c.in_ok-take_where_named.ensures.goes
+    let lt : c.loop-place.place < length c.args.fields.now = omega (arith, c.loop-place-test.true, c.count-place-end.ensures) in
+    goes_on_more c.args.test.now.how (g.K.Texts.texts c.args.test.now.keys.now) (where_named selector c.args.name.now) c.args.fields.now c.loop-place.place c.at.result c.at.result c.args.self.now c.loop-place.self c.take_where_named.new.self lt c.at.ensures c.loop-place.invariant c.in_ok-take_where_named.ensures.goes
 
 pub returns-clause-goes : goal.returns-clause-goes
 returns-clause-goes g c =
@@ -33,10 +35,11 @@ returns-clause-goes g c =
     let fields = c.args.fields.now in
     let how = c.args.test.now.how in
     let keys = g.K.Texts.texts c.args.test.now.keys.now in
-    subst (λ values. GoesOn how values keys c.args.self.now c.loop-field.self) (sym (named_each selector name fields))
-    (goes_on_all how keys (where_named selector name) fields c.loop-field.field-index c.args.self.now c.loop-field.self (omega (arith, c.loop-field-test.false)) c.loop-field.invariant)
+    subst (λ values. GoesOn how values keys c.args.self.now c.loop-place.self) (sym (named_each selector name fields))
+    (goes_on_all how keys (where_named selector name) fields c.loop-place.place c.args.self.now c.loop-place.self (omega (arith, c.loop-place-test.false, c.count-place-end.ensures)) c.loop-place.invariant)
 
 pub returns-in_err-take_where_named-clause-told : goal.returns-in_err-take_where_named-clause-told
 returns-in_err-take_where_named-clause-told g c = λ value plain.
+    let lt : c.loop-place.place < length c.args.fields.now = omega (arith, c.loop-place-test.true, c.count-place-end.ensures) in
     absurd (false≢true (c.in_err-take_where_named.ensures.told value
-    (subst (IsUnfolded c.args.name.now) (sym c.field-item.is) (plain c.loop-field.field-index c.field-item.result c.loop-field-test.true))))
+    (subst (IsUnfolded c.args.name.now) (sym c.at.ensures) (plain c.loop-place.place c.at.result lt))))

@@ -4,11 +4,11 @@ use Rattle.mail_matching.specs.Selection.{selector_of}
 use Rattle.mail_matching.proofs.Extents.{where_named}
 use Rattle.mail_matching.proofs.progress.Progress.take_named.Given as goal
 
-abbrev pub invariant-loop-field : goal.invariant-loop-field
-invariant-loop-field g l =
+abbrev pub invariant-loop-place : goal.invariant-loop-place
+invariant-loop-place g l =
     GoesOn
     l.test.how
-    (flat_map (where_named (selector_of l.test.selector (g.P.Texts.texts l.test.params.now)) l.name) (take l.field-index l.fields))
+    (flat_map (where_named (selector_of l.test.selector (g.P.Texts.texts l.test.params.now)) l.name) (take l.place l.fields))
     (g.K.Texts.texts l.test.keys.now)
     l.initial.self
     l.self
