@@ -1,3 +1,4 @@
+pub mod Accounting
 pub mod Joining
 pub mod MeaningLemmas
 pub mod Shapes

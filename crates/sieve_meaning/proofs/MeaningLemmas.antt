@@ -29,7 +29,7 @@ use Rattle.sieve_meaning.proofs.Shapes.{form_for_every_part}
 pub does_if : (mail : Mail) (part : Option ℕ) (c : Command) (branches : Vec Branch) (last : Option (Vec Command)) → c ≡ If branches last → (e : Effects) → command_does mail part (command_form c) e ≡ choice_does mail part (branch_forms branches.items (else_form last)) e
 does_if mail part c branches last is e = ap (λ f. command_does mail part f e) (ap command_form is ∙ form_if branches last)
 
-first_branch : (bs : List Branch) (i : ℕ) (b : Branch) (last : BranchForms) → i < length bs → b ≡ get_or bs i b → branch_forms (drop i bs) last ≡ branch (test_form b.test) (commands_form b.block.items) b.at (branch_forms (drop (i + 1) bs) last)
+pub first_branch : (bs : List Branch) (i : ℕ) (b : Branch) (last : BranchForms) → i < length bs → b ≡ get_or bs i b → branch_forms (drop i bs) last ≡ branch (test_form b.test) (commands_form b.block.items) b.at (branch_forms (drop (i + 1) bs) last)
 first_branch bs i b last lt is =
     let split : drop i bs ≡ get_or bs i b ∷ drop (i + 1) bs = drop-cons bs i b lt ∙ ap (λ n. get_or bs i b ∷ drop n bs) (sym (add-one i)) in
     ap (λ x. branch_forms x last) split
@@ -40,10 +40,10 @@ first_branch bs i b last lt is =
 split : {A : Type 0} (xs : List A) (i : ℕ) (x : A) → i < length xs → x ≡ get_or xs i x → drop i xs ≡ x ∷ drop (i + 1) xs
 split xs i x lt is = drop-cons xs i x lt ∙ ap (λ n. get_or xs i x ∷ drop n xs) (sym (add-one i)) ∙ ap (λ y. y ∷ drop (i + 1) xs) (sym is)
 
-first_test : (ts : List Test) (i : ℕ) (t : Test) → i < length ts → t ≡ get_or ts i t → tests_of (map test_form (drop i ts)) ≡ test (test_form t) (tests_of (map test_form (drop (i + 1) ts)))
+pub first_test : (ts : List Test) (i : ℕ) (t : Test) → i < length ts → t ≡ get_or ts i t → tests_of (map test_form (drop i ts)) ≡ test (test_form t) (tests_of (map test_form (drop (i + 1) ts)))
 first_test ts i t lt is = ap (λ xs. tests_of (map test_form xs)) (split ts i t lt is)
 
-first_command : (cs : List Command) (i : ℕ) (c : Command) → i < length cs → c ≡ get_or cs i c → commands_form (drop i cs) ≡ command (command_form c) (commands_form (drop (i + 1) cs))
+pub first_command : (cs : List Command) (i : ℕ) (c : Command) → i < length cs → c ≡ get_or cs i c → commands_form (drop i cs) ≡ command (command_form c) (commands_form (drop (i + 1) cs))
 first_command cs i c lt is = ap (λ xs. commands_form xs) (split cs i c lt is)
 
 -- what is left is within the limits
@@ -85,7 +85,7 @@ passed mail part bs i b last value m f lt is gives false_here =
     (v.effects, gives.1, sym (ap (λ x. choice_does mail part x f) (first_branch bs i b last lt is) ∙ step))
 
 -- after a command that goes on
-goes_on : (x : Ending) (flow : Flow) (m : Evaluator) → flow ≡ GoesOn → StandsAt x flow m → (f : Effects) × HasEvaluated f m × (x ≡ normal f)
+pub goes_on : (x : Ending) (flow : Flow) (m : Evaluator) → flow ≡ GoesOn → StandsAt x flow m → (f : Effects) × HasEvaluated f m × (x ≡ normal f)
 goes_on (normal f) GoesOn m e h = (f, h, refl)
 goes_on (normal f) Stopped m e h = absurd h
 goes_on (broken n f) GoesOn m e h = absurd h
@@ -105,7 +105,7 @@ commands_on mail part cs i c flow m f lt is h on =
     (next.0, next.1, sym (ap (λ x. commands_do mail part x f) (first_command cs i c lt is) ∙ step))
 
 -- after a command that doesn't
-stays : (x : Ending) (flow : Flow) (m : Evaluator) (next : Effects → Ending) → (flow ≡ GoesOn → ⊥) → StandsAt x flow m → StandsAt (followed_by x next) flow m
+pub stays : (x : Ending) (flow : Flow) (m : Evaluator) (next : Effects → Ending) → (flow ≡ GoesOn → ⊥) → StandsAt x flow m → StandsAt (followed_by x next) flow m
 stays (normal f) GoesOn m next off h = absurd (off refl)
 stays (normal f) Stopped m next off h = absurd h
 stays (normal f) (Leaves n) m next off h = absurd h
@@ -163,7 +163,7 @@ pub does_loop : (mail : Mail) (part : Option ℕ) (c : Command) (block : Vec Com
 does_loop mail part c block at is e = ap (λ f. command_does mail part f e) (ap command_form is ∙ form_for_every_part block at)
 
 -- the first of the parts that are left, and those after it
-next_number : (number last : ℕ) → number < last → numbers_from number (last - number) ≡ number ∷ numbers_from (number + 1) (last - (number + 1))
+pub next_number : (number last : ℕ) → number < last → numbers_from number (last - number) ≡ number ∷ numbers_from (number + 1) (last - (number + 1))
 next_number number last lt =
     let some : last - number ≡ suc (last - (number + 1)) = omega (arith, lt) in
     let next : suc number ≡ number + 1 = omega arith in
@@ -181,7 +181,7 @@ turn_on turn number last f flow m lt h on =
     (next.0, next.1, sym (first_turn turn number last f lt ∙ ap (λ x. after_turn x (λ e. turns turn (numbers_from (number + 1) (last - (number + 1))) e)) next.2))
 
 -- a turn that stops the script
-stopped_at : (x : Ending) (next : Effects → Ending) (m : Evaluator) → StandsAt x Stopped m → StandsAt (after_turn x next) Stopped m
+pub stopped_at : (x : Ending) (next : Effects → Ending) (m : Evaluator) → StandsAt x Stopped m → StandsAt (after_turn x next) Stopped m
 stopped_at (normal e) next m h = absurd h
 stopped_at (broken n e) next m h = absurd h
 stopped_at (stopped e) next m h = h
@@ -201,7 +201,7 @@ left_on loops e m h = elim (cases_Bool (nat_lt 1 loops)) [
   | inr last ↦ rw last h
 ]
 
-left_at : (x : Ending) (next : Effects → Ending) (loops : ℕ) (m : Evaluator) → StandsAt x (Leaves loops) m → StandsAt (after_turn x next) (left_flow loops) m
+pub left_at : (x : Ending) (next : Effects → Ending) (loops : ℕ) (m : Evaluator) → StandsAt x (Leaves loops) m → StandsAt (after_turn x next) (left_flow loops) m
 left_at (normal e) next loops m h = absurd h
 left_at (stopped e) next loops m h = absurd h
 left_at (broken n e) next loops m h = subst (λ k. StandsAt (left k e) (left_flow loops) m) h.0 (left_on loops e m h.1)

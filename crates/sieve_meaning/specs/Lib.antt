@@ -1,4 +1,6 @@
 pub mod Meaning
--- private: how the code goes; no public contract names these
+-- the meaning, told event by event
+pub mod Traced
+-- how the evaluator's fields stand for what a script has done: for whoever evaluates step by step
 pub mod Values
 pub mod Evaluation

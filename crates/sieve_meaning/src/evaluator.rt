@@ -30,14 +30,16 @@ pub enum Flow {
     Leaves(usize),
 }
 
-// How a loop ends that is left.
-fn left(loops: usize) -> Flow
-    ensures { result ≡ (if nat_lt 1 loops then Leaves (loops - 1) else GoesOn) }
-{
-    if loops > 1 {
-        Flow::Leaves(loops - 1)
-    } else {
-        Flow::GoesOn
+impl Flow {
+    /// How a loop ends from which so many are left, itself the first.
+    pub fn left(loops: usize) -> Flow
+        ensures { result ≡ (if nat_lt 1 loops then Leaves (loops - 1) else GoesOn) }
+    {
+        if loops > 1 {
+            Flow::Leaves(loops - 1)
+        } else {
+            Flow::GoesOn
+        }
     }
 }
 
@@ -133,8 +135,10 @@ impl<'s, 'm> Evaluator<'s, 'm> {
         Ok(())
     }
 
-    // Does what the action does with its string, expanded.
-    fn act(
+    /// Does what the action does with its string, expanded.
+    ///
+    /// An error comes only where memory was refused.
+    pub fn act(
         &mut self,
         alloc: Global,
         act: &'s Act,
@@ -181,7 +185,7 @@ impl<'s, 'm> Evaluator<'s, 'm> {
             match self.commands(alloc, block, subject.at(part))? {
                 Flow::GoesOn => {}
                 Flow::Stopped => return Ok(Flow::Stopped),
-                Flow::Leaves(loops) => return Ok(left(loops)),
+                Flow::Leaves(loops) => return Ok(Flow::left(loops)),
             }
         }
         Ok(Flow::GoesOn)

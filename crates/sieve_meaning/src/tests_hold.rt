@@ -97,8 +97,10 @@ impl<'s, 'm> Evaluator<'s, 'm> {
         Ok(false)
     }
 
-    // Whether what a simple test asks is true. A match may set captures.
-    fn asks(
+    /// Whether what a simple test asks is true. A match may set captures.
+    ///
+    /// An error comes only where memory was refused.
+    pub fn asks(
         &mut self,
         alloc: Global,
         question: Question,
