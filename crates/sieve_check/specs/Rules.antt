@@ -53,7 +53,7 @@ abbrev pub is_mime_tag : ArgumentTree → Bool
 is_mime_tag (label name) = is_mime (tag_named name)
 is_mime_tag _ = false
 
--- `:mime` may_stand somewhere among the arguments
+-- `:mime` stands somewhere among the arguments
 abbrev pub mime_where_given : List ArgumentTree → List Capability
 mime_where_given args = if list_any is_mime_tag args then capability.Mime ∷ [] else []
 
