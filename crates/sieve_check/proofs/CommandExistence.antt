@@ -21,7 +21,7 @@ use Rattle.sieve_check.specs.declared.typed.Act.TheVariants as act
 use Rattle.sieve_check.specs.Acts.{act_row, act_strings}
 use Rattle.sieve_check.specs.Bounded.{IsBoundedString, IsBoundedAct, IsBoundedCommand, AreBoundedCommands, AreBoundedBranches, IsCommandIn, AreCommandsIn, AreBranchesIn}
 use Rattle.sieve_check.specs.FormOf.{InnerForms, none, one, template_of, most_of, PartForm, action, with_text, setting_in, taking_in, act_of, action_at, simple_of, block_of, Forms, closed, closed_by, after_none, put}
-use Rattle.sieve_check.specs.Rules.{ending_cause, expanding, may_stand, mentions_by, needs_of, opened_by, same_tests, strings_of}
+use Rattle.sieve_check.specs.Rules.{ending_cause, may_stand, mentions_by, needs_of, opened_by, same_tests, strings_of}
 use Rattle.sieve_check.specs.Rows.{command_row}
 use Rattle.sieve_check.specs.declared.table.Place.TheVariants.{ToLeave}
 use Rattle.sieve_check.specs.declared.table.Role.TheVariants.{Expanded, NameThenValue, NameAlone}

@@ -1,7 +1,6 @@
 -- A script of which nothing is wrong has a typed form, which is within the limits.
 use Rattle.std.proofs.Common.{◌≡◌, ℕ, ◌≤◌, true, false, not, nat_lt, List, [], ◌∷◌, ◌++◌, length, bytes_eq, Option, Some, None, option_map, refl, sym, ap, subst, ◌∙◌, if◌then◌else◌}
 use Rattle.std.specs.List.{list_any}
-use Rattle.std.specs.Option.{option_and_then}
 use Rattle.std.proofs.lemmas.Option.{same_Some}
 use Rattle.octets.specs.Limits.{max_loops, max_variables}
 use Rattle.octets.specs.Once.{each_once}
@@ -20,8 +19,7 @@ use Rattle.sieve_check.specs.declared.table.Follows.{Follows}
 use Rattle.sieve_check.specs.declared.table.Follows.TheVariants.{Requires}
 use Rattle.sieve_check.specs.Names.{command_known, command_named}
 use Rattle.sieve_check.specs.Rows.{Row, command_row}
-use Rattle.sieve_check.specs.Arguments.{arguments_cause, reading}
-use Rattle.sieve_check.specs.Causes.{plain}
+use Rattle.sieve_check.specs.Arguments.{reading}
 use Rattle.sieve_check.specs.Rules.{after_invocation, cause_of, command_visits, commands_visits, ending_cause, fault_of, invocation_of, kind_of, known_cause, loops_by, loops_opened, looks_inside, may_stand, mentions_by, mentions_of, mentions_read, names_by, names_mentioned, needs_of, opened_by, past_invocation, past_swallowed, past_tests, same_tests, strings_of, takes_tests, tests_visits, visits_of, where_required}
 use Rattle.sieve_check.specs.Signatures.{◌>>=◌, is_positional, command_signature}
 use Rattle.sieve_check.specs.Surroundings.{Loop, Context, first_lacking, at_start, in_block, inside, opens_many, followed, following}
@@ -31,7 +29,7 @@ use Rattle.sieve_check.proofs.Extent.{form_fits}
 use Rattle.sieve_check.proofs.Faultless.{AreFaultless, faultless_both, names_brought, none_refused, few_in_script, unrefused}
 use Rattle.sieve_check.proofs.Lists.{expands, has_long_string, is_large, read_short}
 use Rattle.sieve_check.proofs.OpenLoops.{room_inside}
-use Rattle.sieve_check.proofs.Options.{all_taken, both_none, map_none, if_none, unless_none}
+use Rattle.sieve_check.proofs.Options.{all_taken}
 use Rattle.sieve_check.proofs.Templates.{mentioned_at}
 use Rattle.sieve_check.proofs.TestExistence.{both_names, known, names_found, WellFormed, row_well_formed, none_large, inner_variables, Inner, inner_exists, all_looked_at}
 use Rattle.sieve_check.proofs.CommandExistence.{AreWithin, forms_variables, Goes, along, shut, own_names, simple_goes, block_goes}

@@ -10,7 +10,6 @@ use Rattle.octets.specs.Limits.{max_variables}
 use Rattle.octets.specs.Once.{with_more}
 use Rattle.sieve_references.specs.References.{Segment, beyond, foreign, segments, is_identifier}
 use Rattle.sieve_parser.specs.Tree.{ArgumentTree, label, InvocationTree, invocation, TestsTree, no_test, one_test, test_list, MoreTests, last, next, CommandTree, simple, block, CommandsTree, no_command, command}
-use Rattle.sieve_check.specs.declared.causes.ReasonKind.{ReasonKind}
 use Rattle.sieve_check.specs.declared.causes.ReasonKind.TheVariants as reasons
 use Rattle.sieve_check.specs.declared.error.CheckError.{CheckError}
 use Rattle.sieve_check.specs.declared.error.Fault.{Fault}
@@ -24,7 +23,7 @@ use Rattle.sieve_check.specs.declared.signature.Positional.{Positional}
 use Rattle.sieve_check.specs.declared.signature.Signature.{Signature}
 use Rattle.sieve_check.specs.declared.signature.Tags.{Tags}
 use Rattle.sieve_check.specs.declared.signature.Tests.{Tests}
-use Rattle.sieve_check.specs.declared.string_faults.StringFault.TheVariants.{Unknown, Long, Wrong, Large}
+use Rattle.sieve_check.specs.declared.string_flaws.StringFlaw.TheVariants.{Unknown, Long, Wrong, Large}
 use Rattle.sieve_check.specs.declared.surroundings.Capabilities.{Capabilities}
 use Rattle.sieve_check.specs.Arguments.{Awaiting, arguments_read, awaiting, expected, first_label, is_second_modifier, missing_cause, number_of, positional_cause, rest_read, sound}
 use Rattle.sieve_check.specs.Causes.{Cause, Refused, about, fault_of_kind, plain, refusal_for}

@@ -1,5 +1,5 @@
 -- Strings and lists of arguments, of which nothing is wrong.
-use Rattle.std.proofs.Common.{◌≡◌, ℕ, ◌+◌, ◌<◌, ◌≤◌, Bool, true, false, ◌||◌, nat_lt, List, [], ◌∷◌, ◌++◌, length, take, drop, map, All, Option, Some, None, option_map, refl, sym, ap, subst, ◌∙◌, arith, length-append, inl, inr}
+use Rattle.std.proofs.Common.{◌≡◌, ℕ, ◌<◌, ◌≤◌, Bool, true, false, ◌||◌, nat_lt, List, [], ◌∷◌, ◌++◌, length, take, drop, map, All, Option, Some, None, option_map, refl, sym, ap, subst, ◌∙◌, arith, length-append, inl, inr}
 use Rattle.std.specs.Prelude.{flat_map}
 use Rattle.std.specs.List.{list_any}
 use Rattle.std.proofs.lemmas.Bool.{ltb-false}
@@ -12,7 +12,7 @@ use Rattle.sieve_references.specs.References.{segments}
 use Rattle.sieve_parser.specs.Tree.{ArgumentTree, text, text_list}
 use Rattle.sieve_check.specs.declared.names.Capability.TheVariants.{Variables}
 use Rattle.sieve_check.specs.declared.names.Tag.{Tag}
-use Rattle.sieve_check.specs.declared.string_faults.StringFault.TheVariants.{Long}
+use Rattle.sieve_check.specs.declared.string_flaws.StringFlaw.TheVariants.{Long}
 use Rattle.sieve_check.specs.declared.signature.Positional.TheVariants as positional
 use Rattle.sieve_check.specs.declared.signature.Signature.{Signature}
 use Rattle.sieve_check.specs.Bounded.{IsBoundedString, IsAsTaken, AreBoundedStrings}

@@ -9,7 +9,7 @@ use Rattle.sieve_parser.specs.View.{argument_tree}
 use Rattle.sieve_parser.specs.declared.tree.Argument.{Argument}
 use Rattle.sieve_check.specs.declared.causes.ReasonKind.TheVariants.{UnknownCapability}
 use Rattle.sieve_check.specs.declared.names.Capability.{Capability}
-use Rattle.sieve_check.specs.declared.string_faults.StringFault.TheVariants.{Unknown}
+use Rattle.sieve_check.specs.declared.string_flaws.StringFlaw.TheVariants.{Unknown}
 use Rattle.sieve_check.specs.declared.surroundings.Capabilities.{Capabilities}
 use Rattle.sieve_check.specs.Causes.{about, refused_for}
 use Rattle.sieve_check.specs.Rules.{lacking, lacking_cause, lacking_causes, string_has, strings_in, strings_of, unknown_causes}

@@ -20,7 +20,7 @@ use Rattle.sieve_check.specs.declared.typed.Takes.{Takes}
 use Rattle.bytecode_format.specs.declared.selection.Selector.{Selector}
 use Rattle.bytecode_format.specs.declared.selection.Selector.TheVariants.{Param}
 use Rattle.sieve_check.specs.declared.signature.Signature.{Signature}
-use Rattle.sieve_check.specs.declared.string_faults.StringFault.TheVariants.{Long}
+use Rattle.sieve_check.specs.declared.string_flaws.StringFlaw.TheVariants.{Long}
 use Rattle.sieve_check.specs.declared.signature.Tests.{Tests}
 use Rattle.sieve_check.specs.declared.signature.Tests.TheVariants.{Nothing, One, Bracketed}
 use Rattle.sieve_check.specs.Bounded.{IsBoundedTest, AreBoundedTests, IsTestIn, AreTestsIn}

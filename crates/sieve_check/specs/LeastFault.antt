@@ -13,7 +13,7 @@ use Rattle.sieve_check.specs.declared.names.Capability.{Capability}
 use Rattle.sieve_check.specs.declared.signature.Ending.{Ending}
 use Rattle.sieve_check.specs.declared.signature.Ending.TheVariants.{Semicolon, Block}
 use Rattle.sieve_check.specs.declared.signature.Tests.{Tests}
-use Rattle.sieve_check.specs.declared.string_faults.StringFault.TheVariants.{Unknown, Long, Wrong, Large}
+use Rattle.sieve_check.specs.declared.string_flaws.StringFlaw.TheVariants.{Unknown, Long, Wrong, Large}
 use Rattle.sieve_check.specs.declared.surroundings.Capabilities.{Capabilities}
 use Rattle.sieve_check.specs.Arguments.{reading}
 use Rattle.sieve_check.specs.Causes.{refusal}

@@ -3,6 +3,8 @@ use Rattle.sieve_check.specs.declared.causes.Cause.{Cause}
 use Rattle.sieve_check.specs.Causes as causes
 use Rattle.sieve_check.specs.Rows.{Row}
 use Rattle.sieve_check.specs.declared.table.Row as rows
+use Rattle.sieve_check.specs.TagRows.{TagRow}
+use Rattle.sieve_check.specs.declared.tag_table.TagRow as tags
 use Rattle.std.specs.Prelude.{List, map, Option, Some, None}
 use Rattle.sieve_parser.specs.Tree.{ArgumentTree}
 use Rattle.sieve_parser.specs.View.{argument_tree}
@@ -19,7 +21,21 @@ cause_view cause = record { kind = cause.kind; subject = cause.subject.now }
 
 -- what is known of a command or test, as the code holds it
 abbrev pub row_view : rows.Row → Row
-row_view row = record { word = row.word.now; needs = row.needs.now; signature = row.signature; ending = row.ending; place = row.place; role = row.role; counted = row.counted; opens = row.opens; follows = row.follows }
+row_view row = record {
+  word = row.word.now;
+  needs = row.needs.now;
+  signature = row.signature;
+  ending = row.ending;
+  place = row.place;
+  role = row.role;
+  counted = row.counted;
+  opens = row.opens;
+  follows = row.follows;
+}
+
+-- what is known of a tag, as the code holds it
+abbrev pub tag_view : tags.TagRow → TagRow
+tag_view row = record { word = row.word.now; family = row.family; waits = row.waits }
 
 abbrev pub arguments_of : Head → List ArgumentTree
 arguments_of head = map argument_tree head.arguments.items

@@ -1,5 +1,5 @@
 -- Private: what the functions answer that look for faults.
-use Rattle.std.specs.Prelude.{◌≡◌, ℕ, ◌<◌, Bool, true, false, List, [], ◌∷◌, ◌++◌, length, map, take, bytes_eq, Option, Some, None, Result, MatchOption, MatchResult}
+use Rattle.std.specs.Prelude.{◌≡◌, ℕ, ◌<◌, true, false, List, [], ◌∷◌, ◌++◌, length, map, take, bytes_eq, Option, Some, None, Result, MatchOption, MatchResult}
 use Rattle.std.specs.Borrow.{Bor}
 use Rattle.octets.specs.Ascii.{lowercase_of}
 use Rattle.octets.specs.Limits.{max_variables}

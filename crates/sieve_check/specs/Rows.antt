@@ -46,112 +46,284 @@ is_test (Some ending) = false
 
 -- no argument, and these tests
 abbrev pub bare : Tests → Signature
-bare after = record { order = false; matching = false; modifying = false; scoped = false; selecting = false; naming = false; limiting = false; positional = positional.Nothing; tests = after }
+bare after = record {
+  order = false;
+  matching = false;
+  modifying = false;
+  scoped = false;
+  selecting = false;
+  naming = false;
+  limiting = false;
+  positional = positional.Nothing;
+  tests = after;
+}
 
 abbrev pub command_row : CommandName → Row
 command_row Require = record {
-  word = codes "require"; needs = []; signature = record (bare tests.Nothing) { positional = positional.OneList };
-  ending = Some Semicolon; place = AtTop; role = AsWritten; counted = false; opens = false; follows = Requires;
+  word = codes "require";
+  needs = [];
+  signature = record (bare tests.Nothing) { positional = positional.OneList };
+  ending = Some Semicolon;
+  place = AtTop;
+  role = AsWritten;
+  counted = false;
+  opens = false;
+  follows = Requires;
 }
 command_row If = record {
-  word = codes "if"; needs = []; signature = bare tests.One;
-  ending = Some Block; place = Anywhere; role = Expanded; counted = false; opens = false; follows = Branches;
+  word = codes "if";
+  needs = [];
+  signature = bare tests.One;
+  ending = Some Block;
+  place = Anywhere;
+  role = Expanded;
+  counted = false;
+  opens = false;
+  follows = Branches;
 }
 command_row Elsif = record {
-  word = codes "elsif"; needs = []; signature = bare tests.One;
-  ending = Some Block; place = AfterIf; role = Expanded; counted = false; opens = false; follows = Branches;
+  word = codes "elsif";
+  needs = [];
+  signature = bare tests.One;
+  ending = Some Block;
+  place = AfterIf;
+  role = Expanded;
+  counted = false;
+  opens = false;
+  follows = Branches;
 }
 command_row Else = record {
-  word = codes "else"; needs = []; signature = bare tests.Nothing;
-  ending = Some Block; place = AfterIf; role = Expanded; counted = false; opens = false; follows = Others;
+  word = codes "else";
+  needs = [];
+  signature = bare tests.Nothing;
+  ending = Some Block;
+  place = AfterIf;
+  role = Expanded;
+  counted = false;
+  opens = false;
+  follows = Others;
 }
 command_row Stop = record {
-  word = codes "stop"; needs = []; signature = bare tests.Nothing;
-  ending = Some Semicolon; place = Anywhere; role = Expanded; counted = false; opens = false; follows = Others;
+  word = codes "stop";
+  needs = [];
+  signature = bare tests.Nothing;
+  ending = Some Semicolon;
+  place = Anywhere;
+  role = Expanded;
+  counted = false;
+  opens = false;
+  follows = Others;
 }
 command_row Keep = record {
-  word = codes "keep"; needs = []; signature = bare tests.Nothing;
-  ending = Some Semicolon; place = Anywhere; role = Expanded; counted = false; opens = false; follows = Others;
+  word = codes "keep";
+  needs = [];
+  signature = bare tests.Nothing;
+  ending = Some Semicolon;
+  place = Anywhere;
+  role = Expanded;
+  counted = false;
+  opens = false;
+  follows = Others;
 }
 command_row Discard = record {
-  word = codes "discard"; needs = []; signature = bare tests.Nothing;
-  ending = Some Semicolon; place = Anywhere; role = Expanded; counted = false; opens = false; follows = Others;
+  word = codes "discard";
+  needs = [];
+  signature = bare tests.Nothing;
+  ending = Some Semicolon;
+  place = Anywhere;
+  role = Expanded;
+  counted = false;
+  opens = false;
+  follows = Others;
 }
 command_row FileInto = record {
-  word = codes "fileinto"; needs = capability.FileInto ∷ []; signature = record (bare tests.Nothing) { positional = positional.Text };
-  ending = Some Semicolon; place = Anywhere; role = Expanded; counted = false; opens = false; follows = Others;
+  word = codes "fileinto";
+  needs = capability.FileInto ∷ [];
+  signature = record (bare tests.Nothing) { positional = positional.Text };
+  ending = Some Semicolon;
+  place = Anywhere;
+  role = Expanded;
+  counted = false;
+  opens = false;
+  follows = Others;
 }
 command_row Set = record {
-  word = codes "set"; needs = capability.Variables ∷ [];
+  word = codes "set";
+  needs = capability.Variables ∷ [];
   signature = record (bare tests.Nothing) { modifying = true; positional = positional.TwoTexts };
-  ending = Some Semicolon; place = Anywhere; role = NameThenValue; counted = false; opens = false; follows = Others;
+  ending = Some Semicolon;
+  place = Anywhere;
+  role = NameThenValue;
+  counted = false;
+  opens = false;
+  follows = Others;
 }
 command_row ForEveryPart = record {
-  word = codes "foreverypart"; needs = capability.ForEveryPart ∷ []; signature = record (bare tests.Nothing) { naming = true };
-  ending = Some Block; place = Anywhere; role = Expanded; counted = false; opens = true; follows = Others;
+  word = codes "foreverypart";
+  needs = capability.ForEveryPart ∷ [];
+  signature = record (bare tests.Nothing) { naming = true };
+  ending = Some Block;
+  place = Anywhere;
+  role = Expanded;
+  counted = false;
+  opens = true;
+  follows = Others;
 }
 command_row Break = record {
-  word = codes "break"; needs = capability.ForEveryPart ∷ []; signature = record (bare tests.Nothing) { naming = true };
-  ending = Some Semicolon; place = ToLeave; role = Expanded; counted = false; opens = false; follows = Others;
+  word = codes "break";
+  needs = capability.ForEveryPart ∷ [];
+  signature = record (bare tests.Nothing) { naming = true };
+  ending = Some Semicolon;
+  place = ToLeave;
+  role = Expanded;
+  counted = false;
+  opens = false;
+  follows = Others;
 }
 command_row Store = record {
-  word = codes "store"; needs = capability.Depot ∷ []; signature = record (bare tests.Nothing) { positional = positional.Text };
-  ending = Some Semicolon; place = InLoop; role = Expanded; counted = false; opens = false; follows = Others;
+  word = codes "store";
+  needs = capability.Depot ∷ [];
+  signature = record (bare tests.Nothing) { positional = positional.Text };
+  ending = Some Semicolon;
+  place = InLoop;
+  role = Expanded;
+  counted = false;
+  opens = false;
+  follows = Others;
 }
 command_row Take = record {
-  word = codes "take"; needs = capability.Variables ∷ capability.Depot ∷ [];
+  word = codes "take";
+  needs = capability.Variables ∷ capability.Depot ∷ [];
   signature = record (bare tests.Nothing) { limiting = true; positional = positional.Text };
-  ending = Some Semicolon; place = InLoop; role = NameAlone; counted = false; opens = false; follows = Others;
+  ending = Some Semicolon;
+  place = InLoop;
+  role = NameAlone;
+  counted = false;
+  opens = false;
+  follows = Others;
 }
 
 abbrev pub test_row : TestName → Row
 test_row (Constant b) = record {
-  word = if b then codes "true" else codes "false"; needs = []; signature = bare tests.Nothing;
-  ending = None; place = Anywhere; role = Expanded; counted = true; opens = false; follows = Others;
+  word = if b then codes "true" else codes "false";
+  needs = [];
+  signature = bare tests.Nothing;
+  ending = None;
+  place = Anywhere;
+  role = Expanded;
+  counted = true;
+  opens = false;
+  follows = Others;
 }
 test_row Not = record {
-  word = codes "not"; needs = []; signature = bare tests.One;
-  ending = None; place = Anywhere; role = Expanded; counted = true; opens = false; follows = Others;
+  word = codes "not";
+  needs = [];
+  signature = bare tests.One;
+  ending = None;
+  place = Anywhere;
+  role = Expanded;
+  counted = true;
+  opens = false;
+  follows = Others;
 }
 test_row AllOf = record {
-  word = codes "allof"; needs = []; signature = bare tests.Bracketed;
-  ending = None; place = Anywhere; role = Expanded; counted = true; opens = false; follows = Others;
+  word = codes "allof";
+  needs = [];
+  signature = bare tests.Bracketed;
+  ending = None;
+  place = Anywhere;
+  role = Expanded;
+  counted = true;
+  opens = false;
+  follows = Others;
 }
 test_row AnyOf = record {
-  word = codes "anyof"; needs = []; signature = bare tests.Bracketed;
-  ending = None; place = Anywhere; role = Expanded; counted = true; opens = false; follows = Others;
+  word = codes "anyof";
+  needs = [];
+  signature = bare tests.Bracketed;
+  ending = None;
+  place = Anywhere;
+  role = Expanded;
+  counted = true;
+  opens = false;
+  follows = Others;
 }
 test_row Header = record {
-  word = codes "header"; needs = [];
+  word = codes "header";
+  needs = [];
   signature = record (bare tests.Nothing) { matching = true; scoped = true; selecting = true; positional = positional.TwoLists };
-  ending = None; place = Anywhere; role = Expanded; counted = true; opens = false; follows = Others;
+  ending = None;
+  place = Anywhere;
+  role = Expanded;
+  counted = true;
+  opens = false;
+  follows = Others;
 }
 test_row Exists = record {
-  word = codes "exists"; needs = []; signature = record (bare tests.Nothing) { scoped = true; positional = positional.OneList };
-  ending = None; place = Anywhere; role = Expanded; counted = true; opens = false; follows = Others;
+  word = codes "exists";
+  needs = [];
+  signature = record (bare tests.Nothing) { scoped = true; positional = positional.OneList };
+  ending = None;
+  place = Anywhere;
+  role = Expanded;
+  counted = true;
+  opens = false;
+  follows = Others;
 }
 test_row Size = record {
-  word = codes "size"; needs = []; signature = record (bare tests.Nothing) { order = true; positional = positional.Number };
-  ending = None; place = Anywhere; role = Expanded; counted = true; opens = false; follows = Others;
+  word = codes "size";
+  needs = [];
+  signature = record (bare tests.Nothing) { order = true; positional = positional.Number };
+  ending = None;
+  place = Anywhere;
+  role = Expanded;
+  counted = true;
+  opens = false;
+  follows = Others;
 }
 test_row String = record {
-  word = codes "string"; needs = capability.Variables ∷ [];
+  word = codes "string";
+  needs = capability.Variables ∷ [];
   signature = record (bare tests.Nothing) { matching = true; positional = positional.TwoLists };
-  ending = None; place = Anywhere; role = Expanded; counted = true; opens = false; follows = Others;
+  ending = None;
+  place = Anywhere;
+  role = Expanded;
+  counted = true;
+  opens = false;
+  follows = Others;
 }
 test_row PartSize = record {
-  word = codes "partsize"; needs = capability.Depot ∷ [];
+  word = codes "partsize";
+  needs = capability.Depot ∷ [];
   signature = record (bare tests.Nothing) { order = true; positional = positional.Number };
-  ending = None; place = InLoop; role = Expanded; counted = true; opens = false; follows = Others;
+  ending = None;
+  place = InLoop;
+  role = Expanded;
+  counted = true;
+  opens = false;
+  follows = Others;
 }
 test_row PartBody = record {
-  word = codes "partbody"; needs = capability.Depot ∷ [];
+  word = codes "partbody";
+  needs = capability.Depot ∷ [];
   signature = record (bare tests.Nothing) { matching = true; positional = positional.OneList };
-  ending = None; place = InLoop; role = Expanded; counted = true; opens = false; follows = Others;
+  ending = None;
+  place = InLoop;
+  role = Expanded;
+  counted = true;
+  opens = false;
+  follows = Others;
 }
 test_row PartDigest = record {
-  word = codes "partdigest"; needs = capability.Depot ∷ []; signature = record (bare tests.Nothing) { positional = positional.OneList };
-  ending = None; place = InLoop; role = Expanded; counted = true; opens = false; follows = Others;
+  word = codes "partdigest";
+  needs = capability.Depot ∷ [];
+  signature = record (bare tests.Nothing) { positional = positional.OneList };
+  ending = None;
+  place = InLoop;
+  role = Expanded;
+  counted = true;
+  opens = false;
+  follows = Others;
 }
 
 -- all of them

@@ -12,8 +12,8 @@ use Rattle.sieve_check.specs.declared.causes.ReasonKind.TheVariants.{UnknownComm
 use Rattle.sieve_check.specs.declared.error.CheckError.{CheckError}
 use Rattle.sieve_check.specs.declared.names.Capability.{Capability}
 use Rattle.sieve_check.specs.declared.names.Capability.TheVariants as capability
-use Rattle.sieve_check.specs.declared.string_faults.StringFault.{StringFault}
-use Rattle.sieve_check.specs.declared.string_faults.StringFault.TheVariants.{Unknown, Long, Wrong, Large}
+use Rattle.sieve_check.specs.declared.string_flaws.StringFlaw.{StringFlaw}
+use Rattle.sieve_check.specs.declared.string_flaws.StringFlaw.TheVariants.{Unknown, Long, Wrong, Large}
 use Rattle.sieve_check.specs.declared.signature.Tests.{Tests}
 use Rattle.sieve_check.specs.declared.signature.Tests.TheVariants.{Nothing, One, Bracketed}
 use Rattle.sieve_check.specs.declared.signature.Ending.{Ending}
@@ -103,7 +103,7 @@ is_long _ = false
 
 -- what may be wrong with a string: it is no capability, or longer than the limit; as one that is
 -- expanded it has a wrong reference, or too many segments or too long a name
-abbrev pub string_has : StringFault → List ℕ → Bool
+abbrev pub string_has : StringFlaw → List ℕ → Bool
 string_has Unknown s = not (is_some (capability_named s))
 string_has Long s = nat_lt max_string (length s)
 string_has Wrong s = list_any is_wrong (segments s)

@@ -8,13 +8,16 @@ use Rattle.sieve_check.specs.declared.names.TestName.{TestName}
 use Rattle.sieve_check.specs.declared.names.Tag.{Tag}
 use Rattle.sieve_check.specs.declared.names.Tag.TheVariants.{Order, Kind, Comparator, Letters, FirstLetter, QuoteWildcard, Length, Mime, AnyChild, Select, Name, First}
 use Rattle.bytecode_format.specs.declared.selection.Selector.{Selector}
-use Rattle.bytecode_format.specs.declared.selection.Selector.TheVariants.{Value, Main, Sub, ContentType, Param}
+use Rattle.bytecode_format.specs.declared.selection.Selector.TheVariants.{Value, Param}
 use Rattle.sieve_check.specs.declared.signature.Positional.{Positional}
 use Rattle.sieve_check.specs.declared.signature.Positional.TheVariants as positional
 use Rattle.sieve_check.specs.declared.signature.Signature.{Signature}
 use Rattle.sieve_check.specs.declared.signature.Tags.{Tags}
 use Rattle.sieve_check.specs.Names.{comparator_named}
 use Rattle.sieve_check.specs.Rows.{command_row, test_row}
+use Rattle.sieve_check.specs.TagRows.{tag_row}
+use Rattle.sieve_check.specs.declared.tag_table.Family.{Family}
+use Rattle.sieve_check.specs.declared.tag_table.Family.TheVariants.{Ordering, Matching, Modifying, Scoping, Selecting, Naming, Limiting}
 
 infixl 10 ◌>>=◌
 abbrev pub ◌>>=◌ : {A B : Type 0} → Option A → (A → Option B) → Option B
@@ -53,20 +56,34 @@ abbrev pub selects : Selector → Bool
 selects Value = false
 selects _ = true
 
+-- tags of the family are taken
+abbrev pub offers : Signature → Family → Bool
+offers signature Ordering = signature.order
+offers signature Matching = signature.matching
+offers signature Modifying = signature.modifying
+offers signature Scoping = signature.scoped
+offers signature Selecting = signature.selecting
+offers signature Naming = signature.naming
+offers signature Limiting = signature.limiting
+
+-- the tag was given, or another of its group
+abbrev pub is_given : Tag → Tags → Bool
+is_given (Order order) tags = is_some tags.order
+is_given (Kind kind) tags = is_some tags.kind
+is_given Comparator tags = is_some tags.comparator
+is_given (Letters case) tags = is_some tags.modifiers.letters
+is_given (FirstLetter case) tags = is_some tags.modifiers.first
+is_given QuoteWildcard tags = tags.modifiers.quote_wildcard
+is_given Length tags = tags.modifiers.length
+is_given Mime tags = tags.mime
+is_given AnyChild tags = tags.any_child
+is_given (Select selector) tags = selects tags.selector
+is_given Name tags = tags.named
+is_given First tags = is_some tags.first
+
 -- the signature takes the tag, and none of its group was given
 abbrev pub takes_tag : Signature → Tag → Tags → Bool
-takes_tag signature (Order order) tags = signature.order && not (is_some tags.order)
-takes_tag signature (Kind kind) tags = signature.matching && not (is_some tags.kind)
-takes_tag signature Comparator tags = signature.matching && not (is_some tags.comparator)
-takes_tag signature (Letters case) tags = signature.modifying && not (is_some tags.modifiers.letters)
-takes_tag signature (FirstLetter case) tags = signature.modifying && not (is_some tags.modifiers.first)
-takes_tag signature QuoteWildcard tags = signature.modifying && not tags.modifiers.quote_wildcard
-takes_tag signature Length tags = signature.modifying && not tags.modifiers.length
-takes_tag signature Mime tags = signature.scoped && not tags.mime
-takes_tag signature AnyChild tags = signature.scoped && not tags.any_child
-takes_tag signature (Select selector) tags = signature.selecting && not (selects tags.selector)
-takes_tag signature Name tags = signature.naming && not tags.named
-takes_tag signature First tags = signature.limiting && not (is_some tags.first)
+takes_tag signature tag tags = offers signature (tag_row tag).family && not (is_given tag tags)
 
 -- with one more tag; what one with an argument says comes with that
 abbrev pub with_tag : Tag → Tags → Tags
@@ -91,22 +108,7 @@ add_tag signature tag given = option_map (λ tags. record given { tags = tags })
 
 -- the tag, if it takes an argument
 abbrev pub awaited : Tag → Option Tag
-awaited (Order order) = None
-awaited (Kind kind) = None
-awaited Comparator = Some Comparator
-awaited (Letters case) = None
-awaited (FirstLetter case) = None
-awaited QuoteWildcard = None
-awaited Length = None
-awaited Mime = None
-awaited AnyChild = None
-awaited (Select Value) = None
-awaited (Select Main) = None
-awaited (Select Sub) = None
-awaited (Select ContentType) = None
-awaited (Select Param) = Some (Select Param)
-awaited Name = Some Name
-awaited First = Some First
+awaited tag = if (tag_row tag).waits then Some tag else None
 
 -- one string, or one list of strings in square brackets
 abbrev pub is_list : ArgumentTree → Bool

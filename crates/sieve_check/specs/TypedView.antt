@@ -8,7 +8,6 @@ use Rattle.sieve_check.specs.declared.typed.Test.{Test}
 use Rattle.sieve_check.specs.declared.typed.Test.TheOpen.{Test-F, Asks, Not, AllOf, AnyOf}
 use Rattle.sieve_check.specs.declared.typed.Test.TheFolds.{fold-Test}
 use Rattle.sieve_check.specs.declared.typed.Command.{Command}
-use Rattle.sieve_check.specs.declared.typed.Branch.{Branch}
 use Rattle.sieve_check.specs.declared.typed.Command.TheOpen.{Command-F, Does, ForEveryPart, If, Branch-F}
 use Rattle.sieve_check.specs.declared.typed.Command.TheFolds.{fold-Command}
 

@@ -7,8 +7,9 @@ ghost use Rattle.sieve_check.specs.Reading.{FirstTag, Settles, name_in};
 ghost use Rattle.sieve_check.specs.Private.{cause_view};
 
 use crate::causes::{Cause, ReasonKind};
-use crate::names::{Tag, comparator_named, tag_named};
+use crate::names::{Tag, comparator_named};
 use crate::signature::{Positional, Reading, Signature, Tags, is_list};
+use crate::tag_table::tag_named;
 use bytecode_format::Selector;
 use sieve_parser::Argument;
 use std::slice;

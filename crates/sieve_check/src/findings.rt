@@ -5,7 +5,7 @@ ghost use Rattle.sieve_check.specs.Rules.{are_unknown, max_found, same_lack, sam
 
 use crate::causes::{Cause, ReasonKind, Refused};
 use crate::names::Capability;
-use crate::string_faults::StringFault;
+use crate::string_flaws::StringFlaw;
 use crate::surroundings::Capabilities;
 use crate::variable_names::VariableNames;
 use arrayvec::ArrayVec;
@@ -139,7 +139,7 @@ impl<'t> Findings<'t> {
         ensures { AreNoted self.old (map (refused_for head.now.token head.now.name)
             (unknown_causes (string.now ∷ []))) self.new }
     {
-        if StringFault::Unknown.is_in(string) {
+        if StringFlaw::Unknown.is_in(string) {
             self.refuse(
                 head,
                 Cause::about(ReasonKind::UnknownCapability, string.as_slice()),

@@ -10,11 +10,11 @@ ghost use Rattle.sieve_check.specs.TypedView.{commands_form, test_form};
 
 use crate::form_error::FormError;
 use crate::names::CommandName;
-use crate::table::{command_named, command_signature};
 use crate::sequence::{Part, Sequence};
 use crate::signature::{Reading, Tags};
 use crate::strings::template;
 use crate::surroundings::{Capabilities, Surroundings};
+use crate::table::{command_named, command_signature};
 use crate::test_forms::test;
 use crate::typed::{Act, Branch, Command, Segment, Test};
 use bytecode_format::Modifiers;

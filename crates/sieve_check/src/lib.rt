@@ -5,8 +5,12 @@
 //! one's kind ([`ReasonKind::fault`]). Each rule is a cause, and the first that holds of a command or test is named.
 //! What is wrong with arguments is said where they are read (`specs/Arguments`).
 //!
-//! What a script means, and its code, go by its typed form alone (`specs/Typed`), which `specs/FormOf` reads off the tree. What each
-//! command and test takes is a table in `specs/Signatures`. `laws` says that a script has a typed form where nothing is wrong with it.
+//! What is known of each command and test is one row in `specs/Rows`: its word, what it needs and takes, how it ends, where it may stand,
+//! what variables have to do with its strings, and what may follow it. What is known of each tag is one row in `specs/TagRows`.
+//! The words for what is wrong (cause, reason, fault, refusal) stand at the head of `specs/Lib`.
+//!
+//! What a script means, and its code, go by its typed form alone (`specs/Typed`), which `specs/FormOf` reads off the tree.
+//! `laws` says that a script has a typed form where nothing is wrong with it.
 //! A simple test of it is a question and its strings, an action an act and its string; all that differs from question to question
 //! and from act to act is a row each, in `specs/Questions` and `specs/Acts`.
 //! A `break` of the typed form says how many of the loops around it are left, so names of loops stand in scripts alone.
@@ -33,10 +37,11 @@ mod references;
 mod rules;
 mod sequence;
 mod signature;
-mod string_faults;
+mod string_flaws;
 mod strings;
 mod surroundings;
 mod table;
+mod tag_table;
 mod test_forms;
 mod typed;
 mod variable_names;

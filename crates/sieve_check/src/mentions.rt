@@ -11,10 +11,10 @@ ghost use Rattle.sieve_check.specs.Rules.{first_text, large_cause, large_mention
 use crate::causes::{Cause, ReasonKind};
 use crate::names::Capability;
 use crate::references::is_long_name;
-use crate::table::Role;
 use crate::signature::{Lists, Reading};
-use crate::string_faults::StringFault;
+use crate::string_flaws::StringFlaw;
 use crate::surroundings::Capabilities;
+use crate::table::Role;
 use crate::variable_names::VariableNames;
 use octets::Octets;
 use sieve_parser::Argument;
@@ -127,7 +127,7 @@ impl<'t> Mentions<'t> {
     pub fn wrong_cause(self) -> Option<Cause<'t>>
         ensures { option_map cause_view result ≡ mention_cause (mentions_in self.entry) }
     {
-        if let Some(string) = StringFault::Wrong.first_in_lists(self.expanded) {
+        if let Some(string) = StringFlaw::Wrong.first_in_lists(self.expanded) {
             return Some(Cause::about(reference_kind(string), string));
         }
         let name = self.set?.as_slice();
@@ -139,7 +139,7 @@ impl<'t> Mentions<'t> {
     pub fn large_cause(self) -> Option<Cause<'t>>
         ensures { option_map cause_view result ≡ large_mention_cause (mentions_in self.entry) }
     {
-        if let Some(string) = StringFault::Large.first_in_lists(self.expanded) {
+        if let Some(string) = StringFlaw::Large.first_in_lists(self.expanded) {
             return Some(large_cause(string));
         }
         let name = self.set?.as_slice();

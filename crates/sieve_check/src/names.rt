@@ -1,11 +1,10 @@
 // What commands, tests, tags, capabilities and comparators are called. ASCII case is ignored but in the last two.
 ghost use Rattle.std.specs.Prelude.{◌≡◌};
-ghost use Rattle.sieve_check.specs.Names.{capability_named, comparator_named, modifier_named, part_tag_named, tag_named, test_tag_named};
+ghost use Rattle.sieve_check.specs.Names.{capability_named, comparator_named};
 
 use crate::typed::Order;
 use bytecode_format::{Case, Selector};
 use glob_match::{Comparator, MatchType};
-use octets::is_word;
 
 /// The commands that are known.
 #[derive(Clone, Copy, PartialEq, Eq)]
@@ -112,86 +111,6 @@ pub enum Capability {
     OctetComparator,
     /// `comparator-i;ascii-casemap` (RFC 5228, section 2.7.3), which is always there.
     CasemapComparator,
-}
-
-// The tag of that name, if it is one that says how values are compared (RFC 5228).
-fn test_tag_named(name: &[u8]) -> Option<Tag>
-    ensures { result ≡ test_tag_named name.now }
-{
-    if is_word(name, b"over") {
-        Some(Tag::Order(Order::Over))
-    } else if is_word(name, b"under") {
-        Some(Tag::Order(Order::Under))
-    } else if is_word(name, b"is") {
-        Some(Tag::Kind(MatchType::Is))
-    } else if is_word(name, b"contains") {
-        Some(Tag::Kind(MatchType::Contains))
-    } else if is_word(name, b"matches") {
-        Some(Tag::Kind(MatchType::Matches))
-    } else if is_word(name, b"comparator") {
-        Some(Tag::Comparator)
-    } else {
-        None
-    }
-}
-
-// The modifier of that name, if it is known (RFC 5229).
-fn modifier_named(name: &[u8]) -> Option<Tag>
-    ensures { result ≡ modifier_named name.now }
-{
-    if is_word(name, b"lower") {
-        Some(Tag::Letters(Case::Lower))
-    } else if is_word(name, b"upper") {
-        Some(Tag::Letters(Case::Upper))
-    } else if is_word(name, b"lowerfirst") {
-        Some(Tag::FirstLetter(Case::Lower))
-    } else if is_word(name, b"upperfirst") {
-        Some(Tag::FirstLetter(Case::Upper))
-    } else if is_word(name, b"quotewildcard") {
-        Some(Tag::QuoteWildcard)
-    } else if is_word(name, b"length") {
-        Some(Tag::Length)
-    } else {
-        None
-    }
-}
-
-// The tag of that name, if it is one of parts and loops (RFC 5703), or of our own.
-fn part_tag_named(name: &[u8]) -> Option<Tag>
-    ensures { result ≡ part_tag_named name.now }
-{
-    if is_word(name, b"mime") {
-        Some(Tag::Mime)
-    } else if is_word(name, b"anychild") {
-        Some(Tag::AnyChild)
-    } else if is_word(name, b"type") {
-        Some(Tag::Select(Selector::Main))
-    } else if is_word(name, b"subtype") {
-        Some(Tag::Select(Selector::Sub))
-    } else if is_word(name, b"contenttype") {
-        Some(Tag::Select(Selector::ContentType))
-    } else if is_word(name, b"param") {
-        Some(Tag::Select(Selector::Param))
-    } else if is_word(name, b"name") {
-        Some(Tag::Name)
-    } else if is_word(name, b"first") {
-        Some(Tag::First)
-    } else {
-        None
-    }
-}
-
-/// The tag of that name, if it is known.
-pub fn tag_named(name: &[u8]) -> Option<Tag>
-    ensures { result ≡ tag_named name.now }
-{
-    if let Some(tag) = test_tag_named(name) {
-        return Some(tag);
-    }
-    if let Some(tag) = modifier_named(name) {
-        return Some(tag);
-    }
-    part_tag_named(name)
 }
 
 /// The capability of that name, if it is known; its octets are compared as they are.

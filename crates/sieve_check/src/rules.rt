@@ -11,11 +11,12 @@ ghost use Rattle.sieve_check.specs.Refusing.{AreNoted, AreVisited, Finds, contex
 use crate::causes::{Cause, ReasonKind};
 use crate::findings::Findings;
 use crate::mentions::Mentions;
-use crate::names::{Capability, Tag, tag_named};
-use crate::table::{Follows, Place, Row, is_test, row_named};
+use crate::names::{Capability, Tag};
 use crate::signature::{Ending, Reading, Signature, Tests};
-use crate::string_faults::{StringFault, has_many_strings};
+use crate::string_flaws::{StringFlaw, has_many_strings};
 use crate::surroundings::{Capabilities, Surroundings, invocation_in, looks_inside};
+use crate::table::{Follows, Place, Row, is_test, row_named};
+use crate::tag_table::tag_named;
 use sieve_parser::{Argument, Command, Head, Invocation};
 
 // Whether the argument is `:mime`.
@@ -119,7 +120,7 @@ fn capability_arguments(follows: Follows, head: &Head) -> &[Argument]
 fn unknown_cause<'t>(row: &Row, head: &'t Head) -> Option<Cause<'t>>
     ensures { option_map cause_view result ≡ unknown_cause (row_view row.now) (arguments_of head.now) }
 {
-    let string = StringFault::Unknown.first_in(capability_arguments(row.follows, head))?;
+    let string = StringFlaw::Unknown.first_in(capability_arguments(row.follows, head))?;
     Some(Cause::about(ReasonKind::UnknownCapability, string))
 }
 
@@ -143,7 +144,7 @@ fn ending_cause<'t>(wanted: Option<Ending>, ending: Option<Ending>) -> Option<Ca
 fn long_string_cause(head: &Head) -> Option<Cause<'_>>
     ensures { option_map cause_view result ≡ long_string_cause (arguments_of head.now) }
 {
-    let string = StringFault::Long.first_in(&head.arguments)?;
+    let string = StringFlaw::Long.first_in(&head.arguments)?;
     Some(Cause::about(ReasonKind::LongString, string))
 }
 

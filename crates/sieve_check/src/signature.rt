@@ -5,6 +5,7 @@ ghost use Rattle.sieve_parser.specs.View.{argument_tree};
 ghost use Rattle.sieve_check.specs.Signatures.{is_list};
 
 use crate::names::Tag;
+use crate::tag_table::{Family, tag_row};
 use crate::typed::Order;
 use bytecode_format::{Modifiers, Selector};
 use glob_match::{Comparator, MatchType};
@@ -82,7 +83,7 @@ pub struct Tags {
 
 impl Tags {
     ghost use Rattle.std.specs.Prelude.{◌≡◌};
-    ghost use Rattle.sieve_check.specs.Signatures.{asks_for_mime, no_tag, selects};
+    ghost use Rattle.sieve_check.specs.Signatures.{asks_for_mime, is_given, no_tag, selects};
 
     /// None.
     pub fn none() -> Tags
@@ -106,6 +107,26 @@ impl Tags {
         ensures { result ≡ selects self.selector }
     {
         !matches!(self.selector, Selector::Value)
+    }
+
+    /// Whether the tag was given, or another of its group.
+    pub fn have(self, tag: Tag) -> bool
+        ensures { result ≡ is_given tag self }
+    {
+        match tag {
+            Tag::Order(_) => self.order.is_some(),
+            Tag::Kind(_) => self.kind.is_some(),
+            Tag::Comparator => self.comparator.is_some(),
+            Tag::Letters(_) => self.modifiers.letters.is_some(),
+            Tag::FirstLetter(_) => self.modifiers.first.is_some(),
+            Tag::QuoteWildcard => self.modifiers.quote_wildcard,
+            Tag::Length => self.modifiers.length,
+            Tag::Mime => self.mime,
+            Tag::AnyChild => self.any_child,
+            Tag::Select(_) => self.select(),
+            Tag::Name => self.named,
+            Tag::First => self.first.is_some(),
+        }
     }
 
     /// Whether one of them stands only with `:mime`.
@@ -195,26 +216,28 @@ pub fn is_list(argument: &Argument) -> bool
 impl Signature {
     ghost use Rattle.std.specs.Prelude.{◌≡◌, map};
     ghost use Rattle.sieve_parser.specs.View.{argument_tree};
-    ghost use Rattle.sieve_check.specs.Signatures.{is_positional, tags_with, takes_tag};
+    ghost use Rattle.sieve_check.specs.Signatures.{is_positional, offers, tags_with, takes_tag};
+
+    // Whether tags of the family are taken.
+    fn offers(self, family: Family) -> bool
+        ensures { result ≡ offers self family }
+    {
+        match family {
+            Family::Ordering => self.order,
+            Family::Matching => self.matching,
+            Family::Modifying => self.modifying,
+            Family::Scoping => self.scoped,
+            Family::Selecting => self.selecting,
+            Family::Naming => self.naming,
+            Family::Limiting => self.limiting,
+        }
+    }
 
     /// Whether the tag is taken, and none of its group was given.
     pub fn takes(self, tag: Tag, tags: Tags) -> bool
         ensures { result ≡ takes_tag self tag tags }
     {
-        match tag {
-            Tag::Order(_) => self.order && tags.order.is_none(),
-            Tag::Kind(_) => self.matching && tags.kind.is_none(),
-            Tag::Comparator => self.matching && tags.comparator.is_none(),
-            Tag::Letters(_) => self.modifying && tags.modifiers.letters.is_none(),
-            Tag::FirstLetter(_) => self.modifying && tags.modifiers.first.is_none(),
-            Tag::QuoteWildcard => self.modifying && !tags.modifiers.quote_wildcard,
-            Tag::Length => self.modifying && !tags.modifiers.length,
-            Tag::Mime => self.scoped && !tags.mime,
-            Tag::AnyChild => self.scoped && !tags.any_child,
-            Tag::Select(_) => self.selecting && !tags.select(),
-            Tag::Name => self.naming && !tags.named,
-            Tag::First => self.limiting && tags.first.is_none(),
-        }
+        self.offers(tag_row(tag).family) && !tags.have(tag)
     }
 
     /// The tags with one more, where it is taken and none of its group was given.

@@ -9,8 +9,8 @@ ghost use Rattle.sieve_check.specs.Arguments.{reading};
 
 use crate::loops::{LoopName, Loops};
 use crate::names::{Capability, capability_named};
-use crate::table::{Follows, Row, command_known};
 use crate::signature::{Signature, Tests};
+use crate::table::{Follows, Row, command_known};
 use octets::Octets;
 use sieve_parser::{Argument, Command, Head, Invocation};
 

@@ -9,10 +9,10 @@ ghost use Rattle.sieve_check.specs.TypedView.{test_form, tests_of};
 
 use crate::form_error::FormError;
 use crate::names::TestName;
-use crate::table::{test_named, test_signature};
 use crate::signature::{Reading, Tags};
 use crate::strings::strings_in;
 use crate::surroundings::Capabilities;
+use crate::table::{test_named, test_signature};
 use crate::typed::{Question, Test};
 use bytecode_format::{FieldTest, Scope};
 use glob_match::{Comparator, Match, MatchType};

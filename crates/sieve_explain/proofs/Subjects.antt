@@ -32,7 +32,7 @@ use Rattle.sieve_check.specs.declared.signature.Positional.{Positional}
 use Rattle.sieve_check.specs.declared.signature.Signature.{Signature}
 use Rattle.sieve_check.specs.declared.signature.Tags.{Tags}
 use Rattle.sieve_check.specs.declared.signature.Tests.{Tests}
-use Rattle.sieve_check.specs.declared.string_faults.StringFault.TheVariants.{Unknown}
+use Rattle.sieve_check.specs.declared.string_flaws.StringFlaw.TheVariants.{Unknown}
 use Rattle.sieve_check.specs.declared.surroundings.Capabilities.{Capabilities}
 use Rattle.sieve_explain.proofs.OwnStrings.{IsAmong, found_among}
 

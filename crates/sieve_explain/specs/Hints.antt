@@ -2,6 +2,7 @@
 use Rattle.std.specs.Prelude.{ℕ, if◌then◌else◌, List, [], ◌∷◌, is_some, map, codes}
 use Rattle.sieve_check.specs.Names.{command_named, test_named}
 use Rattle.sieve_check.specs.Rows.{all_commands, all_tests, command_word, test_word}
+use Rattle.sieve_check.specs.TagRows.{all_tags, tag_word}
 use Rattle.sieve_explain.specs.Words.{Hint, hint, nearest, nearest_but, with_words, words_for}
 use Rattle.sieve_explain.specs.Sentences.{Blanks, plain}
 
@@ -94,10 +95,7 @@ known_tests = record {
 abbrev pub known_tags : Vocabulary
 known_tags = record {
   elsewhere = [];
-  names =
-      codes "over" ∷ codes "under" ∷ codes "is" ∷ codes "contains" ∷ codes "matches" ∷ codes "comparator" ∷ codes "lower"
-      ∷ codes "upper" ∷ codes "lowerfirst" ∷ codes "upperfirst" ∷ codes "quotewildcard" ∷ codes "length" ∷ codes "mime"
-      ∷ codes "anychild" ∷ codes "type" ∷ codes "subtype" ∷ codes "contenttype" ∷ codes "param" ∷ codes "name" ∷ codes "first" ∷ [];
+  names = map tag_word all_tags;
   lacks = codes "depot has no #: &";
   hinting = codes "depot knows no tag #, did you mean `:&`?";
   hinting_two = codes "depot knows no tag #, did you mean `:&` or `:~`?";

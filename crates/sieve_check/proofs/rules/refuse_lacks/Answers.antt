@@ -1,8 +1,8 @@
-use Rattle.std.proofs.Common.{◌≡◌, ◌∙◌, ◌++◌, List, ap, map, subst, refl}
+use Rattle.std.proofs.Common.{◌≡◌, ◌∙◌, ◌++◌, List, ap, map, subst}
 use Rattle.std.proofs.lemmas.List.{map-append}
 use Rattle.sieve_parser.specs.Tree.{ArgumentTree}
 use Rattle.sieve_check.specs.declared.names.Capability.{Capability}
-use Rattle.sieve_check.specs.Causes.{Refused, refused_for}
+use Rattle.sieve_check.specs.Causes.{refused_for}
 use Rattle.sieve_check.specs.Refusing.{AreNoted}
 use Rattle.sieve_check.specs.Rules.{capability_arguments, lacking_causes, lacks_by, mime_needs, strings_of, unknown_causes}
 use Rattle.sieve_check.specs.Private.{arguments_of, row_view}
@@ -28,7 +28,7 @@ returns-in-Some c =
     let unknown = unknown_causes (strings_of (capability_arguments row.follows args)) in
     let lacks = lacking_causes required (row.needs.now ++ mime) in
     let is : map f (lacks_by required args (option_map row_view c.args.known_as.now)) ≡ map f lacks ++ map f unknown =
-        ap (λ known. map f (lacks_by required args (option_map row_view known))) c.in-Some.is ∙ map-append f lacks unknown in
+    ap (λ known. map f (lacks_by required args (option_map row_view known))) c.in-Some.is ∙ map-append f lacks unknown in
     both_noted old between new (map f (lacks_by required args (option_map row_view c.args.known_as.now))) (map f lacks) (map f unknown) is
     (both_noted old first between (map f lacks) (map f own) (map f with_mime) (ap (map f) (lacking_both required row.needs.now mime) ∙ map-append f own with_mime)
     c.refuse_lacking.ensures

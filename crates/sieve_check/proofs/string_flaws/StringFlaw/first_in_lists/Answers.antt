@@ -2,7 +2,7 @@ use Rattle.std.proofs.Common.{◌∙◌, map}
 use Rattle.sieve_parser.specs.View.{argument_tree}
 use Rattle.sieve_check.specs.Rules.{string_has}
 use Rattle.sieve_check.proofs.StringSteps.{in_first, in_second, in_third}
-use Rattle.sieve_check.proofs.string_faults.StringFault.first_in_lists.Goals as goal
+use Rattle.sieve_check.proofs.string_flaws.StringFlaw.first_in_lists.Goals as goal
 
 pub returns-in-Some : goal.returns-in-Some
 returns-in-Some c =

@@ -13,7 +13,7 @@ use sieve_parser::Argument;
 
 /// What may be wrong with a string.
 #[derive(Clone, Copy)]
-pub enum StringFault {
+pub enum StringFlaw {
     /// It is no capability.
     Unknown,
     /// It has more octets than the limit.
@@ -24,7 +24,7 @@ pub enum StringFault {
     Large,
 }
 
-impl StringFault {
+impl StringFlaw {
     ghost use Rattle.std.specs.Prelude.{◌≡◌, map};
     ghost use Rattle.std.specs.List.{find};
     ghost use Rattle.sieve_parser.specs.View.{argument_tree};
@@ -36,10 +36,10 @@ impl StringFault {
         ensures { result ≡ string_has self string.now }
     {
         match self {
-            StringFault::Unknown => capability_named(string.as_slice()).is_none(),
-            StringFault::Long => string.len() > MAX_STRING,
-            StringFault::Wrong => has_wrong_reference(string.as_slice()),
-            StringFault::Large => has_large_references(string.as_slice()),
+            StringFlaw::Unknown => capability_named(string.as_slice()).is_none(),
+            StringFlaw::Long => string.len() > MAX_STRING,
+            StringFlaw::Wrong => has_wrong_reference(string.as_slice()),
+            StringFlaw::Large => has_large_references(string.as_slice()),
         }
     }
 

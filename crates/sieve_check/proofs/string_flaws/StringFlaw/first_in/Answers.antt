@@ -3,7 +3,7 @@ use Rattle.sieve_parser.specs.View.{argument_tree}
 use Rattle.sieve_check.specs.Rules.{string_has, strings_in, strings_of}
 use Rattle.sieve_check.proofs.Finding.{found_first, found_after}
 use Rattle.sieve_check.proofs.StringSteps.{next_strings}
-use Rattle.sieve_check.proofs.string_faults.StringFault.first_in.Goals as goal
+use Rattle.sieve_check.proofs.string_flaws.StringFlaw.first_in.Goals as goal
 
 pub returns-in-Some : goal.returns-in-Some
 returns-in-Some c =
