@@ -1,6 +1,6 @@
 -- Texts that are kept with the types of long fields.
 use Rattle.std.proofs.Common.{◌≡◌, ℕ, zero, suc, List, [], ◌∷◌, ◌++◌, subst, sym, arith, ◌∙◌}
-use Rattle.std.specs.Prelude.{All, IfSome, slice_index_or, Option, Some}
+use Rattle.std.specs.Prelude.{IfSome, slice_index_or, Option, Some}
 use Rattle.std.proofs.lemmas.List.Elements.{All-append}
 use Rattle.std.proofs.lemmas.Option.{get_or_from_slice_get}
 use Rattle.header_fields.specs.Fields.{Field}
