@@ -1,5 +1,5 @@
 -- The parts in scope, and their headers.
-use Rattle.std.proofs.Common.{◌≡◌, ℕ, zero, suc, ◌+◌, ◌<◌, ◌≤◌, ◌||◌, List, [], ◌∷◌, map, length, take, drop, Option, None, Some, refl, sym, ◌∙◌, ap, subst, arith}
+use Rattle.std.proofs.Common.{◌≡◌, ℕ, zero, suc, ◌+◌, ◌<◌, ◌≤◌, ◌||◌, List, [], ◌∷◌, length, take, drop, Option, None, Some, refl, sym, ◌∙◌, ap, arith}
 use Rattle.std.specs.Prelude.{slice_get, slice_index_or, sum_by, unwrap_or}
 use Rattle.std.specs.List.{HoldsAt}
 use Rattle.std.proofs.lemmas.List.{drop_more, length-append, get_or-drop, get_or-map, get_or-take, length-drop, length-map, length-take}
@@ -10,10 +10,8 @@ use Rattle.octets.specs.Limits.{max_message}
 use Rattle.octets.specs.Ascii.{is_word}
 use Rattle.header_fields.specs.Fields.{Field}
 use Rattle.header_fields.specs.Extent.{fields_extent}
-use Rattle.mime_tree.specs.PartTree as tree
-use Rattle.mime_decode.specs.Mail.{IsMail, Mail, Part, mail_of, part_of}
+use Rattle.mime_decode.specs.Mail.{IsMail, Mail, Part}
 use Rattle.mime_decode.specs.Scope.{Scope, current_or_root, first_and_below, parts_in_scope}
-use Rattle.mime_decode.proofs.MailLemmas.{at_part, tree_number}
 use Rattle.mail_matching.specs.Headers.{all_fields, headers_from}
 use Rattle.mail_matching.specs.HeaderTests.{fields_in_scope, has_field, headers_in_scope}
 use Rattle.mail_matching.proofs.Extents.{dropped_within, fields_few, headers_extent}

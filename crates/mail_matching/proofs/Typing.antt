@@ -1,10 +1,9 @@
 -- Fields with what is kept of their types.
-use Rattle.std.proofs.Common.{◌≡◌, ℕ, List, subst, sym, refl, ap, length, ◌<◌, ◌∙◌}
-use Rattle.std.specs.List.{Contains}
-use Rattle.std.specs.Prelude.{slice_index_or, slice_get}
+use Rattle.std.proofs.Common.{◌≡◌, ℕ, List, subst, refl, length, ◌<◌}
+use Rattle.std.specs.Prelude.{slice_index_or}
 use Rattle.std.proofs.lemmas.Option.{slice_get_read}
 use Rattle.header_fields.specs.Fields.{Field}
-use Rattle.mime_tree.specs.TypeTexts.{AreTypeTexts, IsOfField, IsTypeText}
+use Rattle.mime_tree.specs.TypeTexts.{AreTypeTexts, IsOfField}
 use Rattle.mime_tree.specs.declared.type_texts.TypeText.{TypeText}
 use Rattle.mail_matching.specs.Readings.{AreOfField}
 
