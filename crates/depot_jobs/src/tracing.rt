@@ -18,7 +18,7 @@ use refusals::Refusal;
 use sieve_check::Checked;
 use sieve_engine::{Report, check_script, evaluate};
 use sieve_parser::ParseError;
-use sieve_trace::{Place, TraceError, places, trace};
+use sieve_trace::{Place, TraceError, token_places, trace};
 use std::alloc::Global;
 
 /// A script without a fault, a message, and the report of the script's run on it: what a trace is
@@ -72,7 +72,7 @@ fn places_in(alloc: Global, script: &[u8]) -> Result<Vec<Place>, Refusal>
         × (places.items ≡ places_of script.now tokens)) }
     ensures refused { IfErr result (λ e. IsScriptRefusal script.now e) }
 {
-    match places(alloc, script) {
+    match token_places(alloc, script) {
         Ok(places) => Ok(places),
         Err(error) => Err(Refusal::from(ParseError::from(error))),
     }
