@@ -1,6 +1,6 @@
 -- Private: the captures after a comparison, and how a test goes on.
 use Rattle.std.specs.Prelude.{ℕ, List, Option, None, Some, ◌≡◌, ◌+◌}
-use Rattle.mail_matching.specs.FirstMatch.{no_captures, first_match, ten_of}
+use Rattle.mail_matching.specs.FirstMatch.{first_match, ten_of}
 use Rattle.std.specs.Option.{option_or}
 use Rattle.glob_match.specs.Captures.{texts}
 use Rattle.glob_match.specs.declared.match_type.Match.{Match}
@@ -9,11 +9,6 @@ use Rattle.mail_matching.specs.declared.comparing.Compared.{Compared}
 use Rattle.mail_matching.specs.declared.comparing.Compared.TheVariants.{Differs, Matches, Sets}
 use Rattle.mail_matching.specs.declared.progress.Progress.{Progress}
 use Rattle.mail_matching.specs.Outcomes.{after}
-
--- the captures that were set last, and ten empty ones as long as none were
-abbrev pub captures_of : Option (List (List ℕ)) → List (List ℕ)
-captures_of None = no_captures
-captures_of (Some captures) = captures
 
 -- the captures after a value was compared with a key; None where they differ
 abbrev pub after_compared : List ℕ → Compared → List (List ℕ) → Option (List (List ℕ))

@@ -1,6 +1,6 @@
--- Private: how the evaluator's fields stand for what a script has done.
+-- How the evaluator's fields stand for what a script has done.
 use Rattle.std.specs.Prelude.{◌≡◌, ℕ, Bool, List}
-use Rattle.mail_matching.specs.Private.{captures_of}
+use Rattle.mail_matching.specs.Outcomes.{captures_of}
 use Rattle.bytecode_format.specs.Actions.{first_occurrences}
 use Rattle.sieve_meaning.specs.declared.evaluator.Evaluator.{Evaluator}
 use Rattle.sieve_meaning.specs.declared.evaluator.Flow.{Flow}

@@ -1,4 +1,4 @@
--- Private: how a map of values stands for the values of variables.
+-- How a map of values stands for the values of variables.
 use Rattle.std.specs.Prelude.{ℕ, List, [], unwrap_or}
 use Rattle.std.specs.Borrow.{Bor}
 use Rattle.std.specs.BTreeMap.{BTreeMap, get_by}

@@ -22,7 +22,7 @@ pub struct HeldCaptures<'p, 'm> {
 
 impl<'p, 'm> Model for HeldCaptures<'p, 'm> {
     ghost use Rattle.std.specs.Prelude.{ℕ, List};
-    ghost use Rattle.mail_matching.specs.Private.{captures_of};
+    ghost use Rattle.mail_matching.specs.Outcomes.{captures_of};
     ghost use Rattle.sieve_vm.specs.SharedTexts.{AreMade};
 
     ghost Value = { List (List ℕ) };

@@ -2,7 +2,7 @@ use Rattle.std.proofs.Common.{◌≡◌, ℕ, zero, suc, List, [], ◌++◌, tak
 use Rattle.std.specs.Prelude.{slice_index_or}
 use Rattle.std.proofs.lemmas.List.{append-nil, take_all}
 use Rattle.octets.specs.Limits.{max_string}
-use Rattle.mail_matching.specs.Private.{captures_of}
+use Rattle.mail_matching.specs.Outcomes.{captures_of}
 use Rattle.sieve_meaning.specs.Meaning.{value_of}
 use Rattle.sieve_meaning.proofs.evaluator.Evaluator.append_segment.Goals as goal
 
