@@ -727,6 +727,18 @@ Semicolons, braces and tests.
     2> refused 18 BadArguments at 0
     [1]
 
+## require without its semicolon before a loop
+    $ printf 'require ["foreverypart", "vnd.depot"]\nforeverypart { store "a"; }\nstore "b";\n' > script
+    $ depot explain script
+    script:1:1: error: `require` takes no test: is a semicolon missing at its end?
+      require ["foreverypart", "vnd.depot"]
+      ^
+    script:3:1: error: `store` stands only inside of a `foreverypart`
+      store "b";
+      ^
+    2> refused 18 BadArguments at 0
+    [1]
+
 ## missing semicolon before an if with an else
     $ cat > script << 'END'
     > keep

@@ -1,5 +1,5 @@
 -- A script of which nothing is wrong has a typed form, which is within the limits.
-use Rattle.std.proofs.Common.{◌≡◌, ℕ, ◌≤◌, true, false, not, nat_lt, List, [], ◌∷◌, ◌++◌, length, bytes_eq, Option, Some, None, option_map, refl, sym, ap, subst, ◌∙◌, if◌then◌else◌}
+use Rattle.std.proofs.Common.{◌≡◌, ℕ, ◌≤◌, true, false, not, ◌||◌, nat_lt, List, [], ◌∷◌, ◌++◌, length, bytes_eq, Option, Some, None, option_map, refl, sym, ap, subst, ◌∙◌, if◌then◌else◌}
 use Rattle.std.specs.List.{list_any}
 use Rattle.std.proofs.lemmas.Option.{same_Some}
 use Rattle.octets.specs.Limits.{max_loops, max_variables}
@@ -20,7 +20,7 @@ use Rattle.sieve_check.specs.declared.table.Follows.TheVariants.{Requires}
 use Rattle.sieve_check.specs.Names.{command_known, command_named}
 use Rattle.sieve_check.specs.Rows.{Row, command_row}
 use Rattle.sieve_check.specs.Arguments.{reading}
-use Rattle.sieve_check.specs.Rules.{after_invocation, cause_of, command_visits, commands_visits, ending_cause, fault_of, invocation_of, kind_of, known_cause, loops_by, loops_opened, looks_inside, may_stand, mentions_by, mentions_of, mentions_read, names_by, names_mentioned, needs_of, opened_by, past_invocation, past_swallowed, past_tests, same_tests, strings_of, takes_tests, tests_visits, visits_of, where_required}
+use Rattle.sieve_check.specs.Rules.{after_invocation, cause_of, command_visits, commands_visits, ending_cause, fault_of, invocation_of, kind_of, known_cause, loops_by, loops_opened, looks_inside, may_stand, mentions_by, mentions_of, mentions_read, names_by, names_mentioned, needs_of, opened_by, opened_or, opened_past, opens, past_invocation, past_swallowed, past_tests, same_tests, strings_of, takes_tests, tests_visits, visits_of, where_required}
 use Rattle.sieve_check.specs.Signatures.{◌>>=◌, is_positional, command_signature}
 use Rattle.sieve_check.specs.Surroundings.{Loop, Context, first_lacking, at_start, in_block, inside, opens_many, followed, following}
 use Rattle.sieve_check.specs.Typed.{CommandForms, no_command, no_branch}
@@ -132,6 +132,11 @@ nothing_swallowed s o row no_test is same = refl
 nothing_swallowed s o row (one_test t) is same = ap (λ b. if b then s else past_swallowed s t) (ap looks_inside is ∙ one_taken row.signature.tests same)
 nothing_swallowed s o row (test_list t ts) is same = refl
 
+own_opened : (o : Option Row) (row : Row) (args : List ArgumentTree) (tests : TestsTree) → o ≡ Some row → same_tests row.signature.tests (kind_of tests) ≡ true → opened_or o args tests ≡ loops_by o args
+own_opened o row args no_test is same = refl
+own_opened o row args (one_test t) is same = ap (λ b. if b || opens o then loops_by o args else opened_past t) (ap looks_inside is ∙ one_taken row.signature.tests same)
+own_opened o row args (test_list t ts) is same = refl
+
 same_block : (opened : List Loop) (s : Context) (name : CommandName) (strings : List (List ℕ)) → ending_cause (command_row name).ending (Some Block) ≡ None → in_block opened (following s (Some (command_row name)) strings) ≡ in_block opened s
 same_block opened s Require strings h = absurd (cc)
 same_block opened s _ strings h = refl
@@ -143,8 +148,8 @@ as_many (loop ∷ loops) s t same = ap (λ (all : List Loop). not (nat_lt (lengt
 -- behind it, and in its block
 pub record Behind (s : Context) (i : InvocationTree) (ending : Ending) : Type 0 where
   pub after : past_invocation s i ≡ after_invocation s i
-  pub room : opens_many (loops_opened i) (past_invocation s i) ≡ false
-  pub within : ending ≡ Block → in_block (loops_opened i) (past_invocation s i) ≡ in_block (loops_opened i) s
+  pub room : opens_many (opened_past i) (past_invocation s i) ≡ false
+  pub within : ending ≡ Block → in_block (opened_past i) (past_invocation s i) ≡ in_block (loops_opened i) s
 
 behind : (s : Context) (token : ℕ) (word : List ℕ) (args : List ArgumentTree) (tests : TestsTree) (ending : Ending) (name : CommandName) → command_named word ≡ Some name → CommandWellFormed s name args (kind_of tests) ending
     → Behind s (invocation token word args tests) ending
@@ -152,11 +157,12 @@ behind s token word args tests ending name is well =
     let i = invocation token word args tests in
     let strings = strings_of args in
     let known : command_known word ≡ Some (command_row name) = ap (option_map command_row) is in
+    let own = own_opened (command_known word) (command_row name) args tests known well.same in
     let after = nothing_swallowed (following s (command_known word) strings) (command_known word) (command_row name) tests known well.same in
     record {
       after = after;
-      room = ap (opens_many (loops_opened i)) after ∙ as_many (loops_opened i) s (after_invocation s i) (same_loops s i) ∙ ap (λ o. opens_many (loops_by o args) s) known ∙ well.room;
-      within = λ e. ap (in_block (loops_opened i)) after ∙ ap (λ o. in_block (loops_opened i) (following s o strings)) known
+      room = ap (λ opened. opens_many opened (past_invocation s i)) own ∙ ap (opens_many (loops_opened i)) after ∙ as_many (loops_opened i) s (after_invocation s i) (same_loops s i) ∙ ap (λ o. opens_many (loops_by o args) s) known ∙ well.room;
+      within = λ e. ap (λ opened. in_block opened (past_invocation s i)) own ∙ ap (in_block (loops_opened i)) after ∙ ap (λ o. in_block (loops_opened i) (following s o strings)) known
           ∙ same_block (loops_opened i) s name strings (subst (λ (e : Ending). ending_cause (command_row name).ending (Some e) ≡ None) e well.ends);
     }
 
@@ -206,11 +212,11 @@ mutual
   command_exists s (block i cs) rest h begins bounded =
       let around = in_block (loops_opened i) s in
       let past = past_invocation s i in
-      let inner = if opens_many (loops_opened i) past then [] else commands_visits (in_block (loops_opened i) past) cs in
+      let inner = if opens_many (opened_past i) past then [] else commands_visits (in_block (opened_past i) past) cs in
       let parts = faultless_both (visits_of (Some Block) s i) inner h in
       let few = room_in s i Block parts.0 in
       let rear = behind_head s i Block parts.0 in
-      let entered : inner ≡ commands_visits around cs = ap (λ b. if b then [] else commands_visits (in_block (loops_opened i) past) cs) rear.room ∙ ap (λ around. commands_visits around cs) (rear.within refl) in
+      let entered : inner ≡ commands_visits around cs = ap (λ b. if b then [] else commands_visits (in_block (opened_past i) past) cs) rear.room ∙ ap (λ around. commands_visits around cs) (rear.within refl) in
       let body = forms_exist around cs (subst AreFaultless entered parts.1) in
       let alone = body.begins refl in
       let room : inside (loops_opened i) s ≡ Some around = room_inside (loops_opened i) s few in

@@ -14,7 +14,7 @@ use Rattle.sieve_check.specs.declared.signature.Tests.TheVariants.{Nothing, One,
 use Rattle.sieve_check.specs.declared.signature.Ending.{Ending}
 use Rattle.sieve_check.specs.declared.signature.Ending.TheVariants.{Block}
 use Rattle.sieve_check.specs.Names.{row_named}
-use Rattle.sieve_check.specs.Rules.{Visit, command_visits, commands_visits, invocation_of, looks_inside, loops_opened, more_visits, past_invocation, visit_of, visits_of}
+use Rattle.sieve_check.specs.Rules.{Visit, command_visits, commands_visits, invocation_of, looks_inside, opened_past, more_visits, past_invocation, visit_of, visits_of}
 use Rattle.sieve_check.specs.Private.{arguments_of}
 use Rattle.sieve_check.specs.Surroundings.{Context, in_block, opens_many}
 use Rattle.sieve_check.proofs.FromIndex.{others_of, split_at}
@@ -50,7 +50,7 @@ rest_visits s list i x lt is = ap (λ xs. more_visits s (others_of xs)) (split_a
 
 -- a command with a block
 pub block_visits : (s : Context) (tree : Tree) (i : Invocation) (cs : Vec Tree) → tree ≡ trees.Block i cs
-    → command_visits s (command_tree tree) ≡ visits_of (Some Block) s (invocation_tree i) ++ (if opens_many (loops_opened (invocation_tree i)) (past_invocation s (invocation_tree i)) then [] else commands_visits (in_block (loops_opened (invocation_tree i)) (past_invocation s (invocation_tree i))) (commands_tree cs.items))
+    → command_visits s (command_tree tree) ≡ visits_of (Some Block) s (invocation_tree i) ++ (if opens_many (opened_past (invocation_tree i)) (past_invocation s (invocation_tree i)) then [] else commands_visits (in_block (opened_past (invocation_tree i)) (past_invocation s (invocation_tree i))) (commands_tree cs.items))
 block_visits s tree i cs is = ap (λ x. command_visits s x) (ap command_tree is ∙ tree_block i cs)
 
 -- the commands from an index on

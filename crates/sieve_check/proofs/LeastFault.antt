@@ -29,7 +29,7 @@ use Rattle.sieve_check.specs.Arguments.{Awaiting, arguments_read, awaiting, expe
 use Rattle.sieve_check.specs.Causes.{Cause, Refused, about, fault_of_kind, plain, refusal_for}
 use Rattle.sieve_check.specs.LeastFault.{Seen, all_of, all_of_command, all_of_commands, all_of_more, all_of_tests, ends_otherwise, fault_by, fault_read, first_fault, has_large, has_long, has_unknown, has_wrong, known_fault, lacks, least_fault, read_fault}
 use Rattle.sieve_check.specs.Names.{row_named, tag_named}
-use Rattle.sieve_check.specs.Rules.{Mentions, Visit, after_invocation, are_many, capability_arguments, cause_of, command_visits, commands_visits, ending_cause, fault_of, invocation_of, is_long_name, kind_of, known_cause, lacking, lacking_cause, lacks_by, large_cause, large_mention_cause, long_name, long_string_cause, looks_inside, loops_opened, many_loops_cause, many_strings_cause, may_stand, mention_cause, mentions_of, misplaced, more_visits, names_by, needs_of, opened_by, past_invocation, place_cause, read_cause, reference_cause, reference_kind, refused_among, same_ending, same_reason, same_tests, string_has, strings_of, tests_cause, tests_visits, unknown_as, unknown_cause, visits_of, where_required}
+use Rattle.sieve_check.specs.Rules.{Mentions, Visit, after_invocation, are_many, capability_arguments, cause_of, command_visits, commands_visits, ending_cause, fault_of, invocation_of, is_long_name, kind_of, known_cause, lacking, lacking_cause, lacks_by, large_cause, large_mention_cause, long_name, long_string_cause, looks_inside, loops_opened, many_loops_cause, many_strings_cause, may_stand, mention_cause, mentions_of, misplaced, more_visits, names_by, needs_of, opened_by, opened_past, past_invocation, place_cause, read_cause, reference_cause, reference_kind, refused_among, same_ending, same_reason, same_tests, string_has, strings_of, tests_cause, tests_visits, unknown_as, unknown_cause, visits_of, where_required}
 use Rattle.sieve_check.specs.Rows.{Row}
 use Rattle.sieve_check.specs.Signatures.{Given, Read, add_tag, asks_for_mime, is_positional, no_tag, nothing_given, takes_tag, with_argument}
 use Rattle.sieve_check.specs.Surroundings.{Context, at_start, first_lacking, in_block, opens_many}
@@ -322,10 +322,10 @@ mutual
   command_meets s (block i cs) vs ws rest_meets =
       let past = past_invocation s i in
       let around = in_block (loops_opened i) s in
-      let inner = if opens_many (loops_opened i) past then [] else commands_visits (in_block (loops_opened i) past) cs in
+      let inner = if opens_many (opened_past i) past then [] else commands_visits (in_block (opened_past i) past) cs in
       let both = invocation_meets (Some Block) s i (inner ++ vs) (all_of_commands around cs ++ ws) (λ sound. (
       let rear = rear s i Block sound in
-      let entered : inner ≡ commands_visits around cs = ap (λ b. if b then [] else commands_visits (in_block (loops_opened i) past) cs) rear.room ∙ ap (λ around. commands_visits around cs) (rear.within refl) in
+      let entered : inner ≡ commands_visits around cs = ap (λ b. if b then [] else commands_visits (in_block (opened_past i) past) cs) rear.room ∙ ap (λ around. commands_visits around cs) (rear.within refl) in
       both_meet inner vs (all_of_commands around cs) ws (subst (λ vs. Meet vs (all_of_commands around cs)) (sym entered) (commands_meet around cs)) (rest_meets rear.after))) in
       subst (λ vs. Meet vs ((all_of (Some Block) s i ++ all_of_commands around cs) ++ ws)) (sym (append_assoc (visits_of (Some Block) s i) inner vs))
       (subst (λ ws. Meet (visits_of (Some Block) s i ++ (inner ++ vs)) ws) (sym (append_assoc (all_of (Some Block) s i) (all_of_commands around cs) ws)) both)

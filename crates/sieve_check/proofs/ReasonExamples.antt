@@ -188,6 +188,8 @@ nothing_false_told : Gives (λ script. map refusal_for (reasons_of script)) (
     (swallowed "require" (str "fileinto" ∷ []) (invocation 2 (codes "require") (str "variables" ∷ []) (one_test if_true)) (simple_at 6 "set" (str "a" ∷ str "b" ∷ []) (last_at 10 "fileinto" (str "a" ∷ []))) no_command, BadArguments 0 ∷ []) ∷
     -- keep if true {} else {} else {}
     (swallowed "keep" [] if_true no_command (block_at 7 "else" [] no_command (block_at 10 "else" [] no_command no_command)), BadArguments 0 ∷ BadArguments 10 ∷ []) ∷
+    -- require ["foreverypart", "vnd.depot"] foreverypart { store "a"; } store "a";
+    (swallowed "require" (strs "foreverypart" ("vnd.depot" ∷ []) ∷ []) (plain_at 5 "foreverypart" []) (last_at 7 "store" (str "a" ∷ [])) (last_at 11 "store" (str "a" ∷ [])), BadArguments 0 ∷ BadArguments 11 ∷ []) ∷
     -- if keep {} require "fileinto";
     (swallowed "if" [] (plain_at 1 "keep" []) no_command (last_at 4 "require" (str "fileinto" ∷ [])), Unknown 1 ∷ BadArguments 4 ∷ []) ∷
     [])

@@ -400,13 +400,27 @@ abbrev pub past_invocation : Context → InvocationTree → Context
 past_invocation s (invocation token name args tests) =
     past_tests (following s (command_known name) (strings_of args)) (command_known name) tests
 
+abbrev pub opens : Option Row → Bool
+opens None = false
+opens (Some row) = row.opens
+
+abbrev mutual
+  -- the loop around the block of a command, or of the last one that it swallowed
+  pub opened_past : InvocationTree → List Loop
+  opened_past (invocation token name args tests) = opened_or (command_known name) args tests
+
+  pub opened_or : Option Row → List ArgumentTree → TestsTree → List Loop
+  opened_or known args no_test = loops_by known args
+  opened_or known args (one_test t) = if looks_inside known || opens known then loops_by known args else opened_past t
+  opened_or known args (test_list t ts) = loops_by known args
+
 abbrev mutual
   -- the visits of a command: itself, its tests, its block, but where that is a loop too many
   pub command_visits : Context → CommandTree → List Visit
   command_visits s (simple i) = visits_of (Some Semicolon) s i
   command_visits s (block i cs) =
       visits_of (Some Block) s i
-      ++ (let past = past_invocation s i in if opens_many (loops_opened i) past then [] else commands_visits (in_block (loops_opened i) past) cs)
+      ++ (let past = past_invocation s i in if opens_many (opened_past i) past then [] else commands_visits (in_block (opened_past i) past) cs)
 
   -- the visits of commands, in order
   pub commands_visits : Context → CommandsTree → List Visit

@@ -376,7 +376,7 @@ fn command<'t>(findings: &mut Findings<'t>, surroundings: &Surroundings<'t>, tre
         }
         Command::Block(first, block) => {
             invocation(findings, surroundings, first, Some(Ending::Block));
-            if let Some(inside) = surroundings.past(first).in_block(first) {
+            if let Some(inside) = surroundings.past(first).in_block_past(first) {
                 commands(findings, &inside, block);
             }
         }

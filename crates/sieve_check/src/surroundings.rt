@@ -4,7 +4,7 @@ ghost use Rattle.sieve_parser.specs.Tree.{TestsTree};
 ghost use Rattle.sieve_parser.specs.View.{argument_tree, command_tree, head_tree, invocation_tree};
 ghost use Rattle.sieve_check.specs.Reading.{loop_in};
 ghost use Rattle.sieve_check.specs.Private.{row_view};
-ghost use Rattle.sieve_check.specs.Rules.{invocation_of, loop_read, looks_inside};
+ghost use Rattle.sieve_check.specs.Rules.{invocation_of, loop_read, looks_inside, opens};
 ghost use Rattle.sieve_check.specs.Arguments.{reading};
 
 use crate::loops::{LoopName, Loops};
@@ -151,6 +151,16 @@ pub fn looks_inside(known: &Option<Row>) -> bool
     }
 }
 
+// Whether a loop is open around its block.
+fn opens(known: &Option<Row>) -> bool
+    ensures { result ≡ opens (option_map row_view known.now) }
+{
+    match known {
+        Some(row) => row.opens,
+        None => false,
+    }
+}
+
 // What the loop is called that a command of this signature and these arguments opens.
 fn loop_name(signature: Signature, arguments: &[Argument]) -> LoopName<'_>
     ensures { loop_in result ≡ loop_read (reading signature (map argument_tree arguments.now)) }
@@ -181,7 +191,7 @@ impl<'t> Surroundings<'t> {
     ghost use Rattle.std.specs.Prelude.{◌≡◌, false, List, map, option_map};
     ghost use Rattle.sieve_parser.specs.Tree.{ArgumentTree, one_test};
     ghost use Rattle.sieve_parser.specs.View.{argument_tree, command_tree, invocation_tree};
-    ghost use Rattle.sieve_check.specs.Rules.{after_invocation, invocation_of, loops_by, loops_opened, opened_by, past_invocation, past_swallowed, past_tests, strings_of};
+    ghost use Rattle.sieve_check.specs.Rules.{after_invocation, invocation_of, loops_by, loops_opened, opened_by, opened_past, past_invocation, past_swallowed, past_tests, strings_of};
     ghost use Rattle.sieve_check.specs.Private.{arguments_of, row_view};
     ghost use Rattle.sieve_check.specs.Names.{command_known};
     ghost use Rattle.sieve_check.specs.Refusing.{LoopsWithin, context_of, open_loops};
@@ -234,6 +244,36 @@ impl<'t> Surroundings<'t> {
             after_if: false,
             ..self
         }
+    }
+
+    // The loops around the block of a command, or of the last one that it swallowed, if that opens one. Nothing where there would be
+    // too many.
+    fn loops_past(self, invocation: &'t Invocation) -> Option<Loops<'t>>
+        ensures { LoopsWithin (context_of self.entry) (opened_past (invocation_tree invocation.now))
+            result }
+    {
+        match invocation {
+            Invocation::WithTest(head, test) => {
+                let known = command_known(head.name.as_slice());
+                if looks_inside(&known) || opens(&known) {
+                    self.loops_within(head)
+                } else {
+                    self.loops_past(test)
+                }
+            }
+            Invocation::Plain(head) => self.loops_within(head),
+            Invocation::WithTests(head, _, _) => self.loops_within(head),
+        }
+    }
+
+    /// Those of the first command of a block, where they are those behind its command, as [`past`](Surroundings::past) gives them, and
+    /// the command may have swallowed others. Nothing where more loops would be open than may be.
+    pub fn in_block_past(self, invocation: &'t Invocation) -> Option<Surroundings<'t>>
+        ensures { option_map context_of result
+            ≡ inside (opened_past (invocation_tree invocation.now)) (context_of self.entry) }
+    {
+        let loops = self.loops_past(invocation)?;
+        Some(self.within(loops))
     }
 
     /// Those of the first command of the block of a command. Nothing where more loops would be open than may be.

@@ -16,7 +16,7 @@ use Rattle.sieve_check.specs.Arguments.{Awaiting, arguments_cause, arguments_rea
 use Rattle.sieve_check.specs.Causes.{Cause, Refused, about, plain, refused_for}
 use Rattle.sieve_check.specs.Names.{row_named, tag_named}
 use Rattle.sieve_check.specs.Rows.{Row}
-use Rattle.sieve_check.specs.Rules.{Mentions, Visit, are_many, capability_arguments, cause_of, causes_by, command_visits, commands_visits, ending_cause, ill_formed, invocation_of, kind_of, known_cause, lacking, lacking_cause, lacking_causes, lacks_by, large_cause, large_mention_cause, long_name, long_string_cause, looks_inside, loops_opened, many_strings_cause, may_stand, mention_cause, mentions_of, misplaced, more_visits, names_past, names_with, needs_of, opened_by, past_invocation, place_cause, read_cause, reasons_of, reference_cause, reference_kind, refused_after, refused_among, same_ending, same_reason, same_tests, string_has, strings_of, tests_cause, tests_visits, unknown_as, unknown_cause, unknown_causes, visit_causes, visit_of, visits_of, where_required}
+use Rattle.sieve_check.specs.Rules.{Mentions, Visit, are_many, capability_arguments, cause_of, causes_by, command_visits, commands_visits, ending_cause, ill_formed, invocation_of, kind_of, known_cause, lacking, lacking_cause, lacking_causes, lacks_by, large_cause, large_mention_cause, long_name, long_string_cause, looks_inside, opened_past, many_strings_cause, may_stand, mention_cause, mentions_of, misplaced, more_visits, names_past, names_with, needs_of, opened_by, past_invocation, place_cause, read_cause, reasons_of, reference_cause, reference_kind, refused_after, refused_among, same_ending, same_reason, same_tests, string_has, strings_of, tests_cause, tests_visits, unknown_as, unknown_cause, unknown_causes, visit_causes, visit_of, visits_of, where_required}
 use Rattle.sieve_check.specs.Signatures.{Given, Read, add_tag, asks_for_mime, is_positional, no_tag, nothing_given, takes_tag, with_argument}
 use Rattle.sieve_check.specs.Surroundings.{Context, at_start, first_lacking, has_capability, in_block, opens_many}
 use Rattle.sieve_check.specs.declared.causes.ReasonKind.{ReasonKind}
@@ -305,8 +305,8 @@ mutual
       let open_brace = at_depth (suc d) opening_brace in
       All-append (Stands all) (visits_of (Some ending.Block) s i) _
       (invocation_stands (Some ending.Block) i s d all (inside_left all head (open_brace ∷ (word ++ end)) w))
-      (all_if (Stands all) (opens_many (loops_opened i) (past_invocation s i)) [] (commands_visits (in_block (loops_opened i) (past_invocation s i)) cs) (All-nil (Stands all))
-      (commands_stand cs (in_block (loops_opened i) (past_invocation s i)) (suc d) all
+      (all_if (Stands all) (opens_many (opened_past i) (past_invocation s i)) [] (commands_visits (in_block (opened_past i) (past_invocation s i)) cs) (All-nil (Stands all))
+      (commands_stand cs (in_block (opened_past i) (past_invocation s i)) (suc d) all
       (inside_left all word end (inside_next all open_brace (word ++ end) (inside_right all head (open_brace ∷ (word ++ end)) w)))))
 
   commands_stand : (cs : CommandsTree) (s : Context) (d : ℕ) (all : List Placed) → Inside all (commands_spelled d cs) → All (Stands all) (commands_visits s cs)

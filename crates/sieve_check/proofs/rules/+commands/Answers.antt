@@ -5,7 +5,7 @@ use Rattle.sieve_parser.specs.View.{command_tree, commands_tree, invocation_tree
 use Rattle.sieve_parser.specs.declared.tree.Command.{Command as Tree}
 use Rattle.sieve_check.specs.declared.signature.Ending.TheVariants.{Block}
 use Rattle.sieve_check.specs.Refusing.{AreVisited, context_of}
-use Rattle.sieve_check.specs.Rules.{Visit, past_invocation, invocation_of, loops_opened, command_visits, commands_visits, visits_of}
+use Rattle.sieve_check.specs.Rules.{Visit, past_invocation, invocation_of, opened_past, command_visits, commands_visits, visits_of}
 use Rattle.sieve_check.specs.Surroundings.{Context, inside}
 use Rattle.sieve_check.proofs.FaultSteps.{block_visits, next_visits}
 use Rattle.sieve_check.proofs.OpenLoops.{entered, not_entered}
@@ -18,12 +18,12 @@ command-returns-in-Some t c =
     let s = context_of c.args.surroundings.now in
     let i = invocation_tree b.first in
     let past = past_invocation s i in
-    let is_past : option_map context_of c.in_block.result ≡ inside (loops_opened i) past = c.in_block.ensures ∙ ap (inside (loops_opened i)) c.past.ensures in
+    let is_past : option_map context_of c.in_block_past.result ≡ inside (opened_past i) past = c.in_block_past.ensures ∙ ap (inside (opened_past i)) c.past.ensures in
     let within = context_of c.in-Some.inside in
     let body = commands_tree b.block.items in
     both_visited c.args.findings.now c.invocation-in-Block.new.findings c.commands.new.findings (command_visits s (command_tree c.args.tree.now)) (visits_of (Some Block) s i) (commands_visits within body)
     (block_visits s c.args.tree.now b.first b.block b.is
-    ∙ ap (λ vs. visits_of (Some Block) s i ++ vs) (entered (loops_opened i) past (λ around. commands_visits around body) within (ap (option_map context_of) (sym c.in-Some.is) ∙ is_past)))
+    ∙ ap (λ vs. visits_of (Some Block) s i ++ vs) (entered (opened_past i) past (λ around. commands_visits around body) within (ap (option_map context_of) (sym c.in-Some.is) ∙ is_past)))
     c.invocation-in-Block.ensures
     (subst (λ (xs : List Tree). AreVisited c.invocation-in-Block.new.findings (commands_visits within (commands_tree xs)) c.commands.new.findings) c.deref.ensures.value c.commands.ensures)
 
@@ -33,11 +33,11 @@ command-returns-in_default t c =
     let s = context_of c.args.surroundings.now in
     let i = invocation_tree b.first in
     let past = past_invocation s i in
-    let is_past : option_map context_of c.in_block.result ≡ inside (loops_opened i) past = c.in_block.ensures ∙ ap (inside (loops_opened i)) c.past.ensures in
+    let is_past : option_map context_of c.in_block_past.result ≡ inside (opened_past i) past = c.in_block_past.ensures ∙ ap (inside (opened_past i)) c.past.ensures in
     let body = commands_tree b.block.items in
     let visits : command_visits s (command_tree c.args.tree.now) ≡ visits_of (Some Block) s i =
     block_visits s c.args.tree.now b.first b.block b.is
-    ∙ ap (λ vs. visits_of (Some Block) s i ++ vs) (not_entered (loops_opened i) past (λ around. commands_visits around body) (ap (option_map context_of) (sym c.in_default.is) ∙ is_past))
+    ∙ ap (λ vs. visits_of (Some Block) s i ++ vs) (not_entered (opened_past i) past (λ around. commands_visits around body) (ap (option_map context_of) (sym c.in_default.is) ∙ is_past))
     ∙ append-nil (visits_of (Some Block) s i) in
     subst (λ (vs : List Visit). AreVisited c.args.findings.now vs c.invocation-in-Block.new.findings) (sym visits) c.invocation-in-Block.ensures
 
