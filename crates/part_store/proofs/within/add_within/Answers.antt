@@ -1,4 +1,4 @@
-use Rattle.std.proofs.Common.{map, subst}
+use Rattle.std.proofs.Common.{subst}
 use Rattle.std.proofs.lemmas.List.{length-map}
 use Rattle.part_store.specs.Filing.{HasRoom}
 use Rattle.part_store.specs.Standing.{draft_of}
