@@ -7,6 +7,7 @@ use std::alloc::Global;
 use std::test::Fail;
 
 const USERS: [&str; 3] = ["ann", "bob", "cat"];
+
 const MESSAGES: [&[u8]; 4] = [MESSAGE, b"Subject: a\n\nb\n", b"", b"Subject: c\n\nd\n"];
 
 // A depot in which one of the users has a filter.
@@ -36,7 +37,7 @@ fn groups_are_as_one_by_one(rt: HostRuntime) -> Result<(), Fail> {
         let mut alone = depot_of(alloc)?;
         let mut together = depot_of(alloc)?;
         let Ok(replies) = together.deliver_all(alloc, &deliveries) else {
-            return Err(Fail::from(Refusal::Database));
+            return Err(Fail::new("the group is refused"));
         };
         assert_eq!(rt; replies.len(), count);
         for place in 0..count {
@@ -64,7 +65,7 @@ fn a_refused_one_leaves_all_as_it_was(rt: HostRuntime) -> Result<(), Fail> {
         let mut depot = depot_of(alloc)?;
         let _before = depot.deliver(alloc, "ann", MESSAGE)?;
         match depot.deliver_all(alloc, &deliveries) {
-            Ok(_) => return Err(Fail::from(Refusal::Database)),
+            Ok(_) => return Err(Fail::new("the group is accepted")),
             Err(refused) => {
                 assert_eq!(rt; refused.place, place);
                 assert!(rt; matches!(refused.refusal, Refusal::UserName));
