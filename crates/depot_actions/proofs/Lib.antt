@@ -3,6 +3,7 @@ pub mod Numbering
 pub mod Keeping
 pub mod Sharing
 pub mod Delivering
+pub mod Together
 pub mod Folding
 pub mod NoCause
 pub mod Migrating

@@ -16,7 +16,7 @@ use Rattle.depot_actions.specs.Causes.{IsStoreFault}
 use Rattle.depot_actions.specs.Private.{of_store}
 use Rattle.depot_actions.proofs.Commands.{stands_still}
 
-of_database : (e : StoreError) → of_store e ≡ Database → e ≡ store.Database
+pub of_database : (e : StoreError) → of_store e ≡ Database → e ≡ store.Database
 of_database store.Memory is = absurd cc
 of_database store.NoSuchEntry is = absurd cc
 of_database store.NumberFull is = absurd cc

@@ -9,9 +9,11 @@ use Rattle.bytecode_format.specs.declared.action.Action.TheVariants.{Keep, File,
 use Rattle.mime_decode.specs.Mail.{Mail, Part}
 use Rattle.part_store.specs.Entries.{Draft, Entries, Listing, entry_of, listing_of, numbered, with_entries}
 use Rattle.part_store.specs.Filing.{Collides, HasRoom}
-use Rattle.part_store.specs.Standing.{MayMake, Stands}
+use Rattle.part_store.specs.Standing.{Stands}
 use Rattle.refusals.specs.declared.refusal.Refusal.{Refusal}
 use Rattle.refusals.specs.declared.refusal.Refusal.TheVariants.{Memory, NumberFull, Collision, Database}
+use Rattle.depot_actions.specs.Deliveries.{AcceptsAll}
+use Rattle.depot_actions.specs.DepotState.{Accepts, Command, Reply}
 use Rattle.depot_actions.specs.Drafts.{name_of}
 use Rattle.mime_params.specs.MediaValue.{media_text}
 use Rattle.depot_actions.specs.declared.stored_part.StoredPart.{StoredPart}
@@ -42,13 +44,11 @@ KeepsAction kept (Store folder part) = Keeps kept part
 abbrev pub unnumbered : Draft → Listing
 unnumbered draft = listing_of (entry_of [] 0 draft)
 
--- the drafts, of which there is at least one, became the user's entries, and these are their rows
-pub record Adds (user : List ℕ) (drafts : List Draft) (rows : List Listing) (old new : State) (before : Entries) : Type 0 where
+-- in a transaction: the drafts, of which there is at least one, became the user's entries, and these are their rows
+pub record Adds (user : List ℕ) (drafts : List Draft) (rows : List Listing) (new : State) (before : Entries) : Type 0 where
   pub room : HasRoom before user (length drafts)
   pub rows_are : rows ≡ map listing_of (numbered user (before.lasts user + 1) drafts)
-  pub is_open : IsTrue new.is_open
   pub stands : Stands new.now (with_entries user drafts before)
-  pub committed : new.committed ≡ new.now
 
 -- why they didn't
 abbrev pub IsUnfiled : Refusal → List ℕ → List Draft → State → Type 0
@@ -61,10 +61,20 @@ IsUnfiled Collision user drafts old =
     → HasRoom before user (length drafts) × Collides old.now.trees drafts)
 IsUnfiled _ user drafts old = ⊥
 
--- the store of what filing the drafts leaves
-abbrev pub MayFile : List ℕ → List Draft → State → Trees → Type 0
-MayFile user drafts old trees = IsTrue old.is_open × MayMake (with_entries user drafts) old trees
-
 -- the refusals of filing, whatever the disk does
 abbrev pub MayUnfile : Refusal → Type 0
 MayUnfile refusal = (refusal ≡ Memory) ⊎ ((refusal ≡ Database) ⊎ ((refusal ≡ NumberFull) ⊎ (refusal ≡ Collision)))
+
+-- in a transaction: the command is accepted with this reply, and the tables stand for what it leaves
+abbrev pub Reaches : Command → Reply → State → State → Type 0
+Reaches command reply old new =
+    (before : Entries) → Stands old.now before → (after : Entries) × Accepts before command reply after × Stands new.now after
+
+-- the same of several commands
+abbrev pub ReachesAll : List Command → List Reply → State → State → Type 0
+ReachesAll commands replies old new =
+    (before : Entries) → Stands old.now before → (after : Entries) × AcceptsAll before commands replies after × Stands new.now after
+
+-- of what is refused in a transaction
+abbrev pub IfInside : (State → State → Refusal → Type 0) → State → State → Refusal → Type 0
+IfInside Is old new refusal = IsTrue old.in_transaction → Is old new refusal

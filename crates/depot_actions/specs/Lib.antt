@@ -5,6 +5,7 @@ pub mod DepotState
 pub mod Amounts
 pub mod Causes
 pub mod History
+pub mod Deliveries
 pub mod Runs
 pub mod Overviews
 -- how programs get the latest version

@@ -1,17 +1,18 @@
 // What a delivery files, and how.
-ghost use Rattle.std.specs.Prelude.{◌≡◌, ◌<◌, ◌⊎◌, [], ◌∷◌, All, IfErr, IfOk, IsTrue, length, map, option_map};
+ghost use Rattle.std.specs.Prelude.{◌≡◌, ◌<◌, ◌⊎◌, [], ◌∷◌, All, IfErr, IfOk, length, map, option_map};
 ghost use Rattle.bytecode_format.specs.declared.action.Action.TheVariants.{Keep};
 ghost use Rattle.sieve_vm.specs.Stores.{NamesPart};
 ghost use Rattle.part_store.specs.Entries.{Entries};
 ghost use Rattle.part_store.specs.Sharing.{SharesContents, first_of};
-ghost use Rattle.part_store.specs.Standing.{Spares, Stands, draft_of, listed};
+ghost use Rattle.part_store.specs.Standing.{Stands, draft_of, listed};
 ghost use Rattle.refusals.specs.declared.refusal.Refusal.TheVariants.{Memory, Database};
 ghost use Rattle.depot_actions.specs.Causes.{IsSpoilt, IsStoreFault};
 ghost use Rattle.part_store.specs.Refusals.{LackRoom};
 ghost use Rattle.depot_actions.specs.DepotState.{AreActions};
 ghost use Rattle.depot_actions.specs.Drafts.{drafts_of};
-ghost use Rattle.depot_actions.specs.Filing.{Adds, IsUnfiled, MayFile, MayUnfile};
-ghost use Rattle.part_store.specs.Calls.{Always, IfDone, IfRefused, MayCommit, OnRefused, StaysShut};
+ghost use Rattle.depot_actions.specs.Filing.{Adds, IfInside, IsUnfiled, MayUnfile};
+ghost use Rattle.part_store.specs.Calls.{Always, CommitsNothing, IfDone, IfRefused, OnDone, StaysShut, WasOpen};
+ghost use Rattle.part_store.specs.Inside.{IsInside, KeepsStored, KeepsTables};
 
 use crate::checked_program::CheckedProgram;
 use crate::contents::shared_contents;
@@ -21,9 +22,9 @@ use crate::refusing::refused;
 use crate::rows::{set_numbers, unnumbered_rows};
 use bytecode_format::Action;
 use mime_decode::Message;
-use part_store::{EntryRow, NewEntry, PartStore, Shared};
+use part_store::{EntryRow, NewEntry, Shared, add_within};
 use refusals::Refusal;
-use sqlite::Alter;
+use sqlite::{Alter, Transaction};
 use std::alloc::{AllocError, Global};
 
 /// The final actions of a user's program on a message, or Keep where he has none. The program that was checked last isn't checked
@@ -67,9 +68,10 @@ fn keep_alone(alloc: Global) -> Result<Vec<Action>, AllocError>
 ///
 /// # Errors
 ///
-/// `NumberFull`, `Collision` and `Database` of the store, and `Memory` where an allocation was refused. Nothing is filed then.
+/// `NumberFull`, `Collision` and `Database` of the store, and `Memory` where an allocation was refused. The transaction is to be
+/// rolled back then.
 pub(crate) fn file_all<S: Alter>(
-    store: &mut PartStore<S>,
+    tx: &mut Transaction<'_, S>,
     alloc: Global,
     user: &str,
     octets: &[u8],
@@ -79,29 +81,31 @@ pub(crate) fn file_all<S: Alter>(
     requires some { 0 < length actions.now }
     requires parts { All (NamesPart message.now) actions.now }
     requires octets { message.now.octets ≡ octets.now }
-    ensures added { IfDone S.Store store.old store.new result (λ rows old new. IsTrue old.is_open
-        × ((before : Entries) → Stands old.now before
-        → Adds user.now (drafts_of message.now actions.now)
-        (map listed rows.items) old new before)) }
-    ensures shut { Always S.Store store.old store.new StaysShut }
-    ensures spared { OnRefused S.Store store.old store.new result Spares }
+    ensures same_reference { tx.new.conn.ghost_name ≡ tx.old.conn.ghost_name }
+    ensures added { IfDone S.Store tx.old.conn.now tx.new.conn.now result
+        (λ rows old new. (before : Entries) → Stands old.now before
+        → Adds user.now (drafts_of message.now actions.now) (map listed rows.items) new before) }
+    ensures open { OnDone S.Store tx.old.conn.now tx.new.conn.now result WasOpen }
+    ensures inside { OnDone S.Store tx.old.conn.now tx.new.conn.now result IsInside }
+    ensures schema { OnDone S.Store tx.old.conn.now tx.new.conn.now result KeepsTables }
+    ensures shut { Always S.Store tx.old.conn.now tx.new.conn.now StaysShut }
+    ensures kept { Always S.Store tx.old.conn.now tx.new.conn.now KeepsStored }
     ensures which { IfErr result MayUnfile }
-    ensures refused { IfRefused S.Store store.old store.new result (λ old _ e. IsUnfiled e user.now
-        (drafts_of message.now actions.now) old) }
-    ensures cause { IfRefused S.Store store.old store.new result
-        (IsStoreFault (LackRoom user.now (drafts_of message.now actions.now))) }
-    ensures survives { MayCommit S.Store store.old store.new
-        (MayFile user.now (drafts_of message.now actions.now)) }
+    ensures refused { IfRefused S.Store tx.old.conn.now tx.new.conn.now result
+        (λ old _ e. IsUnfiled e user.now (drafts_of message.now actions.now) old) }
+    ensures cause { IfRefused S.Store tx.old.conn.now tx.new.conn.now result
+        (IfInside (IsStoreFault (LackRoom user.now (drafts_of message.now actions.now)))) }
+    ensures survives { CommitsNothing S.Store tx.old.conn.now tx.new.conn.now }
 {
     let kept = kept_parts(alloc, message, actions)?;
     let entries = new_entries(alloc, octets, &kept, actions)?;
     let mut shared = shared_contents(alloc, message, actions)?;
-    add_all(store, alloc, user, &entries, &mut shared)
+    add_all(tx, alloc, user, &entries, &mut shared)
 }
 
 // Adds entries, of which there is at least one and some may have the same content. Their rows are made before, so that nothing is added where memory is refused.
 fn add_all<S: Alter>(
-    store: &mut PartStore<S>,
+    tx: &mut Transaction<'_, S>,
     alloc: Global,
     user: &str,
     entries: &[NewEntry<'_>],
@@ -109,23 +113,24 @@ fn add_all<S: Alter>(
 ) -> Result<Vec<EntryRow>, Refusal>
     requires some { 0 < length entries.now }
     requires shared { SharesContents (map draft_of entries.now) (map first_of shared.old) }
-    ensures added { IfDone S.Store store.old store.new result (λ rows old new. IsTrue old.is_open
-        × ((before : Entries) → Stands old.now before → Adds user.now (map draft_of entries.now)
-        (map listed rows.items) old new before)) }
-    ensures shut { Always S.Store store.old store.new StaysShut }
-    ensures spared { OnRefused S.Store store.old store.new result Spares }
+    ensures same_reference { tx.new.conn.ghost_name ≡ tx.old.conn.ghost_name }
+    ensures added { IfDone S.Store tx.old.conn.now tx.new.conn.now result
+        (λ rows old new. (before : Entries) → Stands old.now before
+        → Adds user.now (map draft_of entries.now) (map listed rows.items) new before) }
+    ensures open { OnDone S.Store tx.old.conn.now tx.new.conn.now result WasOpen }
+    ensures inside { OnDone S.Store tx.old.conn.now tx.new.conn.now result IsInside }
+    ensures schema { OnDone S.Store tx.old.conn.now tx.new.conn.now result KeepsTables }
+    ensures shut { Always S.Store tx.old.conn.now tx.new.conn.now StaysShut }
+    ensures kept { Always S.Store tx.old.conn.now tx.new.conn.now KeepsStored }
     ensures which { IfErr result MayUnfile }
-    ensures refused { IfRefused S.Store store.old store.new result (λ old _ e. IsUnfiled e user.now
-        (map draft_of entries.now) old) }
-    ensures cause { IfRefused S.Store store.old store.new result
-        (IsStoreFault (LackRoom user.now (map draft_of entries.now))) }
-    ensures survives { MayCommit S.Store store.old store.new
-        (MayFile user.now (map draft_of entries.now)) }
+    ensures refused { IfRefused S.Store tx.old.conn.now tx.new.conn.now result
+        (λ old _ e. IsUnfiled e user.now (map draft_of entries.now) old) }
+    ensures cause { IfRefused S.Store tx.old.conn.now tx.new.conn.now result
+        (IfInside (IsStoreFault (LackRoom user.now (map draft_of entries.now)))) }
+    ensures survives { CommitsNothing S.Store tx.old.conn.now tx.new.conn.now }
 {
     let mut rows = unnumbered_rows(alloc, entries)?;
-    let first = store
-        .add_sharing_entries(user, entries, shared)
-        .map_err(refused)?;
+    let first = add_within(tx, user, entries, shared).map_err(refused)?;
     set_numbers(&mut rows, first);
     Ok(rows)
 }

@@ -10,6 +10,7 @@ ghost use Rattle.part_store.specs.Refusals.{AreNamed};
 ghost use Rattle.part_store.specs.Standing.{Spares, Stands, listed};
 ghost use Rattle.refusals.specs.declared.refusal.Refusal.TheVariants.{Memory, Database, Write};
 ghost use Rattle.depot_actions.specs.Causes.{IsCause, IsFault, IsStoreFault, IsUncounted, MayRefuse};
+ghost use Rattle.depot_actions.specs.Deliveries.{AreRefused, DoesAll, MayLeaveAll, MayRefuseAll, command_of, reply_of};
 ghost use Rattle.depot_actions.specs.DepotState.{Deliver, Does, Done, Export, ListAll, Listed, MayLeave, Migrate, Migrated, Program, ProgramOf, Remove, SetCode, SetScript, Text};
 ghost use Rattle.depot_actions.specs.Overviews.{IsOverview};
 ghost use Rattle.sqlite.specs.Files.{file_state, IsOpened};
@@ -19,14 +20,13 @@ ghost use Rattle.part_store.specs.Calls.{Always, CommitsNothing, IfDone, IfRefus
 
 use crate::checked_program::CheckedProgram;
 use crate::checking::check_code;
-use crate::delivery::{actions_of, file_all};
+use crate::deliveries::{Delivery, RefusedDelivery, deliver_alone, deliver_together};
 use crate::inspecting::look_over;
 use crate::overview::Overview;
 use crate::refusing::refused;
 use crate::renewing::renewed_programs;
 use crate::user::is_user_name;
 use encodings::{Encoding, Sink, put_text};
-use mime_decode::Message;
 use part_store::{EntryRow, PartStore, Unopened};
 use refusals::Refusal;
 use sieve_engine::code_octets;
@@ -150,16 +150,32 @@ impl<S: Alter> Depot<S> {
         ensures survives { MayCommit S.Store self.old self.new
             (MayLeave (Deliver user.now message.now)) }
     {
-        if !is_user_name(user) {
-            return Err(Refusal::UserName);
-        }
-        let mail = Message::read(alloc, message)?;
-        let program = self.store.program_of(user).map_err(refused)?;
-        let actions = actions_of(alloc, program, &mut self.last, &mail)?;
-        if actions.is_empty() {
-            return Ok(Vec::new(alloc));
-        }
-        file_all(&mut self.store, alloc, user, message, &mail, &actions)
+        deliver_alone(&mut self.store, &mut self.last, alloc, user, message)
+    }
+
+    /// Delivers messages, of one user or several, as [`Depot::deliver`] would one after another, and commits them together: all are
+    /// delivered, or none. The rows of each one's new entries, in the order of the deliveries. A crash leaves all, or none.
+    ///
+    /// # Errors
+    ///
+    /// With its place, the first that `deliver` would refuse after those before it, and what it would refuse it for; or, at the place
+    /// after the last, `Database` or `Memory` of the commit. Nothing has changed then.
+    pub fn deliver_all(
+        &mut self,
+        alloc: Global,
+        deliveries: &[Delivery<'_>],
+    ) -> Result<Vec<Vec<EntryRow>>, RefusedDelivery>
+        ensures done { IfDone S.Store self.old self.new result
+            (λ replies. DoesAll (map command_of deliveries.now) (map reply_of replies.items)) }
+        ensures spared { OnRefused S.Store self.old self.new result Spares }
+        ensures which { IfErr result
+            (λ e. MayRefuseAll (map command_of deliveries.now) e.place e.refusal) }
+        ensures refused { IfRefused S.Store self.old self.new result
+            (λ old new e. AreRefused (map command_of deliveries.now) e.place e.refusal old new) }
+        ensures survives { MayCommit S.Store self.old self.new
+            (MayLeaveAll (map command_of deliveries.now)) }
+    {
+        deliver_together(&mut self.store, &mut self.last, alloc, deliveries)
     }
 
     /// The rows of the user's entries, by their numbers.

@@ -16,7 +16,7 @@ mod Finding
 mod Reading
 mod Filed
 mod FiledAll
-mod Entering
+pub mod Entering
 mod Removing
 mod Listed
 mod NameOrder

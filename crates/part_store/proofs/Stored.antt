@@ -1,5 +1,5 @@
 -- Trees that are the store of a state.
-use Rattle.std.proofs.Common.{◌≡◌, IsTrue, List, ℕ, sym, subst, subst₂, ◌∙◌, arith, true}
+use Rattle.std.proofs.Common.{◌≡◌, IsTrue, sym, subst, subst₂, ◌∙◌, arith, true}
 use Rattle.sqlite_schema.specs.declared.schema.Schema.{Schema}
 use Rattle.sqlite_trees.specs.Tree.{Trees}
 use Rattle.sqlite_trees.specs.declared.store.Store as store
@@ -9,9 +9,7 @@ use Rattle.sqlite.specs.State.{State, HasCleanDisk, Survives}
 use Rattle.sqlite.proofs.Callers.{survives_begin}
 use Rattle.sqlite.proofs.StateLemmas.{survives_then}
 use Rattle.part_store.specs.Tables.{store_schema}
-use Rattle.part_store.specs.Entries.{Draft, Entries, with_entries}
-use Rattle.part_store.specs.Additions.{Adds}
-use Rattle.part_store.specs.declared.adding.Adding.TheVariants.{From}
+use Rattle.part_store.specs.Entries.{Entries}
 use Rattle.part_store.specs.Inside.{Brings}
 use Rattle.part_store.specs.Standing.{IsStored, MayMake, Stands}
 
@@ -33,15 +31,3 @@ committed_change g old mid new change first is_open brings commits =
     (λ trees. IsTrue (state g old).is_open × MayMake change (state g old) trees) (λ clean trees none. absurd none)
     (λ clean trees is.
     let early : HasCleanDisk mid = omega (arith, commits.clean) in (is_open early, λ before stands. stored_as trees mid.now (change before) is (brings early before stands).0)) first commits)
-
--- so too of entries
-pub committed_entries : {S : Type 0} (g : store.Ghosts S) (old : Held S) (mid new : State) (user : List ℕ) (drafts : List Draft) (first : ℕ)
-    → Survives (state g (record old { in_transaction = true })) mid (λ _. ⊥) → (HasCleanDisk mid → IsTrue (state g (record old { in_transaction = true })).is_open)
-    → (HasCleanDisk mid → Adds user drafts (state g (record old { in_transaction = true })) mid (From first)) → Survives mid new (λ trees. trees ≡ mid.now.trees)
-    → Survives (state g old) new (λ trees. IsTrue (state g old).is_open × MayMake (with_entries user drafts) (state g old) trees)
-committed_entries g old mid new user drafts first reads is_open adds commits =
-    survives_begin g old new _ (survives_then (state g (record old { in_transaction = true })) mid new (λ _. ⊥) (λ trees. trees ≡ mid.now.trees)
-    (λ trees. IsTrue (state g old).is_open × MayMake (with_entries user drafts) (state g old) trees) (λ clean trees none. absurd none)
-    (λ clean trees is.
-    let early : HasCleanDisk mid = omega (arith, commits.clean) in
-    (is_open early, λ before stands. stored_as trees mid.now (with_entries user drafts before) is (adds early before stands).3)) reads commits)

@@ -1,4 +1,4 @@
--- Private: what is said of a call within a transaction.
+-- What is said of a call within a transaction.
 use Rattle.std.specs.Prelude.{◌≡◌, IsTrue}
 use Rattle.sqlite.specs.State.{State, KeepsCommit}
 use Rattle.sqlite.specs.declared.error.Error.{Error}
@@ -40,3 +40,7 @@ Brings change old new = (before : Entries) → Stands old.now before
 -- in a transaction: the tables are read, and stay as they are
 abbrev pub Stays : State → State → Type 0
 Stays old new = old.now.schema ≡ store_schema → (new.now.schema ≡ store_schema) × (new.now.trees ≡ old.now.trees)
+
+-- of what is refused in a transaction
+abbrev pub IfInside : (State → State → StoreError → Type 0) → State → State → StoreError → Type 0
+IfInside Is old new e = IsTrue old.in_transaction → Is old new e

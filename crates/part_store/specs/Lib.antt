@@ -5,6 +5,7 @@ pub mod Filing
 pub mod Refusals
 pub mod Sharing
 pub mod Calls
+pub mod Inside
 pub mod Looking
 pub mod Opening
 pub mod Crashes
@@ -16,6 +17,5 @@ pub mod Changes
 pub mod Causes
 pub mod Readings
 pub mod Noting
-pub mod Inside
 pub mod Additions
 pub mod Connections

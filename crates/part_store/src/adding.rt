@@ -45,6 +45,7 @@ pub(crate) fn put_entries<S: Alter>(
     ensures shut { Always S.Store tx.old.conn.now tx.new.conn.now StaysShut }
     ensures inside { IfDone S.Store tx.old.conn.now tx.new.conn.now result
         (λ adding _ new. IsFrom adding → IsTrue new.in_transaction) }
+    ensures schema { OnDone S.Store tx.old.conn.now tx.new.conn.now result KeepsTables }
     ensures kept { Always S.Store tx.old.conn.now tx.new.conn.now KeepsStored }
     ensures cause { IfRefused S.Store tx.old.conn.now tx.new.conn.now result
         (AsRefusalInside (BlamesEntries user.now (map draft_of entries.now))) }
@@ -87,6 +88,7 @@ fn claim_and_file<S: Alter>(
         → Collides old.now.trees (map draft_of entries.now)) }
     ensures inside { IfDone S.Store tx.old.conn.now tx.new.conn.now result
         (λ done _ new. done ≡ true → IsTrue new.in_transaction) }
+    ensures schema { OnDone S.Store tx.old.conn.now tx.new.conn.now result KeepsTables }
     ensures kept { Always S.Store tx.old.conn.now tx.new.conn.now KeepsStored }
     ensures cause { IfRefused S.Store tx.old.conn.now tx.new.conn.now result
         (λ old new e. IsTrue old.in_transaction

@@ -25,7 +25,6 @@ ghost use Rattle.part_store.specs.Calls.{Always, CommitsNothing, DoneWhere, IfDo
 
 mod connections;
 
-use crate::adding::{Adding, put_entries};
 use crate::all_users::list_users;
 use crate::entry::{EntryRow, NewEntry};
 use crate::error::StoreError;
@@ -35,6 +34,7 @@ use crate::shared::Shared;
 use crate::stored_programs::{list_programs, put_program, read_program, replace_all};
 use crate::totals::{ContentTotal, count_contents};
 use crate::user_row::UserRow;
+use crate::within::{add_within, begin};
 use crate::{contents, entries, tables};
 use connections::{found_store, known_connection, made_store};
 use sqlite::{
@@ -52,7 +52,9 @@ use std::marker::Model;
 /// a failure had shut it before, or its connection has a limit on steps (`cause`). A call that puts rows in may also be refused for
 /// want of room: a table has no rowid left, or a row is more than the database can store. What else refuses a call, it says itself.
 pub struct PartStore<S: Alter> {
-    conn: Connection<S>,
+    /// The database, in which no transaction is open. Whoever borrows it leaves none open. So calls of several users' entries can be
+    /// committed together ([`crate::begin`]).
+    pub conn: Connection<S>,
 }
 
 impl<S: Alter> Model for PartStore<S> {
@@ -79,19 +81,6 @@ fn is_bare(schema: &Schema) -> bool
     ensures { IsTrue result ↔ (schema.now ≡ no_schema) }
 {
     schema.tables.is_empty() && schema.indexes.is_empty() && schema.views.is_empty()
-}
-
-/// Begins a transaction where none is open. What an open connection then shows is what is committed.
-fn begin<S: Alter>(conn: &mut Connection<S>) -> Transaction<'_, S>
-    requires { conn.old.in_transaction ≡ false }
-    ensures same_reference { result.conn.ghost_name ≡ conn.entry.ghost_name }
-    ensures begun { result.conn.now ≡ record conn.old { in_transaction = true } }
-    ensures settled { IsTrue (state S.Store conn.old).is_open
-        → (state S.Store conn.old).now ≡ (state S.Store conn.old).committed }
-{
-    // What holds of every connection is known where it is asked.
-    let _settled = conn.is_autocommit();
-    conn.transaction()
 }
 
 fn create_tables<S: Alter>(tx: &mut Transaction<'_, S>) -> Result<(), Error>
@@ -472,14 +461,9 @@ impl<S: Alter> PartStore<S> {
             × MayMake (with_entries user.now (map draft_of entries.now)) old trees) }
     {
         let mut tx = begin(&mut self.conn);
-        match put_entries(&mut tx, user, entries, shared)? {
-            Adding::From(first) => {
-                tx.commit()?;
-                Ok(first)
-            }
-            Adding::NumberFull => Err(StoreError::NumberFull),
-            Adding::Collision => Err(StoreError::Collision),
-        }
+        let first = add_within(&mut tx, user, entries, shared)?;
+        tx.commit()?;
+        Ok(first)
     }
 
     /// The user's entries, by their numbers. Refuses `Memory` and `Database`.

@@ -1,19 +1,16 @@
-use Rattle.depot_actions.proofs.StoreFaults.{fault_told, of_refusal, passed_on}
+use Rattle.std.proofs.Common.{map}
+use Rattle.std.proofs.lemmas.Result.{IfErr-weaker}
+use Rattle.sqlite.specs.Held.{state}
 use Rattle.part_store.specs.Refusals.{LackRoom}
 use Rattle.part_store.specs.Standing.{draft_of}
-use Rattle.std.proofs.Common.{map}
-use Rattle.sqlite.specs.Held.{state}
-use Rattle.depot_actions.proofs.Commands.{spares_self}
-use Rattle.encodings.proofs.Outputs.{on_err}
+use Rattle.depot_actions.proofs.StoreFaults.{fault_told, of_refusal, passed_on}
 use Rattle.depot_actions.proofs.delivery.add_all.Goals as goal
-
-pub returns-in_err-rows-clause-spared : goal.returns-in_err-rows-clause-spared
-returns-in_err-rows-clause-spared g c clean = on_err c.from_residual.result (spares_self (state g.S.Store c.args.store.now))
 
 pub returns-in_err-first-clause-cause : goal.returns-in_err-first-clause-cause
 returns-in_err-first-clause-cause g c clean =
-    let old = state g.S.Store c.args.store.now in
-    let new = state g.S.Store c.add_sharing_entries.new.self in
+    let old = state g.S.Store c.args.tx.now.conn.now in
+    let new = state g.S.Store c.add_within.new.tx.conn.now in
     let lack = LackRoom c.args.user.now (map draft_of c.args.entries.now) in
     passed_on c.from_residual-in_err-first.result _ _ c.from_residual-in_err-first.ensures.1
-    (of_refusal c.map_err.result _ _ c.in_err-first.was (fault_told lack old new c.add_sharing_entries.result c.map_err.result c.map_err.ensures.cases (c.add_sharing_entries.ensures.cause clean)))
+    (λ inside. of_refusal c.map_err.result _ _ c.in_err-first.was (fault_told lack old new c.add_within.result c.map_err.result c.map_err.ensures.cases
+    (IfErr-weaker c.add_within.result _ _ (λ e h. h inside) (c.add_within.ensures.cause clean))))

@@ -1,0 +1,182 @@
+// Deliveries, alone and several at once.
+ghost use Rattle.std.specs.Prelude.{◌≡◌, ◌<◌, length, map, IfErr, IsTrue, OnOk};
+ghost use Rattle.sqlite.specs.Held.{state};
+ghost use Rattle.part_store.specs.Calls.{Always, CommitsNothing, IfDone, IfRefused, MayCommit, OnDone, OnRefused, StaysShut, WasOpen};
+ghost use Rattle.part_store.specs.Inside.{KeepsStored, KeepsTables, StaysInside};
+ghost use Rattle.part_store.specs.Standing.{Spares, listed};
+ghost use Rattle.depot_actions.specs.Causes.{IsCause, IsFault, IsSound, MayRefuse};
+ghost use Rattle.depot_actions.specs.Deliveries.{AreRefused, DoesAll, IsRefusedAt, MayLeaveAll, MayRefuseAll, MayRefuseAt, command_of, reply_of};
+ghost use Rattle.depot_actions.specs.DepotState.{Deliver, Does, IsNamed, Listed, MayLeave};
+ghost use Rattle.depot_actions.specs.Filing.{IfInside, Reaches, ReachesAll};
+
+use crate::checked_program::CheckedProgram;
+use crate::delivery::{actions_of, file_all};
+use crate::refusing::refused;
+use crate::user::is_user_name;
+use mime_decode::Message;
+use part_store::{EntryRow, PartStore, StoreError, begin, program_within};
+use refusals::Refusal;
+use sqlite::{Alter, Transaction};
+use std::alloc::Global;
+
+/// A message that is to be delivered.
+#[derive(Clone, Copy)]
+pub struct Delivery<'a> {
+    /// The user that it is for.
+    pub user: &'a str,
+    /// The message.
+    pub message: &'a [u8],
+}
+
+/// Why several deliveries are refused.
+#[derive(Drop)]
+pub struct RefusedDelivery {
+    /// The place of the first one that is refused, from 0: so many would have been accepted before it. It is their number where all
+    /// would have been, and their commit failed.
+    pub place: usize,
+    /// Why it is refused.
+    pub refusal: Refusal,
+}
+
+/// Delivers a message in a transaction of its own.
+///
+/// # Errors
+///
+/// What `deliver_within` is refused for, and `Database` and `Memory` of the commit. Nothing is filed then.
+pub(crate) fn deliver_alone<S: Alter>(
+    store: &mut PartStore<S>,
+    last: &mut Option<CheckedProgram>,
+    alloc: Global,
+    user: &str,
+    message: &[u8],
+) -> Result<Vec<EntryRow>, Refusal>
+    ensures done { IfDone S.Store store.old store.new result
+        (λ rows. Does (Deliver user.now message.now) (Listed (map listed rows.items))) }
+    ensures spared { OnRefused S.Store store.old store.new result Spares }
+    ensures which { IfErr result (MayRefuse (Deliver user.now message.now)) }
+    ensures refused { IfRefused S.Store store.old store.new result
+        (IsCause (Deliver user.now message.now)) }
+    ensures cause { IfRefused S.Store store.old store.new result
+        (IsFault (Deliver user.now message.now)) }
+    ensures survives { MayCommit S.Store store.old store.new
+        (MayLeave (Deliver user.now message.now)) }
+{
+    let mut tx = begin(&mut store.conn);
+    let rows = deliver_within(&mut tx, last, alloc, user, message)?;
+    match tx.commit() {
+        Ok(()) => Ok(rows),
+        Err(error) => Err(refused(StoreError::from(error))),
+    }
+}
+
+/// Delivers messages in one transaction, in their order. The rows of each one's new entries.
+///
+/// # Errors
+///
+/// That of the first that is refused, or of the commit. Nothing is filed then.
+pub(crate) fn deliver_together<S: Alter>(
+    store: &mut PartStore<S>,
+    last: &mut Option<CheckedProgram>,
+    alloc: Global,
+    deliveries: &[Delivery<'_>],
+) -> Result<Vec<Vec<EntryRow>>, RefusedDelivery>
+    ensures done { IfDone S.Store store.old store.new result
+        (λ replies. DoesAll (map command_of deliveries.now) (map reply_of replies.items)) }
+    ensures spared { OnRefused S.Store store.old store.new result Spares }
+    ensures which { IfErr result
+        (λ e. MayRefuseAll (map command_of deliveries.now) e.place e.refusal) }
+    ensures refused { IfRefused S.Store store.old store.new result
+        (λ old new e. AreRefused (map command_of deliveries.now) e.place e.refusal old new) }
+    ensures survives { MayCommit S.Store store.old store.new
+        (MayLeaveAll (map command_of deliveries.now)) }
+{
+    let mut tx = begin(&mut store.conn);
+    let replies = deliver_each(&mut tx, last, alloc, deliveries)?;
+    match tx.commit() {
+        Ok(()) => Ok(replies),
+        Err(error) => Err(RefusedDelivery {
+            place: deliveries.len(),
+            refusal: refused(StoreError::from(error)),
+        }),
+    }
+}
+
+// Delivers messages within a transaction, in their order, up to the first that is refused.
+fn deliver_each<S: Alter>(
+    tx: &mut Transaction<'_, S>,
+    last: &mut Option<CheckedProgram>,
+    alloc: Global,
+    deliveries: &[Delivery<'_>],
+) -> Result<Vec<Vec<EntryRow>>, RefusedDelivery>
+    ensures same_reference { tx.new.conn.ghost_name ≡ tx.old.conn.ghost_name }
+    ensures done { IfDone S.Store tx.old.conn.now tx.new.conn.now result
+        (λ replies. ReachesAll (map command_of deliveries.now) (map reply_of replies.items)) }
+    ensures open { OnDone S.Store tx.old.conn.now tx.new.conn.now result
+        (λ old _. 0 < length deliveries.now → IsTrue old.is_open) }
+    ensures inside { OnDone S.Store tx.old.conn.now tx.new.conn.now result StaysInside }
+    ensures shut { Always S.Store tx.old.conn.now tx.new.conn.now StaysShut }
+    ensures kept { Always S.Store tx.old.conn.now tx.new.conn.now KeepsStored }
+    ensures which { IfErr result
+        (λ e. MayRefuseAt (map command_of deliveries.now) e.place e.refusal) }
+    ensures refused { IfRefused S.Store tx.old.conn.now tx.new.conn.now result
+        (λ old new e. IsTrue old.in_transaction
+        → IsRefusedAt (map command_of deliveries.now) e.place e.refusal old new) }
+    ensures survives { CommitsNothing S.Store tx.old.conn.now tx.new.conn.now }
+{
+    let mut replies = Vec::new(alloc);
+    for delivery in deliveries {
+        let place = replies.len();
+        let rows = match deliver_within(tx, last, alloc, delivery.user, delivery.message) {
+            Ok(rows) => rows,
+            Err(refusal) => return Err(RefusedDelivery { place, refusal }),
+        };
+        let Ok(()) = replies.push(rows) else {
+            return Err(RefusedDelivery {
+                place,
+                refusal: Refusal::Memory,
+            });
+        };
+    }
+    Ok(replies)
+}
+
+/// Delivers a message within a transaction. The rows of the new entries.
+///
+/// # Errors
+///
+/// Those of [`crate::Depot::deliver`]. The transaction is to be rolled back then.
+fn deliver_within<S: Alter>(
+    tx: &mut Transaction<'_, S>,
+    last: &mut Option<CheckedProgram>,
+    alloc: Global,
+    user: &str,
+    message: &[u8],
+) -> Result<Vec<EntryRow>, Refusal>
+    ensures same_reference { tx.new.conn.ghost_name ≡ tx.old.conn.ghost_name }
+    ensures done { IfDone S.Store tx.old.conn.now tx.new.conn.now result
+        (λ rows. Reaches (Deliver user.now message.now) (Listed (map listed rows.items))) }
+    ensures open { OnDone S.Store tx.old.conn.now tx.new.conn.now result WasOpen }
+    ensures inside { OnDone S.Store tx.old.conn.now tx.new.conn.now result StaysInside }
+    ensures schema { OnDone S.Store tx.old.conn.now tx.new.conn.now result KeepsTables }
+    ensures shut { Always S.Store tx.old.conn.now tx.new.conn.now StaysShut }
+    ensures kept { Always S.Store tx.old.conn.now tx.new.conn.now KeepsStored }
+    ensures sound { OnOk result (IsNamed (Deliver user.now message.now)
+        × IsSound (Deliver user.now message.now)) }
+    ensures which { IfErr result (MayRefuse (Deliver user.now message.now)) }
+    ensures refused { IfRefused S.Store tx.old.conn.now tx.new.conn.now result
+        (IsCause (Deliver user.now message.now)) }
+    ensures cause { IfRefused S.Store tx.old.conn.now tx.new.conn.now result
+        (IfInside (IsFault (Deliver user.now message.now))) }
+    ensures survives { CommitsNothing S.Store tx.old.conn.now tx.new.conn.now }
+{
+    if !is_user_name(user) {
+        return Err(Refusal::UserName);
+    }
+    let mail = Message::read(alloc, message)?;
+    let program = program_within(tx, user).map_err(refused)?;
+    let actions = actions_of(alloc, program, last, &mail)?;
+    if actions.is_empty() {
+        return Ok(Vec::new(alloc));
+    }
+    file_all(tx, alloc, user, message, &mail, &actions)
+}

@@ -1,0 +1,98 @@
+//! Calls within a transaction, which are committed together.
+ghost use Rattle.std.specs.Prelude.{◌≡◌, ◌⊎◌, ◌+◌, ◌<◌, true, false, length, map, IsTrue, IfErr, option_map};
+ghost use Rattle.sqlite.specs.Held.{state};
+ghost use Rattle.part_store.specs.Calls.{Always, CommitsNothing, DoneWhere, IfRefused, OnDone, RefusedWhere, StaysShut, Tells, WasOpen};
+ghost use Rattle.part_store.specs.Entries.{with_entries};
+ghost use Rattle.part_store.specs.Filing.{Collides, HasRoom};
+ghost use Rattle.part_store.specs.Inside.{Brings, IfInside, IsInside, KeepsStored, KeepsTables, Stays, StaysInside};
+ghost use Rattle.part_store.specs.Refusals.{Blames, BlamesEntries};
+ghost use Rattle.part_store.specs.Sharing.{SharesContents, first_of};
+ghost use Rattle.part_store.specs.Standing.{Stands, draft_of};
+ghost use Rattle.part_store.specs.declared.error.StoreError.TheVariants.{Memory, NumberFull, Collision, Database};
+
+use crate::adding::{Adding, put_entries};
+use crate::entry::NewEntry;
+use crate::error::StoreError;
+use crate::shared::Shared;
+use crate::stored_programs::read_program;
+use sqlite::{Alter, Connection, Transaction};
+
+/// Begins a transaction of a store's database, in which none is open. What an open database then shows is what is committed. The
+/// transaction is rolled back where it is dropped before its commit.
+pub fn begin<S: Alter>(conn: &mut Connection<S>) -> Transaction<'_, S>
+    requires { conn.old.in_transaction ≡ false }
+    ensures same_reference { result.conn.ghost_name ≡ conn.entry.ghost_name }
+    ensures begun { result.conn.now ≡ record conn.old { in_transaction = true } }
+    ensures settled { IsTrue (state S.Store conn.old).is_open
+        → (state S.Store conn.old).now ≡ (state S.Store conn.old).committed }
+{
+    // What holds of every connection is known where it is asked.
+    let _settled = conn.is_autocommit();
+    conn.transaction()
+}
+
+/// The user's program, or none where he has none. Refuses `Memory` and `Database`.
+pub fn program_within<S: Alter>(
+    tx: &mut Transaction<'_, S>,
+    user: &str,
+) -> Result<Option<Vec<u8>>, StoreError>
+    ensures same_reference { tx.new.conn.ghost_name ≡ tx.old.conn.ghost_name }
+    ensures told { Tells S.Store tx.old.conn.now tx.new.conn.now result
+        (λ before found. option_map (λ v. v.items) found ≡ before.programs user.now) }
+    ensures open { OnDone S.Store tx.old.conn.now tx.new.conn.now result WasOpen }
+    ensures same { OnDone S.Store tx.old.conn.now tx.new.conn.now result Stays }
+    ensures inside { OnDone S.Store tx.old.conn.now tx.new.conn.now result StaysInside }
+    ensures shut { Always S.Store tx.old.conn.now tx.new.conn.now StaysShut }
+    ensures kept { Always S.Store tx.old.conn.now tx.new.conn.now KeepsStored }
+    ensures refused { IfErr result (λ e. (e ≡ Memory) ⊎ (e ≡ Database)) }
+    ensures cause { IfRefused S.Store tx.old.conn.now tx.new.conn.now result Blames }
+    ensures survives { CommitsNothing S.Store tx.old.conn.now tx.new.conn.now }
+{
+    Ok(read_program(tx, user)?)
+}
+
+/// Adds the entries, of which there is at least one, as [`crate::PartStore::add_sharing_entries`] does, with the same answers and
+/// refusals, and commits nothing. Where it is refused the transaction is to be rolled back: some of the entries may be in it.
+pub fn add_within<S: Alter>(
+    tx: &mut Transaction<'_, S>,
+    user: &str,
+    entries: &[NewEntry<'_>],
+    shared: &mut [Shared],
+) -> Result<u32, StoreError>
+    requires some { 0 < length entries.now }
+    requires shared { SharesContents (map draft_of entries.now) (map first_of shared.old) }
+    ensures same_reference { tx.new.conn.ghost_name ≡ tx.old.conn.ghost_name }
+    ensures made { OnDone S.Store tx.old.conn.now tx.new.conn.now result
+        (Brings (with_entries user.now (map draft_of entries.now))) }
+    ensures first { Tells S.Store tx.old.conn.now tx.new.conn.now result
+        (λ before first. first ≡ before.lasts user.now + 1) }
+    ensures room { DoneWhere S.Store tx.old.conn.now tx.new.conn.now result
+        (λ before. HasRoom before user.now (length entries.now)) }
+    ensures apart { OnDone S.Store tx.old.conn.now tx.new.conn.now result
+        (λ old _. (before : _) → Stands old.now before
+        → Collides old.now.trees (map draft_of entries.now) → ⊥) }
+    ensures full { RefusedWhere S.Store tx.old.conn.now tx.new.conn.now result NumberFull
+        (λ before. HasRoom before user.now (length entries.now) → ⊥) }
+    ensures collision { IfRefused S.Store tx.old.conn.now tx.new.conn.now result
+        (λ old _ e. e ≡ Collision → (before : _) → Stands old.now before
+        → HasRoom before user.now (length entries.now)
+        × Collides old.now.trees (map draft_of entries.now)) }
+    ensures open { OnDone S.Store tx.old.conn.now tx.new.conn.now result WasOpen }
+    ensures begun { IfRefused S.Store tx.old.conn.now tx.new.conn.now result
+        (λ old _ e. (e ≡ NumberFull) ⊎ (e ≡ Collision) → IsTrue old.is_open) }
+    ensures inside { OnDone S.Store tx.old.conn.now tx.new.conn.now result IsInside }
+    ensures schema { OnDone S.Store tx.old.conn.now tx.new.conn.now result KeepsTables }
+    ensures shut { Always S.Store tx.old.conn.now tx.new.conn.now StaysShut }
+    ensures kept { Always S.Store tx.old.conn.now tx.new.conn.now KeepsStored }
+    ensures refused { IfErr result
+        (λ e. (e ≡ Memory) ⊎ ((e ≡ NumberFull) ⊎ ((e ≡ Collision) ⊎ (e ≡ Database)))) }
+    ensures cause { IfRefused S.Store tx.old.conn.now tx.new.conn.now result
+        (IfInside (BlamesEntries user.now (map draft_of entries.now))) }
+    ensures survives { CommitsNothing S.Store tx.old.conn.now tx.new.conn.now }
+{
+    match put_entries(tx, user, entries, shared)? {
+        Adding::From(first) => Ok(first),
+        Adding::NumberFull => Err(StoreError::NumberFull),
+        Adding::Collision => Err(StoreError::Collision),
+    }
+}
