@@ -92,6 +92,7 @@ fn selector_word(selector: Selector) -> &'static [u8]
 }
 
 /// What is known of the tag.
+#[inline(always)]
 pub fn tag_row(tag: Tag) -> TagRow
     ensures { tag_view result ≡ tag_row tag }
 {
