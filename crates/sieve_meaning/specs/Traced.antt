@@ -35,16 +35,24 @@ pub record Event : Type 0 where
 abbrev pub event : ℕ → Option ℕ → Occurrence → Event
 event at part what = record { at = at; part = part; what = what }
 
--- what is told of an action: its string, or the value of the variable that it has set
+-- the variable that an action sets, by its name, if it sets one
+abbrev pub variable_of : Act → Option (List ℕ)
+variable_of Keep = None
+variable_of Discard = None
+variable_of FileInto = None
+variable_of (Set modifiers name) = Some name
+variable_of (Take most name) = Some name
+variable_of Store = None
+variable_of (Leave loops) = None
+variable_of Stop = None
+
+-- what is told of an action: the value that the variable has then which it sets; its string, where it sets none
+abbrev pub value_after : Option (List ℕ) → List ℕ → Effects → List ℕ
+value_after None text after = text
+value_after (Some name) text after = after.variables name
+
 abbrev pub told_of : Act → List ℕ → Effects → List ℕ
-told_of Keep text after = text
-told_of Discard text after = text
-told_of FileInto text after = text
-told_of (Set modifiers name) text after = after.variables name
-told_of (Take most name) text after = after.variables name
-told_of Store text after = text
-told_of (Leave loops) text after = text
-told_of Stop text after = text
+told_of act text after = value_after (variable_of act) text after
 
 abbrev pub act_event : Mail → Option ℕ → Act → List ℕ → ℕ → Effects → Event
 act_event mail part act text at effects =
