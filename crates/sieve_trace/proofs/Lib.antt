@@ -1,0 +1,5 @@
+pub mod SoFar
+pub mod Steps
+pub mod PlaceLemmas
+pub mod MediaLemmas
+pub mod Nested

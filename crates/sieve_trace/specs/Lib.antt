@@ -1,0 +1,6 @@
+-- where the tokens of a script stand
+pub mod Places
+-- the line of an event
+pub mod Printed
+-- what is written of a trace
+pub mod Written

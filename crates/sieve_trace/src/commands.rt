@@ -1,0 +1,217 @@
+// Commands, done and told.
+use crate::error::TraceError;
+use crate::line::{Page, Told};
+use crate::telling::tell;
+use crate::tests_told::is_true;
+use encodings::Sink;
+use octets::Octets;
+use sieve_check::{Act, Command};
+use sieve_meaning::{Evaluator, Flow, Subject};
+
+ghost use Rattle.std.specs.Prelude.{◌≡◌, ◌∷◌, ℕ, List, IfErr, IfOk, option_map};
+ghost use Rattle.std.specs.Borrow.{Bor};
+ghost use Rattle.mime_decode.specs.Scope.{visited};
+ghost use Rattle.sieve_check.specs.Bounded.{AreBoundedCommands, IsBoundedCommand};
+ghost use Rattle.sieve_check.specs.TypedView.{command_form, commands_form};
+ghost use Rattle.sieve_meaning.specs.Evaluation.{HasEvaluated};
+ghost use Rattle.sieve_meaning.specs.Meaning.{Effects, act_does, command_does, commands_do, turns};
+ghost use Rattle.sieve_meaning.specs.Traced.{act_event, variable_of, command_events, commands_events, event, turned, turns_events};
+ghost use Rattle.sieve_trace.specs.Printed.{event_line, told};
+ghost use Rattle.sieve_trace.specs.Written.{AreTold, HasStopped, sheet_of, turn_does, turn_events};
+
+// The variable that an action sets, by its name, if it sets one.
+fn variable_of(act: &Act) -> Option<&Octets>
+    ensures { option_map (λ (name : Bor (List ℕ)). name.now) result ≡ variable_of act.now }
+{
+    match act {
+        Act::Set { name, .. } | Act::Take { name, .. } => Some(name),
+        Act::Keep | Act::Discard | Act::FileInto | Act::Store | Act::Leave(_) | Act::Stop => None,
+    }
+}
+
+// Does what an action does with its string, expanded. Of one that sets a variable the value is told that this has then.
+fn act<'s, 'm, O: Sink>(
+    run: &mut Evaluator<'s, 'm>,
+    page: Page<'_>,
+    act: &'s Act,
+    text: Octets,
+    at: usize,
+    subject: Subject<'_, 'm>,
+    out: &mut O,
+) -> Result<Flow, TraceError>
+    ensures told { (e : Effects) → HasEvaluated e run.old
+        → IfOk result (λ flow. AreTold
+        (act_does subject.entry.message.now subject.entry.part act.now text e) flow run.new
+        (event_line (sheet_of page.entry subject.entry.message.now)
+        (act_event subject.entry.message.now subject.entry.part act.now text at e))
+        (O.output out.old) (O.output out.new)) }
+    ensures stopped { (e : Effects) → HasEvaluated e run.old
+        → IfErr result (λ why. HasStopped why
+        (event_line (sheet_of page.entry subject.entry.message.now)
+        (act_event subject.entry.message.now subject.entry.part act.now text at e))
+        (O.output out.old) (O.output out.new)) }
+{
+    match variable_of(act) {
+        Some(name) => {
+            let flow = run.act(page.alloc, act, text, subject)?;
+            let value = run.variables.value(name.as_slice());
+            tell(page, subject, at, Told::Acted(act, value), out)?;
+            Ok(flow)
+        }
+        None => {
+            tell(page, subject, at, Told::Acted(act, text.as_slice()), out)?;
+            Ok(run.act(page.alloc, act, text, subject)?)
+        }
+    }
+}
+
+// Does what the commands do, on each part that a loop visits, up to a turn that stops the script or leaves the loop. Each turn
+// is told before what is done in it.
+#[cycle(commands)]
+fn for_every_part<'s, 'm, O: Sink>(
+    run: &mut Evaluator<'s, 'm>,
+    page: Page<'_>,
+    block: &'s [Command],
+    at: usize,
+    subject: Subject<'_, 'm>,
+    out: &mut O,
+) -> Result<Flow, TraceError>
+    requires { AreBoundedCommands (commands_form block.now) }
+    ensures told { (e : Effects) → HasEvaluated e run.old
+        → IfOk result (λ flow. AreTold
+        (turns (turn_does subject.entry.message.now (commands_form block.now)) (visited subject.entry.part subject.entry.message.now) e)
+        flow run.new
+        (told (sheet_of page.entry subject.entry.message.now)
+        (turns_events at (turn_does subject.entry.message.now (commands_form block.now))
+        (turn_events subject.entry.message.now (commands_form block.now))
+        (visited subject.entry.part subject.entry.message.now) e))
+        (O.output out.old) (O.output out.new)) }
+    ensures stopped { (e : Effects) → HasEvaluated e run.old
+        → IfErr result (λ why. HasStopped why
+        (told (sheet_of page.entry subject.entry.message.now)
+        (turns_events at (turn_does subject.entry.message.now (commands_form block.now))
+        (turn_events subject.entry.message.now (commands_form block.now))
+        (visited subject.entry.part subject.entry.message.now) e))
+        (O.output out.old) (O.output out.new)) }
+{
+    let parts = subject.visited();
+    'parts: for part in parts.start..parts.end {
+        match turn(run, page, block, at, subject.at(part), out)? {
+            Flow::GoesOn => {}
+            Flow::Stopped => return Ok(Flow::Stopped),
+            Flow::Leaves(loops) => return Ok(Flow::left(loops)),
+        }
+    }
+    Ok(Flow::GoesOn)
+}
+
+// Tells a turn of a loop, and does what the commands do.
+#[cycle(commands)]
+fn turn<'s, 'm, O: Sink>(
+    run: &mut Evaluator<'s, 'm>,
+    page: Page<'_>,
+    block: &'s [Command],
+    at: usize,
+    subject: Subject<'_, 'm>,
+    out: &mut O,
+) -> Result<Flow, TraceError>
+    requires { AreBoundedCommands (commands_form block.now) }
+    ensures told { (e : Effects) → HasEvaluated e run.old
+        → IfOk result (λ flow. AreTold
+        (commands_do subject.entry.message.now subject.entry.part (commands_form block.now) e)
+        flow run.new
+        (told (sheet_of page.entry subject.entry.message.now)
+        (event at subject.entry.part turned
+        ∷ commands_events subject.entry.message.now subject.entry.part (commands_form block.now) e))
+        (O.output out.old) (O.output out.new)) }
+    ensures stopped { (e : Effects) → HasEvaluated e run.old
+        → IfErr result (λ why. HasStopped why
+        (told (sheet_of page.entry subject.entry.message.now)
+        (event at subject.entry.part turned
+        ∷ commands_events subject.entry.message.now subject.entry.part (commands_form block.now) e))
+        (O.output out.old) (O.output out.new)) }
+{
+    tell(page, subject, at, Told::Turn, out)?;
+    commands(run, page, block, subject, out)
+}
+
+// Does what a command does.
+#[cycle(commands)]
+fn command<'s, 'm, O: Sink>(
+    run: &mut Evaluator<'s, 'm>,
+    page: Page<'_>,
+    command: &'s Command,
+    subject: Subject<'_, 'm>,
+    out: &mut O,
+) -> Result<Flow, TraceError>
+    requires { IsBoundedCommand (command_form command.now) }
+    ensures told { (e : Effects) → HasEvaluated e run.old
+        → IfOk result (λ flow. AreTold
+        (command_does subject.entry.message.now subject.entry.part (command_form command.now) e)
+        flow run.new
+        (told (sheet_of page.entry subject.entry.message.now)
+        (command_events subject.entry.message.now subject.entry.part (command_form command.now) e))
+        (O.output out.old) (O.output out.new)) }
+    ensures stopped { (e : Effects) → HasEvaluated e run.old
+        → IfErr result (λ why. HasStopped why
+        (told (sheet_of page.entry subject.entry.message.now)
+        (command_events subject.entry.message.now subject.entry.part (command_form command.now) e))
+        (O.output out.old) (O.output out.new)) }
+{
+    match command {
+        Command::Does {
+            act: does,
+            string,
+            at,
+        } => {
+            let text = run.expanded(page.alloc, string)?;
+            act(run, page, does, text, *at, subject, out)
+        }
+        Command::ForEveryPart { block, at } => {
+            for_every_part(run, page, block, *at, subject, out)
+        }
+        Command::If(branches, otherwise) => {
+            'branches: for branch in branches {
+                if is_true(run, page, &branch.test, subject, out)? {
+                    return commands(run, page, &branch.block, subject, out);
+                }
+            }
+            match otherwise {
+                Some(block) => commands(run, page, block, subject, out),
+                None => Ok(Flow::GoesOn),
+            }
+        }
+    }
+}
+
+/// Does what the commands do, one after the other, up to one that stops the script or leaves a loop, and tells it.
+#[cycle(commands)]
+pub fn commands<'s, 'm, O: Sink>(
+    run: &mut Evaluator<'s, 'm>,
+    page: Page<'_>,
+    commands: &'s [Command],
+    subject: Subject<'_, 'm>,
+    out: &mut O,
+) -> Result<Flow, TraceError>
+    requires { AreBoundedCommands (commands_form commands.now) }
+    ensures told { (e : Effects) → HasEvaluated e run.old
+        → IfOk result (λ flow. AreTold
+        (commands_do subject.entry.message.now subject.entry.part (commands_form commands.now) e)
+        flow run.new
+        (told (sheet_of page.entry subject.entry.message.now)
+        (commands_events subject.entry.message.now subject.entry.part (commands_form commands.now)
+        e)) (O.output out.old) (O.output out.new)) }
+    ensures stopped { (e : Effects) → HasEvaluated e run.old
+        → IfErr result (λ why. HasStopped why
+        (told (sheet_of page.entry subject.entry.message.now)
+        (commands_events subject.entry.message.now subject.entry.part (commands_form commands.now)
+        e)) (O.output out.old) (O.output out.new)) }
+{
+    'commands: for one in commands {
+        match command(run, page, one, subject, out)? {
+            Flow::GoesOn => {}
+            flow => return Ok(flow),
+        }
+    }
+    Ok(Flow::GoesOn)
+}

@@ -1,0 +1,40 @@
+// Why a trace isn't written to its end.
+ghost use Rattle.std.specs.Prelude.{◌≡◌};
+ghost use Rattle.refusals.specs.declared.refusal.Refusal.TheVariants as refusals;
+ghost use Rattle.sieve_trace.specs.declared.error.TraceError.TheVariants.{Memory, Write};
+
+use encodings::DeviceFailed;
+use refusals::Refusal;
+use std::alloc::AllocError;
+use thiserror::Error;
+
+/// Why a trace isn't written to its end. What was written is its beginning.
+#[derive(Debug, Drop, Error)]
+pub enum TraceError {
+    /// An allocation was refused; only whole lines were written.
+    #[error("memory was refused")]
+    Memory,
+    /// The sink failed.
+    #[error("a line can't be written")]
+    Write,
+}
+
+impl From<AllocError> for TraceError {
+    ghost use Rattle.std.specs.Prelude.{◌≡◌};
+
+    ghost from_gives = { λ cause e. e ≡ Memory };
+
+    fn from(_cause: AllocError) -> TraceError {
+        TraceError::Memory
+    }
+}
+
+impl From<DeviceFailed> for TraceError {
+    ghost use Rattle.std.specs.Prelude.{◌≡◌};
+
+    ghost from_gives = { λ cause e. e ≡ Write };
+
+    fn from(_cause: DeviceFailed) -> TraceError {
+        TraceError::Write
+    }
+}

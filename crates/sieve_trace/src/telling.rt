@@ -1,0 +1,29 @@
+// Telling an event.
+ghost use Rattle.std.specs.Prelude.{IfErr, OnOk};
+ghost use Rattle.encodings.specs.Device.{HasTaken};
+ghost use Rattle.sieve_meaning.specs.Traced.{event};
+ghost use Rattle.sieve_trace.specs.Printed.{event_line};
+ghost use Rattle.sieve_trace.specs.Written.{HasStopped, occurrence_of, sheet_of};
+
+use crate::error::TraceError;
+use crate::line::{Page, Told, event_line};
+use encodings::{Sink, put};
+use sieve_meaning::Subject;
+
+/// Writes the line of an event.
+pub fn tell<O: Sink>(
+    page: Page<'_>,
+    subject: Subject<'_, '_>,
+    at: usize,
+    what: Told<'_>,
+    out: &mut O,
+) -> Result<(), TraceError>
+    ensures ok { OnOk result (HasTaken (event_line (sheet_of page.entry subject.entry.message.now)
+        (event at subject.entry.part (occurrence_of what.entry))) (O.output out.old) (O.output out.new)) }
+    ensures err { IfErr result (λ e. HasStopped e
+        (event_line (sheet_of page.entry subject.entry.message.now)
+        (event at subject.entry.part (occurrence_of what.entry))) (O.output out.old) (O.output out.new)) }
+{
+    let line = event_line(page, subject, at, what)?;
+    Ok(put(out, &line)?)
+}

@@ -1,0 +1,185 @@
+// Tests, asked and told.
+use crate::error::TraceError;
+use crate::line::{Page, Told};
+use crate::telling::tell;
+use encodings::Sink;
+use sieve_check::{Question, Strings, Test};
+use sieve_meaning::{Evaluator, Subject};
+
+ghost use Rattle.std.specs.Prelude.{◌≡◌, IfErr, IfOk, map};
+ghost use Rattle.encodings.specs.Device.{HasTaken};
+ghost use Rattle.sieve_check.specs.Bounded.{AreBoundedStrings, AreBoundedTests, IsBoundedTest};
+ghost use Rattle.sieve_check.specs.Questions.{row_of};
+ghost use Rattle.sieve_check.specs.Typed.{asks};
+ghost use Rattle.sieve_check.specs.TypedView.{strings_form, test_form, tests_of};
+ghost use Rattle.sieve_meaning.specs.Evaluation.{HasEvaluated};
+ghost use Rattle.sieve_meaning.specs.Meaning.{Effects, all_do, any_do, test_does};
+ghost use Rattle.sieve_meaning.specs.Traced.{all_events, any_events, event, test_events};
+ghost use Rattle.sieve_trace.specs.Printed.{event_line, told};
+ghost use Rattle.sieve_trace.specs.Written.{HasStopped, IsTold, occurrence_of, sheet_of};
+
+/// Whether the test is true of the message. It is told after the tests that it is made of.
+#[cycle(tests)]
+pub fn is_true<'s, 'm, O: Sink>(
+    run: &mut Evaluator<'s, 'm>,
+    page: Page<'_>,
+    test: &Test,
+    subject: Subject<'_, 'm>,
+    out: &mut O,
+) -> Result<bool, TraceError>
+    requires { IsBoundedTest (test_form test.now) }
+    ensures told { (e : Effects) → HasEvaluated e run.old
+        → IfOk result (λ value. IsTold
+        (test_does subject.entry.message.now subject.entry.part (test_form test.now) e) value
+        run.new
+        (told (sheet_of page.entry subject.entry.message.now)
+        (test_events subject.entry.message.now subject.entry.part (test_form test.now) e))
+        (O.output out.old) (O.output out.new)) }
+    ensures stopped { (e : Effects) → HasEvaluated e run.old
+        → IfErr result (λ why. HasStopped why
+        (told (sheet_of page.entry subject.entry.message.now)
+        (test_events subject.entry.message.now subject.entry.part (test_form test.now) e))
+        (O.output out.old) (O.output out.new)) }
+{
+    match test {
+        Test::Asks {
+            question,
+            strings,
+            at,
+        } => ask(run, page, *question, strings, *at, subject, out),
+        Test::Not { test, at } => {
+            let value = !is_true(run, page, test, subject, out)?;
+            say(page, subject, *at, Told::Not(value), value, out)
+        }
+        Test::AllOf { first, others, at } => {
+            if !is_true(run, page, first, subject, out)? {
+                return say(page, subject, *at, Told::AllOf(false), false, out);
+            }
+            let value = all_true(run, page, others, subject, out)?;
+            say(page, subject, *at, Told::AllOf(value), value, out)
+        }
+        Test::AnyOf { first, others, at } => {
+            if is_true(run, page, first, subject, out)? {
+                return say(page, subject, *at, Told::AnyOf(true), true, out);
+            }
+            let value = any_true(run, page, others, subject, out)?;
+            say(page, subject, *at, Told::AnyOf(value), value, out)
+        }
+    }
+}
+
+// Tells what came of a test of other tests, and answers its value.
+fn say<O: Sink>(
+    page: Page<'_>,
+    subject: Subject<'_, '_>,
+    at: usize,
+    what: Told<'_>,
+    value: bool,
+    out: &mut O,
+) -> Result<bool, TraceError>
+    ensures value { IfOk result (λ told. told ≡ value) }
+    ensures told { IfOk result (λ told. HasTaken
+        (event_line (sheet_of page.entry subject.entry.message.now)
+        (event at subject.entry.part (occurrence_of what.entry))) (O.output out.old) (O.output out.new)) }
+    ensures stopped { IfErr result (λ why. HasStopped why
+        (event_line (sheet_of page.entry subject.entry.message.now)
+        (event at subject.entry.part (occurrence_of what.entry))) (O.output out.old) (O.output out.new)) }
+{
+    tell(page, subject, at, what, out)?;
+    Ok(value)
+}
+
+// Whether all tests are true, up to the first that isn't.
+#[cycle(tests)]
+fn all_true<'s, 'm, O: Sink>(
+    run: &mut Evaluator<'s, 'm>,
+    page: Page<'_>,
+    list: &[Test],
+    subject: Subject<'_, 'm>,
+    out: &mut O,
+) -> Result<bool, TraceError>
+    requires { AreBoundedTests (tests_of (map test_form list.now)) }
+    ensures told { (e : Effects) → HasEvaluated e run.old
+        → IfOk result (λ value. IsTold
+        (all_do subject.entry.message.now subject.entry.part
+        (tests_of (map test_form list.now)) e) value run.new
+        (told (sheet_of page.entry subject.entry.message.now)
+        (all_events subject.entry.message.now subject.entry.part
+        (tests_of (map test_form list.now)) e))
+        (O.output out.old) (O.output out.new)) }
+    ensures stopped { (e : Effects) → HasEvaluated e run.old
+        → IfErr result (λ why. HasStopped why
+        (told (sheet_of page.entry subject.entry.message.now)
+        (all_events subject.entry.message.now subject.entry.part
+        (tests_of (map test_form list.now)) e))
+        (O.output out.old) (O.output out.new)) }
+{
+    'list: for test in list {
+        if !is_true(run, page, test, subject, out)? {
+            return Ok(false);
+        }
+    }
+    Ok(true)
+}
+
+// Whether a test is true, up to the first that is.
+#[cycle(tests)]
+fn any_true<'s, 'm, O: Sink>(
+    run: &mut Evaluator<'s, 'm>,
+    page: Page<'_>,
+    list: &[Test],
+    subject: Subject<'_, 'm>,
+    out: &mut O,
+) -> Result<bool, TraceError>
+    requires { AreBoundedTests (tests_of (map test_form list.now)) }
+    ensures told { (e : Effects) → HasEvaluated e run.old
+        → IfOk result (λ value. IsTold
+        (any_do subject.entry.message.now subject.entry.part
+        (tests_of (map test_form list.now)) e) value run.new
+        (told (sheet_of page.entry subject.entry.message.now)
+        (any_events subject.entry.message.now subject.entry.part
+        (tests_of (map test_form list.now)) e))
+        (O.output out.old) (O.output out.new)) }
+    ensures stopped { (e : Effects) → HasEvaluated e run.old
+        → IfErr result (λ why. HasStopped why
+        (told (sheet_of page.entry subject.entry.message.now)
+        (any_events subject.entry.message.now subject.entry.part
+        (tests_of (map test_form list.now)) e))
+        (O.output out.old) (O.output out.new)) }
+{
+    'list: for test in list {
+        if is_true(run, page, test, subject, out)? {
+            return Ok(true);
+        }
+    }
+    Ok(false)
+}
+
+// Whether what a simple test asks is true.
+fn ask<'s, 'm, O: Sink>(
+    run: &mut Evaluator<'s, 'm>,
+    page: Page<'_>,
+    question: Question,
+    strings: &Strings,
+    at: usize,
+    subject: Subject<'_, 'm>,
+    out: &mut O,
+) -> Result<bool, TraceError>
+    requires { AreBoundedStrings (row_of question).takes (strings_form strings.now) }
+    ensures told { (e : Effects) → HasEvaluated e run.old
+        → IfOk result (λ value. IsTold
+        (test_does subject.entry.message.now subject.entry.part
+        (asks question (strings_form strings.now) at) e) value run.new
+        (told (sheet_of page.entry subject.entry.message.now)
+        (test_events subject.entry.message.now subject.entry.part
+        (asks question (strings_form strings.now) at) e)) (O.output out.old) (O.output out.new)) }
+    ensures stopped { (e : Effects) → HasEvaluated e run.old
+        → IfErr result (λ why. HasStopped why
+        (told (sheet_of page.entry subject.entry.message.now)
+        (test_events subject.entry.message.now subject.entry.part
+        (asks question (strings_form strings.now) at) e)) (O.output out.old) (O.output out.new)) }
+{
+    let value = run.asks(page.alloc, question, strings, subject)?;
+    tell(page, subject, at, Told::Asked(question, value), out)?;
+    Ok(value)
+}

@@ -1,0 +1,78 @@
+// The trace of a script.
+ghost use Rattle.std.specs.Prelude.{◌≡◌, IfErr, IfOk};
+ghost use Rattle.encodings.specs.Device.{HasTaken};
+ghost use Rattle.sieve_check.specs.Bounded.{AreBoundedCommands};
+ghost use Rattle.sieve_check.specs.TypedView.{commands_form};
+ghost use Rattle.sieve_meaning.specs.Meaning.{meaning};
+ghost use Rattle.sieve_trace.specs.Printed.{sheet};
+ghost use Rattle.sieve_trace.specs.Written.{HasStopped, sheet_of, trace_text};
+
+use crate::commands::commands;
+use crate::error::TraceError;
+use crate::line::Page;
+use crate::places::Place;
+use bytecode_format::Action;
+use encodings::Sink;
+use mime_decode::Message;
+use sieve_check::{Checked, Command};
+use sieve_meaning::{Evaluator, Subject};
+use std::alloc::Global;
+
+/// Writes the trace of a script on a message, each event as it comes, and answers the script's final actions: exactly those of
+/// its meaning.
+///
+/// A line begins with the name, as far as it can be printed, and the line and the column of the token at which the test or the
+/// command begins, by the places of the script's tokens ([`token_places`](crate::token_places)). In a loop the part follows, by its number
+/// and media type. Then comes the word of the test or command and what came of it: `yes` or `no`, the folder after expansion, the
+/// value of a variable that was set, how many loops are left. A text is printed between quotes, the first 80 octets of it.
+///
+/// # Errors
+///
+/// The sink failed, or an allocation was refused. Then the beginning of the trace was written, and in the second case no part of
+/// a line without the rest of it.
+pub fn trace<O: Sink>(
+    alloc: Global,
+    name: &str,
+    places: &[Place],
+    checked: &Checked,
+    message: &Message<'_>,
+    out: &mut O,
+) -> Result<Vec<Action>, TraceError>
+    ensures actions { IfOk result (λ actions. actions.items
+        ≡ meaning message.now (commands_form checked.now.commands)) }
+    ensures told { IfOk result (λ actions. HasTaken
+        (trace_text (sheet name.now places.now message.now) (commands_form checked.now.commands))
+        (O.output out.old) (O.output out.new)) }
+    ensures stopped { IfErr result (λ why. HasStopped why
+        (trace_text (sheet name.now places.now message.now) (commands_form checked.now.commands))
+        (O.output out.old) (O.output out.new)) }
+{
+    let page = Page {
+        alloc,
+        name,
+        places,
+    };
+    trace_commands(page, checked.commands(), message, out)
+}
+
+// The same of the script's commands.
+fn trace_commands<O: Sink>(
+    page: Page<'_>,
+    list: &[Command],
+    message: &Message<'_>,
+    out: &mut O,
+) -> Result<Vec<Action>, TraceError>
+    requires { AreBoundedCommands (commands_form list.now) }
+    ensures actions { IfOk result (λ actions. actions.items
+        ≡ meaning message.now (commands_form list.now)) }
+    ensures told { IfOk result (λ actions. HasTaken
+        (trace_text (sheet_of page.entry message.now) (commands_form list.now))
+        (O.output out.old) (O.output out.new)) }
+    ensures stopped { IfErr result (λ why. HasStopped why
+        (trace_text (sheet_of page.entry message.now) (commands_form list.now))
+        (O.output out.old) (O.output out.new)) }
+{
+    let mut run = Evaluator::new(page.alloc);
+    let _flow = commands(&mut run, page, list, Subject::of(message), out)?;
+    Ok(run.actions.into_final(run.implicit_keep)?)
+}
