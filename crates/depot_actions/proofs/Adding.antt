@@ -12,7 +12,7 @@ use Rattle.bytecode_format.specs.Code.{Code}
 use Rattle.bytecode_format.specs.declared.action.Action.{Action}
 use Rattle.bytecode_format.specs.declared.action.Action.TheVariants.{Keep, File, Store}
 use Rattle.bytecode_verifier.specs.Counting.{times_at, entries_at, octets_at}
-use Rattle.bytecode_verifier.specs.declared.counting.Counted.TheVariants.{Actions, Stores}
+use Rattle.bytecode_verifier.specs.declared.counting.Counted.TheVariants.{Stores}
 use Rattle.bytecode_verifier.proofs.Numbers.{octets_at_most}
 use Rattle.mime_decode.specs.Mail.{Mail, Part, IsMail, IsReadable, mail_of, size_of}
 use Rattle.mime_decode.specs.Together.{contents_together}
@@ -25,7 +25,7 @@ use Rattle.sieve_vm.proofs.Bounds.{outcome_stores}
 use Rattle.sieve_vm.proofs.Listed.{final_few, final_stores}
 use Rattle.sieve_engine.specs.Execution.{IsChecked}
 use Rattle.part_store.specs.Entries.{Draft, Entries, Entry, numbered}
-use Rattle.depot_actions.specs.Amounts.{AppendsWithin, IsLimit, octets_once}
+use Rattle.depot_actions.specs.Amounts.{AppendsWithin, IsLimit}
 use Rattle.depot_actions.specs.DepotState.{Accepts, AreActions, Deliver, Delivers, Reply, filed}
 use Rattle.depot_actions.specs.Drafts.{draft_of_action, drafts_of, stored_draft}
 

@@ -1,5 +1,5 @@
 -- What a delivery comes to: the user's program is read, and then the drafts are filed.
-use Rattle.std.proofs.Common.{◌≡◌, ◌<◌, ◌≤◌, inl, inr, ◌+◌, ◌==◌, ℕ, zero, suc, Bool, false, List, [], ◌∷◌, Option, IsTrue, length, map, refl, sym, ap, subst, ◌∙◌, arith}
+use Rattle.std.proofs.Common.{◌≡◌, ◌<◌, ◌≤◌, inl, inr, ◌==◌, ℕ, zero, suc, Bool, false, List, [], ◌∷◌, Option, IsTrue, length, refl, sym, ap, subst, ◌∙◌, arith}
 use Rattle.std.proofs.lemmas.List.{length-map}
 use Rattle.std.proofs.lemmas.Slice.Eq.{bytes_eq-Decides}
 use Rattle.std.specs.Prelude.{bytes_eq, true}
@@ -8,7 +8,7 @@ use Rattle.sqlite.specs.State.{State, HasCleanDisk, Survives}
 use Rattle.sqlite_trees.specs.Tree.{Trees}
 use Rattle.bytecode_format.specs.declared.action.Action.{Action}
 use Rattle.mime_decode.specs.Mail.{IsReadable, mail_of}
-use Rattle.part_store.specs.Entries.{Draft, Entries, Listing, listing_of, numbered, with_entries}
+use Rattle.part_store.specs.Entries.{Draft, Entries, Listing, with_entries}
 use Rattle.part_store.specs.Filing.{Collides, HasRoom}
 use Rattle.part_store.specs.Inside.{Stays}
 use Rattle.part_store.specs.Standing.{Spares, Stands}

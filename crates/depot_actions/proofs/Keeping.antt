@@ -1,5 +1,5 @@
 -- The parts that are kept of a message.
-use Rattle.std.proofs.Common.{◌≡◌, ℕ, zero, suc, ◌+◌, ◌<◌, List, [], ◌∷◌, ◌++◌, All, take, Option, Some, None, length, map, set, get_or, replicate, refl, sym, ap, subst, ◌∙◌, arith, inl, inr, get_or-set_same, get_or-set_other, length-set}
+use Rattle.std.proofs.Common.{◌≡◌, ℕ, zero, suc, ◌+◌, ◌<◌, List, [], ◌∷◌, ◌++◌, All, take, Option, Some, None, length, set, get_or, replicate, refl, sym, ap, subst, ◌∙◌, arith, inl, inr, get_or-set_same, get_or-set_other, length-set}
 use Rattle.std.specs.Prelude.{slice_index_or, slice_get}
 use Rattle.std.specs.List.{HoldsAt}
 use Rattle.std.proofs.lemmas.Bool.{cases_eq}
@@ -7,9 +7,7 @@ use Rattle.std.proofs.lemmas.List.{length-replicate, take_more}
 use Rattle.std.proofs.lemmas.List.Elements.{All-push}
 use Rattle.std.proofs.lemmas.Option.{get_or_from_slice_get}
 use Rattle.part_store.specs.Entries.{Draft}
-use Rattle.mime_tree.specs.PartTree as tree
-use Rattle.mime_decode.specs.Mail.{Mail, Part, mail_of, part_of}
-use Rattle.mime_decode.proofs.MailLemmas.{parts_are, parts_number}
+use Rattle.mime_decode.specs.Mail.{Mail, Part}
 use Rattle.bytecode_format.specs.declared.action.Action.{Action}
 use Rattle.bytecode_format.specs.declared.action.Action.TheVariants.{Keep, File, Store}
 use Rattle.depot_actions.specs.Drafts.{part_draft, stored_draft}

@@ -1,10 +1,9 @@
 -- Deliveries in a transaction, which is committed or rolled back.
-use Rattle.std.proofs.Common.{◌≡◌, ◌<◌, inl, inr, ℕ, suc, ◌+◌, ◌⊎◌, List, [], ◌∷◌, ◌++◌, IsTrue, drop, get_or, length, map, take, refl, sym, ap, subst, ◌∙◌, Some, arith, false, true, Result, Ok, Err, IfErr, IsErrAnd, Vec}
+use Rattle.std.proofs.Common.{◌≡◌, ◌<◌, inl, inr, ℕ, ◌+◌, ◌⊎◌, List, [], ◌∷◌, ◌++◌, IsTrue, drop, get_or, length, map, take, refl, sym, ap, subst, ◌∙◌, Some, arith, false, true, Result, Ok, Err, IfErr, IsErrAnd, Vec}
 use Rattle.std.proofs.lemmas.Bool.{true≢false}
 use Rattle.std.proofs.lemmas.List.{drop_more, length-append, length-map, length-take-le, map-append, map_more, take-append-drop}
 use Rattle.sqlite_trees.specs.declared.store.Store as store
 use Rattle.sqlite_trees.specs.Tree.{Trees}
-use Rattle.sqlite.specs.Effect.{Database}
 use Rattle.sqlite.specs.Held.{Held, state}
 use Rattle.sqlite.specs.State.{State, HasCleanDisk, IsRolledBack, Shows, Survives}
 use Rattle.sqlite.specs.Steps.{FailsToCommit}
@@ -26,7 +25,7 @@ use Rattle.part_store.proofs.Stored.{stored_as}
 use Rattle.refusals.specs.declared.refusal.Refusal.{Refusal}
 use Rattle.refusals.specs.declared.refusal.Refusal.TheVariants as refusal
 use Rattle.depot_actions.specs.Causes.{HasCause, IsFault}
-use Rattle.depot_actions.specs.Deliveries.{AcceptsAll, DoesAll, IsAt, IsReached, IsRefusedAt, IsUncommitted, MayLeaveAll, calls_of, command_of, reply_of}
+use Rattle.depot_actions.specs.Deliveries.{AcceptsAll, DoesAll, IsAt, IsRefusedAt, IsUncommitted, MayLeaveAll, calls_of, command_of, reply_of}
 use Rattle.part_store.specs.declared.entry.EntryRow.{EntryRow}
 use Rattle.std.specs.declared.alloc.Global.{Global}
 use Rattle.depot_actions.specs.declared.deliveries.Delivery.{Delivery}

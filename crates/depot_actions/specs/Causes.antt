@@ -16,7 +16,6 @@ use Rattle.part_store.specs.Refusals.{HasFailed, HasNoUserRoom, HaveNoUserRoom, 
 use Rattle.part_store.specs.Totals.{octets_of}
 use Rattle.part_store.specs.Tables.{contents_tree}
 use Rattle.part_store.specs.Standing.{HasNone, Stands}
-use Rattle.part_store.specs.declared.error.StoreError.TheVariants as store
 use Rattle.refusals.specs.declared.refusal.Refusal.{Refusal}
 use Rattle.refusals.specs.declared.refusal.Refusal.TheVariants.{Memory, NoSuchEntry, NumberFull, Collision, Database, UserName, Write}
 use Rattle.depot_actions.specs.DepotState.{AreActions, Command, SetScript, SetCode, Deliver, ListAll, ProgramOf, Export, Remove, Migrate, IsNamed}

@@ -3,7 +3,6 @@ use Rattle.std.specs.Prelude.{◌≡◌, ◌⊎◌, ℕ, ◌+◌, IsTrue, List, 
 use Rattle.std.specs.List.{HoldsAt}
 use Rattle.std.specs.Cow.{cow_slice_items}
 use Rattle.sqlite.specs.State.{State}
-use Rattle.sqlite_trees.specs.Tree.{Trees}
 use Rattle.bytecode_format.specs.declared.action.Action.{Action}
 use Rattle.bytecode_format.specs.declared.action.Action.TheVariants.{Keep, File, Store}
 use Rattle.mime_decode.specs.Mail.{Mail, Part}

@@ -2,6 +2,7 @@
 use crate::held::held_in;
 use crate::samples::{MESSAGE, SCRIPT};
 use depot_actions::{Delivery, Depot, Refusal};
+use part_store::EntryRow;
 use sqlite::MemStore;
 use std::alloc::Global;
 use std::test::Fail;
@@ -17,37 +18,58 @@ fn depot_of(alloc: Global) -> Result<Depot<MemStore>, Refusal> {
     Ok(depot)
 }
 
-// So many deliveries to the users in turn.
-fn deliveries_of(alloc: Global, count: usize) -> Result<Vec<Delivery<'static>>, Fail> {
+// So many deliveries to the users in turn. The one at a place is for nobody.
+fn deliveries_of(
+    alloc: Global,
+    count: usize,
+    nobody: usize,
+) -> Result<Vec<Delivery<'static>>, Fail> {
     let mut deliveries = Vec::new(alloc);
     for place in 0..count {
+        let user = if place == nobody {
+            "No"
+        } else {
+            USERS[place % 3]
+        };
         deliveries.push(Delivery {
-            user: USERS[place % 3],
+            user,
             message: MESSAGES[place % 4],
         })?;
     }
     Ok(deliveries)
 }
 
+// Whether two lists show the same rows.
+fn are_same(one: &[EntryRow], other: &[EntryRow]) -> bool {
+    one.len() == other.len()
+        && one
+            .iter()
+            .zip(other.iter())
+            .all(|(row, same)| is_same(row, same))
+}
+
+// Whether two rows show the same.
+fn is_same(one: &EntryRow, other: &EntryRow) -> bool {
+    one.number == other.number
+        && one.octets == other.octets
+        && one.folder.as_slice() == other.folder.as_slice()
+        && one.name.as_slice() == other.name.as_slice()
+}
+
 #[test]
 fn groups_are_as_one_by_one(rt: HostRuntime) -> Result<(), Fail> {
     let alloc = rt.alloc();
     for count in [0, 1, 3, 64] {
-        let deliveries = deliveries_of(alloc, count)?;
+        let deliveries = deliveries_of(alloc, count, count)?;
         let mut alone = depot_of(alloc)?;
         let mut together = depot_of(alloc)?;
         let Ok(replies) = together.deliver_all(alloc, &deliveries) else {
             return Err(Fail::new("the group is refused"));
         };
         assert_eq!(rt; replies.len(), count);
-        for place in 0..count {
-            let rows = alone.deliver(alloc, deliveries[place].user, deliveries[place].message)?;
-            assert_eq!(rt; replies[place].len(), rows.len());
-            for at in 0..rows.len() {
-                assert_eq!(rt; replies[place][at].number, rows[at].number);
-                assert!(rt; replies[place][at].folder.as_slice() == rows[at].folder.as_slice());
-                assert_eq!(rt; replies[place][at].octets, rows[at].octets);
-            }
+        for (delivery, shown) in deliveries.iter().zip(replies.iter()) {
+            let rows = alone.deliver(alloc, delivery.user, delivery.message)?;
+            assert!(rt; are_same(&rows, shown));
         }
         let mut one = alone.release().release();
         let mut other = together.release().release();
@@ -60,8 +82,7 @@ fn groups_are_as_one_by_one(rt: HostRuntime) -> Result<(), Fail> {
 fn a_refused_one_leaves_all_as_it_was(rt: HostRuntime) -> Result<(), Fail> {
     let alloc = rt.alloc();
     for place in [0, 1, 2] {
-        let mut deliveries = deliveries_of(alloc, 3)?;
-        deliveries[place].user = "No";
+        let deliveries = deliveries_of(alloc, 3, place)?;
         let mut depot = depot_of(alloc)?;
         let _before = depot.deliver(alloc, "ann", MESSAGE)?;
         match depot.deliver_all(alloc, &deliveries) {
@@ -74,6 +95,7 @@ fn a_refused_one_leaves_all_as_it_was(rt: HostRuntime) -> Result<(), Fail> {
         assert_eq!(rt; depot.list("ann")?.len(), 1);
         assert!(rt; depot.list("bob")?.is_empty());
         let rows = depot.deliver(alloc, "ann", MESSAGE)?;
+        assert_eq!(rt; rows.len(), 1);
         assert_eq!(rt; rows[0].number, 2);
     }
     Ok(())

@@ -1,6 +1,5 @@
-use Rattle.std.proofs.Common.{◌≡◌, ◌+◌, ◌++◌, ◌∷◌, [], ◌<◌, map, length, ◌∙◌, ap, arith, get_or, replicate, None, rules, subst, sym}
+use Rattle.std.proofs.Common.{◌≡◌, ◌+◌, ◌++◌, ◌∷◌, [], map, length, ◌∙◌, ap, arith, get_or, replicate, None, rules, subst, sym}
 use Rattle.std.proofs.lemmas.List.{map-append, length-map}
-use Rattle.bytecode_format.specs.declared.action.Action.TheVariants.{Keep}
 use Rattle.part_store.specs.Sharing.{first_of}
 use Rattle.sieve_vm.specs.Stores.{NamesPart}
 use Rattle.std.proofs.lemmas.List.Elements.{All-get_or}

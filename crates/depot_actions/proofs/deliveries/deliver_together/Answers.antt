@@ -1,4 +1,4 @@
-use Rattle.std.proofs.Common.{◌<◌, inl, inr, IfErr, IsTrue, arith, length, map, refl, rules, subst, sym}
+use Rattle.std.proofs.Common.{inl, inr, IfErr, IsTrue, arith, map, refl, rules, subst, sym}
 use Rattle.std.proofs.lemmas.List.{length-map}
 use Rattle.sqlite.specs.Held.{state}
 use Rattle.sqlite.specs.State.{HasCleanDisk, Survives}

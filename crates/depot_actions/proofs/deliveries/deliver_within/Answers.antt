@@ -1,4 +1,4 @@
-use Rattle.std.proofs.Common.{◌≡◌, IsTrue, IfErr, OnOk, arith, inl, inr, length, map, option_map, rules, subst}
+use Rattle.std.proofs.Common.{◌≡◌, IsTrue, OnOk, arith, inl, inr, length, map, option_map, rules, subst}
 use Rattle.std.proofs.lemmas.Result.{IfOk-at_ok, IfOk-weaker, IfErr-weaker}
 use Rattle.std.proofs.lemmas.Grind.{common_steps}
 use Rattle.sqlite.specs.Held.{state}
