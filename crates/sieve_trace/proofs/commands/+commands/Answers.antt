@@ -2,6 +2,8 @@ use Rattle.std.proofs.Common.{◌≡◌, ◌∙◌, ◌+◌, ◌-◌, ap, sym, s
 use Rattle.std.proofs.lemmas.List.{drop_all}
 use Rattle.std.proofs.lemmas.Result.{IfErr-weaker, IfOk-weaker, err_from_is_err_and}
 use Rattle.mime_decode.specs.Scope.{numbers_from, visited}
+use Rattle.sieve_check.specs.declared.typed.Command.{Command}
+use Rattle.sieve_check.specs.declared.typed.Command.TheVariants.{If}
 use Rattle.sieve_check.specs.Bounded.{AreBoundedBranches, AreBoundedCommands, IsBoundedCommand}
 use Rattle.sieve_check.specs.Private.{branch_forms, else_form}
 use Rattle.sieve_check.specs.Typed.{CommandForm, CommandForms, BranchForms, choice, does, for_every_part, command, branch, otherwise, no_branch}
@@ -339,4 +341,6 @@ command-commands-requires-in-Some g t c =
     let shape = c.in-If.is in
     let some = c.in-Some.is in
     let block = c.deref-in-Some.ensures.value in
-    λ κs l. (search rules depth 9, (search rules, bounded))
+    let is : c.args.command.now ≡ If c.in-If.branches (Some c.in-Some.block) = shape ∙ ap (λ o. If c.in-If.branches o) some in
+    let d = rw is at falls in
+    λ κs l. (rw block (search rules), (search rules, bounded))
