@@ -1,6 +1,5 @@
 -- What a script does on a message, told event by event. What isn't reached has no event.
-use Rattle.std.specs.Prelude.{ℕ, Bool, true, false, not, ◌&&◌, List, [], ◌∷◌, ◌++◌, flat_map, Option, None, Some, if◌then◌else◌}
-use Rattle.std.specs.List.{list_any}
+use Rattle.std.specs.Prelude.{ℕ, Bool, true, false, ◌&&◌, List, [], ◌∷◌, ◌++◌, flat_map, Option, None, Some, if◌then◌else◌}
 use Rattle.bytecode_format.specs.declared.action.Action.{Action}
 use Rattle.bytecode_format.specs.declared.action.Action.TheVariants as action
 use Rattle.bytecode_format.specs.Actions.{final_actions}
@@ -9,8 +8,8 @@ use Rattle.mime_decode.specs.Scope.{visited}
 use Rattle.sieve_check.specs.declared.typed.Act.{Act}
 use Rattle.sieve_check.specs.declared.typed.Act.TheVariants.{Keep, Discard, FileInto, Set, Take, Store, Leave, Stop}
 use Rattle.sieve_check.specs.declared.typed.Question.{Question}
-use Rattle.sieve_check.specs.Typed.{Template, TestForm, asks, negation, all_of, any_of, TestForms, no_test, test, CommandForm, does, for_every_part, choice, CommandForms, no_command, command, BranchForms, no_branch, otherwise, branch}
-use Rattle.sieve_meaning.specs.Meaning.{Effects, no_effects, expanded, Verdict, test_does, all_do, any_do, Ending, normal, stopped, broken, effects_of, act_does, command_does, commands_do, stored}
+use Rattle.sieve_check.specs.Typed.{TestForm, asks, negation, all_of, any_of, TestForms, no_test, test, CommandForm, does, for_every_part, choice, CommandForms, no_command, command, BranchForms, no_branch, otherwise, branch}
+use Rattle.sieve_meaning.specs.Meaning.{Effects, no_effects, expanded, Verdict, test_does, Ending, normal, stopped, broken, effects_of, act_does, command_does, commands_do, stored}
 
 -- what came of a test or a command
 pub data Occurrence : Type 0 where

@@ -1,13 +1,4 @@
 // Commands, done and told.
-use crate::error::TraceError;
-use crate::line::{Page, Told};
-use crate::telling::tell;
-use crate::tests_told::is_true;
-use encodings::Sink;
-use octets::Octets;
-use sieve_check::{Act, Command};
-use sieve_meaning::{Evaluator, Flow, Subject};
-
 ghost use Rattle.std.specs.Prelude.{◌≡◌, ◌∷◌, ℕ, List, IfErr, IfOk, option_map};
 ghost use Rattle.std.specs.Borrow.{Bor};
 ghost use Rattle.mime_decode.specs.Scope.{visited};
@@ -18,6 +9,15 @@ ghost use Rattle.sieve_meaning.specs.Meaning.{Effects, act_does, command_does, c
 ghost use Rattle.sieve_meaning.specs.Traced.{act_event, variable_of, command_events, commands_events, event, turned, turns_events};
 ghost use Rattle.sieve_trace.specs.Printed.{event_line, told};
 ghost use Rattle.sieve_trace.specs.Written.{AreTold, HasStopped, sheet_of, turn_does, turn_events};
+
+use crate::error::TraceError;
+use crate::line::{Page, Told};
+use crate::telling::tell;
+use crate::tests_told::is_true;
+use encodings::Sink;
+use octets::Octets;
+use sieve_check::{Act, Command};
+use sieve_meaning::{Evaluator, Flow, Subject};
 
 // The variable that an action sets, by its name, if it sets one.
 fn variable_of(act: &Act) -> Option<&Octets>

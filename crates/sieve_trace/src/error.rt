@@ -11,7 +11,7 @@ use thiserror::Error;
 /// Why a trace isn't written to its end. What was written is its beginning.
 #[derive(Debug, Drop, Error)]
 pub enum TraceError {
-    /// An allocation was refused; only whole lines were written.
+    /// An allocation was refused.
     #[error("memory was refused")]
     Memory,
     /// The sink failed.

@@ -198,11 +198,7 @@ fn push_occurrence(out: &mut Vec<u8>, what: Told<'_>) -> Result<(), AllocError>
 }
 
 // Appends the media type of a part.
-fn push_media(
-    out: &mut Vec<u8>,
-    message: &Message<'_>,
-    number: usize,
-) -> Result<(), AllocError>
+fn push_media(out: &mut Vec<u8>, message: &Message<'_>, number: usize) -> Result<(), AllocError>
     requires { number < length message.now.parts }
     ensures { OnOk result (out.new.items ≡ out.old.items
         ++ media_of (slice_get message.now.parts number)) }
@@ -227,11 +223,7 @@ fn push_part(out: &mut Vec<u8>, message: &Message<'_>, number: usize) -> Result<
 
 // Appends where it came, and what it was.
 #[tactic(auto, unfolding(crate::specs::Printed::event_text))]
-fn push_event(
-    out: &mut Vec<u8>,
-    subject: Subject<'_, '_>,
-    what: Told<'_>,
-) -> Result<(), AllocError>
+fn push_event(out: &mut Vec<u8>, subject: Subject<'_, '_>, what: Told<'_>) -> Result<(), AllocError>
     ensures { OnOk result (out.new.items ≡ out.old.items
         ++ event_text subject.entry.message.now subject.entry.part (occurrence_of what.entry)) }
 {

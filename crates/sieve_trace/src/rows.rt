@@ -8,7 +8,8 @@ use std::alloc::Global;
 use std::test::Fail;
 
 /// A text with two parts below it, of which the second is a PDF.
-const MAIL: &[u8] = b"From: ann@example.org\nSubject: Invoice 12\nX-A: a\n b\nContent-Type: multipart/mixed; boundary=o\n\n--o\n\nhello\n--o\nContent-Type: application/pdf\n\nx\n--o--\n";
+const MAIL: &[u8] =
+    b"From: ann@example.org\nSubject: Invoice 12\nX-A: a\n b\nContent-Type: multipart/mixed; boundary=o\n\n--o\n\nhello\n--o\nContent-Type: application/pdf\n\nx\n--o--\n";
 
 /// The trace of a script on the mail, where it is written to its end.
 fn traced(alloc: Global, script: &[u8]) -> Result<Vec<u8>, Fail> {

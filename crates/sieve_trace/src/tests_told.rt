@@ -1,11 +1,4 @@
 // Tests, asked and told.
-use crate::error::TraceError;
-use crate::line::{Page, Told};
-use crate::telling::tell;
-use encodings::Sink;
-use sieve_check::{Question, Strings, Test};
-use sieve_meaning::{Evaluator, Subject};
-
 ghost use Rattle.std.specs.Prelude.{◌≡◌, IfErr, IfOk, map};
 ghost use Rattle.encodings.specs.Device.{HasTaken};
 ghost use Rattle.sieve_check.specs.Bounded.{AreBoundedStrings, AreBoundedTests, IsBoundedTest};
@@ -17,6 +10,13 @@ ghost use Rattle.sieve_meaning.specs.Meaning.{Effects, all_do, any_do, test_does
 ghost use Rattle.sieve_meaning.specs.Traced.{all_events, any_events, event, test_events};
 ghost use Rattle.sieve_trace.specs.Printed.{event_line, told};
 ghost use Rattle.sieve_trace.specs.Written.{HasStopped, IsTold, occurrence_of, sheet_of};
+
+use crate::error::TraceError;
+use crate::line::{Page, Told};
+use crate::telling::tell;
+use encodings::Sink;
+use sieve_check::{Question, Strings, Test};
+use sieve_meaning::{Evaluator, Subject};
 
 /// Whether the test is true of the message. It is told after the tests that it is made of.
 #[cycle(tests)]

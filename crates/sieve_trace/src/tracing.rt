@@ -28,8 +28,7 @@ use std::alloc::Global;
 ///
 /// # Errors
 ///
-/// The sink failed, or an allocation was refused. Then the beginning of the trace was written, and in the second case no part of
-/// a line without the rest of it.
+/// The sink failed, or an allocation was refused. Then the beginning of the trace was written.
 pub fn trace<O: Sink>(
     alloc: Global,
     name: &str,

@@ -2,6 +2,8 @@ use Rattle.std.proofs.Common.{◌≡◌, ◌∙◌, ◌+◌, ◌-◌, ap, sym, s
 use Rattle.std.proofs.lemmas.List.{drop_all}
 use Rattle.std.proofs.lemmas.Result.{IfErr-weaker, IfOk-weaker, err_from_is_err_and}
 use Rattle.mime_decode.specs.Scope.{numbers_from, visited}
+use Rattle.sieve_check.specs.declared.typed.Command.{Command}
+use Rattle.sieve_check.specs.declared.typed.Command.TheVariants.{If}
 use Rattle.sieve_check.specs.Bounded.{AreBoundedBranches, AreBoundedCommands, IsBoundedCommand}
 use Rattle.sieve_check.specs.Private.{branch_forms, else_form}
 use Rattle.sieve_check.specs.Typed.{CommandForm, CommandForms, BranchForms, choice, does, for_every_part, command, branch, otherwise, no_branch}
@@ -23,19 +25,19 @@ pub command-branches-preserved : goal.command-branches-preserved
 command-branches-preserved g t c = (
   branches_bounded c.deref-branch-items.result.now c.branches.branch-index c.branch-item.result (else_form c.in-If.otherwise) c.branches-test.true c.branch-item.is c.branches.invariant.0,
   λ e stands.
-    let mail = c.args.subject.message.now in
-    let part = c.args.subject.part in
-    let page = sheet_of c.args.page mail in
-    let o0 = g.O.Sink.output c.args.out.now in
-    let bs = c.deref-branch-items.result.now in
-    let last = else_form c.in-If.otherwise in
-    let whole = branch_forms bs last in
-    let form : command_form c.args.command.now ≡ choice whole = ap command_form c.in-If.is ∙ form_if c.in-If.branches c.in-If.otherwise ∙ ap (λ xs. choice (branch_forms xs last)) (sym c.deref-branch-items.ensures.value) in
-    let b = c.branch-item.result in
-    let rest = branch_forms (drop (c.branches.branch-index + 1) bs) last in
-    let block = commands_form b.block.items in
-    let before = subst (λ r. ChoiceRemains mail part page whole e r c.branches.run o0 (g.O.Sink.output c.branches.out)) (first_branch bs c.branches.branch-index b last c.branches-test.true c.branch-item.is) (c.branches.invariant.1 e stands) in
-    choice_passed mail part page whole e (test_form b.test) block b.at rest c.in_ok-is_true-in-If.field-0 c.branches.run c.is_true.new.run before (c.in_ok-is_true-in-If.ensures.told before.effects before.stands) c.if-branch.false,
+      let mail = c.args.subject.message.now in
+      let part = c.args.subject.part in
+      let page = sheet_of c.args.page mail in
+      let o0 = g.O.Sink.output c.args.out.now in
+      let bs = c.deref-branch-items.result.now in
+      let last = else_form c.in-If.otherwise in
+      let whole = branch_forms bs last in
+      let form : command_form c.args.command.now ≡ choice whole = ap command_form c.in-If.is ∙ form_if c.in-If.branches c.in-If.otherwise ∙ ap (λ xs. choice (branch_forms xs last)) (sym c.deref-branch-items.ensures.value) in
+      let b = c.branch-item.result in
+      let rest = branch_forms (drop (c.branches.branch-index + 1) bs) last in
+      let block = commands_form b.block.items in
+      let before = subst (λ r. ChoiceRemains mail part page whole e r c.branches.run o0 (g.O.Sink.output c.branches.out)) (first_branch bs c.branches.branch-index b last c.branches-test.true c.branch-item.is) (c.branches.invariant.1 e stands) in
+      choice_passed mail part page whole e (test_form b.test) block b.at rest c.in_ok-is_true-in-If.field-0 c.branches.run c.is_true.new.run before (c.in_ok-is_true-in-If.ensures.told before.effects before.stands) c.if-branch.false,
 )
 
 pub command-is_true-requires : goal.command-is_true-requires
@@ -155,16 +157,16 @@ pub commands-commands-preserved : goal.commands-commands-preserved
 commands-commands-preserved g t c = (
   commands_bounded c.args.commands.now c.commands.one-index c.one-item.result c.commands-test.true c.one-item.is c.commands.invariant.0,
   λ e stands.
-    let mail = c.args.subject.message.now in
-    let part = c.args.subject.part in
-    let page = sheet_of c.args.page mail in
-    let o0 = g.O.Sink.output c.args.out.now in
-    let cs = c.args.commands.now in
-    let whole = commands_form cs in
-    let one = command_form c.one-item.result in
-    let rest = commands_form (drop (c.commands.one-index + 1) cs) in
-    let before = subst (λ r. CommandsRemain mail part page whole e r c.commands.run o0 (g.O.Sink.output c.commands.out)) (first_command cs c.commands.one-index c.one-item.result c.commands-test.true c.one-item.is) (c.commands.invariant.1 e stands) in
-    commands_step mail part page whole e one rest c.in_ok-flow.flow c.commands.run c.command.new.run before (c.in_ok-flow.ensures.told before.effects before.stands) c.in-GoesOn.is,
+      let mail = c.args.subject.message.now in
+      let part = c.args.subject.part in
+      let page = sheet_of c.args.page mail in
+      let o0 = g.O.Sink.output c.args.out.now in
+      let cs = c.args.commands.now in
+      let whole = commands_form cs in
+      let one = command_form c.one-item.result in
+      let rest = commands_form (drop (c.commands.one-index + 1) cs) in
+      let before = subst (λ r. CommandsRemain mail part page whole e r c.commands.run o0 (g.O.Sink.output c.commands.out)) (first_command cs c.commands.one-index c.one-item.result c.commands-test.true c.one-item.is) (c.commands.invariant.1 e stands) in
+      commands_step mail part page whole e one rest c.in_ok-flow.flow c.commands.run c.command.new.run before (c.in_ok-flow.ensures.told before.effects before.stands) c.in-GoesOn.is,
 )
 
 pub commands-returns-in_err-flow-clause-stopped : goal.commands-returns-in_err-flow-clause-stopped
@@ -204,16 +206,16 @@ pub for_every_part-parts-preserved : goal.for_every_part-parts-preserved
 for_every_part-parts-preserved g t c = (
   c.parts.invariant.0,
   λ e stands.
-    let mail = c.args.subject.message.now in
-    let part = c.args.subject.part in
-    let page = sheet_of c.args.page mail in
-    let o0 = g.O.Sink.output c.args.out.now in
-    let block = commands_form c.args.block.now in
-    let at = c.args.at in
-    let whole = visited part mail in
-    let number = c.parts.part in
-    let before = subst (λ r. TurnsRemain at mail block page whole e r c.parts.run o0 (g.O.Sink.output c.parts.out)) (next_number number _ c.parts-test.true) (c.parts.invariant.1 e stands) in
-    turns_step at mail block page whole e number _ c.in_ok-turn.field-0 c.parts.run c.turn.new.run before (turn_told_as at mail c.at.result.message.now c.at.result.part number c.args.page block before.effects c.in_ok-turn.field-0 c.turn.new.run c.at.ensures.message c.at.ensures.part (c.in_ok-turn.ensures.told before.effects before.stands)) c.in-GoesOn.is,
+      let mail = c.args.subject.message.now in
+      let part = c.args.subject.part in
+      let page = sheet_of c.args.page mail in
+      let o0 = g.O.Sink.output c.args.out.now in
+      let block = commands_form c.args.block.now in
+      let at = c.args.at in
+      let whole = visited part mail in
+      let number = c.parts.part in
+      let before = subst (λ r. TurnsRemain at mail block page whole e r c.parts.run o0 (g.O.Sink.output c.parts.out)) (next_number number _ c.parts-test.true) (c.parts.invariant.1 e stands) in
+      turns_step at mail block page whole e number _ c.in_ok-turn.field-0 c.parts.run c.turn.new.run before (turn_told_as at mail c.at.result.message.now c.at.result.part number c.args.page block before.effects c.in_ok-turn.field-0 c.turn.new.run c.at.ensures.message c.at.ensures.part (c.in_ok-turn.ensures.told before.effects before.stands)) c.in-GoesOn.is,
 )
 
 pub for_every_part-returns-in-Stopped-clause-told : goal.for_every_part-returns-in-Stopped-clause-told
@@ -261,15 +263,15 @@ pub for_every_part-parts-init : goal.for_every_part-parts-init
 for_every_part-parts-init g t c = (
   c.visited-parts.ensures.within,
   λ e stands.
-    let mail = c.args.subject.message.now in
-    let part = c.args.subject.part in
-    let page = sheet_of c.args.page mail in
-    let o0 = g.O.Sink.output c.args.out.now in
-    let block = commands_form c.args.block.now in
-    let at = c.args.at in
-    let whole = visited part mail in
-    subst (λ r. TurnsRemain at mail block page whole e r c.args.run.now o0 o0) (sym c.visited-parts.ensures.parts)
-    (goes_whole (λ ps x. turns (turn_does mail block) ps x) (λ ps x. turns_events at (turn_does mail block) (turn_events mail block) ps x) page whole e c.args.run.now o0 stands),
+      let mail = c.args.subject.message.now in
+      let part = c.args.subject.part in
+      let page = sheet_of c.args.page mail in
+      let o0 = g.O.Sink.output c.args.out.now in
+      let block = commands_form c.args.block.now in
+      let at = c.args.at in
+      let whole = visited part mail in
+      subst (λ r. TurnsRemain at mail block page whole e r c.args.run.now o0 o0) (sym c.visited-parts.ensures.parts)
+      (goes_whole (λ ps x. turns (turn_does mail block) ps x) (λ ps x. turns_events at (turn_does mail block) (turn_events mail block) ps x) page whole e c.args.run.now o0 stands),
 )
 
 pub command-branches-init : goal.command-branches-init
@@ -339,4 +341,6 @@ command-commands-requires-in-Some g t c =
     let shape = c.in-If.is in
     let some = c.in-Some.is in
     let block = c.deref-in-Some.ensures.value in
-    λ κs l. (search rules depth 9, (search rules, bounded))
+    let is : c.args.command.now ≡ If c.in-If.branches (Some c.in-Some.block) = shape ∙ ap (λ o. If c.in-If.branches o) some in
+    let d = rw is at falls in
+    λ κs l. (rw block (search rules), (search rules, bounded))
