@@ -2,9 +2,9 @@
 //!
 //! What the store holds is in `specs/Entries`, which has no digest, and how the tables stand for it in `specs/Standing`.
 //! Each call of [`PartStore`] is one transaction: its step on what the tables stand for, or a refusal that leaves them as
-//! they were. Entries of several users are added in one by [`begin`] and [`add_within`]. A step that is done is committed, and the store is open. Only a fault of the disk shuts a store, which then
-//! does nothing more; what its files hold is what the calls say of a crash. Octets are kept once under their SHA-256, and as
-//! long as an entry names them.
+//! they were. Entries of several users are added in one by [`begin`] and [`add_within`]. A step that is done is committed, and
+//! the store is open. Only a fault of the disk shuts a store, which then does nothing more; what its files hold is what the
+//! calls say of a crash. Octets are kept once under their SHA-256, and as long as an entry names them.
 #![tactic(auto)]
 
 mod adding;

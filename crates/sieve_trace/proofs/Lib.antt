@@ -3,3 +3,4 @@ pub mod Steps
 pub mod PlaceLemmas
 pub mod MediaLemmas
 pub mod Nested
+pub mod Falls

@@ -1,24 +1,23 @@
 -- Tests of other tests, told after them.
-use Rattle.std.proofs.Common.{◌≡◌, ◌∙◌, ℕ, Bool, true, false, not, ap, refl, List, [], ◌∷◌, ◌++◌, Option, sym, subst, append-nil, Result, Ok, Err, IfOk, IfErr}
-use Rattle.std.specs.Prelude.{if◌then◌else◌}
+use Rattle.std.proofs.Common.{◌≡◌, ◌∙◌, ℕ, Bool, true, false, not, ap, refl, List, [], ◌∷◌, ◌++◌, sym, subst, append-nil, Result, Ok, Err, IfOk, IfErr}
 use Rattle.std.specs.Result.{IsErrAnd}
 use Rattle.std.proofs.lemmas.Result.{err_from_is_err_and}
 use Rattle.encodings.specs.Device.{HasTaken, Output}
-use Rattle.mime_decode.specs.Mail.{Mail}
 use Rattle.std.specs.Global.{Box}
 use Rattle.sieve_check.specs.declared.typed.Test.{Test}
 use Rattle.sieve_check.specs.declared.typed.Test.TheVariants.{Not, rolls-Not}
 use Rattle.sieve_check.specs.declared.typed.Test.TheOpen as test_layer
 use Rattle.sieve_check.specs.declared.typed.Test.TheFolds.{fold-roll-Test}
 use Rattle.sieve_check.specs.TypedView.{test_form, test_step}
-use Rattle.sieve_check.specs.Typed.{TestForm, TestForms, negation, all_of, any_of}
+use Rattle.sieve_check.specs.Typed.{TestForm, negation}
 use Rattle.sieve_meaning.specs.declared.evaluator.Evaluator.{Evaluator}
 use Rattle.sieve_meaning.specs.Evaluation.{Gives}
-use Rattle.sieve_meaning.specs.Meaning.{Effects, Verdict, verdict, turned, and_then, or_else, test_does, all_do, any_do}
-use Rattle.sieve_meaning.specs.Traced.{Event, event, negated, all_held, any_held, on_true, on_false, test_events, all_events, any_events}
+use Rattle.sieve_meaning.specs.Meaning.{Effects, Verdict, verdict, turned, and_then, or_else}
+use Rattle.sieve_meaning.specs.Traced.{Event, on_true, on_false}
 use Rattle.sieve_trace.specs.declared.error.TraceError.{TraceError}
 use Rattle.sieve_trace.specs.Printed.{Sheet, event_line, told}
-use Rattle.sieve_trace.specs.Written.{HasStopped, IsTold}
+use Rattle.sieve_trace.specs.Private.{IsTold}
+use Rattle.sieve_trace.specs.Written.{HasStopped}
 use Rattle.sieve_trace.proofs.SoFar.{told_both, told_one, stopped_one, told_stopped, told_then_stopped}
 
 -- an error that is handed on

@@ -1,20 +1,20 @@
 -- Tests, commands, branches and turns, told one after another.
-use Rattle.std.proofs.Common.{◌≡◌, ◌∙◌, ℕ, Bool, true, false, ap, refl, List, [], ◌∷◌, ◌++◌, Option, Some, None, sym, subst, append-nil}
-use Rattle.std.specs.Prelude.{if◌then◌else◌}
-use Rattle.encodings.specs.Device.{HasTaken, Output}
+use Rattle.std.proofs.Common.{◌≡◌, ◌∙◌, ℕ, Bool, true, false, ap, refl, List, [], ◌∷◌, ◌++◌, Option, Some, sym, subst, append-nil}
+use Rattle.encodings.specs.Device.{Output}
 use Rattle.mime_decode.specs.Mail.{Mail}
 use Rattle.sieve_check.specs.Typed.{TestForm, TestForms, no_test, test, CommandForm, CommandForms, no_command, command, BranchForms, no_branch, otherwise, branch}
 use Rattle.sieve_meaning.specs.declared.evaluator.Evaluator.{Evaluator}
 use Rattle.sieve_meaning.specs.declared.evaluator.Flow.{Flow}
 use Rattle.sieve_meaning.specs.declared.evaluator.Flow.TheVariants.{GoesOn, Stopped, Leaves}
-use Rattle.sieve_meaning.specs.Evaluation.{Gives, HasEvaluated, StandsAt}
+use Rattle.sieve_meaning.specs.Evaluation.{Gives, StandsAt}
 use Rattle.sieve_meaning.specs.Meaning.{Effects, Verdict, verdict, Ending, normal, stopped, broken, and_then, or_else, followed_by, after_turn, test_does, all_do, any_do, command_does, commands_do, choice_does, turns}
 use Rattle.sieve_meaning.specs.Traced.{Event, event, turned, on_true, on_false, on_normal, test_events, all_events, any_events, command_events, commands_events, choice_events, turns_events}
 use Rattle.sieve_meaning.proofs.MeaningLemmas.{goes_on, stays, stopped_at, left_at, left_flow}
 use Rattle.sieve_trace.specs.declared.error.TraceError.{TraceError}
 use Rattle.sieve_trace.specs.declared.line.Page.{Page}
 use Rattle.sieve_trace.specs.Printed.{Sheet, told}
-use Rattle.sieve_trace.specs.Written.{AreTold, HasStopped, IsTold, sheet_of, turn_does, turn_events}
+use Rattle.sieve_trace.specs.Private.{AreTold, IsTold, sheet_of, turn_does, turn_events}
+use Rattle.sieve_trace.specs.Written.{HasStopped}
 use Rattle.sieve_trace.proofs.SoFar.{Remains, ToldSoFar, so_far_all, so_far_next, so_far_stopped}
 
 -- the verdict is another one's, and the events were all that were to be told

@@ -4,3 +4,5 @@ pub mod Places
 pub mod Printed
 -- what is written of a trace
 pub mod Written
+-- private: how the code goes; no public contract names these
+pub mod Private

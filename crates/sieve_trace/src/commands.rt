@@ -8,7 +8,8 @@ ghost use Rattle.sieve_meaning.specs.Evaluation.{HasEvaluated};
 ghost use Rattle.sieve_meaning.specs.Meaning.{Effects, act_does, command_does, commands_do, turns};
 ghost use Rattle.sieve_meaning.specs.Traced.{act_event, variable_of, command_events, commands_events, event, turned, turns_events};
 ghost use Rattle.sieve_trace.specs.Printed.{event_line, told};
-ghost use Rattle.sieve_trace.specs.Written.{AreTold, HasStopped, sheet_of, turn_does, turn_events};
+ghost use Rattle.sieve_trace.specs.Private.{AreTold, sheet_of, turn_does, turn_events};
+ghost use Rattle.sieve_trace.specs.Written.{HasStopped};
 
 use crate::error::TraceError;
 use crate::line::{Page, Told};

@@ -5,7 +5,7 @@ ghost use Rattle.mime_decode.specs.Mail.{Mail};
 ghost use Rattle.sieve_meaning.specs.Traced.{event};
 ghost use Rattle.sieve_trace.specs.Printed as Printed;
 ghost use Rattle.sieve_trace.specs.Printed.{act_text, escaped, escaped_octet, event_line, event_text, media_of, occurrence_text, part_text, place_text, question_word, quoted, value_text};
-ghost use Rattle.sieve_trace.specs.Written.{occurrence_of, sheet_of};
+ghost use Rattle.sieve_trace.specs.Private.{occurrence_of, sheet_of};
 
 use crate::places::Place;
 use itoa::Buffer;

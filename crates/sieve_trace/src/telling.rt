@@ -3,7 +3,8 @@ ghost use Rattle.std.specs.Prelude.{IfErr, OnOk};
 ghost use Rattle.encodings.specs.Device.{HasTaken};
 ghost use Rattle.sieve_meaning.specs.Traced.{event};
 ghost use Rattle.sieve_trace.specs.Printed.{event_line};
-ghost use Rattle.sieve_trace.specs.Written.{HasStopped, occurrence_of, sheet_of};
+ghost use Rattle.sieve_trace.specs.Private.{occurrence_of, sheet_of};
+ghost use Rattle.sieve_trace.specs.Written.{HasStopped};
 
 use crate::error::TraceError;
 use crate::line::{Page, Told, event_line};

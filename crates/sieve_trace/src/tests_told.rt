@@ -9,7 +9,8 @@ ghost use Rattle.sieve_meaning.specs.Evaluation.{HasEvaluated};
 ghost use Rattle.sieve_meaning.specs.Meaning.{Effects, all_do, any_do, test_does};
 ghost use Rattle.sieve_meaning.specs.Traced.{all_events, any_events, event, test_events};
 ghost use Rattle.sieve_trace.specs.Printed.{event_line, told};
-ghost use Rattle.sieve_trace.specs.Written.{HasStopped, IsTold, occurrence_of, sheet_of};
+ghost use Rattle.sieve_trace.specs.Private.{IsTold, occurrence_of, sheet_of};
+ghost use Rattle.sieve_trace.specs.Written.{HasStopped};
 
 use crate::error::TraceError;
 use crate::line::{Page, Told};

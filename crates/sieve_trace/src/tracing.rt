@@ -5,7 +5,8 @@ ghost use Rattle.sieve_check.specs.Bounded.{AreBoundedCommands};
 ghost use Rattle.sieve_check.specs.TypedView.{commands_form};
 ghost use Rattle.sieve_meaning.specs.Meaning.{meaning};
 ghost use Rattle.sieve_trace.specs.Printed.{sheet};
-ghost use Rattle.sieve_trace.specs.Written.{HasStopped, sheet_of, trace_text};
+ghost use Rattle.sieve_trace.specs.Private.{sheet_of};
+ghost use Rattle.sieve_trace.specs.Written.{HasStopped, trace_text};
 
 use crate::commands::commands;
 use crate::error::TraceError;

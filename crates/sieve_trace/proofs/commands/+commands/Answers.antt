@@ -1,23 +1,24 @@
-use Rattle.std.proofs.Common.{◌≡◌, ◌∙◌, ◌+◌, ◌-◌, ap, sym, subst, refl, drop, List, ℕ, ◌++◌, [], ◌∷◌, IfOk, IfErr, Some, rules}
+use Rattle.std.proofs.Common.{◌≡◌, ◌∙◌, ◌+◌, ap, sym, subst, refl, drop, [], ◌∷◌, IfOk, IfErr, rules, ◌≤◌, arith}
 use Rattle.std.proofs.lemmas.List.{drop_all}
 use Rattle.std.proofs.lemmas.Result.{IfErr-weaker, IfOk-weaker, err_from_is_err_and}
-use Rattle.mime_decode.specs.Scope.{numbers_from, visited}
-use Rattle.sieve_check.specs.declared.typed.Command.{Command}
-use Rattle.sieve_check.specs.declared.typed.Command.TheVariants.{If}
+use Rattle.mime_decode.specs.Scope.{visited}
 use Rattle.sieve_check.specs.Bounded.{AreBoundedBranches, AreBoundedCommands, IsBoundedCommand}
+use Rattle.sieve_check.specs.Extent.{branches_extent, command_extent, commands_extent}
 use Rattle.sieve_check.specs.Private.{branch_forms, else_form}
-use Rattle.sieve_check.specs.Typed.{CommandForm, CommandForms, BranchForms, choice, does, for_every_part, command, branch, otherwise, no_branch}
+use Rattle.sieve_check.specs.Typed.{choice, does, for_every_part, command, branch, otherwise, no_branch}
 use Rattle.sieve_check.specs.TypedView.{command_form, commands_form, test_form}
 use Rattle.sieve_check.proofs.Forms.{form_if}
-use Rattle.sieve_meaning.specs.Meaning.{Effects, act_does, command_does, commands_do, choice_does, expanded, test_does, turns}
-use Rattle.sieve_meaning.specs.Traced.{Event, event, turned, act_event, command_events, commands_events, choice_events, test_events, turns_events, on_normal}
+use Rattle.sieve_meaning.specs.Meaning.{act_does, command_does, commands_do, choice_does, expanded, turns}
+use Rattle.sieve_meaning.specs.Traced.{event, turned, act_event, command_events, commands_events, choice_events, test_events, turns_events}
 use Rattle.sieve_meaning.specs.declared.evaluator.Flow.TheVariants.{GoesOn}
 use Rattle.sieve_meaning.proofs.Shapes.{form_does, form_for_every_part}
 use Rattle.sieve_meaning.proofs.MeaningLemmas.{branches_bounded, branch_bounded, commands_bounded, first_branch, first_command, next_number}
-use Rattle.sieve_trace.specs.Printed.{event_line, told}
-use Rattle.sieve_trace.specs.Written.{AreTold, HasStopped, sheet_of, turn_does, turn_events}
+use Rattle.sieve_trace.specs.Printed.{told}
+use Rattle.sieve_trace.specs.Private.{AreTold, sheet_of, turn_does, turn_events}
+use Rattle.sieve_trace.specs.Written.{HasStopped}
 use Rattle.sieve_trace.proofs.SoFar.{goes_stopped, goes_whole, refused_first, stopped_one, told_one, told_stopped, told_then_stopped}
 use Rattle.sieve_trace.proofs.Steps.{ChoiceRemains, CommandsRemain, TurnsRemain, choice_done, choice_ends, choice_passed, choice_stops, choice_taken, commands_step, commands_stop, turn_stopped_as, turn_told_as, turns_leave, turns_step, turns_stop, whole_turn}
+use Rattle.sieve_trace.proofs.Falls.{block_within, command_within, last_within}
 use Rattle.sieve_trace.proofs.Nested.{passed_on}
 use Rattle.sieve_trace.proofs.commands.+commands.Goals as goal
 
@@ -331,16 +332,55 @@ command-returns-in-None-clause-told g t c = λ e stands.
     let left = subst (λ r. ChoiceRemains mail part page whole e r c.branches.run o0 (g.O.Sink.output c.branches.out)) none (c.branches.invariant.1 e stands) in
     subst (λ cf. AreTold (command_does mail part cf e) GoesOn c.branches.run (told page (command_events mail part cf e)) o0 (g.O.Sink.output c.branches.out)) (sym form) (choice_done mail part page whole e c.branches.run left)
 
+pub commands-command-requires : goal.commands-command-requires
+commands-command-requires g t c =
+    let cs = c.args.commands.now in
+    let bounded : IsBoundedCommand (command_form c.one-item.result) =
+    (subst AreBoundedCommands (first_command cs c.commands.one-index c.one-item.result c.commands-test.true c.one-item.is) c.commands.invariant.0).0 in
+    let within : command_extent (command_form c.one-item.result) ≤ commands_extent (commands_form cs) =
+    command_within cs c.commands.one-index c.one-item.result c.commands-test.true c.one-item.is in
+    let falls = c.decreases in
+    λ κs l. (omega arith, (search rules, bounded))
+
+pub commands-returns-in_default-clause-told : goal.commands-returns-in_default-clause-told
+commands-returns-in_default-clause-told g t c = λ e stands.
+    let mail = c.args.subject.message.now in
+    let part = c.args.subject.part in
+    let page = sheet_of c.args.page mail in
+    let o0 = g.O.Sink.output c.args.out.now in
+    let cs = c.args.commands.now in
+    let whole = commands_form cs in
+    let one = command_form c.one-item.result in
+    let rest = commands_form (drop (c.commands.one-index + 1) cs) in
+    let before = subst (λ r. CommandsRemain mail part page whole e r c.commands.run o0 (g.O.Sink.output c.commands.out)) (first_command cs c.commands.one-index c.one-item.result c.commands-test.true c.one-item.is) (c.commands.invariant.1 e stands) in
+    commands_stop mail part page whole e one rest c.in_ok-flow.flow c.commands.run c.command.new.run before (c.in_ok-flow.ensures.told before.effects before.stands) c.in_default.not-GoesOn
+
+pub command-commands-requires : goal.command-commands-requires
+command-commands-requires g t c =
+    let bs = c.deref-branch-items.result.now in
+    let last = else_form c.in-If.otherwise in
+    let whole = branch_forms bs last in
+    let form : command_form c.args.command.now ≡ choice whole = ap command_form c.in-If.is ∙ form_if c.in-If.branches c.in-If.otherwise ∙ ap (λ xs. choice (branch_forms xs last)) (sym c.deref-branch-items.ensures.value) in
+    let b = c.branch-item.result in
+    let head = subst AreBoundedBranches (first_branch bs c.branches.branch-index b last c.branches-test.true c.branch-item.is) c.branches.invariant.0 in
+    let bounded : AreBoundedCommands (commands_form c.deref-then-branch.result.now) = subst (λ xs. AreBoundedCommands (commands_form xs)) (sym c.deref-then-branch.ensures.value) head.1 in
+    let size : command_extent (command_form c.args.command.now) ≡ branches_extent whole = ap command_extent form in
+    let items : commands_extent (commands_form c.deref-then-branch.result.now) ≡ commands_extent (commands_form b.block.items) = ap (λ xs. commands_extent (commands_form xs)) c.deref-then-branch.ensures.value in
+    let within : 3 + commands_extent (commands_form b.block.items) ≤ branches_extent whole = block_within bs c.branches.branch-index b last c.branches-test.true c.branch-item.is in
+    let falls = c.decreases in
+    λ κs l. (omega arith, (search rules, bounded))
+
 pub command-commands-requires-in-Some : goal.command-commands-requires-in-Some
 command-commands-requires-in-Some g t c =
-    let last = else_form c.in-If.otherwise in
     let bs = c.deref-branch-items.result.now in
+    let last = else_form c.in-If.otherwise in
+    let whole = branch_forms bs last in
+    let form : command_form c.args.command.now ≡ choice whole = ap command_form c.in-If.is ∙ form_if c.in-If.branches c.in-If.otherwise ∙ ap (λ xs. choice (branch_forms xs last)) (sym c.deref-branch-items.ensures.value) in
     let none : branch_forms (drop c.branches.branch-index bs) last ≡ otherwise (commands_form c.deref-in-Some.result.now) = ap (λ x. branch_forms x last) (drop_all c.branches.branch-index bs c.branches-test.false) ∙ ap else_form c.in-Some.is ∙ ap (λ cs. otherwise (commands_form cs)) (sym c.deref-in-Some.ensures.value) in
     let bounded : AreBoundedCommands (commands_form c.deref-in-Some.result.now) = subst AreBoundedBranches none c.branches.invariant.0 in
+    let size : command_extent (command_form c.args.command.now) ≡ branches_extent whole = ap command_extent form in
+    let items : branches_extent last ≡ 3 + commands_extent (commands_form c.deref-in-Some.result.now) =
+    ap (λ o. branches_extent (else_form o)) c.in-Some.is ∙ ap (λ xs. 3 + commands_extent (commands_form xs)) (sym c.deref-in-Some.ensures.value) in
+    let within : branches_extent last ≤ branches_extent whole = last_within bs last in
     let falls = c.decreases in
-    let shape = c.in-If.is in
-    let some = c.in-Some.is in
-    let block = c.deref-in-Some.ensures.value in
-    let is : c.args.command.now ≡ If c.in-If.branches (Some c.in-Some.block) = shape ∙ ap (λ o. If c.in-If.branches o) some in
-    let d = rw is at falls in
-    λ κs l. (rw block (search rules), (search rules, bounded))
+    λ κs l. (omega arith, (search rules, bounded))

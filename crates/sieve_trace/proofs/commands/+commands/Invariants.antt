@@ -1,11 +1,12 @@
-use Rattle.std.proofs.Common.{◌≤◌, ◌-◌, drop, length}
+use Rattle.std.proofs.Common.{◌≤◌, ◌-◌, ◌+◌, ◌*◌, drop, length}
 use Rattle.mime_decode.specs.Scope.{numbers_from, visited}
 use Rattle.sieve_check.specs.Bounded.{AreBoundedCommands, AreBoundedBranches}
-use Rattle.sieve_check.specs.TypedView.{commands_form}
+use Rattle.sieve_check.specs.Extent.{command_extent, commands_extent}
+use Rattle.sieve_check.specs.TypedView.{command_form, commands_form}
 use Rattle.sieve_check.specs.Private.{branch_forms, else_form}
 use Rattle.sieve_meaning.specs.Evaluation.{HasEvaluated}
 use Rattle.sieve_meaning.specs.Meaning.{Effects}
-use Rattle.sieve_trace.specs.Written.{sheet_of}
+use Rattle.sieve_trace.specs.Private.{sheet_of}
 use Rattle.sieve_trace.proofs.Steps.{ChoiceRemains, CommandsRemain, TurnsRemain}
 use Rattle.sieve_trace.proofs.commands.+commands.Given as goal
 
@@ -26,3 +27,16 @@ invariant-for_every_part-parts g l =
     (l.part-end ≤ length l.subject.message.now.parts)
     × ((e : Effects) → HasEvaluated e l.initial.run → TurnsRemain l.at l.subject.message.now (commands_form l.block) (sheet_of l.page l.subject.message.now) (visited l.subject.part l.subject.message.now) e
     (numbers_from l.part (l.part-end - l.part)) l.run (g.O.Sink.output l.initial.out) (g.O.Sink.output l.out))
+
+-- the octets that the commands are written with at least, and which of the calls comes first
+abbrev pub decreases-commands : goal.decreases-commands
+decreases-commands g l = 4 * commands_extent (commands_form l.commands.now) + 3
+
+abbrev pub decreases-command : goal.decreases-command
+decreases-command g l = 4 * command_extent (command_form l.command.now) + 2
+
+abbrev pub decreases-for_every_part : goal.decreases-for_every_part
+decreases-for_every_part g l = 4 * commands_extent (commands_form l.block.now) + 5
+
+abbrev pub decreases-turn : goal.decreases-turn
+decreases-turn g l = 4 * commands_extent (commands_form l.block.now) + 4

@@ -1,4 +1,4 @@
-use Rattle.std.proofs.Common.{◌∙◌, ◌≡◌, ap, arith, get_or, refl, sym}
+use Rattle.std.proofs.Common.{◌∙◌, ap, arith, get_or, refl}
 use Rattle.sieve_trace.specs.declared.places.Place.{Place}
 use Rattle.sieve_trace.proofs.PlaceLemmas.{behind, column_small, line_small, place_next}
 use Rattle.sieve_trace.proofs.places.forward.Goals as goal

@@ -1,4 +1,4 @@
-use Rattle.std.proofs.Common.{◌≡◌, ◌∙◌, ◌≤◌, ◌++◌, [], ◌∷◌, ap, sym, arith, length, take}
+use Rattle.std.proofs.Common.{◌∙◌, ◌++◌, [], ◌∷◌, ap, sym, arith, take}
 use Rattle.sieve_trace.specs.declared.places.Place.{Place}
 use Rattle.sieve_trace.specs.Places.{places_of}
 use Rattle.sieve_trace.proofs.PlaceLemmas.{first_place, one_more_place}

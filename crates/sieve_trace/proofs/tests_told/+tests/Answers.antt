@@ -1,14 +1,14 @@
-use Rattle.std.proofs.Common.{◌≡◌, ◌+◌, refl, ◌∙◌, ℕ, Bool, true, false, not, ap, sym, subst, rules, List, map, drop, ◌++◌, [], ◌∷◌, IfOk, IfErr}
+use Rattle.std.proofs.Common.{◌≡◌, ◌+◌, refl, ◌∙◌, Bool, true, false, not, ap, sym, subst, map, drop, ◌++◌, IfOk, IfErr}
 use Rattle.std.proofs.lemmas.Result.{IfErr-weaker}
-use Rattle.encodings.specs.Device.{HasTaken}
-use Rattle.sieve_check.specs.Typed.{TestForm, TestForms, test, negation, all_of, any_of}
+use Rattle.sieve_check.specs.Typed.{TestForm, test, negation, all_of, any_of}
 use Rattle.sieve_check.specs.TypedView.{test_form, tests_of}
 use Rattle.sieve_check.proofs.Forms.{form_all_of, form_any_of}
 use Rattle.sieve_meaning.specs.Meaning.{Effects, test_does, all_do, any_do}
 use Rattle.sieve_meaning.specs.Traced.{Event, event, negated, all_held, any_held, on_true, on_false, test_events, all_events, any_events}
 use Rattle.sieve_meaning.proofs.MeaningLemmas.{first_test, tests_bounded}
-use Rattle.sieve_trace.specs.Printed.{event_line, told}
-use Rattle.sieve_trace.specs.Written.{HasStopped, IsTold, sheet_of}
+use Rattle.sieve_trace.specs.Printed.{told}
+use Rattle.sieve_trace.specs.Private.{IsTold, sheet_of}
+use Rattle.sieve_trace.specs.Written.{HasStopped}
 use Rattle.sieve_trace.proofs.SoFar.{goes_stopped}
 use Rattle.sieve_trace.proofs.Steps.{AllRemain, AnyRemain, all_step, any_step}
 use Rattle.sieve_trace.proofs.Nested.{all_asked, all_decided, all_stopped, any_asked, any_decided, any_stopped, form_not, passed_on, said, stopped_after, told_after, turned_told}

@@ -3,7 +3,7 @@ use Rattle.sieve_check.specs.Bounded.{AreBoundedTests}
 use Rattle.sieve_check.specs.TypedView.{test_form, tests_of}
 use Rattle.sieve_meaning.specs.Evaluation.{HasEvaluated}
 use Rattle.sieve_meaning.specs.Meaning.{Effects}
-use Rattle.sieve_trace.specs.Written.{sheet_of}
+use Rattle.sieve_trace.specs.Private.{sheet_of}
 use Rattle.sieve_trace.proofs.Steps.{AllRemain, AnyRemain}
 use Rattle.sieve_trace.proofs.tests_told.+tests.Given as goal
 

@@ -5,7 +5,7 @@ use Rattle.sieve_check.specs.TypedView.{commands_form}
 use Rattle.sieve_meaning.specs.Meaning.{no_effects}
 use Rattle.sieve_meaning.specs.Traced.{commands_events}
 use Rattle.sieve_trace.specs.Printed.{told}
-use Rattle.sieve_trace.specs.Written.{sheet_of}
+use Rattle.sieve_trace.specs.Private.{sheet_of}
 use Rattle.sieve_trace.proofs.tracing.trace_commands.Goals as goal
 
 pub returns-clause-told : goal.returns-clause-told
