@@ -54,11 +54,11 @@ pub said : (words : List Text) (line : CommandLine) (is : IsLine words line) →
 said words (Alone (Encode encoding)) is =
     let all = at _ (codes "encode", is.says.0) (λ m. AreComplete commands m.0 m.1) is.says.1 is.complete in
     back _ _ (λ m. first_of (codes "ENCODING") m.1 ≡ Some (name_of encoding)) is.says.1
-    (encoding_said is.says.0 encoding (all.1.1.1.1.1.1.1.1.1.1.0 refl).0 is.says.2)
+    (encoding_said is.says.0 encoding (all.1.1.1.1.1.1.1.1.1.1.1.0 refl).0 is.says.2)
 said words (Alone (Decode encoding)) is =
     let all = at _ (codes "decode", is.says.0) (λ m. AreComplete commands m.0 m.1) is.says.1 is.complete in
     back _ _ (λ m. first_of (codes "ENCODING") m.1 ≡ Some (name_of encoding)) is.says.1
-    (encoding_said is.says.0 encoding (all.1.1.1.1.1.1.1.1.1.1.1.0 refl).0 is.says.2)
+    (encoding_said is.says.0 encoding (all.1.1.1.1.1.1.1.1.1.1.1.1.0 refl).0 is.says.2)
 said words (Alone (Limit program octets parts)) is =
     let rows = is.says.0 in
     let all = at _ (codes "limit", rows) (λ m. AreComplete commands m.0 m.1) is.says.1 is.complete in
@@ -70,7 +70,7 @@ said words (OnDepot depot (Export user number encoding)) is =
     let rows = is.says.0 in
     let request = is.says.1 in
     let all = at _ (codes "export", rows) (λ m. AreComplete commands m.0 m.1) request.0 is.complete in
-    let has = all.1.1.1.1.1.1.1.1.1.1.1.1.1.1.1.1.1.0 refl in (
+    let has = all.1.1.1.1.1.1.1.1.1.1.1.1.1.1.1.1.1.1.0 refl in (
       back _ (codes "export", rows) _ request.0 (number_said rows number has.1.1.0 request.2),
       back _ (codes "export", rows) (λ m. first_of (codes "ENCODING") m.1 ≡ Some (name_of encoding)) request.0 (encoding_said rows encoding has.1.1.1.0 request.3),
     )
@@ -78,6 +78,6 @@ said words (OnDepot depot (Remove user number)) is =
     let rows = is.says.0 in
     let request = is.says.1 in
     let all = at _ (codes "remove", rows) (λ m. AreComplete commands m.0 m.1) request.0 is.complete in
-    let has = all.1.1.1.1.1.1.1.1.1.1.1.1.1.1.1.1.1.1.0 refl in
+    let has = all.1.1.1.1.1.1.1.1.1.1.1.1.1.1.1.1.1.1.1.0 refl in
     back _ (codes "remove", rows) _ request.0 (number_said rows number has.1.1.0 request.2)
 said words line is = tt

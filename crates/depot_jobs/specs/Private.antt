@@ -7,8 +7,8 @@ use Rattle.depot_jobs.specs.declared.inputs.Inputs.TheVariants.{One, Two}
 use Rattle.depot_jobs.specs.Jobs.{GoesOutAsMade, commented}
 use Rattle.depot_jobs.specs.Printed.{line, ok_text, refusal_line, report_text, wrote_text}
 use Rattle.refusals.specs.declared.refusal.Refusal.{Refusal}
-use Rattle.depot_jobs.specs.declared.job.Answer.{Answer}
-use Rattle.depot_jobs.specs.declared.job.Answer.TheVariants as answers
+use Rattle.depot_jobs.specs.declared.job.JobAnswer.{JobAnswer}
+use Rattle.depot_jobs.specs.declared.job.JobAnswer.TheVariants as answers
 use Rattle.depot_jobs.specs.declared.job.Job.{Job}
 use Rattle.depot_jobs.specs.declared.job.Lines.{Lines}
 use Rattle.depot_jobs.specs.declared.job.Verdict.{Verdict}
@@ -56,15 +56,15 @@ traced_text traced =
     ++ report_text traced.report.outcome.actions.items traced.report.outcome.charged traced.report.limit
 
 -- the text of an answer, and the refusal that goes with it
-abbrev pub answer_text : Answer → List ℕ
+abbrev pub answer_text : JobAnswer → List ℕ
 answer_text (answers.Lines lines) = lines_text lines
 answer_text (answers.Trace traced) = traced_text traced
 
-abbrev pub answer_refusal : Answer → Option Refusal
+abbrev pub answer_refusal : JobAnswer → Option Refusal
 answer_refusal (answers.Lines lines) = refusal_in lines
 answer_refusal (answers.Trace traced) = None
 
 -- a trace is an answer to jobs whose answer goes out as it is made
-abbrev pub IsAnswerOf : Job → Answer → Type 0
+abbrev pub IsAnswerOf : Job → JobAnswer → Type 0
 IsAnswerOf job (answers.Lines lines) = ⊤
 IsAnswerOf job (answers.Trace traced) = GoesOutAsMade job

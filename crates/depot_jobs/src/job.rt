@@ -26,7 +26,7 @@ use crate::limit::limit_lines;
 use crate::listing::parts_lines;
 use crate::making::make_file;
 use crate::printing::{put_line, put_refusal, put_report, put_wrote};
-use crate::tracing::{Traced, put_traced, traced};
+use crate::tracing::{Traced, put_traced, trace_of};
 use bytecode_format::Program;
 use bytecode_listing::{ListingError, assemble, disassemble_accepted, disassemble_refused};
 use bytecode_verifier::{Refusal as BrokenRule, Verified, verify};
@@ -151,7 +151,7 @@ pub enum Lines {
 
 /// A job's answer.
 #[derive(Drop)]
-pub enum Answer<'a> {
+pub enum JobAnswer<'a> {
     /// One that is there.
     Lines(Lines),
     /// A trace, which is made as it is written.
@@ -203,11 +203,11 @@ pub fn answer<H: Host, O: Sink, E: Sink>(
         × HasTold Spelling (E.output err.old) (E.output err.new) × (out.new ≡ out.old) }
 {
     match carry_out(alloc, job, host) {
-        Ok(Answer::Lines(lines)) => match put_lines(out, &lines) {
+        Ok(JobAnswer::Lines(lines)) => match put_lines(out, &lines) {
             Ok(()) => tell_found(err, &lines),
             Err(DeviceFailed) => tell(err, &Refusal::Write),
         },
-        Ok(Answer::Trace(traced)) => match put_traced(alloc, out, &traced) {
+        Ok(JobAnswer::Trace(traced)) => match put_traced(alloc, out, &traced) {
             Ok(()) => SUCCESS,
             Err(why) => tell(err, &why),
         },
@@ -247,7 +247,7 @@ fn carry_out<'a, H: Host>(
     alloc: Global,
     job: Job<'a>,
     host: &mut H,
-) -> Result<Answer<'a>, Refusal>
+) -> Result<JobAnswer<'a>, Refusal>
     ensures shown { IfOk result (λ answer. IsShown job.entry (answer_text answer)
         (answer_refusal answer) (H.state host.old) (H.state host.new)) }
     ensures made { IfOk result (IsAnswerOf job.entry) }
@@ -256,37 +256,60 @@ fn carry_out<'a, H: Host>(
     ensures long_script { HasLongScript job.entry → IsErrAnd result (λ e. e ≡ ScriptTooLong) }
     ensures long_program { HasLongProgram job.entry → IsErrAnd result (λ e. e ≡ Spelling) }
 {
-    let lines = match job {
+    match job {
         Job::Check { script } => {
             let _checked = check_script(alloc, script)?;
-            Lines::NoFault
+            Ok(JobAnswer::Lines(Lines::NoFault))
         }
-        Job::Explain { script, name } => explain_script(alloc, script, name)?,
+        Job::Explain { script, name } => Ok(JobAnswer::Lines(explain_script(alloc, script, name)?)),
         Job::Compile { script, name, out } => {
             let program = code_octets(alloc, script)?;
             make_file(alloc, host, out, name, &program)?;
-            Lines::Wrote(program.len())
+            Ok(JobAnswer::Lines(Lines::Wrote(program.len())))
         }
-        Job::Verify { program } => Lines::Budget(budget_line(alloc, program)?),
+        Job::Verify { program } => {
+            let budget = budget_line(alloc, program)?;
+            Ok(JobAnswer::Lines(Lines::Budget(budget)))
+        }
         Job::Limit {
             program,
             octets,
             parts,
-        } => Lines::Budget(limit_lines(alloc, program, octets, parts)?),
-        Job::Run { program, message } => Lines::Report(execute(alloc, program, message)?),
-        Job::Disassemble { program } => list_program(alloc, program)?,
-        Job::Assemble { listing, name, out } => assemble_program(alloc, listing, name, out, host)?,
-        Job::Eval { script, message } => Lines::Report(evaluate(alloc, script, message)?),
+        } => {
+            let lines = limit_lines(alloc, program, octets, parts)?;
+            Ok(JobAnswer::Lines(Lines::Budget(lines)))
+        }
+        Job::Run { program, message } => {
+            let report = execute(alloc, program, message)?;
+            Ok(JobAnswer::Lines(Lines::Report(report)))
+        }
+        Job::Disassemble { program } => Ok(JobAnswer::Lines(list_program(alloc, program)?)),
+        Job::Assemble { listing, name, out } => {
+            let lines = assemble_program(alloc, listing, name, out, host)?;
+            Ok(JobAnswer::Lines(lines))
+        }
+        Job::Eval { script, message } => {
+            let report = evaluate(alloc, script, message)?;
+            Ok(JobAnswer::Lines(Lines::Report(report)))
+        }
         Job::Trace {
             script,
             name,
             message,
-        } => return Ok(Answer::Trace(traced(alloc, name, script, message)?)),
-        Job::Parts { message } => Lines::Octets(parts_lines(alloc, message)?),
-        Job::Encode { encoding, octets } => Lines::Octets(encode(alloc, encoding, octets)?),
-        Job::Decode { encoding, text } => Lines::Octets(decode(alloc, encoding, text)?),
-    };
-    Ok(Answer::Lines(lines))
+        } => Ok(JobAnswer::Trace(trace_of(alloc, name, script, message)?)),
+        Job::Parts { message } => {
+            let lines = parts_lines(alloc, message)?;
+            Ok(JobAnswer::Lines(Lines::Octets(lines)))
+        }
+        Job::Encode { encoding, octets } => {
+            let text = encode(alloc, encoding, octets)?;
+            Ok(JobAnswer::Lines(Lines::Octets(text)))
+        }
+        Job::Decode { encoding, text } => {
+            let octets = decode(alloc, encoding, text)?;
+            Ok(JobAnswer::Lines(Lines::Octets(octets)))
+        }
+    }
 }
 
 // Whether a script has a fault, and what it is, in words; or what is remarked of it.

@@ -1,5 +1,5 @@
 // Traces of scripts.
-ghost use Rattle.std.specs.Prelude.{◌≡◌, ◌×◌, ◌<◌, List, IfErr, IfOk, IsErrAnd, OnOk, length};
+ghost use Rattle.std.specs.Prelude.{◌≡◌, ◌<◌, List, IfErr, IfOk, IsErrAnd, OnOk, length};
 ghost use Rattle.octets.specs.Limits.{max_script};
 ghost use Rattle.encodings.specs.Device.{HasStopped, HasTaken};
 ghost use Rattle.refusals.specs.Scripts.{IsScriptRefusal};
@@ -42,7 +42,7 @@ pub struct Traced<'a> {
 /// # Errors
 ///
 /// The first refusal of the script, then of the message.
-pub fn traced<'a>(
+pub fn trace_of<'a>(
     alloc: Global,
     name: &'a str,
     script: &[u8],
@@ -83,11 +83,7 @@ fn places_in(alloc: Global, script: &[u8]) -> Result<Vec<Place>, Refusal>
 /// # Errors
 ///
 /// `Write` where the sink failed, `Memory` where an allocation was refused. A prefix was written.
-pub fn put_traced<O: Sink>(
-    alloc: Global,
-    out: &mut O,
-    traced: &Traced<'_>,
-) -> Result<(), Refusal>
+pub fn put_traced<O: Sink>(alloc: Global, out: &mut O, traced: &Traced<'_>) -> Result<(), Refusal>
     ensures ok { OnOk result (HasTaken (traced_text traced.now) (O.output out.old)
         (O.output out.new)) }
     ensures err { IfErr result (λ e. HasStopped e (traced_text traced.now) (O.output out.old)
@@ -101,11 +97,12 @@ pub fn put_traced<O: Sink>(
         &traced.message,
         out,
     ) {
-        Ok(_actions) => match put_report(out, &traced.report) {
-            Ok(()) => Ok(()),
-            Err(DeviceFailed) => Err(Refusal::Write),
-        },
-        Err(TraceError::Memory) => Err(Refusal::Memory),
-        Err(TraceError::Write) => Err(Refusal::Write),
+        Ok(_actions) => {}
+        Err(TraceError::Memory) => return Err(Refusal::Memory),
+        Err(TraceError::Write) => return Err(Refusal::Write),
+    }
+    match put_report(out, &traced.report) {
+        Ok(()) => Ok(()),
+        Err(DeviceFailed) => Err(Refusal::Write),
     }
 }
