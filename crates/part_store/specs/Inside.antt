@@ -1,9 +1,7 @@
 -- What is said of a call within a transaction.
 use Rattle.std.specs.Prelude.{◌≡◌, IsTrue}
 use Rattle.sqlite.specs.State.{State, KeepsCommit}
-use Rattle.sqlite.specs.declared.error.Error.{Error}
 use Rattle.part_store.specs.Entries.{Entries}
-use Rattle.part_store.specs.Refusals.{refusal_of}
 use Rattle.part_store.specs.Standing.{Stands}
 use Rattle.part_store.specs.Tables.{store_schema}
 use Rattle.part_store.specs.declared.error.StoreError.{StoreError}
@@ -23,14 +21,6 @@ KeepsTables old new = old.now.schema ≡ store_schema → new.now.schema ≡ sto
 -- where there are the three tables, nothing is committed
 abbrev pub KeepsStored : State → State → Type 0
 KeepsStored old new = old.now.schema ≡ store_schema → KeepsCommit old new
-
--- what is said of the refusal that an error of the database becomes
-abbrev pub AsRefusal : (State → State → StoreError → Type 0) → State → State → Error → Type 0
-AsRefusal Is old new e = Is old new (refusal_of e)
-
--- the same in a transaction
-abbrev pub AsRefusalInside : (State → State → StoreError → Type 0) → State → State → Error → Type 0
-AsRefusalInside Is old new e = IsTrue old.in_transaction → Is old new (refusal_of e)
 
 -- within a transaction: what the tables stand for has changed so, and nothing is committed
 abbrev pub Brings : (Entries → Entries) → State → State → Type 0

@@ -19,3 +19,4 @@ pub mod Readings
 pub mod Noting
 pub mod Additions
 pub mod Connections
+pub mod Blaming

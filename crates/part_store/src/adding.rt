@@ -2,7 +2,8 @@
 ghost use Rattle.std.specs.Prelude.{◌≡◌, ◌⊎◌, ◌+◌, ◌<◌, ◌≤◌, true, false, IsTrue, length, map};
 ghost use Rattle.octets.specs.Limits.{max_entry_number};
 ghost use Rattle.part_store.specs.Standing.{Stands, draft_of};
-ghost use Rattle.part_store.specs.Inside.{Stays, AsRefusal, AsRefusalInside, IsInside, KeepsStored, KeepsTables, StaysInside};
+ghost use Rattle.part_store.specs.Blaming.{AsRefusal, AsRefusalInside};
+ghost use Rattle.part_store.specs.Inside.{Stays, IsInside, KeepsStored, KeepsTables, StaysInside};
 ghost use Rattle.part_store.specs.Entries.{with_last};
 ghost use Rattle.part_store.specs.Refusals.{refusal_of, Blames, BlamesEntries, HasFailed, HasNoUserRoom, HaveNoRoom};
 ghost use Rattle.part_store.specs.Causes.{BlamesRows, TellsOfRow};

@@ -3,7 +3,8 @@ ghost use Rattle.std.specs.Prelude.{◌≡◌, ◌⊎◌, ◌∷◌, ◌<◌, []
 ghost use Rattle.part_store.specs.Changes.{columns};
 ghost use Rattle.part_store.specs.Tables.{users_tree, store_schema};
 ghost use Rattle.part_store.specs.Entries.{AreProgramsOf, with_program, with_programs};
-ghost use Rattle.part_store.specs.Inside.{Brings, Stays, AsRefusal, AsRefusalInside, IsInside, KeepsStored, KeepsTables, StaysInside};
+ghost use Rattle.part_store.specs.Blaming.{AsRefusal, AsRefusalInside};
+ghost use Rattle.part_store.specs.Inside.{Brings, Stays, IsInside, KeepsStored, KeepsTables, StaysInside};
 ghost use Rattle.part_store.specs.Standing.{Stands, pair_of};
 ghost use Rattle.part_store.specs.Readings.{last_in, row_of, ShowsLast, ShowsProgram};
 ghost use Rattle.std.specs.List.{AllByRecursion};
