@@ -71,7 +71,7 @@ Kinds of events.
 
 ## a name that can't be printed as it is
     $ printf 'keep;' > "$(printf 'a\tb')"
-    $ depot trace "$(printf 'a\tb')" /dev/null
+    $ depot trace "$(printf 'a\tb')" /dev/null; rm "$(printf 'a\tb')"
     a\09b:1:1: keep
     keep
     charged 2 of 2
