@@ -15,5 +15,3 @@ mod migrating;
 pub mod samples;
 #[cfg(test)]
 mod store;
-#[cfg(test)]
-mod together;
