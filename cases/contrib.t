@@ -116,7 +116,7 @@ What a reader of mail did stays, and a second run adds what is new.
 
 As after a run that was killed when the next mail was filed, and while it wrote that.
 
-    $ printf 'next\t1\tarchive/th"ree mail\n0\t2\tarch' >> journal
+    $ printf 'next\t1\tarchive/th"ree mail\nnext\t1\tarchive/two mail\n0\t2\tarch' >> journal
     $ depot deliver new.depot ann archive/'th"ree mail'
     2 message "INBOX"
     $ "$TOP/contrib/refile" new.depot ann script journal < list
@@ -132,7 +132,9 @@ As after a run that was killed when the next mail was filed, and while it wrote 
     next 0 archive/one mail
     0 1 archive/one mail
     next 1 archive/th"ree mail
+    next 1 archive/two mail
     0 2 archive/th"ree mail
+    1 no answer 2 archive/two mail
     next 2 archive/two mail
     0 3 archive/two mail
 
@@ -141,6 +143,10 @@ As after one that was killed before the next mail was filed.
     $ cp archive/one\ mail later && printf 'next\t3\tlater\n' >> journal
     $ echo later | cat list - | "$TOP/contrib/refile" new.depot ann script journal
     4 mails: 3 filed before, 1 filed now, 0 refused
+    $ tail -n 3 journal | tr '\t' ' '
+    1 no answer 3 later
+    next 3 later
+    0 4 later
 
 A mail that can't be read is refused, and tried again in the next run.
 
@@ -183,6 +189,64 @@ A mail that can't be read is refused, and tried again in the next run.
     4
     $ rm -- -f 'a "b"' c* 'f\22'
 
+## an archive of more mails than go at a time, killed in the middle
+    $ mkdir archive
+    $ for n in $(seq 100 299); do printf 'Subject: %s\n\n%s\n' $n $n > archive/$n; done
+    $ ls archive/* > list
+    $ printf 'require "fileinto"; if header :contains "Subject" "7" { fileinto "Seven"; keep; } elsif header :contains "Subject" "5" { discard; }' > script
+    $ "$TOP/contrib/refile" whole.depot ann script whole.journal < list
+    200 mails: 0 filed before, 200 filed now, 0 refused
+    $ cut -f 1,3 whole.journal | sed -n '65,67p;130p' | tr '\t' ' '
+    next archive/163
+    0 archive/100
+    0 archive/101
+    next archive/164
+
+Of 64 mails that were begun so many were filed as the run was killed: of those without an answer none, some or all.
+
+    $ head -n 65 whole.journal > begun
+    $ for n in 0 1 7 40 64; do rm -f cut.depot; cp begun journal; "$TOP/contrib/refile" cut.depot ann script first < /dev/null > said; head -n $n list | sed 's/^/deliver ann /' | depot batch cut.depot > said; "$TOP/contrib/refile" cut.depot ann script journal < list; depot list cut.depot ann > cut; depot list whole.depot ann | cmp - cut; done
+    200 mails: 0 filed before, 200 filed now, 0 refused
+    200 mails: 1 filed before, 199 filed now, 0 refused
+    200 mails: 6 filed before, 194 filed now, 0 refused
+    200 mails: 33 filed before, 167 filed now, 0 refused
+    200 mails: 51 filed before, 149 filed now, 0 refused
+
+One that couldn't be read was passed over, and those after it were filed.
+
+    $ rm cut.depot && cp begun journal && "$TOP/contrib/refile" cut.depot ann script first < /dev/null > said
+    $ sed -n '1,3p;5,20p' list | sed 's/^/deliver ann /' | depot batch cut.depot > said
+    $ "$TOP/contrib/refile" cut.depot ann script journal < list
+    200 mails: 16 filed before, 184 filed now, 0 refused
+    $ for n in $(depot list cut.depot ann | cut -d ' ' -f 1); do depot export cut.depot ann $n raw | tail -n 1; done | sort > cut
+    $ for n in $(depot list whole.depot ann | cut -d ' ' -f 1); do depot export whole.depot ann $n raw | tail -n 1; done | sort | cmp - cut
+
+Another's mail among them isn't taken for one of them.
+
+    $ rm cut.depot && cp begun journal && "$TOP/contrib/refile" cut.depot ann script first < /dev/null > said
+    $ depot deliver cut.depot ann list
+    1 message "INBOX"
+    $ "$TOP/contrib/refile" cut.depot ann script journal < list
+    2> refile: the user has entries beyond 0 that are none of the mails which were begun
+    [1]
+    $ rm -r archive cut.depot whole.depot
+
+## a mail that is refused among others
+    $ mkdir archive
+    $ for n in 1 2 4; do printf 'Subject: %s\n\n' $n > archive/$n; done
+    $ ln -s "$FILES/too-large" archive/3
+    $ ls archive/* > list
+    $ echo 'keep;' > script
+    $ "$TOP/contrib/refile" mail.depot ann script journal < list
+    4 mails: 0 filed before, 3 filed now, 1 refused
+    [1]
+    $ tail -n 4 journal | tr '\t' ' '
+    0 1 archive/1
+    0 2 archive/2
+    1 refused 2 MessageTooLarge 2 archive/3
+    0 3 archive/4
+    $ rm -r archive
+
 ## a disk that is full ends the run, without a line of the mail
     $ printf 'Subject: a\n\n' > mail
     $ echo 'keep;' > script
@@ -201,8 +265,8 @@ A mail that can't be read is refused, and tried again in the next run.
     $ tr '\t' ' ' < journal
     begun 0 ann
     next 0 mail
+    next 0 next
     0 1 mail
-    next 1 next
     $ "$TOP/contrib/refile" mail.depot ann script journal < list
     2 mails: 1 filed before, 1 filed now, 0 refused
 
