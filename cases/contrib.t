@@ -209,15 +209,15 @@ Of 64 mails that were begun so many were filed as the run was killed: of those w
     200 mails: 0 filed before, 200 filed now, 0 refused
     200 mails: 1 filed before, 199 filed now, 0 refused
     200 mails: 6 filed before, 194 filed now, 0 refused
-    200 mails: 33 filed before, 167 filed now, 0 refused
-    200 mails: 51 filed before, 149 filed now, 0 refused
+    200 mails: 36 filed before, 164 filed now, 0 refused
+    200 mails: 50 filed before, 150 filed now, 0 refused
 
 One that couldn't be read was passed over, and those after it were filed.
 
     $ rm cut.depot && cp begun journal && "$TOP/contrib/refile" cut.depot ann script first < /dev/null > said
     $ sed -n '1,3p;5,20p' list | sed 's/^/deliver ann /' | depot batch cut.depot > said
     $ "$TOP/contrib/refile" cut.depot ann script journal < list
-    200 mails: 16 filed before, 184 filed now, 0 refused
+    200 mails: 17 filed before, 183 filed now, 0 refused
     $ for n in $(depot list cut.depot ann | cut -d ' ' -f 1); do depot export cut.depot ann $n raw | tail -n 1; done | sort > cut
     $ for n in $(depot list whole.depot ann | cut -d ' ' -f 1); do depot export whole.depot ann $n raw | tail -n 1; done | sort | cmp - cut
 
