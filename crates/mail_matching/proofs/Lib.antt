@@ -3,7 +3,9 @@ pub mod Extents
 pub mod Keeping
 pub mod Lengths
 pub mod Onward
+pub mod Pairs
 pub mod Scopes
+pub mod Sources
 pub mod TenCaptures
 pub mod AskedFor
 pub mod TypeTexts

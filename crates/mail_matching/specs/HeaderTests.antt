@@ -7,7 +7,9 @@ use Rattle.octets.specs.Ascii.{is_word}
 use Rattle.mime_decode.specs.Mail.{Mail, Part}
 use Rattle.mime_decode.specs.Scope.{Scope, Selector, parts_in_scope, selected_values}
 use Rattle.mail_matching.specs.Costs.{names_cost, values_cost}
+use Rattle.mail_matching.specs.Findings.{finding_of}
 use Rattle.mail_matching.specs.FirstMatch.{first_match}
+use Rattle.mail_matching.specs.declared.finding.Finding.{Finding}
 
 -- the fields of the parts in scope
 abbrev pub fields_in_scope : Scope → Option ℕ → Mail → List Field
@@ -29,6 +31,11 @@ abbrev pub header_match : Match → Scope → Option ℕ → Selector → List (
     → Option (List (List ℕ))
 header_match how scope current selector names keys mail captures =
     first_match how (selected_values scope current selector names mail) keys captures
+
+-- what it finds: the first selected value and key that match, or how many values there are
+abbrev pub header_finding : Match → Scope → Option ℕ → Selector → List (List ℕ) → List (List ℕ) → Mail → Finding
+header_finding how scope current selector names keys mail =
+    finding_of how (selected_values scope current selector names mail) keys
 
 abbrev pub header_cost : Scope → Option ℕ → Selector → List (List ℕ) → List (List ℕ) → Mail → ℕ
 header_cost scope current selector names keys mail =

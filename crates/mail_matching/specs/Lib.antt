@@ -1,5 +1,7 @@
 -- the first value that matches a key
 pub mod FirstMatch
+-- the first value and key that match, and what a test finds
+pub mod Findings
 -- what comparing costs
 pub mod Costs
 -- the tests of headers

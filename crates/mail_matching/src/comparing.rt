@@ -1,38 +1,42 @@
 // A value and the keys of a test.
-ghost use Rattle.std.specs.Prelude.{◌≡◌, ◌≤◌, ℕ, List, IfOk, IsOk, length, if◌then◌else◌};
+ghost use Rattle.std.specs.Prelude.{◌≡◌, ◌≤◌, ◌∷◌, [], ℕ, List, IfOk, IsOk, None, OnOk, Some, length, if◌then◌else◌};
 ghost use Rattle.std.specs.Cow.{IsBorrowedSlice, cow_slice_items};
 ghost use Rattle.octets.specs.Limits.{max_message, max_string};
+ghost use Rattle.mail_matching.specs.Findings.{finding_of, is_matched_by, key_of};
 ghost use Rattle.mail_matching.specs.FirstMatch.{KeepsCaptures, after_match, first_key};
 ghost use Rattle.mail_matching.specs.Outcomes.{after};
-ghost use Rattle.mail_matching.specs.Private.{after_compared};
+ghost use Rattle.mail_matching.specs.Private.{after_compared, further, key_in};
 ghost use Rattle.mail_matching.specs.Texts.{AreTexts};
+ghost use Rattle.mail_matching.specs.declared.finding.Finding.TheVariants.{NoneOf};
 
+use crate::finding::Telling;
 use crate::outcome::{Captured, Outcome};
 use crate::texts::Texts;
 use glob_match::{Captures, Match, MatchType, contains, is, matches};
 use std::alloc::{AllocError, Global};
 use std::borrow::CowSlice;
 
-/// How a value compares with a key.
+/// How a value compares with keys.
 #[derive(Drop)]
-pub(crate) enum Compared {
-    /// It doesn't match.
+pub(crate) enum Compared<'k> {
+    /// It matches none.
     Differs,
-    /// It matches, and no captures are set.
-    Matches,
-    /// It matches, and these stretches of it are the captures.
-    Sets(Captures),
+    /// It matches this one, and no captures are set.
+    Matches(&'k [u8]),
+    /// It matches this one, and these stretches of it are the captures.
+    Sets(&'k [u8], Captures),
 }
 
-/// What comparing a value with each key in order comes to, up to the first that it matches.
+/// What comparing a value with each key in order comes to, up to the first that it matches; and tells it.
 ///
 /// An error comes only where memory was refused: where the value is owned and sets captures, these are copied.
 #[inline(always)]
-pub(crate) fn first_key<'a, K: Texts>(
+pub(crate) fn first_key<'a, K: Texts, T: Telling>(
     alloc: Global,
     value: &CowSlice<'a, u8>,
     keys: &K,
     how: Match,
+    told: &mut T,
 ) -> Result<Outcome<'a>, AllocError>
     requires value { length (cow_slice_items value.now) ≤ max_message }
     requires keys { AreTexts (K.texts keys.now) }
@@ -40,51 +44,81 @@ pub(crate) fn first_key<'a, K: Texts>(
         (λ outcome. (captures : List (List ℕ))
         → after outcome captures ≡ first_key how (cow_slice_items value.now) (K.texts keys.now)
         captures) }
-    ensures lent { IsBorrowedSlice value.now → IsOk result }
-    ensures told { KeepsCaptures (first_key how (cow_slice_items value.now) (K.texts keys.now))
+    ensures found { (most number : ℕ) → T.knows most told.old (NoneOf number)
+        → OnOk result (T.knows most told.new (further (NoneOf number)
+        (finding_of how (cow_slice_items value.now ∷ []) (K.texts keys.now)))) }
+    ensures lent { T.is_free → IsBorrowedSlice value.now → IsOk result }
+    ensures told { T.is_free
+        → KeepsCaptures (first_key how (cow_slice_items value.now) (K.texts keys.now))
         → IsOk result }
 {
-    Ok(match first_comparison(value.as_slice(), keys, how) {
-        Compared::Differs => Outcome::Fails,
-        Compared::Matches => Outcome::Holds,
-        Compared::Sets(stretches) => Outcome::Captures(Captured::new(alloc, value, stretches)?),
-    })
+    match first_comparison(value.as_slice(), keys, how) {
+        Compared::Differs => {
+            told.missed();
+            Ok(Outcome::Fails)
+        }
+        Compared::Matches(key) => {
+            told.matched(alloc, value.as_slice(), key)?;
+            Ok(Outcome::Holds)
+        }
+        Compared::Sets(key, stretches) => {
+            told.matched(alloc, value.as_slice(), key)?;
+            Ok(Outcome::Captures(Captured::new(alloc, value, stretches)?))
+        }
+    }
 }
 
 /// The same of a value that is lent for now: what is captured of it is copied.
 ///
 /// An error comes only where memory was refused.
 #[inline(always)]
-pub(crate) fn first_key_of_lent<'a, K: Texts>(
+pub(crate) fn first_key_of_lent<'a, K: Texts, T: Telling>(
     alloc: Global,
     value: &[u8],
     keys: &K,
     how: Match,
+    told: &mut T,
 ) -> Result<Outcome<'a>, AllocError>
     requires value { length value.now ≤ max_message }
     requires keys { AreTexts (K.texts keys.now) }
     ensures outcome { IfOk result
         (λ outcome. (captures : List (List ℕ))
         → after outcome captures ≡ first_key how value.now (K.texts keys.now) captures) }
-    ensures told { KeepsCaptures (first_key how value.now (K.texts keys.now)) → IsOk result }
+    ensures found { (most number : ℕ) → T.knows most told.old (NoneOf number)
+        → OnOk result (T.knows most told.new (further (NoneOf number)
+        (finding_of how (value.now ∷ []) (K.texts keys.now)))) }
+    ensures told { T.is_free → KeepsCaptures (first_key how value.now (K.texts keys.now))
+        → IsOk result }
 {
-    Ok(match first_comparison(value, keys, how) {
-        Compared::Differs => Outcome::Fails,
-        Compared::Matches => Outcome::Holds,
-        Compared::Sets(stretches) => {
-            Outcome::Captures(Captured::copied(alloc, value, &stretches)?)
+    match first_comparison(value, keys, how) {
+        Compared::Differs => {
+            told.missed();
+            Ok(Outcome::Fails)
         }
-    })
+        Compared::Matches(key) => {
+            told.matched(alloc, value, key)?;
+            Ok(Outcome::Holds)
+        }
+        Compared::Sets(key, stretches) => {
+            told.matched(alloc, value, key)?;
+            Ok(Outcome::Captures(Captured::copied(alloc, value, &stretches)?))
+        }
+    }
 }
 
 /// How a value compares with the first of the keys that it matches.
 #[inline(always)]
-pub(crate) fn first_comparison<K: Texts>(value: &[u8], keys: &K, how: Match) -> Compared
+pub(crate) fn first_comparison<'k, K: Texts>(
+    value: &[u8],
+    keys: &'k K,
+    how: Match,
+) -> Compared<'k>
     requires value { length value.now ≤ max_message }
     requires keys { AreTexts (K.texts keys.now) }
-    ensures { (captures : List (List ℕ))
+    ensures captures { (captures : List (List ℕ))
         → after_compared value.now result captures
         ≡ first_key how value.now (K.texts keys.now) captures }
+    ensures key { key_in result ≡ key_of how value.now (K.texts keys.now) }
 {
     for place in 0..keys.count() {
         match compare(value, keys.text(place), how) {
@@ -96,11 +130,13 @@ pub(crate) fn first_comparison<K: Texts>(value: &[u8], keys: &K, how: Match) -> 
 }
 
 // The answer of a comparison that sets no captures.
-fn matched(value_is_key: bool) -> Compared
-    ensures { result ≡ (if value_is_key then Compared.Matches else Compared.Differs) }
+fn matched(value_is_key: bool, key: &[u8]) -> Compared<'_>
+    ensures captures { (value : List ℕ) (captures : List (List ℕ))
+        → after_compared value result captures ≡ (if value_is_key then Some captures else None) }
+    ensures key { key_in result ≡ (if value_is_key then Some key.now else None) }
 {
     if value_is_key {
-        Compared::Matches
+        Compared::Matches(key)
     } else {
         Compared::Differs
     }
@@ -108,17 +144,19 @@ fn matched(value_is_key: bool) -> Compared
 
 // Whether the value matches the key, and with which captures.
 #[inline(always)]
-fn compare(value: &[u8], key: &[u8], how: Match) -> Compared
+fn compare<'k>(value: &[u8], key: &'k [u8], how: Match) -> Compared<'k>
     requires value { length value.now ≤ max_message }
     requires key { length key.now ≤ max_string }
-    ensures { (captures : List (List ℕ))
+    ensures captures { (captures : List (List ℕ))
         → after_compared value.now result captures ≡ after_match how value.now key.now captures }
+    ensures key { key_in result
+        ≡ (if is_matched_by how.kind how.comparator value.now key.now then Some key.now else None) }
 {
     match how.kind {
-        MatchType::Is => matched(is(value, key, how.comparator).0),
-        MatchType::Contains => matched(contains(value, key, how.comparator).0),
+        MatchType::Is => matched(is(value, key, how.comparator).0, key),
+        MatchType::Contains => matched(contains(value, key, how.comparator).0, key),
         MatchType::Matches => match matches(value, key, how.comparator).0 {
-            Some(stretches) => Compared::Sets(stretches),
+            Some(stretches) => Compared::Sets(key, stretches),
             None => Compared::Differs,
         },
     }

@@ -1,10 +1,11 @@
 //! The laws of the tests: how much they cost at most.
-ghost use Rattle.std.specs.Prelude.{◌≡◌, ◌+◌, ◌*◌, ◌≤◌, ℕ, List, Option, Some, length, slice_get};
+ghost use Rattle.std.specs.Prelude.{◌≡◌, ◌+◌, ◌*◌, ◌≤◌, ℕ, List, Option, Some, is_some, length, slice_get};
 ghost use Rattle.glob_match.specs.Matching.{max_captures};
 ghost use Rattle.glob_match.specs.declared.match_type.Match.{Match};
 ghost use Rattle.mime_decode.specs.Mail.{IsMail, Mail, Part, size_of};
 ghost use Rattle.mime_decode.specs.Scope.{Scope, Selector, selected_values};
 ghost use Rattle.mail_matching.specs.Costs.{extent_of, names_cost, values_cost};
+ghost use Rattle.mail_matching.specs.Findings.{after_pair, first_pair};
 ghost use Rattle.mail_matching.specs.FirstMatch.{first_match};
 ghost use Rattle.mail_matching.specs.HeaderTests.{fields_in_scope};
 ghost use Rattle.mail_matching.specs.PartTests.{body_cost, digest_cost};
@@ -50,4 +51,17 @@ pub fn captures_stay_ten()
     ensures { (how : Match) (values keys captures after : List (List ℕ))
         → length captures ≡ max_captures → first_match how values keys captures ≡ Some after
         → length after ≡ max_captures }
+{}
+
+/// A test holds exactly where a value and a key match.
+pub fn a_pair_is_found_where_a_test_holds()
+    ensures { (how : Match) (values keys captures : List (List ℕ))
+        → is_some (first_match how values keys captures) ≡ is_some (first_pair how values keys) }
+{}
+
+/// The captures after a test are those after the first value and key that match.
+pub fn captures_are_those_after_the_first_pair()
+    ensures { (how : Match) (values keys captures : List (List ℕ))
+        → first_match how values keys captures
+        ≡ after_pair how captures (first_pair how values keys) }
 {}

@@ -15,6 +15,7 @@ ghost use Rattle.bytecode_format.specs.declared.selection.Selector.TheVariants.{
 use crate::asked::{asked_params, asked_value};
 use crate::comparing::{first_key, first_key_of_lent};
 use crate::existence::is_named;
+use crate::finding::Telling;
 use crate::outcome::Outcome;
 use crate::reading::{content_type_of, main_of, params_in, sub_of, type_text};
 use crate::texts::Texts;
@@ -35,14 +36,15 @@ pub(crate) struct Comparison<'t, P, K> {
     pub how: Match,
 }
 
-/// What comparing the values so far comes to, and how many octets they have, and one more for each.
+/// What comparing the values so far comes to, how many octets they have, and one more for each, and who is told of them.
 #[derive(Drop)]
-pub(crate) struct Progress<'m> {
+pub(crate) struct Progress<'m, T> {
     pub outcome: Outcome<'m>,
     pub extent: u64,
+    pub told: T,
 }
 
-impl<'m> Progress<'m> {
+impl<'m, T: Telling> Progress<'m, T> {
     /// Goes on with what is selected in a header, name by name.
     pub(crate) fn take_header<N: Texts, P: Texts, K: Texts>(
         &mut self,
@@ -57,10 +59,10 @@ impl<'m> Progress<'m> {
         requires room { self.old.extent + extent_of
             (selected_among (selector_of test.now.selector (P.texts test.now.params.now))
             (N.texts names.now) fields.now) < 2 ^ 64 }
-        ensures goes { OnOk result (GoesOn test.now.how
+        ensures goes { OnOk result (GoesOn T.knows test.now.how
             (selected_among (selector_of test.now.selector (P.texts test.now.params.now))
             (N.texts names.now) fields.now) (K.texts test.now.keys.now) self.old self.new) }
-        ensures told { test.now.selector ≡ Value → AreUnfolded (N.texts names.now) fields.now
+        ensures told { T.is_free → test.now.selector ≡ Value → AreUnfolded (N.texts names.now) fields.now
             → IsOk result }
     {
         if fields.is_empty() {
@@ -86,10 +88,10 @@ impl<'m> Progress<'m> {
         requires room { self.old.extent + extent_of
             (selected_named (selector_of test.now.selector (P.texts test.now.params.now)) fields.now
             name.now) < 2 ^ 64 }
-        ensures goes { OnOk result (GoesOn test.now.how
+        ensures goes { OnOk result (GoesOn T.knows test.now.how
             (selected_named (selector_of test.now.selector (P.texts test.now.params.now))
             fields.now name.now) (K.texts test.now.keys.now) self.old self.new) }
-        ensures told { test.now.selector ≡ Value → All (IsUnfolded name.now) fields.now
+        ensures told { T.is_free → test.now.selector ≡ Value → All (IsUnfolded name.now) fields.now
             → IsOk result }
     {
         for place in 0..fields.count() {
@@ -112,10 +114,10 @@ impl<'m> Progress<'m> {
         requires room { self.old.extent + extent_of
             (selected_named (selector_of test.now.selector (P.texts test.now.params.now))
             (field.now ∷ []) name.now) < 2 ^ 64 }
-        ensures goes { OnOk result (GoesOn test.now.how
+        ensures goes { OnOk result (GoesOn T.knows test.now.how
             (selected_named (selector_of test.now.selector (P.texts test.now.params.now))
             (field.now ∷ []) name.now) (K.texts test.now.keys.now) self.old self.new) }
-        ensures told { test.now.selector ≡ Value → IsUnfolded name.now field.now → IsOk result }
+        ensures told { T.is_free → test.now.selector ≡ Value → IsUnfolded name.now field.now → IsOk result }
     {
         if is_named(field.field(), name) {
             self.take_field(alloc, field, test)?;
@@ -136,10 +138,10 @@ impl<'m> Progress<'m> {
         requires room { self.old.extent + extent_of
             (selected_of (selector_of test.now.selector (P.texts test.now.params.now)) field.now)
             < 2 ^ 64 }
-        ensures goes { OnOk result (GoesOn test.now.how
+        ensures goes { OnOk result (GoesOn T.knows test.now.how
             (selected_of (selector_of test.now.selector (P.texts test.now.params.now))
             field.now) (K.texts test.now.keys.now) self.old self.new) }
-        ensures told { test.now.selector ≡ Value → field.now.folded ≡ false → IsOk result }
+        ensures told { T.is_free → test.now.selector ≡ Value → field.now.folded ≡ false → IsOk result }
     {
         match test.selector {
             Selector::Value => self.take_value(alloc, field.field(), test.keys, test.how),
@@ -174,9 +176,9 @@ impl<'m> Progress<'m> {
         requires keys { AreTexts (K.texts keys.now) }
         requires field { length field.now.value ≤ max_message }
         requires room { self.old.extent + extent_of (field.now.value ∷ []) < 2 ^ 64 }
-        ensures goes { OnOk result (GoesOn how (field.now.value ∷ []) (K.texts keys.now) self.old
+        ensures goes { OnOk result (GoesOn T.knows how (field.now.value ∷ []) (K.texts keys.now) self.old
             self.new) }
-        ensures told { field.now.folded ≡ false → IsOk result }
+        ensures told { T.is_free → field.now.folded ≡ false → IsOk result }
     {
         if self.outcome.holds() {
             self.extent += unfolded_length(field) as u64 + 1;
@@ -201,7 +203,7 @@ impl<'m> Progress<'m> {
         requires room { self.old.extent + extent_of
             (values_of_params (params_of (reading_of field.now)) (P.texts test.now.params.now))
             < 2 ^ 64 }
-        ensures { OnOk result (GoesOn test.now.how
+        ensures { OnOk result (GoesOn T.knows test.now.how
             (values_of_params (params_of (reading_of field.now)) (P.texts test.now.params.now))
             (K.texts test.now.keys.now) self.old self.new) }
     {
@@ -225,7 +227,7 @@ impl<'m> Progress<'m> {
         requires keys { AreTexts (K.texts keys.now) }
         requires short { IfSome param (λ value. length value ≤ max_message) }
         requires room { self.old.extent + extent_of (given param) < 2 ^ 64 }
-        ensures { OnOk result (GoesOn how (given param) (K.texts keys.now) self.old self.new) }
+        ensures { OnOk result (GoesOn T.knows how (given param) (K.texts keys.now) self.old self.new) }
     {
         match param {
             Some(value) => self.take_lent(alloc, value.as_slice(), keys, how),
@@ -245,14 +247,15 @@ impl<'m> Progress<'m> {
         requires keys { AreTexts (K.texts keys.now) }
         requires value { length (cow_slice_items value.now) ≤ max_message }
         requires room { self.old.extent + extent_of (cow_slice_items value.now ∷ []) < 2 ^ 64 }
-        ensures goes { OnOk result (GoesOn how (cow_slice_items value.now ∷ []) (K.texts keys.now)
+        ensures goes { OnOk result (GoesOn T.knows how (cow_slice_items value.now ∷ []) (K.texts keys.now)
             self.old self.new) }
-        ensures lent { IsBorrowedSlice value.now → IsOk result }
+        ensures lent { T.is_free → IsBorrowedSlice value.now → IsOk result }
     {
         self.extent += value.len() as u64 + 1;
-        if !self.outcome.holds() {
-            self.outcome = first_key(alloc, value, keys, how)?;
+        if self.outcome.holds() {
+            return Ok(());
         }
+        self.outcome = first_key(alloc, value, keys, how, &mut self.told)?;
         Ok(())
     }
 
@@ -268,12 +271,13 @@ impl<'m> Progress<'m> {
         requires keys { AreTexts (K.texts keys.now) }
         requires lent { length lent.now ≤ max_message }
         requires room { self.old.extent + extent_of (lent.now ∷ []) < 2 ^ 64 }
-        ensures { OnOk result (GoesOn how (lent.now ∷ []) (K.texts keys.now) self.old self.new) }
+        ensures { OnOk result (GoesOn T.knows how (lent.now ∷ []) (K.texts keys.now) self.old self.new) }
     {
         self.extent += lent.len() as u64 + 1;
-        if !self.outcome.holds() {
-            self.outcome = first_key_of_lent(alloc, lent, keys, how)?;
+        if self.outcome.holds() {
+            return Ok(());
         }
+        self.outcome = first_key_of_lent(alloc, lent, keys, how, &mut self.told)?;
         Ok(())
     }
 }

@@ -28,11 +28,18 @@ loop-place-preserved g c =
     let names = g.N.Texts.texts c.args.names.now in
     let headers = c.args.headers.now in
     let lt : c.loop-place.place < length headers = omega (arith, c.loop-place-test.true, c.count-place-end.ensures.count) in
-    goes_on_more c.args.test.now.how (g.K.Texts.texts c.args.test.now.keys.now) (selected_among selector names) headers c.loop-place.place c.typed.result [] (record { outcome = Fails; extent = 0 }) c.loop-place.progress c.take_header.new.self lt c.typed.ensures c.loop-place.invariant c.in_ok-take_header.ensures.goes
+    goes_on_more g.T.Telling.knows c.args.test.now.how (g.K.Texts.texts c.args.test.now.keys.now) (selected_among selector names) headers c.loop-place.place c.typed.result [] (record { outcome = Fails; extent = 0; told = c.args.told }) c.loop-place.progress c.take_header.new.self lt c.typed.ensures c.loop-place.invariant c.in_ok-take_header.ensures.goes
 
 pub returns-in_err-take_header-clause-told : goal.returns-in_err-take_header-clause-told
-returns-in_err-take_header-clause-told g c = λ value plain.
+returns-in_err-take_header-clause-told g c = λ free value plain.
     let headers = c.args.headers.now in
     let lt : c.loop-place.place < length headers = omega (arith, c.loop-place-test.true, c.count-place-end.ensures.count) in
-    absurd (false≢true (c.in_err-take_header.ensures.told value
+    absurd (false≢true (c.in_err-take_header.ensures.told free value
     (subst (AreUnfolded (g.N.Texts.texts c.args.names.now)) (sym c.typed.ensures) (plain c.loop-place.place [] lt))))
+
+pub returns-clause-few : goal.returns-clause-few
+returns-clause-few g c =
+    omega (
+      arith,
+      all_few c.args.test.now.selector (g.P.Texts.texts c.args.test.now.params.now) (g.N.Texts.texts c.args.names.now) c.args.headers.now c.requires.params c.requires.names c.count-place-end.ensures.few,
+    )

@@ -8,8 +8,9 @@ use Rattle.mail_matching.proofs.header_test.compared.Given as goal
 abbrev pub invariant-loop-place : goal.invariant-loop-place
 invariant-loop-place g l =
     GoesOn
+    g.T.Telling.knows
     l.test.how
     (flat_map (selected_among (selector_of l.test.selector (g.P.Texts.texts l.test.params.now)) (g.N.Texts.texts l.names)) (take l.place l.headers))
     (g.K.Texts.texts l.test.keys.now)
-    (record { outcome = Fails; extent = 0 })
+    (record { outcome = Fails; extent = 0; told = l.fn.told })
     l.progress

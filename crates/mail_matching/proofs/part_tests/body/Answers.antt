@@ -16,4 +16,4 @@ pub returns-in_err-first_key-clause-told : goal.returns-in_err-first_key-clause-
 returns-in_err-first_key-clause-told g c = λ keeps.
     let value = cow_slice_items c.args.content.now in
     let keys = g.K.Texts.texts c.args.keys.now in
-    absurd (false≢true (c.in_err-first_key.ensures.told (keeps_first c.args.how value [] keys keeps)))
+    absurd (false≢true (c.in_err-first_key.ensures.told tt (keeps_first c.args.how value [] keys keeps)))

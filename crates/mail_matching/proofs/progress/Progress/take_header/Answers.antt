@@ -24,13 +24,13 @@ loop-place-preserved g c =
     let selector = selector_of c.args.test.now.selector (g.P.Texts.texts c.args.test.now.params.now) in
     let names = g.N.Texts.texts c.args.names.now in
     let lt : c.loop-place.place < length names = omega (arith, c.loop-place-test.true, c.count-place-end.ensures) in
-    goes_on_more c.args.test.now.how (g.K.Texts.texts c.args.test.now.keys.now) (selected_named selector c.args.fields.now) names c.loop-place.place c.text.result.now [] c.args.self.now c.loop-place.self c.take_named.new.self lt c.text.ensures c.loop-place.invariant c.in_ok-take_named.ensures.goes
+    goes_on_more g.T.Telling.knows c.args.test.now.how (g.K.Texts.texts c.args.test.now.keys.now) (selected_named selector c.args.fields.now) names c.loop-place.place c.text.result.now [] c.args.self.now c.loop-place.self c.take_named.new.self lt c.text.ensures c.loop-place.invariant c.in_ok-take_named.ensures.goes
 
 pub returns-in_err-take_named-clause-told : goal.returns-in_err-take_named-clause-told
-returns-in_err-take_named-clause-told g c = λ value plain.
+returns-in_err-take_named-clause-told g c = λ free value plain.
     let names = g.N.Texts.texts c.args.names.now in
     let lt : c.loop-place.place < length names = omega (arith, c.loop-place-test.true, c.count-place-end.ensures) in
-    absurd (false≢true (c.in_err-take_named.ensures.told value
+    absurd (false≢true (c.in_err-take_named.ensures.told free value
     (subst (λ name. All (IsUnfolded name) c.args.fields.now) (sym c.text.ensures) (plain c.loop-place.place [] lt))))
 
 pub returns-then-is_empty-clause-goes : goal.returns-then-is_empty-clause-goes
@@ -40,4 +40,4 @@ returns-then-is_empty-clause-goes g c =
     let how = c.args.test.now.how in
     let keys = g.K.Texts.texts c.args.test.now.keys.now in
     let none = selected_of_none selector names c.args.fields.now (eqb-true _ _ (sym c.is_empty.ensures ∙ c.if-is_empty.true)) in
-    subst (λ values. GoesOn how values keys c.args.self.now c.args.self.now) (sym none) (goes_on_none how keys c.args.self.now)
+    subst (λ values. GoesOn g.T.Telling.knows how values keys c.args.self.now c.args.self.now) (sym none) (goes_on_none g.T.Telling.knows how keys c.args.self.now)

@@ -26,7 +26,7 @@ pub loop-place-preserved : goal.loop-place-preserved
 loop-place-preserved g c =
     let selector = selector_of c.args.test.now.selector (g.P.Texts.texts c.args.test.now.params.now) in
     let lt : c.loop-place.place < length c.args.fields.now = omega (arith, c.loop-place-test.true, c.count-place-end.ensures) in
-    goes_on_more c.args.test.now.how (g.K.Texts.texts c.args.test.now.keys.now) (where_named selector c.args.name.now) c.args.fields.now c.loop-place.place c.at.result c.at.result c.args.self.now c.loop-place.self c.take_where_named.new.self lt c.at.ensures c.loop-place.invariant c.in_ok-take_where_named.ensures.goes
+    goes_on_more g.T.Telling.knows c.args.test.now.how (g.K.Texts.texts c.args.test.now.keys.now) (where_named selector c.args.name.now) c.args.fields.now c.loop-place.place c.at.result c.at.result c.args.self.now c.loop-place.self c.take_where_named.new.self lt c.at.ensures c.loop-place.invariant c.in_ok-take_where_named.ensures.goes
 
 pub returns-clause-goes : goal.returns-clause-goes
 returns-clause-goes g c =
@@ -35,11 +35,11 @@ returns-clause-goes g c =
     let fields = c.args.fields.now in
     let how = c.args.test.now.how in
     let keys = g.K.Texts.texts c.args.test.now.keys.now in
-    subst (λ values. GoesOn how values keys c.args.self.now c.loop-place.self) (sym (named_each selector name fields))
-    (goes_on_all how keys (where_named selector name) fields c.loop-place.place c.args.self.now c.loop-place.self (omega (arith, c.loop-place-test.false, c.count-place-end.ensures)) c.loop-place.invariant)
+    subst (λ values. GoesOn g.T.Telling.knows how values keys c.args.self.now c.loop-place.self) (sym (named_each selector name fields))
+    (goes_on_all g.T.Telling.knows how keys (where_named selector name) fields c.loop-place.place c.args.self.now c.loop-place.self (omega (arith, c.loop-place-test.false, c.count-place-end.ensures)) c.loop-place.invariant)
 
 pub returns-in_err-take_where_named-clause-told : goal.returns-in_err-take_where_named-clause-told
-returns-in_err-take_where_named-clause-told g c = λ value plain.
+returns-in_err-take_where_named-clause-told g c = λ free value plain.
     let lt : c.loop-place.place < length c.args.fields.now = omega (arith, c.loop-place-test.true, c.count-place-end.ensures) in
-    absurd (false≢true (c.in_err-take_where_named.ensures.told value
+    absurd (false≢true (c.in_err-take_where_named.ensures.told free value
     (subst (IsUnfolded c.args.name.now) (sym c.at.ensures) (plain c.loop-place.place c.at.result lt))))

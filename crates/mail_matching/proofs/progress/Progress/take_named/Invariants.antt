@@ -7,6 +7,7 @@ use Rattle.mail_matching.proofs.progress.Progress.take_named.Given as goal
 abbrev pub invariant-loop-place : goal.invariant-loop-place
 invariant-loop-place g l =
     GoesOn
+    g.T.Telling.knows
     l.test.how
     (flat_map (where_named (selector_of l.test.selector (g.P.Texts.texts l.test.params.now)) l.name) (take l.place l.fields))
     (g.K.Texts.texts l.test.keys.now)

@@ -42,5 +42,5 @@ loop-place-preserved g c =
     let names = g.P.Texts.texts c.args.test.now.params.now in
     let lt : c.loop-place.place < length names = omega (arith, c.loop-place-test.true, c.count-place-end.ensures) in
     let is = asked_is names params c.params_in.result c.in_ok-found.found.items c.deref.result.now c.loop-place.place c.text-name.result.now c.in_ok-param.param lt c.text-name.ensures c.params_in.ensures c.in_ok-found.ensures c.deref.ensures.value c.in_ok-param.ensures in
-    goes_on_more how keys (λ name. given (value_named name params)) names c.loop-place.place c.text-name.result.now [] c.args.self.now c.loop-place.self c.take_param.new.self lt c.text-name.ensures c.loop-place.invariant
-    (subst (λ o. GoesOn how (given o) keys c.loop-place.self c.take_param.new.self) is c.in_ok-take_param.ensures)
+    goes_on_more g.T.Telling.knows how keys (λ name. given (value_named name params)) names c.loop-place.place c.text-name.result.now [] c.args.self.now c.loop-place.self c.take_param.new.self lt c.text-name.ensures c.loop-place.invariant
+    (subst (λ o. GoesOn g.T.Telling.knows how (given o) keys c.loop-place.self c.take_param.new.self) is c.in_ok-take_param.ensures)

@@ -6,4 +6,4 @@ use Rattle.mail_matching.proofs.progress.Progress.take_params.Given as goal
 
 abbrev pub invariant-loop-place : goal.invariant-loop-place
 invariant-loop-place g l =
-    GoesOn l.test.how (values_of_params (params_of (reading_of l.field)) (take l.place (g.P.Texts.texts l.test.params.now))) (g.K.Texts.texts l.test.keys.now) l.initial.self l.self
+    GoesOn g.T.Telling.knows l.test.how (values_of_params (params_of (reading_of l.field)) (take l.place (g.P.Texts.texts l.test.params.now))) (g.K.Texts.texts l.test.keys.now) l.initial.self l.self

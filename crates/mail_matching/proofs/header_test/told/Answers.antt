@@ -1,13 +1,16 @@
-use Rattle.std.proofs.Common.{◌≡◌, ◌+◌, ◌*◌, ◌∙◌, sym, ap, arith, length}
+use Rattle.std.proofs.Common.{◌≡◌, ◌+◌, ◌*◌, ◌∙◌, refl, sym, subst, ap, arith, length}
 use Rattle.mime_decode.specs.Scope.{selected_values}
 use Rattle.mail_matching.specs.Costs.{extent_of, names_cost, values_cost}
+use Rattle.mail_matching.specs.Findings.{finding_of}
 use Rattle.mail_matching.specs.FirstMatch.{first_match}
 use Rattle.mail_matching.specs.Headers.{all_fields, selected_in_all}
 use Rattle.mail_matching.specs.HeaderTests.{fields_in_scope}
 use Rattle.mail_matching.specs.Selection.{scope_of, selector_of}
+use Rattle.mail_matching.specs.declared.finding.Finding.TheVariants.{NoneOf}
 use Rattle.mail_matching.proofs.Extents.{selected_are_in_all, values_cost-product}
+use Rattle.mail_matching.proofs.Pairs.{none_further, values_few}
 use Rattle.mail_matching.proofs.Scopes.{fields_are}
-use Rattle.mail_matching.proofs.header_test.header.Goals as goal
+use Rattle.mail_matching.proofs.header_test.told.Goals as goal
 
 pub returns-clause-outcome : goal.returns-clause-outcome
 returns-clause-outcome g c =
@@ -38,3 +41,29 @@ returns-clause-cost g c =
     let first : c.names_cost-names_cost.result ≡ names_cost (fields_in_scope scope current mail) names =
     c.names_cost-names_cost.ensures ∙ ap (λ n. (n + 1) * extent_of names) (c.fields_number.ensures.number ∙ ap length fields) in
     omega (arith, first, second)
+
+pub returns-clause-found : goal.returns-clause-found
+returns-clause-found g c = λ most known.
+    let scope = scope_of c.args.test.reach.scope in
+    let current = c.args.test.reach.current in
+    let selector = selector_of c.args.test.selector (g.P.Texts.texts c.args.params.now) in
+    let names = g.N.Texts.texts c.args.names.now in
+    let keys = g.K.Texts.texts c.args.keys.now in
+    let mail = c.args.message.now in
+    let selected : selected_in_all selector names c.in_scope-headers.result ≡ selected_values scope current selector names mail =
+    ap (selected_in_all selector names) c.in_scope-headers.ensures ∙ selected_are_in_all scope current selector names mail in
+    let stands = c.in_ok-progress.ensures.goes.found most (NoneOf 0) (record { holds = refl; known = known }) in
+    subst (g.T.Telling.knows most c.in_ok-progress.progress.told)
+    (none_further (finding_of c.args.test.how (selected_in_all selector names c.in_scope-headers.result) keys) ∙ ap (λ values. finding_of c.args.test.how values keys) selected)
+    stands.known
+
+pub returns-clause-few : goal.returns-clause-few
+returns-clause-few g c =
+    let scope = scope_of c.args.test.reach.scope in
+    let current = c.args.test.reach.current in
+    let selector = selector_of c.args.test.selector (g.P.Texts.texts c.args.params.now) in
+    let names = g.N.Texts.texts c.args.names.now in
+    let mail = c.args.message.now in
+    let selected : selected_in_all selector names c.in_scope-headers.result ≡ selected_values scope current selector names mail =
+    ap (selected_in_all selector names) c.in_scope-headers.ensures ∙ selected_are_in_all scope current selector names mail in
+    omega (arith, c.in_ok-progress.ensures.few, ap extent_of selected, values_few (selected_values scope current selector names mail))
