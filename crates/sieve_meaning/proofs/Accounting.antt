@@ -3,6 +3,7 @@ use Rattle.std.proofs.Common.{◌≡◌, ℕ, Bool, true, false, refl, subst, Li
 use Rattle.std.specs.Prelude.{◌&&◌, if◌then◌else◌, nat_lt}
 use Rattle.std.proofs.lemmas.Bool.{cases_Bool}
 use Rattle.std.proofs.lemmas.Grind.{flat_map-append}
+use Rattle.mail_matching.specs.declared.finding.Finding.{Finding}
 use Rattle.mime_decode.specs.Mail.{Mail}
 use Rattle.mime_decode.specs.Scope.{visited}
 use Rattle.bytecode_format.specs.Actions.{final_actions}
@@ -11,7 +12,7 @@ use Rattle.sieve_check.specs.declared.typed.Act.TheVariants.{Keep, Discard, File
 use Rattle.sieve_check.specs.declared.typed.Question.{Question}
 use Rattle.sieve_check.specs.Typed.{TestForm, asks, negation, all_of, any_of, TestForms, no_test, test, CommandForm, does, for_every_part, choice, CommandForms, no_command, command, BranchForms, no_branch, otherwise, branch}
 use Rattle.sieve_meaning.specs.Meaning.{Effects, no_effects, expanded, Verdict, matched, and_then, or_else, test_does, all_do, any_do, Ending, normal, stopped, broken, effects_of, followed_by, left, after_turn, turns, act_does, command_does, commands_do, choice_does, meaning, answer, texts_of}
-use Rattle.sieve_meaning.specs.Traced.{Event, event, Occurrence, asked, acted, turned, negated, all_held, any_held, listed_by, event_actions, keep_after, keeps, told_of, on_true, on_false, on_normal, test_events, all_events, any_events, turns_events, command_events, commands_events, choice_events, script_events, come_to}
+use Rattle.sieve_meaning.specs.Traced.{Event, event, Occurrence, found, asked, acted, turned, negated, all_held, any_held, listed_by, event_actions, keep_after, keeps, told_of, on_true, on_false, on_normal, test_events, all_events, any_events, turns_events, command_events, commands_events, choice_events, script_events, come_to}
 
 -- what was done before and after events, as far as these tell it
 pub record Accounts (before : Effects) (events : List Event) (after : Effects) : Type 0 where
@@ -43,10 +44,10 @@ accounts_plain at part what e lists keeps_it = record {
 }
 
 -- a test that was asked
-asked_accounts : (at : ℕ) (part : Option ℕ) (question : Question) (value : Bool) (o : Option (List (List ℕ))) (e : Effects) → Accounts e (event at part (asked question value) ∷ []) (matched o e).effects
-asked_accounts at part question value None e = accounts_plain at part (asked question value) e refl refl
-asked_accounts at part question value (Some captures) e =
-    let plain = accounts_plain at part (asked question value) e refl refl in
+asked_accounts : (at : ℕ) (part : Option ℕ) (question : Question) (value : Bool) (finding : Option Finding) (o : Option (List (List ℕ))) (e : Effects) → Accounts e (event at part (asked question value finding) ∷ []) (matched o e).effects
+asked_accounts at part question value finding None e = accounts_plain at part (asked question value finding) e refl refl
+asked_accounts at part question value finding (Some captures) e =
+    let plain = accounts_plain at part (asked question value finding) e refl refl in
     record { actions = plain.actions; keep = plain.keep }
 
 -- tests that were asked where the one before didn't decide
@@ -67,7 +68,7 @@ else_accounts a v xs next told first later = elim (cases_Bool v.value) [
 mutual
   test_accounts : (mail : Mail) (part : Option ℕ) (t : TestForm) (e : Effects) → Accounts e (test_events mail part t e) (test_does mail part t e).effects
   test_accounts mail part (asks question strings at) e =
-      asked_accounts at part question _ (answer mail part question (texts_of e strings) e.captures) e
+      asked_accounts at part question _ (found mail part question (texts_of e strings)) (answer mail part question (texts_of e strings) e.captures) e
   test_accounts mail part (negation t at) e =
       accounts_both e _ _ (test_events mail part t e) _ (test_accounts mail part t e) (accounts_plain at part (negated _) _ refl refl)
   test_accounts mail part (all_of t ts at) e =

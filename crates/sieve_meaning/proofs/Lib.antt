@@ -1,3 +1,4 @@
+pub mod Agreeing
 pub mod Accounting
 pub mod Joining
 pub mod MeaningLemmas

@@ -1,20 +1,41 @@
--- What a script does on a message, told event by event. What isn't reached has no event.
-use Rattle.std.specs.Prelude.{ℕ, Bool, true, false, ◌&&◌, List, [], ◌∷◌, ◌++◌, flat_map, Option, None, Some, if◌then◌else◌}
+-- What a script does on a message, told event by event, and what its tests find there. What isn't reached has no event.
+use Rattle.std.specs.Prelude.{ℕ, Bool, true, false, ◌&&◌, List, [], ◌∷◌, ◌++◌, flat_map, Option, None, Some, option_map, if◌then◌else◌}
 use Rattle.bytecode_format.specs.declared.action.Action.{Action}
 use Rattle.bytecode_format.specs.declared.action.Action.TheVariants as action
 use Rattle.bytecode_format.specs.Actions.{final_actions}
+use Rattle.mail_matching.specs.Findings.{finding_of}
+use Rattle.mail_matching.specs.HeaderTests.{header_finding}
+use Rattle.mail_matching.specs.PartTests.{body_finding, digest_finding}
+use Rattle.mail_matching.specs.Selection.{scope_of, selector_of}
+use Rattle.mail_matching.specs.declared.finding.Finding.{Finding}
 use Rattle.mime_decode.specs.Mail.{Mail}
 use Rattle.mime_decode.specs.Scope.{visited}
 use Rattle.sieve_check.specs.declared.typed.Act.{Act}
 use Rattle.sieve_check.specs.declared.typed.Act.TheVariants.{Keep, Discard, FileInto, Set, Take, Store, Leave, Stop}
 use Rattle.sieve_check.specs.declared.typed.Question.{Question}
+use Rattle.sieve_check.specs.declared.typed.Question.TheVariants.{Constant, Header, Exists, Size, String, PartSize, PartBody, PartDigest}
 use Rattle.sieve_check.specs.Typed.{TestForm, asks, negation, all_of, any_of, TestForms, no_test, test, CommandForm, does, for_every_part, choice, CommandForms, no_command, command, BranchForms, no_branch, otherwise, branch}
-use Rattle.sieve_meaning.specs.Meaning.{Effects, no_effects, expanded, Verdict, test_does, Ending, normal, stopped, broken, effects_of, act_does, command_does, commands_do, stored}
+use Rattle.sieve_meaning.specs.Meaning.{Effects, no_effects, expanded, Texts, texts_of, current, Verdict, test_does, Ending, normal, stopped, broken, effects_of, act_does, command_does, commands_do, stored}
+
+-- what a question finds that compares values with keys: the first of its values and of its keys that match, or how many
+-- values there are, none of which matches. The others find nothing, nor do those of the current part, where there is none
+abbrev pub found : Mail → Option ℕ → Question → Texts → Option Finding
+found mail part (Constant b) texts = None
+found mail part (Header fields) texts = Some
+    (header_finding fields.how (scope_of fields.scope) part (selector_of fields.selector texts.params) texts.names texts.keys mail)
+found mail part (Exists scope) texts = None
+found mail part (Size order number) texts = None
+-- the values are those of its sources
+found mail part (String how) texts = Some (finding_of how texts.names texts.keys)
+found mail part (PartSize order number) texts = None
+-- the one value is its content, and the digest of its content
+found mail part (PartBody how) texts = option_map (λ p. body_finding how p texts.keys) (current mail part)
+found mail part PartDigest texts = option_map (λ p. digest_finding p texts.keys) (current mail part)
 
 -- what came of a test or a command
 pub data Occurrence : Type 0 where
-  -- what a simple test asks, and whether it is true
-  asked : Question → Bool → Occurrence
+  -- what a simple test asks, whether it is true, and what it finds
+  asked : Question → Bool → Option Finding → Occurrence
   -- whether the negation of a test is true, whether all tests are, and whether any is
   negated : Bool → Occurrence
   all_held : Bool → Occurrence
@@ -76,7 +97,8 @@ abbrev mutual
   -- the events of a test. A test of other tests is told after those that were asked
   pub test_events : Mail → Option ℕ → TestForm → Effects → List Event
   test_events mail part (asks question strings at) effects =
-      event at part (asked question (test_does mail part (asks question strings at) effects).value) ∷ []
+      event at part (asked question (test_does mail part (asks question strings at) effects).value
+      (found mail part question (texts_of effects strings))) ∷ []
   test_events mail part (negation t at) effects =
       test_events mail part t effects
       ++ event at part (negated (test_does mail part (negation t at) effects).value) ∷ []
@@ -161,7 +183,7 @@ leaves_keep Stop = true
 
 -- the actions that an event lists
 abbrev pub listed : Option ℕ → Occurrence → List Action
-listed part (asked question value) = []
+listed part (asked question value finding) = []
 listed part (negated value) = []
 listed part (all_held value) = []
 listed part (any_held value) = []
@@ -177,7 +199,7 @@ listed_by events = flat_map event_actions events
 
 -- whether the implicit keep stands after an event, where it stood
 abbrev pub keeps : Occurrence → Bool
-keeps (asked question value) = true
+keeps (asked question value finding) = true
 keeps (negated value) = true
 keeps (all_held value) = true
 keeps (any_held value) = true

@@ -1,13 +1,23 @@
-//! The law of events: they tell what the script means.
-ghost use Rattle.std.specs.Prelude.{◌≡◌};
+//! The laws of events: they tell what the script means, and what its tests find.
+ghost use Rattle.std.specs.Prelude.{◌≡◌, ℕ, IfSome, List, Option, is_some};
+ghost use Rattle.mail_matching.specs.Findings.{is_pair};
 ghost use Rattle.mime_decode.specs.Mail.{Mail};
 ghost use Rattle.sieve_check.specs.Typed.{CommandForms};
-ghost use Rattle.sieve_meaning.specs.Meaning.{meaning};
-ghost use Rattle.sieve_meaning.specs.Traced.{come_to, script_events};
+ghost use Rattle.sieve_check.specs.declared.typed.Question.{Question};
+ghost use Rattle.sieve_meaning.specs.Meaning.{Texts, answer, meaning};
+ghost use Rattle.sieve_meaning.specs.Traced.{come_to, found, script_events};
 
 /// Forgetting all of the events of a script but its actions is the meaning: the actions that the events list, in order, and the
 /// implicit keep unless one of them takes it away, come to the final actions of the script on the message.
 pub fn events_come_to_the_meaning()
     ensures { (mail : Mail) (script : CommandForms)
         → come_to (script_events mail script) ≡ meaning mail script }
+{}
+
+/// Where a test finds something, that is a value and a key exactly where the test is true.
+pub fn findings_agree_with_answers()
+    ensures { (mail : Mail) (part : Option ℕ) (question : Question) (texts : Texts)
+        (captures : List (List ℕ))
+        → IfSome (found mail part question texts)
+        (λ finding. is_pair finding ≡ is_some (answer mail part question texts captures)) }
 {}

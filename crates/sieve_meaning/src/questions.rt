@@ -1,19 +1,21 @@
 // What tests ask. Outside of loops, where no checked script asks about the current part, that fails.
-ghost use Rattle.std.specs.Prelude.{◌≡◌, ℕ, List, IfOk, length, option_and_then};
+ghost use Rattle.std.specs.Prelude.{◌≡◌, ℕ, List, IfOk, None, Some, length, option_and_then, option_map};
 ghost use Rattle.std.specs.Bool.{then_some};
+ghost use Rattle.mail_matching.specs.Findings.{finding_of, shortened};
 ghost use Rattle.mail_matching.specs.FirstMatch.{first_match};
-ghost use Rattle.mail_matching.specs.HeaderTests.{header_match};
+ghost use Rattle.mail_matching.specs.HeaderTests.{header_finding, header_match};
 ghost use Rattle.mail_matching.specs.Outcomes.{after};
-ghost use Rattle.mail_matching.specs.PartTests.{body_match, digest_match};
+ghost use Rattle.mail_matching.specs.PartTests.{body_finding, body_match, digest_finding, digest_match};
 ghost use Rattle.mail_matching.specs.Selection.{scope_of, selector_of};
 ghost use Rattle.mail_matching.specs.Texts.{AreTexts};
 ghost use Rattle.sieve_meaning.specs.Evaluation.{texts_in};
 ghost use Rattle.sieve_meaning.specs.Meaning.{answer, current, is_size};
+ghost use Rattle.sieve_meaning.specs.Traced.{found};
 
 use crate::subject::Subject;
 use bytecode_format::FieldTest;
 use glob_match::Match;
-use mail_matching::{Answer, HeaderTest, Outcome, body, digest, exists, header, string};
+use mail_matching::{Answer, Finding, HeaderTest, Outcome, exists, find_body, find_digest, find_header, find_string};
 use mime_decode::digest_of;
 use octets::Octets;
 use sieve_check::{Order, Question};
@@ -27,14 +29,39 @@ pub struct Texts {
     pub keys: Vec<Octets>,
 }
 
-// What a test comes to that sets no captures.
-fn decided<'m>(holds: bool) -> Outcome<'m>
-    ensures { (captures : List (List ℕ)) → after result captures ≡ then_some holds captures }
+/// What a question comes to.
+#[derive(Drop)]
+pub struct Reply<'m> {
+    pub outcome: Outcome<'m>,
+    /// What it finds, if it compares values with keys.
+    pub found: Option<Finding>,
+}
+
+// What a test comes to that compares no values with keys.
+fn decided<'m>(holds: bool) -> Reply<'m>
+    ensures outcome { (captures : List (List ℕ)) → after result.outcome captures
+        ≡ then_some holds captures }
+    ensures found { result.found ≡ None }
 {
-    if holds {
+    let outcome = if holds {
         Outcome::Holds
     } else {
         Outcome::Fails
+    };
+    Reply {
+        outcome,
+        found: None,
+    }
+}
+
+// What a test comes to that found something.
+fn found<'m>(answer: Answer<'m>, finding: Finding) -> Reply<'m>
+    ensures { result ≡ record { outcome = answer.entry.outcome; found = Some finding } }
+{
+    let Answer { outcome, .. } = answer;
+    Reply {
+        outcome,
+        found: Some(finding),
     }
 }
 
@@ -54,16 +81,21 @@ fn fields<'m>(
     test: FieldTest,
     texts: &Texts,
     subject: Subject<'_, 'm>,
-) -> Result<Outcome<'m>, AllocError>
+    most: usize,
+) -> Result<Reply<'m>, AllocError>
     requires names { AreTexts texts.now.names.items }
     requires params { AreTexts texts.now.params.items }
     requires keys { AreTexts texts.now.keys.items }
-    ensures { IfOk result
-        (λ outcome. (captures : List (List ℕ))
-        → after outcome captures
+    ensures outcome { IfOk result
+        (λ reply. (captures : List (List ℕ))
+        → after reply.outcome captures
         ≡ header_match test.how (scope_of test.scope) subject.entry.part
         (selector_of test.selector texts.now.params.items) texts.now.names.items
         texts.now.keys.items subject.entry.message.now captures) }
+    ensures found { IfOk result (λ reply. reply.found
+        ≡ Some (shortened most (header_finding test.how (scope_of test.scope) subject.entry.part
+        (selector_of test.selector texts.now.params.items) texts.now.names.items
+        texts.now.keys.items subject.entry.message.now))) }
 {
     let Texts {
         names,
@@ -75,21 +107,28 @@ fn fields<'m>(
         selector: test.selector,
         how: test.how,
     };
-    let Answer { outcome, .. } = header(alloc, subject.message, test, names, params, keys)?;
-    Ok(outcome)
+    let (answer, finding) = find_header(alloc, subject.message, test, names, params, keys, most)?;
+    Ok(found(answer, finding))
 }
 
 // Whether a source matches a key.
-fn sources<'m>(alloc: Global, how: Match, texts: &Texts) -> Result<Outcome<'m>, AllocError>
+fn sources<'m>(
+    alloc: Global,
+    how: Match,
+    texts: &Texts,
+    most: usize,
+) -> Result<Reply<'m>, AllocError>
     requires names { AreTexts texts.now.names.items }
     requires keys { AreTexts texts.now.keys.items }
-    ensures { IfOk result
-        (λ outcome. (captures : List (List ℕ))
-        → after outcome captures
+    ensures outcome { IfOk result
+        (λ reply. (captures : List (List ℕ))
+        → after reply.outcome captures
         ≡ first_match how texts.now.names.items texts.now.keys.items captures) }
+    ensures found { IfOk result (λ reply. reply.found
+        ≡ Some (shortened most (finding_of how texts.now.names.items texts.now.keys.items))) }
 {
-    let Answer { outcome, .. } = string(alloc, &texts.names, &texts.keys, how)?;
-    Ok(outcome)
+    let (answer, finding) = find_string(alloc, &texts.names, &texts.keys, how, most)?;
+    Ok(found(answer, finding))
 }
 
 // Whether the part's content is over or under the number of octets.
@@ -98,19 +137,20 @@ fn part_size<'m>(
     order: Order,
     number: u64,
     subject: Subject<'_, 'm>,
-) -> Result<Outcome<'m>, AllocError>
-    ensures { IfOk result
-        (λ outcome. (captures : List (List ℕ))
-        → after outcome captures
+) -> Result<Reply<'m>, AllocError>
+    ensures outcome { IfOk result
+        (λ reply. (captures : List (List ℕ))
+        → after reply.outcome captures
         ≡ option_and_then (λ p. then_some (is_size order number (length p.content)) captures)
         (current subject.entry.message.now subject.entry.part)) }
+    ensures found { IfOk result (λ reply. reply.found ≡ None) }
 {
     match subject.content(alloc)? {
         Some(content) => {
             let octets = content.as_slice().len() as u64;
             Ok(decided(is_size(order, number, octets)))
         }
-        None => Ok(Outcome::Fails),
+        None => Ok(decided(false)),
     }
 }
 
@@ -120,19 +160,23 @@ fn part_body<'m>(
     how: Match,
     keys: &Vec<Octets>,
     subject: Subject<'_, 'm>,
-) -> Result<Outcome<'m>, AllocError>
+    most: usize,
+) -> Result<Reply<'m>, AllocError>
     requires { AreTexts keys.now.items }
-    ensures { IfOk result
-        (λ outcome. (captures : List (List ℕ))
-        → after outcome captures
+    ensures outcome { IfOk result
+        (λ reply. (captures : List (List ℕ))
+        → after reply.outcome captures
         ≡ option_and_then (λ p. body_match how p keys.now.items captures)
+        (current subject.entry.message.now subject.entry.part)) }
+    ensures found { IfOk result (λ reply. reply.found
+        ≡ option_map (λ p. shortened most (body_finding how p keys.now.items))
         (current subject.entry.message.now subject.entry.part)) }
 {
     let Some(content) = subject.content(alloc)? else {
-        return Ok(Outcome::Fails);
+        return Ok(decided(false));
     };
-    let Answer { outcome, .. } = body(alloc, &content, keys, how)?;
-    Ok(outcome)
+    let (answer, finding) = find_body(alloc, &content, keys, how, most)?;
+    Ok(found(answer, finding))
 }
 
 // Whether the digest of the part's content is one of the keys.
@@ -140,22 +184,27 @@ fn part_digest<'m>(
     alloc: Global,
     keys: &Vec<Octets>,
     subject: Subject<'_, 'm>,
-) -> Result<Outcome<'m>, AllocError>
+    most: usize,
+) -> Result<Reply<'m>, AllocError>
     requires { AreTexts keys.now.items }
-    ensures { IfOk result
-        (λ outcome. (captures : List (List ℕ))
-        → after outcome captures
+    ensures outcome { IfOk result
+        (λ reply. (captures : List (List ℕ))
+        → after reply.outcome captures
         ≡ option_and_then (λ p. digest_match p keys.now.items captures)
+        (current subject.entry.message.now subject.entry.part)) }
+    ensures found { IfOk result (λ reply. reply.found
+        ≡ option_map (λ p. shortened most (digest_finding p keys.now.items))
         (current subject.entry.message.now subject.entry.part)) }
 {
     let Some(content) = subject.content(alloc)? else {
-        return Ok(Outcome::Fails);
+        return Ok(decided(false));
     };
-    let Answer { outcome, .. } = digest(&digest_of(content.as_slice()), keys);
-    Ok(outcome)
+    let (answer, finding) = find_digest(alloc, &digest_of(content.as_slice()), keys, most)?;
+    Ok(found(answer, finding))
 }
 
-/// What the question comes to, with its texts.
+/// What the question comes to, with its texts. Of what it finds the first octets are kept, at most so many of the value and of
+/// the key.
 ///
 /// An error comes only where memory was refused.
 pub fn answer<'m>(
@@ -163,19 +212,23 @@ pub fn answer<'m>(
     question: Question,
     texts: &Texts,
     subject: Subject<'_, 'm>,
-) -> Result<Outcome<'m>, AllocError>
+    most: usize,
+) -> Result<Reply<'m>, AllocError>
     requires names { AreTexts texts.now.names.items }
     requires params { AreTexts texts.now.params.items }
     requires keys { AreTexts texts.now.keys.items }
-    ensures { IfOk result
-        (λ outcome. (captures : List (List ℕ))
-        → after outcome captures
+    ensures outcome { IfOk result
+        (λ reply. (captures : List (List ℕ))
+        → after reply.outcome captures
         ≡ answer subject.entry.message.now subject.entry.part question (texts_in texts.now)
         captures) }
+    ensures found { IfOk result (λ reply. reply.found
+        ≡ option_map (shortened most)
+        (found subject.entry.message.now subject.entry.part question (texts_in texts.now))) }
 {
     match question {
         Question::Constant(value) => Ok(decided(value)),
-        Question::Header(test) => fields(alloc, test, texts, subject),
+        Question::Header(test) => fields(alloc, test, texts, subject, most),
         Question::Exists(scope) => {
             let (all, _cost) = exists(subject.message, subject.reach(scope), &texts.names);
             Ok(decided(all))
@@ -184,9 +237,9 @@ pub fn answer<'m>(
             let octets = subject.message.size() as u64;
             Ok(decided(is_size(order, number, octets)))
         }
-        Question::String(how) => sources(alloc, how, texts),
+        Question::String(how) => sources(alloc, how, texts, most),
         Question::PartSize(order, number) => part_size(alloc, order, number, subject),
-        Question::PartBody(how) => part_body(alloc, how, &texts.keys, subject),
-        Question::PartDigest => part_digest(alloc, &texts.keys, subject),
+        Question::PartBody(how) => part_body(alloc, how, &texts.keys, subject, most),
+        Question::PartDigest => part_digest(alloc, &texts.keys, subject, most),
     }
 }

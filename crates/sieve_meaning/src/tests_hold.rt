@@ -1,19 +1,21 @@
 // Whether tests are true.
 use crate::evaluator::Evaluator;
-use crate::questions::answer;
+use crate::questions::{Reply, answer};
 use crate::subject::Subject;
-use mail_matching::Outcome;
+use mail_matching::{Finding, Outcome};
 use sieve_check::{Question, Strings, Test};
 use std::alloc::{AllocError, Global};
 
 impl<'s, 'm> Evaluator<'s, 'm> {
-    ghost use Rattle.std.specs.Prelude.{IfOk, map};
+    ghost use Rattle.std.specs.Prelude.{◌≡◌, IfOk, map, option_map};
+    ghost use Rattle.mail_matching.specs.Findings.{shortened};
     ghost use Rattle.mail_matching.specs.Outcomes.{after};
     ghost use Rattle.sieve_check.specs.Bounded.{AreBoundedStrings, AreBoundedTests, IsBoundedTest};
     ghost use Rattle.sieve_check.specs.Questions.{row_of};
     ghost use Rattle.sieve_check.specs.TypedView.{strings_form, test_form, tests_of};
     ghost use Rattle.sieve_meaning.specs.Meaning.{Effects, all_do, answer, any_do, matched, test_does, texts_of};
     ghost use Rattle.sieve_meaning.specs.Evaluation.{Gives, HasEvaluated};
+    ghost use Rattle.sieve_meaning.specs.Traced.{found};
 
     /// Whether the test is true of the message.
     ///
@@ -113,9 +115,35 @@ impl<'s, 'm> Evaluator<'s, 'm> {
             (matched (answer subject.entry.message.now subject.entry.part question
             (texts_of e (strings_form strings.now)) e.captures) e) value self.new) }
     {
+        let (value, _) = self.asks_and_finds(alloc, question, strings, subject, 0)?;
+        Ok(value)
+    }
+
+    /// The same, and what the test finds, if it compares values with keys: the first octets of the value and of the key that
+    /// match, at most so many of each; or how many values there are.
+    ///
+    /// An error comes only where memory was refused.
+    pub fn asks_and_finds(
+        &mut self,
+        alloc: Global,
+        question: Question,
+        strings: &Strings,
+        subject: Subject<'_, 'm>,
+        most: usize,
+    ) -> Result<(bool, Option<Finding>), AllocError>
+        requires { AreBoundedStrings (row_of question).takes (strings_form strings.now) }
+        ensures value { (e : Effects) → HasEvaluated e self.old
+            → IfOk result (λ r. Gives
+            (matched (answer subject.entry.message.now subject.entry.part question
+            (texts_of e (strings_form strings.now)) e.captures) e) r.0 self.new) }
+        ensures found { (e : Effects) → HasEvaluated e self.old
+            → IfOk result (λ r. r.1
+            ≡ option_map (shortened most) (found subject.entry.message.now subject.entry.part
+            question (texts_of e (strings_form strings.now)))) }
+    {
         let texts = self.texts(alloc, strings)?;
-        let outcome = answer(alloc, question, &texts, subject)?;
-        Ok(self.settle(outcome))
+        let Reply { outcome, found } = answer(alloc, question, &texts, subject, most)?;
+        Ok((self.settle(outcome), found))
     }
 
     /// Keeps the captures that a test has set, and says whether it has matched.

@@ -1,3 +1,4 @@
+pub mod Shown
 pub mod SoFar
 pub mod Steps
 pub mod PlaceLemmas

@@ -2,6 +2,10 @@
 use Rattle.std.specs.Prelude.{ℕ, ◌/◌, ◌%◌, Bool, true, false, List, [], ◌∷◌, ◌++◌, ◌&&◌, ◌||◌, ◌==◌, length, take, slice_get, not, nat_le, codes, Option, None, Some, if◌then◌else◌}
 use Rattle.std.specs.List.{flat_map}
 use Rattle.std.specs.Fmt.{decimal, digit_glyph}
+use Rattle.glob_match.specs.declared.match_type.MatchType.{MatchType}
+use Rattle.glob_match.specs.declared.match_type.MatchType.TheVariants.{Is, Contains, Matches}
+use Rattle.mail_matching.specs.declared.finding.Finding.{Finding}
+use Rattle.mail_matching.specs.declared.finding.Finding.TheVariants.{Pair, NoneOf}
 use Rattle.mime_decode.specs.Mail.{Mail, Part as MailPart}
 use Rattle.mime_params.specs.MediaValue.{media_text}
 use Rattle.sieve_check.specs.declared.typed.Act.{Act}
@@ -54,6 +58,34 @@ question_word (PartSize order number) = codes "partsize"
 question_word (PartBody how) = codes "partbody"
 question_word PartDigest = codes "partdigest"
 
+-- how a value is compared with a key, in a word
+abbrev pub kind_word : MatchType → List ℕ
+kind_word Is = codes "is"
+kind_word Contains = codes "contains"
+kind_word Matches = codes "matches"
+
+-- how the values of a question are compared with its keys: digests are equal or not, and the others compare none
+abbrev pub comparison_word : Question → List ℕ
+comparison_word (Constant value) = []
+comparison_word (Header fields) = kind_word fields.how.kind
+comparison_word (Exists scope) = []
+comparison_word (Size order number) = []
+comparison_word (String how) = kind_word how.kind
+comparison_word (PartSize order number) = []
+comparison_word (PartBody how) = kind_word how.kind
+comparison_word PartDigest = codes "is"
+
+-- so many values
+abbrev pub values_text : ℕ → List ℕ
+values_text number = decimal number ++ (if number == 1 then codes " value" else codes " values")
+
+-- what a question finds: the value and the key that match; or how many values there are, none of which matches
+unfoldable pub finding_text : Question → Option Finding → List ℕ
+finding_text question None = []
+finding_text question (Some (Pair value key)) =
+    codes " " ++ quoted value ++ codes " " ++ comparison_word question ++ codes " " ++ quoted key
+finding_text question (Some (NoneOf number)) = codes ", " ++ values_text number
+
 -- an action with what is told of it
 unfoldable pub act_text : Act → List ℕ → List ℕ
 act_text Keep text = codes "keep"
@@ -67,7 +99,7 @@ act_text Stop text = codes "stop"
 
 -- what came of a test or a command, behind its word
 unfoldable pub occurrence_text : Occurrence → List ℕ
-occurrence_text (asked question value) = question_word question ++ value_text value
+occurrence_text (asked question value finding) = question_word question ++ value_text value ++ finding_text question finding
 occurrence_text (negated value) = codes "not" ++ value_text value
 occurrence_text (all_held value) = codes "allof" ++ value_text value
 occurrence_text (any_held value) = codes "anyof" ++ value_text value

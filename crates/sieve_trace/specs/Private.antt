@@ -1,6 +1,8 @@
 -- Private: how the code goes: what it tells, what it prints by, and what has been told so far.
-use Rattle.std.specs.Prelude.{ℕ, Bool, List, Some}
+use Rattle.std.specs.Prelude.{ℕ, Bool, List, Some, option_map}
+use Rattle.std.specs.Borrow.{Bor}
 use Rattle.encodings.specs.Device.{HasTaken, Output}
+use Rattle.mail_matching.specs.declared.finding.Finding.{Finding}
 use Rattle.mime_decode.specs.Mail.{Mail}
 use Rattle.sieve_check.specs.Typed.{CommandForms}
 use Rattle.sieve_meaning.specs.declared.evaluator.Evaluator.{Evaluator}
@@ -15,7 +17,7 @@ use Rattle.sieve_trace.specs.Printed.{Sheet, sheet}
 
 -- what the code tells, as the events have it
 abbrev pub occurrence_of : Told → Occurrence
-occurrence_of (code.Asked question value) = asked question value
+occurrence_of (code.Asked question value finding) = asked question value (option_map (λ (f : Bor Finding). f.now) finding)
 occurrence_of (code.Not value) = negated value
 occurrence_of (code.AllOf value) = all_held value
 occurrence_of (code.AnyOf value) = any_held value

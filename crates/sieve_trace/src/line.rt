@@ -1,14 +1,18 @@
 // The line of an event.
-ghost use Rattle.std.specs.Prelude.{◌≡◌, ◌<◌, ◌++◌, IfOk, OnOk, false, length, slice_get};
+ghost use Rattle.std.specs.Prelude.{◌≡◌, ◌<◌, ◌++◌, IfOk, OnOk, codes, false, length, option_map, slice_get};
+ghost use Rattle.std.specs.Borrow.{Bor};
 ghost use Rattle.std.specs.Fmt.{decimal, digit_glyph};
+ghost use Rattle.mail_matching.specs.declared.finding.Finding.{Finding};
 ghost use Rattle.mime_decode.specs.Mail.{Mail};
 ghost use Rattle.sieve_meaning.specs.Traced.{event};
 ghost use Rattle.sieve_trace.specs.Printed as Printed;
-ghost use Rattle.sieve_trace.specs.Printed.{act_text, escaped, escaped_octet, event_line, event_text, media_of, occurrence_text, part_text, place_text, question_word, quoted, value_text};
+ghost use Rattle.sieve_trace.specs.Printed.{act_text, comparison_word, escaped, escaped_octet, event_line, event_text, finding_text, kind_word, media_of, occurrence_text, part_text, place_text, question_word, quoted, value_text, values_text};
 ghost use Rattle.sieve_trace.specs.Private.{occurrence_of, sheet_of};
 
 use crate::places::Place;
+use glob_match::MatchType;
 use itoa::Buffer;
+use mail_matching::Finding;
 use mime_decode::Message;
 use sieve_check::{Act, Question};
 use sieve_meaning::Subject;
@@ -16,6 +20,9 @@ use std::alloc::{AllocError, Global};
 
 /// How many octets are printed of a text.
 const MAX_SHOWN: usize = 80;
+
+/// How many octets are kept of a text that is to be printed: one more shows that it goes on.
+pub(crate) const MAX_KEPT: usize = MAX_SHOWN + 1;
 
 // The last octet of ASCII, a control character.
 const DELETE: u8 = 127;
@@ -40,8 +47,8 @@ pub struct Page<'a> {
 /// What came of a test or a command.
 #[derive(Clone, Copy)]
 pub enum Told<'a> {
-    /// A simple test was asked, and is true or not.
-    Asked(Question, bool),
+    /// A simple test was asked, is true or not, and has found this.
+    Asked(Question, bool, Option<&'a Finding>),
     /// `not`, and whether it is true.
     Not(bool),
     /// `allof`, and whether it is true.
@@ -55,7 +62,7 @@ pub enum Told<'a> {
 }
 
 // Appends a number in decimal digits.
-fn push_number(out: &mut Vec<u8>, number: usize) -> Result<(), AllocError>
+fn push_number(out: &mut Vec<u8>, number: u64) -> Result<(), AllocError>
     ensures { OnOk result (out.new.items ≡ out.old.items ++ decimal number) }
 {
     out.extend_from_slice(Buffer::new().format(number as u128).as_bytes())
@@ -140,12 +147,81 @@ fn question_word(question: Question) -> &'static [u8]
     }
 }
 
+// How a value is compared with a key, in a word.
+fn kind_word(kind: MatchType) -> &'static [u8]
+    ensures { result.now ≡ kind_word kind }
+{
+    match kind {
+        MatchType::Is => b"is",
+        MatchType::Contains => b"contains",
+        MatchType::Matches => b"matches",
+    }
+}
+
+// How the values of a question are compared with its keys, in a word.
+fn comparison_word(question: Question) -> &'static [u8]
+    ensures { result.now ≡ comparison_word question }
+{
+    match question {
+        Question::Header(test) => kind_word(test.how.kind),
+        Question::String(how) | Question::PartBody(how) => kind_word(how.kind),
+        Question::PartDigest => b"is",
+        Question::Constant(_) | Question::Exists(_) | Question::Size(..) | Question::PartSize(..) => b"",
+    }
+}
+
 // Appends a word and a text between quotes.
 fn push_with_text(out: &mut Vec<u8>, word: &[u8], text: &[u8]) -> Result<(), AllocError>
     ensures { OnOk result (out.new.items ≡ out.old.items ++ (word.now ++ quoted text.now)) }
 {
     out.extend_from_slice(word)?;
     push_quoted(out, text)
+}
+
+// Appends a number of values.
+fn push_values(out: &mut Vec<u8>, number: u64) -> Result<(), AllocError>
+    ensures { OnOk result (out.new.items ≡ out.old.items ++ values_text number) }
+{
+    push_number(out, number)?;
+    out.extend_from_slice(if number == 1 { b" value" } else { b" values" })
+}
+
+// Appends a value and a key that match, and how they were compared.
+fn push_pair(
+    out: &mut Vec<u8>,
+    value: &[u8],
+    word: &[u8],
+    key: &[u8],
+) -> Result<(), AllocError>
+    ensures { OnOk result (out.new.items ≡ out.old.items
+        ++ (codes " " ++ quoted value.now ++ codes " " ++ word.now ++ codes " " ++ quoted key.now)) }
+{
+    push_with_text(out, b" ", value)?;
+    out.extend_from_slice(b" ")?;
+    out.extend_from_slice(word)?;
+    push_with_text(out, b" ", key)
+}
+
+// Appends what a question has found.
+#[tactic(auto, unfolding(crate::specs::Printed::finding_text))]
+fn push_finding(
+    out: &mut Vec<u8>,
+    question: Question,
+    finding: Option<&Finding>,
+) -> Result<(), AllocError>
+    ensures { OnOk result (out.new.items ≡ out.old.items
+        ++ finding_text question (option_map (λ (f : Bor Finding). f.now) finding)) }
+{
+    match finding {
+        Some(Finding::Pair { value, key }) => {
+            push_pair(out, value.as_slice(), comparison_word(question), key.as_slice())
+        }
+        Some(Finding::NoneOf(number)) => {
+            out.extend_from_slice(b", ")?;
+            push_values(out, *number)
+        }
+        None => Ok(()),
+    }
 }
 
 // Appends an action with what is told of it.
@@ -168,7 +244,7 @@ fn push_act(out: &mut Vec<u8>, act: &Act, text: &[u8]) -> Result<(), AllocError>
         Act::Store => push_with_text(out, b"store ", text),
         Act::Leave(loops) => {
             out.extend_from_slice(b"break ")?;
-            push_number(out, usize::from(*loops))
+            push_number(out, u64::from(*loops))
         }
         Act::Stop => out.extend_from_slice(b"stop"),
     }
@@ -188,7 +264,10 @@ fn push_occurrence(out: &mut Vec<u8>, what: Told<'_>) -> Result<(), AllocError>
     ensures { OnOk result (out.new.items ≡ out.old.items ++ occurrence_text (occurrence_of what.entry)) }
 {
     match what {
-        Told::Asked(question, value) => push_test(out, question_word(question), value),
+        Told::Asked(question, value, finding) => {
+            push_test(out, question_word(question), value)?;
+            push_finding(out, question, finding)
+        }
         Told::Not(value) => push_test(out, b"not", value),
         Told::AllOf(value) => push_test(out, b"allof", value),
         Told::AnyOf(value) => push_test(out, b"anyof", value),
@@ -213,7 +292,7 @@ fn push_part(out: &mut Vec<u8>, message: &Message<'_>, number: usize) -> Result<
     ensures { OnOk result (out.new.items ≡ out.old.items ++ part_text message.now number) }
 {
     out.extend_from_slice(b"part ")?;
-    push_number(out, number)?;
+    push_number(out, number as u64)?;
     out.extend_from_slice(b" ")?;
     if number < message.parts() {
         return push_media(out, message, number);
@@ -249,9 +328,9 @@ fn push_place(out: &mut Vec<u8>, place: Option<Place>) -> Result<(), AllocError>
         return Ok(());
     };
     out.extend_from_slice(b":")?;
-    push_number(out, place.line)?;
+    push_number(out, place.line as u64)?;
     out.extend_from_slice(b":")?;
-    push_number(out, place.column)
+    push_number(out, place.column as u64)
 }
 
 /// The line of an event.

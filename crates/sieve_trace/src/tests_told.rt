@@ -13,7 +13,7 @@ ghost use Rattle.sieve_trace.specs.Private.{IsTold, occurrence_of, sheet_of};
 ghost use Rattle.sieve_trace.specs.Written.{HasStopped};
 
 use crate::error::TraceError;
-use crate::line::{Page, Told};
+use crate::line::{MAX_KEPT, Page, Told};
 use crate::telling::tell;
 use encodings::Sink;
 use sieve_check::{Question, Strings, Test};
@@ -180,7 +180,8 @@ fn ask<'s, 'm, O: Sink>(
         (test_events subject.entry.message.now subject.entry.part
         (asks question (strings_form strings.now) at) e)) (O.output out.old) (O.output out.new)) }
 {
-    let value = run.asks(page.alloc, question, strings, subject)?;
-    tell(page, subject, at, Told::Asked(question, value), out)?;
+    let (value, found) = run.asks_and_finds(page.alloc, question, strings, subject, MAX_KEPT)?;
+    let told = Told::Asked(question, value, found.as_ref());
+    tell(page, subject, at, told, out)?;
     Ok(value)
 }
