@@ -1,5 +1,5 @@
 -- What a run has come to after so many steps, and how the machine stands for it.
-use Rattle.std.proofs.Common.{◌≡◌, ◌≢◌, ℕ, zero, suc, ◌+◌, ◌^◌, ◌<◌, ◌≤◌, Bool, true, false, Option, Some, None, IsSome, option_map, refl, sym, ap, subst, ◌∙◌, arith}
+use Rattle.std.proofs.Common.{◌≡◌, ℕ, zero, suc, ◌+◌, ◌^◌, ◌<◌, ◌≤◌, Bool, true, false, Some, refl, sym, ap, subst, ◌∙◌, arith}
 use Rattle.bytecode_format.specs.Code.{Code}
 use Rattle.bytecode_format.specs.Spelling.{IsProgram}
 use Rattle.bytecode_verifier.specs.Acceptance.{IsAccepted}
@@ -18,34 +18,24 @@ use Rattle.sieve_vm.proofs.Steps.{limit_small}
 -- the steps that lead to a state are a run
 pub run_to : (code : Code) (mail : Mail) (n : ℕ) (s : State) → come_to code mail n ≡ goes s → Run code mail n (start code) s
 run_to code mail zero s e = cc
-run_to code mail (suc n) s e = go (come_to code mail n) refl e
+run_to code mail (suc n) s e = go (come_to code mail n) refl e (λ before is. run_to code mail n before is)
   where
-    go : (t : Turn) → come_to code mail n ≡ t → further code mail t ≡ goes s → Run code mail (suc n) (start code) s
-    go (goes before) is one = Run-push code mail n (start code) before s (run_to code mail n before is) one
-    go (ends end) is one = absurd cc
-    go traps is one = absurd cc
+    go : (t : Turn) → come_to code mail n ≡ t → further code mail t ≡ goes s → ((before : State) → come_to code mail n ≡ goes before → Run code mail n (start code) before) → Run code mail (suc n) (start code) s
+    go (goes before) is one first = Run-push code mail n (start code) before s (first before is) one
+    go (ends end) is one first = absurd cc
+    go traps is one first = absurd cc
 
 -- and those that lead to an end are a run that ends
 pub run_ends : (code : Code) (mail : Mail) (n : ℕ) (end : State) → come_to code mail n ≡ ends end → RunEnds code mail end
 run_ends code mail zero end e = absurd cc
-run_ends code mail (suc n) end e = go (come_to code mail n) refl e
+run_ends code mail (suc n) end e = go (come_to code mail n) refl e (λ is. run_ends code mail n end is)
   where
-    go : (t : Turn) → come_to code mail n ≡ t → further code mail t ≡ ends end → RunEnds code mail end
-    go (goes last) is one = record { steps = n; last = last; run = run_to code mail n last is; halts = one }
-    go (ends other) is one = run_ends code mail n end (is ∙ one)
-    go traps is one = absurd cc
+    go : (t : Turn) → come_to code mail n ≡ t → further code mail t ≡ ends end → (come_to code mail n ≡ ends end → RunEnds code mail end) → RunEnds code mail end
+    go (goes last) is one before = record { steps = n; last = last; run = run_to code mail n last is; halts = one }
+    go (ends other) is one before = before (is ∙ one)
+    go traps is one before = absurd cc
 
 module _ (code : Code) (mail : Mail) (is : IsAccepted code) (known : IsMail mail) where
-  -- no run comes to a trap
-  pub comes_to_no_trap : (n : ℕ) → come_to code mail n ≢ traps
-  comes_to_no_trap zero e = absurd cc
-  comes_to_no_trap (suc n) e = go (come_to code mail n) refl e
-    where
-      go : (t : Turn) → come_to code mail n ≡ t → further code mail t ≡ traps → ⊥
-      go (goes s) at one = never_traps code mail is known n s (run_to code mail n s at) one
-      go (ends end) at one = absurd cc
-      go traps at one = comes_to_no_trap n at
-
   -- where a run goes on there is a step within the budget
   pub steps_within : (n : ℕ) (s : State) → come_to code mail n ≡ goes s → suc n ≤ limit_of code mail
   steps_within n s at = go (step code mail s) refl

@@ -28,6 +28,7 @@ pub struct Progress<'p, 's, 'm> {
 }
 
 impl<'p, 's, 'm> Model for Progress<'p, 's, 'm> {
+    ghost use Rattle.bytecode_format.specs.Spelling.{IsProgram};
     ghost use Rattle.bytecode_verifier.specs.Acceptance.{IsAccepted};
     ghost use Rattle.mime_decode.specs.Mail.{IsMail};
     ghost use Rattle.sieve_vm.specs.Moment.{Moment, come_to};
@@ -37,7 +38,8 @@ impl<'p, 's, 'm> Model for Progress<'p, 's, 'm> {
 
     ghost view = { λ p. record { code = p.program.now; mail = p.message.now; steps = p.steps } };
 
-    ghost invariant = { λ p. IsAccepted p.program.now × IsMail p.message.now
+    ghost invariant = { λ p. IsProgram p.program.now × IsAccepted p.program.now
+        × IsMail p.message.now
         × StandsFor p.message.now (come_to p.program.now p.message.now p.steps) p.goes_on p.machine };
 }
 
@@ -62,7 +64,8 @@ impl<'p, 's, 'm> Progress<'p, 's, 'm> {
         ensures { IfOk result (λ run. run ≡ record { code = verified.now; mail = message.now; steps = 0 }) }
     {
         let program = verified.program();
-        // What holds of every message is known where it is asked.
+        // What holds of every program and of every message is known where it is asked.
+        let _instructions = program.instructions();
         let _size = message.size();
         let mut machine = Machine {
             place: 0,

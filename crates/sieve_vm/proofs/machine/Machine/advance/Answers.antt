@@ -5,9 +5,8 @@ use Rattle.sieve_vm.specs.Machine.{Effect, effect, referred_in, step, turn}
 use Rattle.sieve_vm.specs.declared.machine.Flow.TheVariants.{On, To, Ends}
 use Rattle.sieve_vm.specs.Charge.{charge_of}
 use Rattle.sieve_vm.specs.Standing.{GoesFrom}
-use Rattle.sieve_vm.specs.Going.{StandsFor}
 use Rattle.sieve_vm.proofs.Steps.{no_instruction, place_within, operation_there, stepped, goes_on, goes_to, comes_to_end, charged_within, still_there, limit_small}
-use Rattle.sieve_vm.proofs.Went.{IsSame, went_on, went_to, has_ended}
+use Rattle.sieve_vm.proofs.Went.{went_on, went_to, has_ended}
 use Rattle.sieve_vm.proofs.machine.Machine.advance.Goals as goal
 
 pub offset_bounds-instructions-self : goal.offset_bounds-instructions-self
@@ -122,8 +121,7 @@ returns-in-On-clause-stepped c = λ s at.
     let had = c.in_ok-done.ensures s at in
     let one : step code mail s ≡ turn cost done = stepped code mail c.requires.accepted c.requires.mail c.args.self.now s at i here c.unwrap-operation.result (sym c.of.ensures ∙ c.unwrap-operation.ensures) in
     let went : GoesFrom mail done On c.act.new.self = subst (λ f. GoesFrom mail done f c.act.new.self) c.in-On.is had.0 in
-    let same : IsSame c.act.new.self _ = record { work = refl; loops = refl; actions = refl; implicit_keep = refl } in
-    subst (λ t. StandsFor mail t _ _) (sym one) (went_on mail cost c.act.new.self _ done went same refl (ap (λ n. c.act.new.self.charged + n) had.1))
+    went_on mail cost done (step code mail s) one c.act.new.self went _ refl refl refl refl refl (ap (λ n. c.act.new.self.charged + n) had.1)
 
 pub returns-in-To-clause-stepped : goal.returns-in-To-clause-stepped
 returns-in-To-clause-stepped c = λ s at.
@@ -138,8 +136,7 @@ returns-in-To-clause-stepped c = λ s at.
     let had = c.in_ok-done.ensures s at in
     let one : step code mail s ≡ turn cost done = stepped code mail c.requires.accepted c.requires.mail c.args.self.now s at i here c.unwrap-operation.result (sym c.of.ensures ∙ c.unwrap-operation.ensures) in
     let went : GoesFrom mail done (To c.in-To.place) c.act.new.self = subst (λ f. GoesFrom mail done f c.act.new.self) c.in-To.is had.0 in
-    let same : IsSame c.act.new.self _ = record { work = refl; loops = refl; actions = refl; implicit_keep = refl } in
-    subst (λ t. StandsFor mail t _ _) (sym one) (went_to mail cost c.act.new.self _ done c.in-To.place went same refl (ap (λ n. c.act.new.self.charged + n) had.1))
+    went_to mail cost done (step code mail s) one c.act.new.self c.in-To.place went _ refl refl refl refl refl (ap (λ n. c.act.new.self.charged + n) had.1)
 
 pub returns-in-Ends-clause-stepped : goal.returns-in-Ends-clause-stepped
 returns-in-Ends-clause-stepped c = λ s at.
@@ -154,5 +151,4 @@ returns-in-Ends-clause-stepped c = λ s at.
     let had = c.in_ok-done.ensures s at in
     let one : step code mail s ≡ turn cost done = stepped code mail c.requires.accepted c.requires.mail c.args.self.now s at i here c.unwrap-operation.result (sym c.of.ensures ∙ c.unwrap-operation.ensures) in
     let went : GoesFrom mail done Ends c.act.new.self = subst (λ f. GoesFrom mail done f c.act.new.self) c.in-Ends.is had.0 in
-    let same : IsSame c.act.new.self _ = record { work = refl; loops = refl; actions = refl; implicit_keep = refl } in
-    subst (λ t. StandsFor mail t _ _) (sym one) (has_ended mail cost c.act.new.self _ done went same refl (ap (λ n. c.act.new.self.charged + n) had.1))
+    has_ended mail cost done (step code mail s) one c.act.new.self went _ refl refl refl refl refl (ap (λ n. c.act.new.self.charged + n) had.1)

@@ -9,4 +9,4 @@ pub invariant_of-result : goal.invariant_of-result
 invariant_of-result c =
     let code = c.program-program.result.now in
     let at = subst (λ mail. IsIn code mail (start code) c.begin.new.self) (ap (λ (v : Visits). v.mail) c.new-2.ensures) c.in_ok-begin.ensures in
-    (subst IsAccepted (sym c.program-program.ensures.value) c.program-program.ensures.accepted, c.size-size.ensures.mail, at.stands)
+    (c.instructions-instructions.ensures.program, subst IsAccepted (sym c.program-program.ensures.value) c.program-program.ensures.accepted, c.size-size.ensures.mail, at.stands)
