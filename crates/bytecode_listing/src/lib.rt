@@ -18,4 +18,6 @@ mod writing;
 pub use assembling::assemble;
 pub use error::{FaultKind, ListingError};
 pub use names::name_of;
-pub use writing::{disassemble, disassemble_accepted, disassemble_refused};
+pub use writing::{
+    disassemble, disassemble_accepted, disassemble_refused, put_instruction, put_quoted,
+};

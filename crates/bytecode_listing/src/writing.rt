@@ -66,8 +66,10 @@ fn put_escaped(out: &mut Vec<u8>, octets: &[u8]) -> Result<(), AllocError>
     Ok(())
 }
 
-/// Appends octets between quotes.
-pub(crate) fn put_quoted(out: &mut Vec<u8>, octets: &[u8]) -> Result<(), AllocError>
+/// Appends octets between quotes, as the strings of a listing.
+///
+/// An error comes only where memory was refused.
+pub fn put_quoted(out: &mut Vec<u8>, octets: &[u8]) -> Result<(), AllocError>
     ensures { OnOk result (out.new.items ≡ out.old.items ++ quoted octets.now) }
 {
     out.push(b'"')?;
@@ -109,8 +111,10 @@ fn put_fields(out: &mut Vec<u8>, instruction: Instruction) -> Result<(), AllocEr
     put_field(out, b"c", u64::from(instruction.c))
 }
 
-// Appends an instruction at its place.
-fn put_instruction(
+/// Appends an instruction at its place, as it stands in a listing, without comments.
+///
+/// An error comes only where memory was refused.
+pub fn put_instruction(
     out: &mut Vec<u8>,
     place: usize,
     instruction: Instruction,

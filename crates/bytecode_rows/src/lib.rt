@@ -9,3 +9,5 @@ mod listings;
 mod plain_loops;
 #[cfg(test)]
 mod small_loops;
+#[cfg(test)]
+mod traces;

@@ -1,5 +1,5 @@
 -- What jobs answer, why they are refused, and what answering does.
-use Rattle.std.specs.Prelude.{◌≡◌, ◌≢◌, ◌<◌, ◌⊎◌, ◌++◌, ℕ, List, length, codes, Option, None, Some, ⊤}
+use Rattle.std.specs.Prelude.{◌≡◌, ◌≢◌, ◌<◌, ◌⊎◌, ◌++◌, ℕ, true, false, List, length, codes, Option, None, Some, ⊤}
 use Rattle.octets.specs.Limits.{max_program, max_script}
 use Rattle.octet_lanes.specs.Encoding.{IsOctets}
 use Rattle.encodings.specs.Device.{HasBroken, HasTaken, Output}
@@ -23,7 +23,7 @@ use Rattle.mime_decode.specs.Mail.{IsReadable, mail_of}
 use Rattle.depot_jobs.specs.Host.{HasMade, HasNotMade, HostState}
 use Rattle.depot_jobs.specs.Limit.{limit_text}
 use Rattle.depot_jobs.specs.Printed.{line, ok_text, parts_text, refusal_line, report_text, wrote_text}
-use Rattle.depot_jobs.specs.Tracing.{IsTraced}
+use Rattle.depot_jobs.specs.Tracing.{IsTraceRefusal, IsTraced, is_program}
 use Rattle.refusals.specs.Causes.{of_verifier}
 use Rattle.refusals.specs.Scripts.{IsScriptRefusal}
 use Rattle.refusals.specs.declared.refusal.Refusal.{Refusal}
@@ -75,7 +75,7 @@ IsAnswer (Assemble listing name out) text old new =
 IsAnswer (Eval script message) text old new =
     (actions : List Action) × (charged : ℕ) × (limit : ℕ) × IsEvaluation script.now message.now actions charged limit
     × (text ≡ report_text actions charged limit) × (new ≡ old)
-IsAnswer (Trace script name message) text old new = IsTraced name.now script.now message.now text × (new ≡ old)
+IsAnswer (Trace octets name message) text old new = IsTraced name.now octets.now message.now text × (new ≡ old)
 IsAnswer (Parts message) text old new = IsReadable message.now × (text ≡ parts_text (mail_of message.now).parts)
     × (new ≡ old)
 IsAnswer (Encode encoding octets) text old new = (text ≡ text_of encoding octets.now) × (new ≡ old)
@@ -117,7 +117,7 @@ IsJobRefusal (Assemble listing name out) refusal old new =
     ((refusal ≡ refusals.Memory) × (new ≡ old))
     ⊎ ((code : Code) × Lists listing.now code × HasNotMade refusal out.now name.now old new)
 IsJobRefusal (Eval script message) refusal old new = IsEvaluationRefusal script.now message.now refusal × (new ≡ old)
-IsJobRefusal (Trace script name message) refusal old new = IsEvaluationRefusal script.now message.now refusal × (new ≡ old)
+IsJobRefusal (Trace octets name message) refusal old new = IsTraceRefusal octets.now message.now refusal × (new ≡ old)
 IsJobRefusal (Parts message) refusal old new = engine.IsUnread message.now refusal × (new ≡ old)
 IsJobRefusal (Encode encoding octets) refusal old new = (refusal ≡ refusals.Memory) × (new ≡ old)
 IsJobRefusal (Decode encoding text) refusal old new = IsUnread encoding text.now refusal × (new ≡ old)
@@ -128,13 +128,14 @@ abbrev pub HasLongScript : Job → Type 0
 HasLongScript (Check script) = max_script < length script.now
 HasLongScript (Compile script name out) = max_script < length script.now
 HasLongScript (Eval script message) = max_script < length script.now
-HasLongScript (Trace script name message) = max_script < length script.now
+HasLongScript (Trace octets name message) = (is_program octets.now ≡ false) × (max_script < length octets.now)
 HasLongScript _ = ⊥
 
 abbrev pub HasLongProgram : Job → Type 0
 HasLongProgram (Verify program) = max_program < length program.now
 HasLongProgram (Limit program octets parts) = max_program < length program.now
 HasLongProgram (Run program message) = max_program < length program.now
+HasLongProgram (Trace octets name message) = (is_program octets.now ≡ true) × (max_program < length octets.now)
 HasLongProgram (Disassemble program) = max_program < length program.now
 HasLongProgram _ = ⊥
 
@@ -175,7 +176,7 @@ GoesOutAsMade (Run program message) = ⊥
 GoesOutAsMade (Disassemble program) = ⊥
 GoesOutAsMade (Assemble listing name out) = ⊥
 GoesOutAsMade (Eval script message) = ⊥
-GoesOutAsMade (Trace script name message) = ⊤
+GoesOutAsMade (Trace octets name message) = ⊤
 GoesOutAsMade (Parts message) = ⊥
 GoesOutAsMade (Encode encoding octets) = ⊥
 GoesOutAsMade (Decode encoding text) = ⊥

@@ -14,7 +14,11 @@ use Rattle.depot_jobs.specs.declared.job.Lines.{Lines}
 use Rattle.depot_jobs.specs.declared.job.Verdict.{Verdict}
 use Rattle.depot_jobs.specs.declared.job.Lines.TheVariants as lines
 use Rattle.depot_jobs.specs.declared.job.Verdict.TheVariants as verdicts
+use Rattle.bytecode_trace.specs.Printed as program
 use Rattle.depot_jobs.specs.declared.tracing.Traced.{Traced}
+use Rattle.depot_jobs.specs.declared.tracing.Traced.TheVariants as traces
+use Rattle.depot_jobs.specs.declared.tracing.TracedProgram.{TracedProgram}
+use Rattle.depot_jobs.specs.declared.tracing.TracedScript.{TracedScript}
 use Rattle.sieve_check.specs.TypedView.{commands_form}
 use Rattle.sieve_trace.specs.Printed.{sheet}
 use Rattle.sieve_trace.specs.Written.{trace_text}
@@ -50,10 +54,19 @@ refusal_in (lines.Fault text refusal) = Some refusal
 refusal_in _ = None
 
 -- the text of a trace and of the report that is behind it
-abbrev pub traced_text : Traced → List ℕ
-traced_text traced =
+abbrev pub script_text : TracedScript → List ℕ
+script_text traced =
     trace_text (sheet traced.name.now traced.places.items traced.message) (commands_form traced.checked.commands)
     ++ report_text traced.report.outcome.actions.items traced.report.outcome.charged traced.report.limit
+
+abbrev pub program_text : TracedProgram → List ℕ
+program_text traced =
+    program.trace_text traced.verified traced.message
+    ++ report_text traced.report.outcome.actions.items traced.report.outcome.charged traced.report.limit
+
+abbrev pub traced_text : Traced → List ℕ
+traced_text (traces.Script traced) = script_text traced
+traced_text (traces.Program traced) = program_text traced
 
 -- the text of an answer, and the refusal that goes with it
 abbrev pub answer_text : JobAnswer → List ℕ

@@ -75,8 +75,8 @@ SaysWork (Compile script out) matches =
 SaysWork (Eval script message) matches =
     (rows : List Row) × IsCommand (codes "eval") matches rows × (script.now ≡ argument (codes "SCRIPT") rows)
     × (message.now ≡ argument (codes "MESSAGE") rows)
-SaysWork (Trace script message) matches =
-    (rows : List Row) × IsCommand (codes "trace") matches rows × (script.now ≡ argument (codes "SCRIPT") rows)
+SaysWork (Trace file message) matches =
+    (rows : List Row) × IsCommand (codes "trace") matches rows × (file.now ≡ argument (codes "FILE") rows)
     × (message.now ≡ argument (codes "MESSAGE") rows)
 SaysWork (Verify program) matches = (rows : List Row) × IsCommand (codes "verify") matches rows
     × (program.now ≡ argument (codes "PROGRAM") rows)

@@ -36,9 +36,8 @@ pub fn inputs_of<'a>(work: Work<'a>) -> Inputs<'a>
         Work::Assemble { listing, .. } => Inputs::One(Input::File(listing)),
         Work::Parts { message } => Inputs::One(Input::File(message)),
         Work::Run { program, message } => Inputs::Two(Input::File(program), Input::File(message)),
-        Work::Eval { script, message } | Work::Trace { script, message } => {
-            Inputs::Two(Input::File(script), Input::File(message))
-        }
+        Work::Eval { script, message } => Inputs::Two(Input::File(script), Input::File(message)),
+        Work::Trace { file, message } => Inputs::Two(Input::File(file), Input::File(message)),
     }
 }
 

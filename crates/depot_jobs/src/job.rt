@@ -96,10 +96,11 @@ pub enum Job<'a> {
         script: &'a [u8],
         message: &'a [u8],
     },
-    /// The same, and what the script asks and does, step by step.
+    /// What a script or a program does with a message, step by step.
     Trace {
-        script: &'a [u8],
-        /// The name of the script's file.
+        /// The octets of the script or the program.
+        octets: &'a [u8],
+        /// The name of their file.
         name: &'a str,
         message: &'a [u8],
     },
@@ -293,10 +294,10 @@ fn carry_out<'a, H: Host>(
             Ok(JobAnswer::Lines(Lines::Report(report)))
         }
         Job::Trace {
-            script,
+            octets,
             name,
             message,
-        } => Ok(JobAnswer::Trace(trace_of(alloc, name, script, message)?)),
+        } => Ok(JobAnswer::Trace(trace_of(alloc, name, octets, message)?)),
         Job::Parts { message } => {
             let lines = parts_lines(alloc, message)?;
             Ok(JobAnswer::Lines(Lines::Octets(lines)))

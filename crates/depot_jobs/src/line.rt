@@ -112,7 +112,10 @@ fn work_in<'a>(name: &str, found: &ArgMatches<'a>) -> Option<Work<'a>>
             out,
         }),
         "eval" => Some(Work::Eval { script, message }),
-        "trace" => Some(Work::Trace { script, message }),
+        "trace" => Some(Work::Trace {
+            file: argument(found, "FILE"),
+            message,
+        }),
         "parts" => Some(Work::Parts { message }),
         "encode" => Some(Work::Encode { encoding }),
         "decode" => Some(Work::Decode { encoding }),

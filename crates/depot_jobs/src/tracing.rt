@@ -1,30 +1,40 @@
-// Traces of scripts.
-ghost use Rattle.std.specs.Prelude.{◌≡◌, ◌<◌, List, IfErr, IfOk, IsErrAnd, OnOk, length};
-ghost use Rattle.octets.specs.Limits.{max_script};
+// Traces of scripts and of programs.
+ghost use Rattle.std.specs.Prelude.{◌≡◌, ◌<◌, true, false, List, IfErr, IfOk, IsErrAnd, OnOk, length};
+ghost use Rattle.octets.specs.Limits.{max_program, max_script};
 ghost use Rattle.encodings.specs.Device.{HasStopped, HasTaken};
 ghost use Rattle.refusals.specs.Scripts.{IsScriptRefusal};
-ghost use Rattle.refusals.specs.declared.refusal.Refusal.TheVariants.{ScriptTooLong};
+ghost use Rattle.refusals.specs.declared.refusal.Refusal.TheVariants.{ScriptTooLong, Spelling};
 ghost use Rattle.sieve_engine.specs.Evaluation.{IsEvaluationRefusal};
+ghost use Rattle.sieve_engine.specs.Execution.{IsRefusal};
 ghost use Rattle.sieve_lexer.specs.Tokens.{AreTokens};
 ghost use Rattle.sieve_lexer.specs.declared.token.Token.{Token};
 ghost use Rattle.sieve_trace.specs.Places.{places_of};
-ghost use Rattle.depot_jobs.specs.Private.{traced_text};
-ghost use Rattle.depot_jobs.specs.Tracing.{IsTraced};
+ghost use Rattle.depot_jobs.specs.Private.{program_text, script_text, traced_text};
+ghost use Rattle.depot_jobs.specs.Tracing.{IsTraceRefusal, IsTraced, IsTracedProgram, IsTracedScript, is_program};
 
 use crate::printing::put_report;
+use bytecode_verifier::Verified;
 use encodings::{DeviceFailed, Sink};
 use mime_decode::Message;
 use refusals::Refusal;
 use sieve_check::Checked;
-use sieve_engine::{Report, check_script, evaluate};
+use sieve_engine::{Report, check_program, check_script, evaluate, execute};
 use sieve_parser::ParseError;
-use sieve_trace::{Place, TraceError, token_places, trace};
+use sieve_trace::{Place, TraceError, token_places};
 use std::alloc::Global;
 
-/// A script without a fault, a message, and the report of the script's run on it: what a trace is
-/// made of.
+/// What a trace is made of.
 #[derive(Drop)]
-pub struct Traced<'a> {
+pub enum Traced<'a> {
+    /// That of a script.
+    Script(TracedScript<'a>),
+    /// That of a program.
+    Program(TracedProgram<'a>),
+}
+
+/// A script without a fault, a message, and the report of the script's run on it.
+#[derive(Drop)]
+pub struct TracedScript<'a> {
     /// The name of the script's file.
     pub name: &'a str,
     /// Where the script's tokens stand.
@@ -37,19 +47,80 @@ pub struct Traced<'a> {
     pub report: Report,
 }
 
-/// What the trace of a script on a message is made of, by the name of the script's file.
+/// An accepted program, a message, and the report of the program's run on it.
+#[derive(Drop)]
+pub struct TracedProgram<'a> {
+    /// The program.
+    pub verified: Verified,
+    /// The message.
+    pub message: Message<'a>,
+    /// What its run came to.
+    pub report: Report,
+}
+
+/// What the trace of a script or of a program on a message is made of, by the name of their file. Octets that begin as a program's
+/// do are taken for one.
 ///
 /// # Errors
 ///
-/// The first refusal of the script, then of the message.
+/// The first refusal of the script or of the program, then of the message.
 pub fn trace_of<'a>(
+    alloc: Global,
+    name: &'a str,
+    octets: &[u8],
+    message: &'a [u8],
+) -> Result<Traced<'a>, Refusal>
+    ensures traced { IfOk result (λ traced. IsTraced name.entry.now octets.now message.entry.now
+        (traced_text traced)) }
+    ensures refused { IfErr result (λ e. IsTraceRefusal octets.now message.entry.now e) }
+    ensures long_script { is_program octets.now ≡ false → max_script < length octets.now
+        → IsErrAnd result (λ e. e ≡ ScriptTooLong) }
+    ensures long_program { is_program octets.now ≡ true → max_program < length octets.now
+        → IsErrAnd result (λ e. e ≡ Spelling) }
+{
+    if is_program(octets) {
+        return Ok(Traced::Program(program_trace(alloc, octets, message)?));
+    }
+    Ok(Traced::Script(script_trace(alloc, name, octets, message)?))
+}
+
+// Whether octets are taken for a program.
+fn is_program(octets: &[u8]) -> bool
+    ensures { result ≡ is_program octets.now }
+{
+    octets.starts_with(b"SVBC")
+}
+
+// What the trace of a program is made of.
+fn program_trace<'a>(
+    alloc: Global,
+    octets: &[u8],
+    message: &'a [u8],
+) -> Result<TracedProgram<'a>, Refusal>
+    ensures traced { IfOk result (λ traced. IsTracedProgram octets.now message.entry.now
+        (program_text traced)) }
+    ensures refused { IfErr result (λ e. IsRefusal octets.now message.entry.now e) }
+    ensures large { max_program < length octets.now → IsErrAnd result (λ e. e ≡ Spelling) }
+{
+    let report = execute(alloc, octets, message)?;
+    let verified = check_program(alloc, octets)?;
+    let message = Message::read(alloc, message)?;
+    Ok(TracedProgram {
+        verified,
+        message,
+        report,
+    })
+}
+
+// What the trace of a script is made of.
+fn script_trace<'a>(
     alloc: Global,
     name: &'a str,
     script: &[u8],
     message: &'a [u8],
-) -> Result<Traced<'a>, Refusal>
-    ensures traced { IfOk result (λ traced. IsTraced name.entry.now script.now message.entry.now
-        (traced_text traced)) }
+) -> Result<TracedScript<'a>, Refusal>
+    ensures traced { IfOk result (λ traced. IsTracedScript name.entry.now script.now
+        message.entry.now (script_text traced)) }
     ensures refused { IfErr result (λ e. IsEvaluationRefusal script.now message.entry.now e) }
     ensures large { max_script < length script.now → IsErrAnd result (λ e. e ≡ ScriptTooLong) }
 {
@@ -57,7 +128,7 @@ pub fn trace_of<'a>(
     let checked = check_script(alloc, script)?;
     let places = places_in(alloc, script)?;
     let message = Message::read(alloc, message)?;
-    Ok(Traced {
+    Ok(TracedScript {
         name,
         places,
         checked,
@@ -89,7 +160,20 @@ pub fn put_traced<O: Sink>(alloc: Global, out: &mut O, traced: &Traced<'_>) -> R
     ensures err { IfErr result (λ e. HasStopped e (traced_text traced.now) (O.output out.old)
         (O.output out.new)) }
 {
-    match trace(
+    match traced {
+        Traced::Script(script) => put_script(alloc, out, script),
+        Traced::Program(program) => put_program(alloc, out, program),
+    }
+}
+
+// Writes the trace of a script, and then the report.
+fn put_script<O: Sink>(alloc: Global, out: &mut O, traced: &TracedScript<'_>) -> Result<(), Refusal>
+    ensures ok { OnOk result (HasTaken (script_text traced.now) (O.output out.old)
+        (O.output out.new)) }
+    ensures err { IfErr result (λ e. HasStopped e (script_text traced.now) (O.output out.old)
+        (O.output out.new)) }
+{
+    match sieve_trace::trace(
         alloc,
         traced.name,
         &traced.places,
@@ -105,4 +189,19 @@ pub fn put_traced<O: Sink>(alloc: Global, out: &mut O, traced: &Traced<'_>) -> R
         Ok(()) => Ok(()),
         Err(DeviceFailed) => Err(Refusal::Write),
     }
+}
+
+// Writes the trace of a program, and then the report.
+fn put_program<O: Sink>(
+    alloc: Global,
+    out: &mut O,
+    traced: &TracedProgram<'_>,
+) -> Result<(), Refusal>
+    ensures ok { OnOk result (HasTaken (program_text traced.now) (O.output out.old)
+        (O.output out.new)) }
+    ensures err { IfErr result (λ e. HasStopped e (program_text traced.now) (O.output out.old)
+        (O.output out.new)) }
+{
+    bytecode_trace::trace(alloc, &traced.verified, &traced.message, out)?;
+    Ok(put_report(out, &traced.report)?)
 }

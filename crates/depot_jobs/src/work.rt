@@ -48,9 +48,9 @@ pub enum Work<'a> {
         script: &'a str,
         message: &'a str,
     },
-    /// The same, and what the script asks and does, step by step.
+    /// What a script or a program does with a message, step by step.
     Trace {
-        script: &'a str,
+        file: &'a str,
         message: &'a str,
     },
     /// The parts of a message.

@@ -87,9 +87,9 @@ fn job_of<'a>(work: Work<'a>, first: &'a [u8], second: &'a [u8]) -> Job<'a>
             script: first,
             message: second,
         },
-        Work::Trace { script, .. } => Job::Trace {
-            script: first,
-            name: script,
+        Work::Trace { file, .. } => Job::Trace {
+            octets: first,
+            name: file,
             message: second,
         },
         Work::Parts { .. } => Job::Parts { message: first },

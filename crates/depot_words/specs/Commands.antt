@@ -27,9 +27,9 @@ abbrev pub eval_app : App
 eval_app = with_rule (with_rule (new_app (codes "eval")) (required_rule (codes "SCRIPT")))
     (required_rule (codes "MESSAGE"))
 
--- trace SCRIPT MESSAGE
+-- trace FILE MESSAGE
 abbrev pub trace_app : App
-trace_app = with_rule (with_rule (new_app (codes "trace")) (required_rule (codes "SCRIPT")))
+trace_app = with_rule (with_rule (new_app (codes "trace")) (required_rule (codes "FILE")))
     (required_rule (codes "MESSAGE"))
 
 -- verify PROGRAM

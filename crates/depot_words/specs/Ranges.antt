@@ -54,7 +54,7 @@ commands =
     ∷ (codes "disassemble", (codes "PROGRAM", any_text) ∷ [])
     ∷ (codes "assemble", (codes "LISTING", any_text) ∷ (codes "OUT", any_text) ∷ [])
     ∷ (codes "eval", (codes "SCRIPT", any_text) ∷ (codes "MESSAGE", any_text) ∷ [])
-    ∷ (codes "trace", (codes "SCRIPT", any_text) ∷ (codes "MESSAGE", any_text) ∷ [])
+    ∷ (codes "trace", (codes "FILE", any_text) ∷ (codes "MESSAGE", any_text) ∷ [])
     ∷ (codes "parts", (codes "MESSAGE", any_text) ∷ [])
     ∷ (codes "encode", (codes "ENCODING", encoding_name) ∷ [])
     ∷ (codes "decode", (codes "ENCODING", encoding_name) ∷ [])

@@ -68,6 +68,16 @@ pub fn script_file<'a>(alloc: Global) -> Arg<'a>
         .help("The file of a Sieve script")
 }
 
+/// The argument FILE: a script or a program.
+pub fn filter_file<'a>(alloc: Global) -> Arg<'a>
+    ensures rule { rule_of result ≡ required_rule (codes "FILE") }
+    ensures local { result.global ≡ false }
+{
+    Arg::new(alloc, "FILE").required(true).help(
+        "The file of a Sieve script, or of a filter program (bytecode)",
+    )
+}
+
 /// The argument OUT.
 pub fn out_file<'a>(alloc: Global) -> Arg<'a>
     ensures rule { rule_of result ≡ required_rule (codes "OUT") }

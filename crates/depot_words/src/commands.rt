@@ -5,8 +5,8 @@ ghost use Rattle.clap.specs.declared.builder.command.Command.TheViews.{out-Comma
 ghost use Rattle.depot_words.specs.Commands.{assemble_app, batch_app, bounds_app, check_app, checks_app, code_app, codecs_app, compile_app, decode_app, deliver_app, delivery_app, depot_app, disassemble_app, encode_app, entries_app, eval_app, explain_app, export_app, filing_app, filters_app, inspect_app, keeper_app, keeping_app, list_app, listings_app, mail_app, migrate_app, parts_app, program_app, remove_app, run_app, runs_app, script_app, scripts_app, trace_app, user_app, verify_app};
 
 use crate::arguments::{
-    any_file, depot_file, encoding_name, entry_number, listing_file, message_file, out_file,
-    program_file, script_file, user_name,
+    any_file, depot_file, encoding_name, entry_number, filter_file, listing_file, message_file,
+    out_file, program_file, script_file, user_name,
 };
 use crate::help;
 use crate::limit::limit_command;
@@ -263,9 +263,11 @@ fn trace_command<'a>(alloc: Global) -> Result<Command<'a>, AllocError>
     ensures local { IfOk result (λ c. (fields_of c).has_globals ≡ false) }
 {
     Command::new(alloc, "trace")
-        .about("Runs a Sieve script on a message, and prints what it asks and does, step by step")
+        .about(
+            "Runs a Sieve script or a filter program on a message, and prints what it does, step by step",
+        )
         .after_help(help::TRACE)
-        .arg(script_file(alloc))?
+        .arg(filter_file(alloc))?
         .arg(message_file(alloc))
 }
 

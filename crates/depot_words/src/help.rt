@@ -105,7 +105,7 @@ pub const EVAL: &str = script_ending!(
 
 pub const TRACE: &str = script_ending!(
     "depot trace filter.sieve mail.eml",
-    "1 to 3, 11 to 19, 45, 46"
+    "1 to 3, 11 to 27, 45, 46"
 );
 
 pub const PARTS: &str = ending!("depot parts mail.eml", "1 to 3, 45, 46");

@@ -3,6 +3,8 @@ pub mod Stack
 pub mod Machine
 pub mod Charge
 pub mod Runs
+pub mod Moment
+pub mod Lent
 pub mod Stores
 pub mod Listed
 pub mod Potential
@@ -13,3 +15,4 @@ pub mod Ending
 pub mod SharedTexts
 pub mod Visits
 pub mod Standing
+pub mod Going

@@ -48,6 +48,20 @@ pub enum Turn {
     Ends,
 }
 
+impl Turn {
+    ghost use Rattle.sieve_vm.specs.Going.{is_on};
+
+    /// Whether it does.
+    pub fn goes_on(self) -> bool
+        ensures { result ≡ is_on self }
+    {
+        match self {
+            Turn::GoesOn => true,
+            Turn::Ends => false,
+        }
+    }
+}
+
 impl<'p, 's, 'm> Machine<'p, 's, 'm> {
     ghost use Rattle.std.specs.Prelude.{◌≡◌, ◌<◌, ◌≤◌, ◌-◌, ℕ, suc, List, [], ◌∷◌, ◌++◌, Bool, false, Some, None, IfOk, OnOk, IfSome, IsSome, length, min, drop, take, slice_get, slice_index_or, slice_set};
     ghost use Rattle.std.specs.List.{concat};
@@ -62,10 +76,11 @@ impl<'p, 's, 'm> Machine<'p, 's, 'm> {
     ghost use Rattle.mime_decode.specs.Scope.{visited};
     ghost use Rattle.mail_matching.specs.Outcomes.{after};
     ghost use Rattle.mail_matching.specs.Texts.{AreTexts};
-    ghost use Rattle.sieve_vm.specs.State.{Frame, State, Value, truth, text, current_part};
+    ghost use Rattle.sieve_vm.specs.Going.{StandsFor, is_on};
+    ghost use Rattle.sieve_vm.specs.State.{Frame, State, Value, truth, text, current_part, start};
     ghost use Rattle.sieve_vm.specs.Stack.{OnTop, Lists, texts_on_top};
     ghost use Rattle.sieve_vm.specs.Charge.{octets_on_top, charge_of};
-    ghost use Rattle.sieve_vm.specs.Machine.{branch, effect, jumps, next_part, open_loop, referred_in};
+    ghost use Rattle.sieve_vm.specs.Machine.{branch, effect, jumps, next_part, open_loop, referred_in, step};
     ghost use Rattle.sieve_vm.specs.Standing.{IsNewMachine, Represents, IsIn, IsRunning, HasHad, StepsOn, IsOver};
 
     /// Goes before the first instruction of the program.
@@ -73,7 +88,7 @@ impl<'p, 's, 'm> Machine<'p, 's, 'm> {
     /// An error comes only where memory was refused.
     pub fn begin(&mut self, program: &Program) -> Result<(), AllocError>
         requires { IsNewMachine self.old }
-        ensures { OnOk result (IsRunning program.now self.old.loops.mail self.new) }
+        ensures { OnOk result (IsIn program.now self.old.loops.mail (start program.now) self.new) }
     {
         self.work.begin(program.variables())
     }
@@ -95,6 +110,9 @@ impl<'p, 's, 'm> Machine<'p, 's, 'm> {
             (λ turn. turn ≡ Turn.GoesOn → StepsOn program.now message.now self.old self.new) }
         ensures ends { IfOk result (λ turn. turn ≡ Turn.Ends
             → IsOver program.now message.now self.new) }
+        ensures stepped { IfOk result (λ turn. (s : State)
+            → IsIn program.now message.now s self.old
+            → StandsFor message.now (step program.now message.now s) (is_on turn) self.new) }
     {
         let instruction = program.instructions()[self.place];
         let operation = Operation::of(instruction.op).unwrap();

@@ -1,5 +1,6 @@
 // What a run works on: the stack, the variables and the captures.
-ghost use Rattle.std.specs.Prelude.{◌≡◌, ◌<◌, ◌≤◌, ℕ, List, [], ◌∷◌, ◌++◌, Bool, Some, IfOk, OnOk, length, map, replicate, take, slice_index_or, slice_set, is_some, sum_by, slice_range};
+ghost use Rattle.std.specs.Prelude.{◌≡◌, ◌<◌, ◌≤◌, ℕ, List, [], ◌∷◌, ◌++◌, Bool, Some, IfOk, OnOk, length, map, replicate, take, slice_get, slice_index_or, slice_set, is_some, option_map, sum_by, slice_range};
+ghost use Rattle.std.specs.Borrow.{Bor};
 ghost use Rattle.std.specs.List.{concat};
 ghost use Rattle.std.specs.Option.{unwrap_or};
 ghost use Rattle.octets.specs.Limits.{max_string, max_value};
@@ -7,6 +8,8 @@ ghost use Rattle.bytecode_format.specs.Modifiers.{modified};
 ghost use Rattle.mail_matching.specs.FirstMatch.{no_captures};
 ghost use Rattle.mail_matching.specs.Outcomes.{after};
 ghost use Rattle.mail_matching.specs.Texts.{AreTexts};
+ghost use Rattle.sieve_vm.specs.Lent as lent;
+ghost use Rattle.sieve_vm.specs.Lent.{top};
 ghost use Rattle.sieve_vm.specs.State.{Value, truth, text};
 ghost use Rattle.sieve_vm.specs.Stack.{OnTop, Lists, texts_on_top, lists_on_top};
 ghost use Rattle.sieve_vm.specs.SharedTexts.{items_of};
@@ -16,6 +19,7 @@ use crate::entry::Entry;
 use crate::held_captures::HeldCaptures;
 use crate::joining::{joined, total_len};
 use crate::shared_text::{SharedText, copied};
+use crate::value::StackValue;
 use bytecode_format::Modifiers;
 use mail_matching::{Outcome, Texts};
 use octets::{MAX_VALUE, Octets};
@@ -320,6 +324,27 @@ impl<'p, 'm> Workspace<'p, 'm> {
         }
     }
 
+    /// The entry on top of the stack.
+    pub fn top(&self) -> Option<StackValue<'_>>
+        ensures { option_map lent.value_of result ≡ top (held_of self.now).stack }
+    {
+        match self.entries.as_slice() {
+            [.., entry] => Some(lent_of(entry)),
+            [] => None,
+        }
+    }
+
+    /// The octets of a variable's value.
+    pub fn value(&self, number: usize) -> Option<&[u8]>
+        ensures { option_map (λ (value : Bor (List ℕ)). value.now) result
+            ≡ slice_get (held_of self.now).variables number }
+    {
+        match self.variables.get(number) {
+            Some(value) => Some(value.as_slice()),
+            None => None,
+        }
+    }
+
     // The value of a variable.
     fn variable(&self, number: usize) -> Result<SharedText<'p>, AllocError>
         ensures { IfOk result (λ value. items_of value
@@ -329,6 +354,16 @@ impl<'p, 'm> Workspace<'p, 'm> {
             Some(value) => value.share(),
             None => Ok(SharedText::Lent(&[])),
         }
+    }
+}
+
+// An entry, as a caller sees it.
+fn lent_of<'s>(entry: &'s Entry<'_>) -> StackValue<'s>
+    ensures { lent.value_of result ≡ value_of entry.now }
+{
+    match entry {
+        Entry::Truth(value) => StackValue::Truth(*value),
+        Entry::Text(text) => StackValue::Text(text.as_slice()),
     }
 }
 

@@ -1,15 +1,17 @@
 use Rattle.std.proofs.Common.{sym, ap, subst, arith}
 use Rattle.bytecode_verifier.specs.Acceptance.{IsAccepted}
 use Rattle.sieve_vm.specs.Potential.{limit_of}
-use Rattle.sieve_vm.specs.Standing.{IsRunning}
+use Rattle.sieve_vm.specs.State.{start}
+use Rattle.sieve_vm.specs.Standing.{IsIn, IsRunning}
 use Rattle.sieve_vm.specs.Visits.{Visits}
 use Rattle.sieve_vm.proofs.Steps.{running_within, outcome_of}
 use Rattle.sieve_vm.proofs.outcome.run.Goals as goal
 
 pub steps-init : goal.steps-init
 steps-init c =
-    rw c.program-program.ensures.value at
-    (subst (λ mail. IsRunning c.program-program.result.now mail c.begin.new.self) (ap (λ (v : Visits). v.mail) c.new-2.ensures) c.in_ok-begin.ensures)
+    let code = c.program-program.result.now in
+    let at = subst (λ mail. IsIn code mail (start code) c.begin.new.self) (ap (λ (v : Visits). v.mail) c.new-2.ensures) c.in_ok-begin.ensures in
+    rw c.program-program.ensures.value at (let running : IsRunning code c.args.message.now c.begin.new.self = (start code, at) in running)
 
 pub steps-smaller : goal.steps-smaller
 steps-smaller c =

@@ -5,7 +5,7 @@ use Rattle.depot_jobs.specs.Printed.{report_text}
 use Rattle.sieve_check.specs.TypedView.{commands_form}
 use Rattle.sieve_trace.specs.Printed.{sheet}
 use Rattle.sieve_trace.specs.Written.{trace_text}
-use Rattle.depot_jobs.proofs.tracing.put_traced.Goals as goal
+use Rattle.depot_jobs.proofs.tracing.put_script.Goals as goal
 
 pub returns-in-Err-clause-err : goal.returns-in-Err-clause-err
 returns-in-Err-clause-err g c =

@@ -1,0 +1,159 @@
+// The line of a step.
+ghost use Rattle.std.specs.Prelude.{◌≡◌, ◌++◌, true, IfOk, OnOk, Some, option_map};
+ghost use Rattle.std.specs.Fmt.{decimal};
+ghost use Rattle.bytecode_format.specs.Code.{Code};
+ghost use Rattle.sieve_vm.specs.Lent.{value_of};
+ghost use Rattle.sieve_vm.specs.Moment.{goes_on, state_at, turn_at};
+ghost use Rattle.sieve_vm.specs.State.{State};
+ghost use Rattle.bytecode_trace.specs.Printed.{column, part_text, shown, step_line, value_text};
+ghost use Rattle.bytecode_trace.specs.Private.{IsBegun, told_after, told_before};
+
+use crate::telling::{Told, told_of};
+use bytecode_format::{Instruction, Operation};
+use bytecode_listing::{put_instruction, put_quoted};
+use itoa::Buffer;
+use sieve_vm::{Progress, StackValue};
+use std::alloc::{AllocError, Global};
+
+/// How many octets are printed of a text.
+const MAX_SHOWN: usize = 80;
+
+/// What is known of a step before it is taken.
+#[derive(Drop)]
+pub struct Begun {
+    /// The place of its instruction.
+    pub place: usize,
+    /// The instruction.
+    pub instruction: Instruction,
+    /// What the steps before it have charged.
+    pub charged: u128,
+    /// Which value is told of it.
+    pub told: Told,
+    /// The text of that value, if it is taken from the stack.
+    pub taken: Vec<u8>,
+}
+
+// Appends a number in decimal digits.
+fn put_number(out: &mut Vec<u8>, number: u128) -> Result<(), AllocError>
+    ensures { OnOk result (out.new.items ≡ out.old.items ++ decimal number) }
+{
+    out.extend_from_slice(Buffer::new().format(number).as_bytes())
+}
+
+// Appends a text between quotes; of a long one the first octets, and two dots.
+fn put_shown(out: &mut Vec<u8>, octets: &[u8]) -> Result<(), AllocError>
+    ensures { OnOk result (out.new.items ≡ out.old.items ++ shown octets.now) }
+{
+    if octets.len() <= MAX_SHOWN {
+        return put_quoted(out, octets);
+    }
+    let (beginning, _) = octets.split_at(MAX_SHOWN);
+    put_quoted(out, beginning)?;
+    out.extend_from_slice(b"..")
+}
+
+// Appends a value.
+fn put_value(out: &mut Vec<u8>, value: StackValue<'_>) -> Result<(), AllocError>
+    ensures { OnOk result (out.new.items ≡ out.old.items ++ value_text (value_of value.entry)) }
+{
+    match value {
+        StackValue::Truth(true) => out.extend_from_slice(b"yes"),
+        StackValue::Truth(false) => out.extend_from_slice(b"no"),
+        StackValue::Text(octets) => put_shown(out, octets),
+    }
+}
+
+// Appends a value behind a stroke, if there is one.
+fn put_told(out: &mut Vec<u8>, value: Option<StackValue<'_>>) -> Result<(), AllocError>
+    ensures { OnOk result (out.new.items ≡ out.old.items
+        ++ column (option_map value_text (option_map value_of value.entry))) }
+{
+    let Some(value) = value else {
+        return Ok(());
+    };
+    out.extend_from_slice(b" | ")?;
+    put_value(out, value)
+}
+
+// Appends a part behind a stroke, if there is one.
+fn put_part(out: &mut Vec<u8>, part: Option<usize>) -> Result<(), AllocError>
+    ensures { OnOk result (out.new.items ≡ out.old.items ++ column (option_map part_text part)) }
+{
+    let Some(number) = part else {
+        return Ok(());
+    };
+    out.extend_from_slice(b" | part ")?;
+    put_number(out, number as u128)
+}
+
+// The text of the value that the next instruction takes from the stack, if that is told.
+fn taken_text(alloc: Global, run: &Progress<'_, '_, '_>, told: Told) -> Result<Vec<u8>, AllocError>
+    ensures { IfOk result (λ text. (before : State) → state_at run.now ≡ Some before
+        → text.items ≡ told_before told before) }
+{
+    let mut text = Vec::new(alloc);
+    if let Told::Taken = told {
+        put_told(&mut text, run.top())?;
+    }
+    Ok(text)
+}
+
+/// What is known of a run's next step.
+pub fn begun(alloc: Global, run: &Progress<'_, '_, '_>) -> Result<Begun, AllocError>
+    requires { goes_on (turn_at run.now) ≡ true }
+    ensures { IfOk result (λ begun. (before : State) → state_at run.now ≡ Some before
+        → IsBegun run.now.code before begun) }
+{
+    let instruction = run.instruction();
+    let told = told_of(Operation::of(instruction.op));
+    let taken = taken_text(alloc, run, told)?;
+    Ok(Begun {
+        place: run.place(),
+        instruction,
+        charged: run.charged(),
+        told,
+        taken,
+    })
+}
+
+// Appends the value that an instruction left on the stack or gave a variable, if that is told.
+fn put_left(
+    out: &mut Vec<u8>,
+    run: &Progress<'_, '_, '_>,
+    told: Told,
+    variable: usize,
+) -> Result<(), AllocError>
+    ensures { OnOk result ((after : State) → state_at run.now ≡ Some after
+        → out.new.items ≡ out.old.items ++ told_after told variable after) }
+{
+    match told {
+        Told::Left => put_told(out, run.top()),
+        Told::Set => put_told(out, run.variable(variable).map(StackValue::Text)),
+        Told::Taken | Told::Nothing => Ok(()),
+    }
+}
+
+/// The line of a step that was taken.
+#[tactic(auto, unfolding(crate::specs::Printed::line_of))]
+pub fn line_of(
+    alloc: Global,
+    begun: &Begun,
+    run: &Progress<'_, '_, '_>,
+) -> Result<Vec<u8>, AllocError>
+    ensures { IfOk result (λ line. (code : Code) (before after : State) → IsBegun code before begun.now
+        → state_at run.now ≡ Some after
+        → line.items ≡ step_line code (record { before = before; after = after })) }
+{
+    let charged = run.charged();
+    let mut out = Vec::new(alloc);
+    put_instruction(&mut out, begun.place, begun.instruction)?;
+    out.extend_from_slice(b" | ")?;
+    put_number(&mut out, charged.saturating_sub(begun.charged))?;
+    out.extend_from_slice(b" ")?;
+    put_number(&mut out, charged)?;
+    put_part(&mut out, run.part())?;
+    out.extend_from_slice(&begun.taken)?;
+    put_left(&mut out, run, begun.told, begun.instruction.c as usize)?;
+    out.extend_from_slice(b"\n")?;
+    Ok(out)
+}

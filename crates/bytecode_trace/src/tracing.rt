@@ -1,0 +1,67 @@
+// The trace of a program.
+ghost use Rattle.std.specs.Prelude.{◌≡◌, suc, true, IfErr, IfOk};
+ghost use Rattle.encodings.specs.Device.{HasStopped, HasTaken};
+ghost use Rattle.sieve_vm.specs.Ending.{IsOutcome};
+ghost use Rattle.sieve_vm.specs.Moment.{goes_on, turn_at};
+ghost use Rattle.bytecode_trace.specs.Printed.{trace_text};
+ghost use Rattle.bytecode_trace.specs.Private.{line_at};
+
+use crate::line::{begun, line_of};
+use bytecode_verifier::Verified;
+use encodings::{Sink, put};
+use mime_decode::Message;
+use refusals::Refusal;
+use sieve_vm::{Outcome, Progress};
+use std::alloc::Global;
+
+/// Writes the trace of an accepted program on a message, each line as its step was taken, and answers what the run came to.
+///
+/// A line has the instruction at its place, as a listing has it; behind a stroke what the step charged and the sum so far; and behind
+/// further strokes, where there are such, the number of the current part after the step, and a value. That is the one that the
+/// instruction left on top of the stack; of those that leave none the one that they took from there, or gave a variable. A text is
+/// printed between quotes, the first 80 octets of it. The sum of the last line is what the run charged.
+///
+/// # Errors
+///
+/// `Write` where the sink failed, `Memory` where an allocation was refused. Then the beginning of the trace was written.
+pub fn trace<O: Sink>(
+    alloc: Global,
+    verified: &Verified,
+    message: &Message<'_>,
+    out: &mut O,
+) -> Result<Outcome, Refusal>
+    ensures outcome { IfOk result (λ outcome. IsOutcome verified.now message.now
+        outcome.actions.items outcome.charged) }
+    ensures told { IfOk result (λ outcome. HasTaken (trace_text verified.now message.now)
+        (O.output out.old) (O.output out.new)) }
+    ensures stopped { IfErr result (λ why. HasStopped why (trace_text verified.now message.now)
+        (O.output out.old) (O.output out.new)) }
+{
+    let mut run = Progress::begin(alloc, verified, message)?;
+    'steps: while run.goes_on() {
+        run = tell_step(alloc, run, out)?;
+    }
+    Ok(run.into_outcome()?)
+}
+
+// Takes a step, and writes its line.
+fn tell_step<'p, 's, 'm, O: Sink>(
+    alloc: Global,
+    run: Progress<'p, 's, 'm>,
+    out: &mut O,
+) -> Result<Progress<'p, 's, 'm>, Refusal>
+    requires { goes_on (turn_at run) ≡ true }
+    ensures went { IfOk result (λ next. next ≡ record run.entry { steps = suc run.entry.steps }) }
+    ensures told { IfOk result (λ next. HasTaken
+        (line_at run.entry.code run.entry.mail run.entry.steps) (O.output out.old)
+        (O.output out.new)) }
+    ensures stopped { IfErr result (λ why. HasStopped why
+        (line_at run.entry.code run.entry.mail run.entry.steps) (O.output out.old)
+        (O.output out.new)) }
+{
+    let begun = begun(alloc, &run)?;
+    let run = run.advance(alloc)?;
+    let line = line_of(alloc, &begun, &run)?;
+    put(out, &line)?;
+    Ok(run)
+}

@@ -1,0 +1,13 @@
+use Rattle.std.proofs.Common.{◌≡◌, false, sym, subst}
+use Rattle.sieve_vm.specs.Ending.{IsOutcome}
+use Rattle.sieve_vm.specs.Moment.{Moment, goes_on, turn_at}
+use Rattle.sieve_vm.proofs.Moments.{over_at}
+use Rattle.sieve_vm.proofs.Steps.{outcome_of}
+use Rattle.sieve_vm.proofs.progress.Progress.into_outcome.Goals as goal
+
+pub returns : goal.returns
+returns c =
+    let p = c.self.inside in
+    let over = subst (λ (m : Moment). goes_on (turn_at m) ≡ false) (sym c.self.view_is) c.requires in
+    let at = over_at p.program.now p.message.now p.steps p.goes_on p.machine c.self.invariant.3 over in
+    subst (λ (m : Moment). IsOutcome m.code m.mail c.in_ok-into_final.field-0.items p.machine.charged) c.self.view_is (outcome_of p.program.now p.message.now p.machine c.in_ok-into_final.field-0.items (record { end = at.0; over = at.1; stands = at.2 }) c.in_ok-into_final.ensures)
