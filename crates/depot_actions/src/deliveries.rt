@@ -178,5 +178,5 @@ fn deliver_within<S: Alter>(
     if actions.is_empty() {
         return Ok(Vec::new(alloc));
     }
-    file_all(tx, alloc, user, message, &mail, &actions)
+    file_all(tx, alloc, user, message, mail, &actions)
 }

@@ -64,7 +64,8 @@ fn keep_alone(alloc: Global) -> Result<Vec<Action>, AllocError>
     Ok(actions)
 }
 
-/// Files an entry for each of the actions, of which there is at least one. The rows of the entries.
+/// Files an entry for each of the actions, of which there is at least one. The rows of the entries. The message is let go as soon as
+/// what is filed is known, so that the tree of its parts takes no memory while the store writes.
 ///
 /// # Errors
 ///
@@ -75,16 +76,16 @@ pub(crate) fn file_all<S: Alter>(
     alloc: Global,
     user: &str,
     octets: &[u8],
-    message: &Message,
+    message: Message<'_>,
     actions: &[Action],
 ) -> Result<Vec<EntryRow>, Refusal>
     requires some { 0 < length actions.now }
-    requires parts { All (NamesPart message.now) actions.now }
-    requires octets { message.now.octets ≡ octets.now }
+    requires parts { All (NamesPart message) actions.now }
+    requires octets { message.octets ≡ octets.now }
     ensures same_reference { tx.new.conn.ghost_name ≡ tx.old.conn.ghost_name }
     ensures added { IfDone S.Store tx.old.conn.now tx.new.conn.now result
         (λ rows old new. (before : Entries) → Stands old.now before
-        → Adds user.now (drafts_of message.now actions.now) (map listed rows.items) new before) }
+        → Adds user.now (drafts_of message.entry actions.now) (map listed rows.items) new before) }
     ensures open { OnDone S.Store tx.old.conn.now tx.new.conn.now result WasOpen }
     ensures inside { OnDone S.Store tx.old.conn.now tx.new.conn.now result IsInside }
     ensures schema { OnDone S.Store tx.old.conn.now tx.new.conn.now result KeepsTables }
@@ -92,14 +93,15 @@ pub(crate) fn file_all<S: Alter>(
     ensures kept { Always S.Store tx.old.conn.now tx.new.conn.now KeepsStored }
     ensures which { IfErr result MayUnfile }
     ensures refused { IfRefused S.Store tx.old.conn.now tx.new.conn.now result
-        (λ old _ e. IsUnfiled e user.now (drafts_of message.now actions.now) old) }
+        (λ old _ e. IsUnfiled e user.now (drafts_of message.entry actions.now) old) }
     ensures cause { IfRefused S.Store tx.old.conn.now tx.new.conn.now result
-        (IfInside (IsStoreFault (LackRoom user.now (drafts_of message.now actions.now)))) }
+        (IfInside (IsStoreFault (LackRoom user.now (drafts_of message.entry actions.now)))) }
     ensures survives { CommitsNothing S.Store tx.old.conn.now tx.new.conn.now }
 {
-    let kept = kept_parts(alloc, message, actions)?;
+    let kept = kept_parts(alloc, &message, actions)?;
+    let mut shared = shared_contents(alloc, &message, actions)?;
+    drop(message);
     let entries = new_entries(alloc, octets, &kept, actions)?;
-    let mut shared = shared_contents(alloc, message, actions)?;
     add_all(tx, alloc, user, &entries, &mut shared)
 }
 

@@ -1,7 +1,7 @@
 // A depot whose files stop at some call: what a command leaves is what was there, or what the command makes of it, and nothing between.
 use crate::held::{Held, held_in};
 use crate::samples::{KEEP, MESSAGE, SCRIPT};
-use depot_actions::{Depot, Refusal};
+use depot_actions::{Delivery, Depot, Refusal};
 use part_store::PartStore;
 use sqlite::{Connection, FileStore, Files, Options};
 use sqlite_disk::{Crash, Disk, Fuse, Memory};
@@ -38,6 +38,8 @@ enum Command {
     DeliverThree,
     /// A message with an attachment that another user has, too.
     DeliverPart,
+    /// Three messages for two users at once.
+    DeliverAll,
     /// An entry whose octets no other has.
     Remove,
     /// A program of version 1 among others gets version 2.
@@ -52,7 +54,7 @@ struct Row {
     leaves: [usize; 3],
 }
 
-const ROWS: [Row; 7] = [
+const ROWS: [Row; 8] = [
     Row {
         command: Command::Adopt,
         name: "adopt",
@@ -77,6 +79,12 @@ const ROWS: [Row; 7] = [
         command: Command::DeliverPart,
         name: "deliver, an attachment",
         leaves: [4, 1, 2],
+    },
+    // Beside bob's entry three entries for tom, one for ann and three for tom, of the message and its one part.
+    Row {
+        command: Command::DeliverAll,
+        name: "deliver_all, three messages",
+        leaves: [4, 2, 8],
     },
     Row {
         command: Command::Remove,
@@ -188,6 +196,28 @@ fn lay(alloc: Global, depot: &mut Depot<FileStore<Fused>>) -> Result<(), Refusal
     Ok(())
 }
 
+// Delivers three messages for two users at once.
+fn together(alloc: Global, depot: &mut Depot<FileStore<Fused>>) -> Result<(), Refusal> {
+    let deliveries = [
+        Delivery {
+            user: "tom",
+            message: MESSAGE,
+        },
+        Delivery {
+            user: "ann",
+            message: MESSAGE,
+        },
+        Delivery {
+            user: "tom",
+            message: MESSAGE,
+        },
+    ];
+    match depot.deliver_all(alloc, &deliveries) {
+        Ok(_) => Ok(()),
+        Err(refused) => Err(refused.refusal),
+    }
+}
+
 // Carries a command out on a depot.
 fn carry(
     alloc: Global,
@@ -206,6 +236,7 @@ fn carry(
             depot.deliver(alloc, "ann", MESSAGE)?;
             Ok(())
         }
+        Command::DeliverAll => together(alloc, depot),
         Command::Remove => depot.remove("bob", 1),
         Command::Migrate => {
             depot.migrate(alloc)?;

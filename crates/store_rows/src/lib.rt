@@ -15,3 +15,5 @@ mod migrating;
 pub mod samples;
 #[cfg(test)]
 mod store;
+#[cfg(test)]
+mod together;
