@@ -13,3 +13,4 @@ pub mod Surveying
 mod Examples
 pub mod StoreFaults
 pub mod Adding
+pub mod PlainMedia

@@ -6,6 +6,8 @@ pub mod Amounts
 pub mod Causes
 pub mod History
 pub mod Deliveries
+-- media types that stand on one line
+pub mod PlainMedia
 pub mod Runs
 pub mod Overviews
 -- how programs get the latest version

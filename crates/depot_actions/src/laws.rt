@@ -8,15 +8,16 @@ ghost use Rattle.sqlite.specs.Recovery.{Image};
 ghost use Rattle.sqlite.specs.State.{HasCleanDisk};
 ghost use Rattle.sqlite_trees.specs.Tree.{Trees};
 ghost use Rattle.part_store.specs.Crashes.{IsCutOff, IsRefusedOpen};
-ghost use Rattle.part_store.specs.Entries.{Entries};
+ghost use Rattle.part_store.specs.Entries.{Entries, no_entries};
 ghost use Rattle.part_store.specs.Opening.{HoldsState};
 ghost use Rattle.part_store.specs.Standing.{Stands};
 ghost use Rattle.depot_actions.specs.Amounts.{AppendsWithin, IsLimit};
 ghost use Rattle.depot_actions.specs.Causes.{IsFull, NamesNone};
 ghost use Rattle.depot_actions.specs.DepotState.{Accepts, AreActions, Command, Deliver, IsNamed, Migrate, Reply};
 ghost use Rattle.depot_actions.specs.History.{AreAnswered, AreSteps, Call};
+ghost use Rattle.depot_actions.specs.PlainMedia.{HavePlainMedia};
 ghost use Rattle.depot_actions.specs.Renewing.{RunsAs};
-ghost use Rattle.depot_actions.specs.Runs.{AreLed, HoldFold, IsRun, Leads, NotOpened, Past, Run, session_of};
+ghost use Rattle.depot_actions.specs.Runs.{AreLed, AreSessionSteps, HoldFold, IsRun, Leads, NotOpened, Past, Run, session_of};
 
 use sqlite::Alter;
 use sqlite_disk::Disk;
@@ -99,4 +100,17 @@ pub fn deliveries_stay_within_their_limit()
         → (entries octets : ℕ) × IsLimit (before.programs user) message entries octets
         × (octets ≤ (1 + max_depth) * length message)
         × AppendsWithin entries octets before after }
+{}
+
+/// No media type in a depot has a line break, whatever was filed: none is in one that holds nothing, and
+/// an accepted command brings none in. So where a depot began without there is none after calls, one after
+/// another, nor after sessions over its files, also where crashes ended them.
+pub fn media_types_have_no_line_break()
+    ensures empty { HavePlainMedia no_entries }
+    ensures accepted { (before after : Entries) (command : Command) (reply : Reply)
+        → Accepts before command reply after → HavePlainMedia before → HavePlainMedia after }
+    ensures calls { (calls : List Call) (before after : Entries)
+        → AreSteps calls before after → HavePlainMedia before → HavePlainMedia after }
+    ensures sessions { (past : List Past) (before after : Entries)
+        → AreSessionSteps past before after → HavePlainMedia before → HavePlainMedia after }
 {}
