@@ -210,7 +210,7 @@ fn push_finding(
     finding: Option<&Finding>,
 ) -> Result<(), AllocError>
     ensures { OnOk result (out.new.items ≡ out.old.items
-        ++ finding_text question (option_map (λ (f : Bor Finding). f.now) finding)) }
+        ++ finding_text question (option_map (λ (f : Bor Finding). f.now) finding.entry)) }
 {
     match finding {
         Some(Finding::Pair { value, key }) => {
