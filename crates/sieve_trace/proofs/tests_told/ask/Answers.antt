@@ -26,8 +26,7 @@ returns-clause-told g c = λ e stands.
     let strings = strings_form c.args.strings.now in
     let whole = found mail part c.args.question (texts_of e strings) in
     let truth = (test_does mail part (asks c.args.question strings c.args.at) e).value in
-    let gives = c.in_ok-value.ensures.value e stands in
-    (
+    let gives = c.in_ok-value.ensures.value e stands in (
       gives,
       shown_told (sheet_of c.args.page mail) c.args.at part c.args.question c.in_ok-value.value truth _ whole gives.0 (c.as_ref.ensures.value ∙ c.in_ok-value.ensures.found e stands) c.in_ok-tell.ensures.ok,
     )
