@@ -13,13 +13,13 @@ Kinds of events.
     $ printf 'require "fileinto";\nif header :contains "subject" "bill" {\n  fileinto "Bills";\n} else {\n  discard;\n}\n' > script
     $ printf 'Subject: the bill\n\n' > message
     $ depot trace script message
-    script:2:4: header yes
+    script:2:4: header yes "the bill" contains "bill"
     script:3:3: fileinto "Bills"
     fileinto "Bills"
     charged 74 of 274
     $ printf 'Subject: other\n\n' > message
     $ depot trace script message
-    script:2:4: header no
+    script:2:4: header no, 1 value
     script:5:3: discard
     none
     charged 52 of 235
@@ -42,7 +42,7 @@ Kinds of events.
     $ printf 'require "variables";\nset :upper "A" "b";\nif string :matches "${a}c" "B?" { set "d" "${1}${a}"; }\n' > script
     $ depot trace script /dev/null
     script:2:1: set "a" "B"
-    script:3:4: string yes
+    script:3:4: string yes "Bc" matches "B?"
     script:3:35: set "d" "cB"
     keep
     charged 29 of 32789

@@ -108,11 +108,7 @@ pub(crate) fn first_key_of_lent<'a, K: Texts, T: Telling>(
 
 /// How a value compares with the first of the keys that it matches.
 #[inline(always)]
-pub(crate) fn first_comparison<'k, K: Texts>(
-    value: &[u8],
-    keys: &'k K,
-    how: Match,
-) -> Compared<'k>
+pub(crate) fn first_comparison<'k, K: Texts>(value: &[u8], keys: &'k K, how: Match) -> Compared<'k>
     requires value { length value.now ≤ max_message }
     requires keys { AreTexts (K.texts keys.now) }
     ensures captures { (captures : List (List ℕ))

@@ -87,6 +87,7 @@ impl Telling for Found {
     ghost is_free = { ⊥ };
 
     fn missed(&mut self) {
+        // No memory holds so many values that the count would stop.
         if let Finding::NoneOf(number) = &mut self.finding {
             *number = number.saturating_add(1);
         }

@@ -28,8 +28,9 @@ use std::alloc::{AllocError, Global};
 /// Values are taken part by part, in each name by name, for each field by field, and for each parameter name by name; for each
 /// value the keys in order. A value is unfolded at most once for each name that selects it, and none after the one that matches,
 /// but where its type or its parameters have to be read: of a type's value 128 octets at first, and all where these don't
-/// settle it; a longer field's type is kept with the message then, and isn't read again. The parameters of a value are gone over once, however many are asked for. `params` are the names of the
-/// parameters, which [`Selector::Param`](bytecode_format::Selector::Param) asks for. The cost of 1,024 names, 1,024 parameters and 1,024
+/// settle it; a longer field's type is kept with the message then, and isn't read again. The parameters of a value are gone over
+/// once, however many are asked for. `params` are the names of the parameters, which
+/// [`Selector::Param`](bytecode_format::Selector::Param) asks for. The cost of 1,024 names, 1,024 parameters and 1,024
 /// keys of 16,384 octets in the largest message is below 2^71.
 ///
 /// # Errors

@@ -15,7 +15,9 @@ ghost use Rattle.sieve_meaning.specs.Traced.{found};
 use crate::subject::Subject;
 use bytecode_format::FieldTest;
 use glob_match::Match;
-use mail_matching::{Answer, Finding, HeaderTest, Outcome, exists, find_body, find_digest, find_header, find_string};
+use mail_matching::{
+    Answer, Finding, HeaderTest, Outcome, exists, find_body, find_digest, find_header, find_string,
+};
 use mime_decode::digest_of;
 use octets::Octets;
 use sieve_check::{Order, Question};

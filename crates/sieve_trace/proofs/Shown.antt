@@ -1,14 +1,22 @@
 -- The first octets of what a test finds are enough for its line.
-use Rattle.std.proofs.Common.{◌≡◌, ℕ, ◌+◌, ◌≤◌, Bool, true, false, List, ◌++◌, nat_le, length, take, Option, None, Some, option_map, refl, sym, ◌∙◌, ap, subst, inl, inr, arith, codes, if◌then◌else◌}
-use Rattle.std.proofs.lemmas.Bool.{cases_Bool}
+use Rattle.std.proofs.Common.{◌≡◌, ℕ, Bool, true, false, List, [], ◌∷◌, ◌++◌, slice_get, nat_le, length, take, Option, None, Some, option_map, refl, sym, ◌∙◌, ap, subst, inl, inr, arith, codes, if◌then◌else◌}
+use Rattle.std.proofs.lemmas.Bool.{cases_Bool, leb-false, leb-true}
 use Rattle.std.proofs.lemmas.List.{length-take, take-take, take_all}
+use Rattle.encodings.specs.Device.{HasTaken, Output}
 use Rattle.mail_matching.specs.Findings.{shortened}
 use Rattle.mail_matching.specs.declared.finding.Finding.{Finding}
 use Rattle.mail_matching.specs.declared.finding.Finding.TheVariants.{Pair, NoneOf}
+use Rattle.mime_decode.specs.Mail.{Mail}
 use Rattle.sieve_check.specs.declared.typed.Question.{Question}
 use Rattle.sieve_meaning.specs.Traced.{Occurrence, asked, event}
-use Rattle.sieve_trace.specs.Printed.{Sheet, comparison_word, escaped, event_line, event_text, finding_text, max_shown, occurrence_text, question_word, quoted, value_text}
-use Rattle.sieve_trace.specs.declared.line.Setting.TheVariants.{Quotes}
+use Rattle.sieve_trace.specs.Printed.{Sheet, comparison_word, escaped, event_line, event_text, finding_text, max_shown, occurrence_text, part_text, place_text, question_word, quoted, told, value_text}
+use Rattle.sieve_trace.specs.Private.{occurrence_of}
+use Rattle.sieve_trace.specs.Written.{HasStopped}
+use Rattle.sieve_trace.specs.declared.error.TraceError.{TraceError}
+use Rattle.sieve_trace.specs.declared.line.Setting.TheVariants.{Name, Quotes}
+use Rattle.sieve_trace.specs.declared.line.Told.{Told}
+use Rattle.sieve_trace.specs.declared.line.Told.TheVariants.{Asked, Not, AllOf, AnyOf, Acted, Turn}
+use Rattle.sieve_trace.proofs.SoFar.{stopped_one, told_one}
 
 -- one octet more than are printed
 abbrev kept : ℕ
@@ -16,19 +24,19 @@ kept = 81
 
 long_kept : (text : List ℕ) → nat_le (length text) max_shown ≡ false → nat_le (length (take kept text)) max_shown ≡ false
 long_kept text long = elim (cases_Bool (nat_le (length (take kept text)) max_shown)) [
-  | inl short ↦ absurd (omega (arith, long, short, length-take kept text))
+  | inl short ↦ absurd (omega (arith, leb-false (length text) max_shown long, leb-true (length (take kept text)) max_shown short, length-take kept text))
   | inr so ↦ so
 ]
 
+cut : (text : List ℕ) → nat_le (length text) max_shown ≡ false → quoted (take kept text) ≡ quoted text
+unfolding quoted
+cut text long = rw (long_kept text long, long) (ap (λ t. codes "\"" ++ escaped Quotes t ++ codes "\"..") (take-take max_shown kept text (omega arith)))
+
 same_quoted : (text : List ℕ) → quoted (take kept text) ≡ quoted text
 same_quoted text = elim (cases_Bool (nat_le (length text) max_shown)) [
-  | inl short ↦ ap quoted (take_all kept text (omega (arith, short)))
+  | inl short ↦ ap quoted (take_all kept text (omega (arith, leb-true (length text) max_shown short)))
   | inr long ↦ cut text long
 ]
-  where
-    cut : (text : List ℕ) → nat_le (length text) max_shown ≡ false → quoted (take kept text) ≡ quoted text
-    unfolding quoted
-    cut text long = rw (long_kept text long, long) (ap (λ t. codes "\"" ++ escaped Quotes t ++ codes "\"..") (take-take max_shown kept text (omega arith)))
 
 same_finding : (question : Question) (finding : Option Finding) → finding_text question (option_map (shortened kept) finding) ≡ finding_text question finding
 unfolding finding_text
@@ -46,11 +54,41 @@ same_event : (page : Sheet) (part : Option ℕ) (question : Question) (value : B
 unfolding event_text
 same_event page None question value finding = same_occurrence question value finding
 same_event page (Some number) question value finding =
-    ap (λ t. Rattle.sieve_trace.specs.Printed.part_text page.mail number ++ codes " " ++ t) (same_occurrence question value finding)
+    ap (λ t. part_text page.mail number ++ codes " " ++ t) (same_occurrence question value finding)
 
-pub same_line : (page : Sheet) (at : ℕ) (part : Option ℕ) (question : Question) (value : Bool) (finding : Option Finding)
+same_line : (page : Sheet) (at : ℕ) (part : Option ℕ) (question : Question) (value : Bool) (finding : Option Finding)
     → event_line page (event at part (asked question value (option_map (shortened kept) finding))) ≡ event_line page (event at part (asked question value finding))
 unfolding event_line
 same_line page at part question value finding =
-    ap (λ t. escaped Rattle.sieve_trace.specs.declared.line.Setting.TheVariants.Name page.name ++ Rattle.sieve_trace.specs.Printed.place_text (Rattle.std.specs.Prelude.slice_get page.places at) ++ codes ": " ++ t ++ 10 ∷ [])
+    ap (λ t. escaped Name page.name ++ place_text (slice_get page.places at) ++ codes ": " ++ t ++ 10 ∷ [])
     (same_event page part question value finding)
+
+-- it has the line of what was kept
+shown_line : (page : Sheet) (at : ℕ) (part : Option ℕ) (question : Question) (value truth : Bool) (some whole : Option Finding) → truth ≡ value → some ≡ option_map (shortened kept) whole
+    → event_line page (event at part (asked question value some)) ≡ event_line page (event at part (asked question truth whole))
+shown_line page at part question value truth some whole so is =
+    ap (λ f. event_line page (event at part (asked question value f))) is
+    ∙ same_line page at part question value whole
+    ∙ ap (λ b. event_line page (event at part (asked question b whole))) (sym so)
+
+pub shown_told : {s0 s1 : Output} (page : Sheet) (at : ℕ) (part : Option ℕ) (question : Question) (value truth : Bool) (some whole : Option Finding) → truth ≡ value → some ≡ option_map (shortened kept) whole
+    → HasTaken (event_line page (event at part (asked question value some))) s0 s1 → HasTaken (told page (event at part (asked question truth whole) ∷ [])) s0 s1
+shown_told {s0} {s1} page at part question value truth some whole so is h =
+    told_one page (event at part (asked question truth whole)) (subst (λ t. HasTaken t s0 s1) (shown_line page at part question value truth some whole so is) h)
+
+pub shown_stopped : (s0 s1 : Output) (why : TraceError) (page : Sheet) (at : ℕ) (part : Option ℕ) (question : Question) (value truth : Bool) (some whole : Option Finding) → truth ≡ value → some ≡ option_map (shortened kept) whole
+    → HasStopped why (event_line page (event at part (asked question value some))) s0 s1 → HasStopped why (told page (event at part (asked question truth whole) ∷ [])) s0 s1
+shown_stopped s0 s1 why page at part question value truth some whole so is h =
+    stopped_one s0 s1 why page (event at part (asked question truth whole)) (subst (λ t. HasStopped why t s0 s1) (shown_line page at part question value truth some whole so is) h)
+
+-- ---- what is told in a turn of a loop
+
+pub behind_its_part : (mail : Mail) (number : ℕ) (what : Told) → (what ≡ Turn → ⊥)
+    → event_text mail (Some number) (occurrence_of what) ≡ part_text mail number ++ codes " " ++ occurrence_text (occurrence_of what)
+unfolding event_text
+behind_its_part mail number (Asked question value finding) other = refl
+behind_its_part mail number (Not value) other = refl
+behind_its_part mail number (AllOf value) other = refl
+behind_its_part mail number (AnyOf value) other = refl
+behind_its_part mail number (Acted act text) other = refl
+behind_its_part mail number Turn other = absurd (other refl)

@@ -6,7 +6,8 @@ ghost use Rattle.mail_matching.specs.declared.finding.Finding.{Finding};
 ghost use Rattle.mime_decode.specs.Mail.{Mail};
 ghost use Rattle.sieve_meaning.specs.Traced.{event};
 ghost use Rattle.sieve_trace.specs.Printed as Printed;
-ghost use Rattle.sieve_trace.specs.Printed.{act_text, comparison_word, escaped, escaped_octet, event_line, event_text, finding_text, kind_word, media_of, occurrence_text, part_text, place_text, question_word, quoted, value_text, values_text};
+ghost use Rattle.sieve_trace.specs.Printed.{act_text, comparison_word, escaped, escaped_octet, event_line, event_text, finding_text, kind_word};
+ghost use Rattle.sieve_trace.specs.Printed.{media_of, occurrence_text, part_text, place_text, question_word, quoted, value_text, values_text};
 ghost use Rattle.sieve_trace.specs.Private.{occurrence_of, sheet_of};
 
 use crate::places::Place;
@@ -166,7 +167,8 @@ fn comparison_word(question: Question) -> &'static [u8]
         Question::Header(test) => kind_word(test.how.kind),
         Question::String(how) | Question::PartBody(how) => kind_word(how.kind),
         Question::PartDigest => b"is",
-        Question::Constant(_) | Question::Exists(_) | Question::Size(..) | Question::PartSize(..) => b"",
+        Question::Constant(_) | Question::Exists(_) | Question::Size(..) | Question::PartSize(..) =>
+            b"",
     }
 }
 
@@ -187,12 +189,7 @@ fn push_values(out: &mut Vec<u8>, number: u64) -> Result<(), AllocError>
 }
 
 // Appends a value and a key that match, and how they were compared.
-fn push_pair(
-    out: &mut Vec<u8>,
-    value: &[u8],
-    word: &[u8],
-    key: &[u8],
-) -> Result<(), AllocError>
+fn push_pair(out: &mut Vec<u8>, value: &[u8], word: &[u8], key: &[u8]) -> Result<(), AllocError>
     ensures { OnOk result (out.new.items ≡ out.old.items
         ++ (codes " " ++ quoted value.now ++ codes " " ++ word.now ++ codes " " ++ quoted key.now)) }
 {
@@ -210,11 +207,16 @@ fn push_finding(
     finding: Option<&Finding>,
 ) -> Result<(), AllocError>
     ensures { OnOk result (out.new.items ≡ out.old.items
-        ++ finding_text question (option_map (λ (f : Bor Finding). f.now) finding)) }
+        ++ finding_text question (option_map (λ (f : Bor Finding). f.now) finding.entry)) }
 {
     match finding {
         Some(Finding::Pair { value, key }) => {
-            push_pair(out, value.as_slice(), comparison_word(question), key.as_slice())
+            push_pair(
+                out,
+                value.as_slice(),
+                comparison_word(question),
+                key.as_slice(),
+            )
         }
         Some(Finding::NoneOf(number)) => {
             out.extend_from_slice(b", ")?;

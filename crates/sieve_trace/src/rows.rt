@@ -1,33 +1,71 @@
 // Scripts traced on small mails.
-use crate::{token_places, trace};
+use crate::{TraceError, token_places, trace};
 use encodings::OfWrite;
 use mime_decode::Message;
 use sieve_check::check;
 use sieve_parser::parse;
 use std::alloc::Global;
+use std::io;
+use std::io::Write;
 use std::test::Fail;
 
 /// A text with two parts below it, of which the second is a PDF.
 const MAIL: &[u8] =
     b"From: ann@example.org\nSubject: Invoice 12\nX-A: a\n b\nContent-Type: multipart/mixed; boundary=o\n\n--o\n\nhello\n--o\nContent-Type: application/pdf\n\nx\n--o--\n";
 
-/// The trace of a script on the mail, where it is written to its end.
-fn traced(alloc: Global, script: &[u8]) -> Result<Vec<u8>, Fail> {
+/// The trace of a script on a mail, where it is written to its end.
+fn traced(alloc: Global, script: &[u8], mail: &[u8]) -> Result<Vec<u8>, Fail> {
     let checked = check(alloc, parse(alloc, script)?)?;
     let places = token_places(alloc, script)?;
-    let message = Message::read(alloc, MAIL)?;
+    let message = Message::read(alloc, mail)?;
     let mut out = OfWrite::new(Vec::new(alloc));
     let _actions = trace(alloc, "f.sieve", &places, &checked, &message, &mut out)?;
     Ok(out.inner)
 }
 
 /// Scripts with their traces.
-const ROWS: [(&[u8], &[u8]); 9] = [
+const ROWS: [(&[u8], &[u8]); 21] = [
     (b"", b""),
     (b"keep;", b"f.sieve:1:1: keep\n"),
     (
         b"require \"fileinto\";\nif header :contains \"subject\" \"nvoi\" {\n  fileinto \"in\\\"voices\";\n} else {\n  keep;\n}\n",
-        b"f.sieve:2:4: header yes\nf.sieve:3:3: fileinto \"in\\22voices\"\n",
+        b"f.sieve:2:4: header yes \"Invoice 12\" contains \"nvoi\"\nf.sieve:3:3: fileinto \"in\\22voices\"\n",
+    ),
+    (
+        b"if header :is [\"from\", \"x-b\", \"subject\"] [\"a\", \"b\", \"c\"] { stop; }",
+        b"f.sieve:1:4: header no, 2 values\n",
+    ),
+    (
+        b"if header \"x-b\" \"a\" { stop; }",
+        b"f.sieve:1:4: header no, 0 values\n",
+    ),
+    (
+        b"if header :matches [\"from\", \"x-a\"] [\"x*\", \"A*\", \"*\"] { stop; }",
+        b"f.sieve:1:4: header yes \"ann@example.org\" matches \"A*\"\nf.sieve:1:59: stop\n",
+    ),
+    (
+        b"require \"mime\";\nif header :mime :type \"content-type\" [\"text\", \"multipart\"] { stop; }",
+        b"f.sieve:2:4: header yes \"multipart\" is \"multipart\"\nf.sieve:2:64: stop\n",
+    ),
+    (
+        b"require \"mime\";\nif header :mime :anychild :subtype \"content-type\" \"PDF\" { stop; }",
+        b"f.sieve:2:4: header yes \"pdf\" is \"PDF\"\nf.sieve:2:57: stop\n",
+    ),
+    (
+        b"require \"mime\";\nif header :mime :anychild :type \"content-type\" \"image\" { stop; }",
+        b"f.sieve:2:4: header no, 2 values\n",
+    ),
+    (
+        b"require \"mime\";\nif header :mime :anychild :contenttype :contains \"content-type\" \"n/p\" { stop; }",
+        b"f.sieve:2:4: header yes \"application/pdf\" contains \"n/p\"\nf.sieve:2:71: stop\n",
+    ),
+    (
+        b"require \"mime\";\nif header :mime :param [\"charset\", \"boundary\"] \"content-type\" \"o\" { stop; }",
+        b"f.sieve:2:4: header yes \"o\" is \"o\"\nf.sieve:2:69: stop\n",
+    ),
+    (
+        b"require \"mime\";\nif header :mime :param [\"charset\", \"boundary\"] \"content-type\" \"x\" { stop; }",
+        b"f.sieve:2:4: header no, 1 value\n",
     ),
     (
         b"if anyof (size :over 1M, exists \"x-a\", false) { discard; stop; }\nkeep;",
@@ -39,7 +77,11 @@ const ROWS: [(&[u8], &[u8]); 9] = [
     ),
     (
         b"require \"variables\";\nset :upper \"A\" \"b\";\nif string :matches \"${a}c\" \"B?\" { set \"d\" \"${1}${a}\"; }",
-        b"f.sieve:2:1: set \"a\" \"B\"\nf.sieve:3:4: string yes\nf.sieve:3:35: set \"d\" \"cB\"\n",
+        b"f.sieve:2:1: set \"a\" \"B\"\nf.sieve:3:4: string yes \"Bc\" matches \"B?\"\nf.sieve:3:35: set \"d\" \"cB\"\n",
+    ),
+    (
+        b"require [\"variables\", \"fileinto\"];\nset \"a\" \"Lists\";\nif string :contains [\"a\", \"bc\", \"cb\"] [\"x\", \"b\"] { fileinto \"${a}/b\"; }\nif string [\"\", \"a\", \"b\"] \"c\" { stop; }",
+        b"f.sieve:2:1: set \"a\" \"Lists\"\nf.sieve:3:4: string yes \"bc\" contains \"b\"\nf.sieve:3:54: fileinto \"Lists/b\"\nf.sieve:4:4: string no, 3 values\n",
     ),
     (
         b"require \"foreverypart\";\nforeverypart { keep; }",
@@ -53,12 +95,20 @@ const ROWS: [(&[u8], &[u8]); 9] = [
         b"require \"foreverypart\";\nforeverypart { foreverypart { break; } break; }\nkeep;",
         b"f.sieve:2:1: foreverypart part 0 multipart/mixed\nf.sieve:2:16: foreverypart part 1 text/plain\nf.sieve:2:31: part 1 text/plain break 1\nf.sieve:2:40: part 0 multipart/mixed break 1\nf.sieve:3:1: keep\n",
     ),
+    (
+        b"require [\"foreverypart\", \"vnd.depot\"];\nforeverypart { foreverypart {\nif partbody :contains [\"y\", \"EL\"] { store \"S\"; }\nif partdigest [\"a\", \"2d711642b726b04401627ca9fbac32f5c8530fb1903cc4db02258717921a4881\"] { keep; }\n} break; }",
+        b"f.sieve:2:1: foreverypart part 0 multipart/mixed\nf.sieve:2:16: foreverypart part 1 text/plain\nf.sieve:3:4: part 1 text/plain partbody yes \"hello\" contains \"EL\"\nf.sieve:3:36: part 1 text/plain store \"S\"\nf.sieve:4:4: part 1 text/plain partdigest no, 1 value\nf.sieve:2:16: foreverypart part 2 application/pdf\nf.sieve:3:4: part 2 application/pdf partbody no, 1 value\nf.sieve:4:4: part 2 application/pdf partdigest yes \"2d711642b726b04401627ca9fbac32f5c8530fb1903cc4db02258717921a4881\" is \"2d711642b726b04401627ca9fbac32f5c8530fb1903cc4db02258717921a4881\"\nf.sieve:4:90: part 2 application/pdf keep\nf.sieve:5:3: part 0 multipart/mixed break 1\n",
+    ),
+    (
+        b"require [\"foreverypart\", \"vnd.depot\", \"variables\"];\nforeverypart { foreverypart { if partsize :over 3 { take :first 4 \"v\"; } } break; }",
+        b"f.sieve:2:1: foreverypart part 0 multipart/mixed\nf.sieve:2:16: foreverypart part 1 text/plain\nf.sieve:2:34: part 1 text/plain partsize yes\nf.sieve:2:53: part 1 text/plain take \"v\" \"hell\"\nf.sieve:2:16: foreverypart part 2 application/pdf\nf.sieve:2:34: part 2 application/pdf partsize no\nf.sieve:2:76: part 0 multipart/mixed break 1\n",
+    ),
 ];
 
 #[test]
 fn each_kind_of_event(rt: HostRuntime) -> Result<(), Fail> {
     for (script, told) in ROWS {
-        let text = traced(rt.alloc(), script)?;
+        let text = traced(rt.alloc(), script, MAIL)?;
         assert!(rt; text.as_slice() == told, "{:?}", std::str::from_utf8(&text));
     }
     Ok(())
@@ -77,7 +127,7 @@ fn a_folder_of_81_octets(rt: HostRuntime) -> Result<(), Fail> {
     }
     script.extend_from_slice(b"\";")?;
     told.extend_from_slice(b"\"..\n")?;
-    assert!(rt; traced(alloc, &script)? == told);
+    assert!(rt; traced(alloc, &script, MAIL)? == told);
     Ok(())
 }
 
@@ -88,8 +138,86 @@ fn many_commands(rt: HostRuntime) -> Result<(), Fail> {
     for _ in 0..5_000 {
         script.extend_from_slice(b"keep;\n")?;
     }
-    let text = traced(alloc, &script)?;
+    let text = traced(alloc, &script, MAIL)?;
     assert!(rt; text.starts_with(b"f.sieve:1:1: keep\nf.sieve:2:1: keep\n"));
     assert!(rt; text.ends_with(b"f.sieve:5000:1: keep\n"));
+    Ok(())
+}
+
+#[test]
+fn a_value_that_is_cut_and_one_that_cannot_be_printed(rt: HostRuntime) -> Result<(), Fail> {
+    let alloc = rt.alloc();
+    let mut mail = Vec::from_slice(alloc, b"Subject: \xc3\xa9 \"")?;
+    let mut told = Vec::from_slice(alloc, b"f.sieve:1:4: header yes \"\\c3\\a9 \\22")?;
+    for place in 0..90 {
+        mail.push(b'a')?;
+        if place < 76 {
+            told.push(b'a')?;
+        }
+    }
+    mail.extend_from_slice(b"\n\n")?;
+    told.extend_from_slice(b"\".. matches \"*\\22a*\"\n")?;
+    let script = b"if header :matches \"subject\" \"*\\\"a*\" {}";
+    assert!(rt; traced(alloc, script, &mail)? == told);
+    Ok(())
+}
+
+#[test]
+fn many_values(rt: HostRuntime) -> Result<(), Fail> {
+    let alloc = rt.alloc();
+    let mut mail = Vec::new(alloc);
+    for _ in 0..20_000 {
+        mail.extend_from_slice(b"A: b\n")?;
+    }
+    mail.push(b'\n')?;
+    let told = traced(alloc, b"if header [\"a\", \"b\", \"a\"] \"c\" {}", &mail)?;
+    assert!(rt; told == b"f.sieve:1:4: header no, 40000 values\n");
+    Ok(())
+}
+
+/// Takes so many octets, and then no more.
+#[derive(Drop)]
+struct Full {
+    room: usize,
+    taken: Vec<u8>,
+}
+
+impl Write for Full {
+    ghost use Rattle.std.specs.Prelude.{Some};
+
+    ghost contents = { λ s. Some s.taken.items };
+
+    fn write(&mut self, octets: &[u8]) -> io::Result<usize> {
+        let n = octets.len().min(self.room);
+        if n == 0 && !octets.is_empty() {
+            return Err(io::Error::from(io::ErrorKind::StorageFull));
+        }
+        self.taken.extend_from_slice(&octets[..n])?;
+        self.room -= n;
+        Ok(n)
+    }
+
+    fn flush(&mut self) -> io::Result<()> {
+        Ok(())
+    }
+}
+
+#[test]
+fn a_sink_that_fails_in_the_middle(rt: HostRuntime) -> Result<(), Fail> {
+    let alloc = rt.alloc();
+    let script = b"if header :contains \"subject\" \"nvoi\" { keep; } stop;";
+    let whole = traced(alloc, script, MAIL)?;
+    let checked = check(alloc, parse(alloc, script)?)?;
+    let places = token_places(alloc, script)?;
+    let message = Message::read(alloc, MAIL)?;
+    for room in 0..whole.len() {
+        let mut out = OfWrite::new(Full {
+            room,
+            taken: Vec::new(alloc),
+        });
+        let told = trace(alloc, "f.sieve", &places, &checked, &message, &mut out);
+        assert!(rt; matches!(told, Err(TraceError::Write)));
+        assert!(rt; out.inner.taken == whole[..room]);
+    }
     Ok(())
 }

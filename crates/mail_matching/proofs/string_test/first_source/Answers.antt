@@ -14,8 +14,7 @@ loop-place-preserved g c =
     let outcome = c.in_ok-outcome.outcome in
     let comes = c.in_ok-outcome.ensures.outcome in
     let lt : place < length sources = omega (arith, c.loop-place-test.true, c.count-place-end.ensures) in
-    let so = sym c.holds.ensures ∙ c.if-holds.false in
-    (
+    let so = sym c.holds.ensures ∙ c.if-holds.false in (
       λ captures. sym (match_left how sources keys place value outcome captures lt c.text.ensures so (comes captures)) ∙ c.loop-place.invariant.0 captures,
       sym (pair_left how sources keys place value outcome lt c.text.ensures so comes) ∙ c.loop-place.invariant.1,
       λ most known. subst (g.T.Telling.knows most c.first_key_of_lent.new.told) (one_missed how place value keys outcome so comes) (c.in_ok-outcome.ensures.found most place (c.loop-place.invariant.2 most known)),
