@@ -41,15 +41,15 @@ const ROWS: [(&[u8], &[u8]); 21] = [
     ),
     (
         b"if header :matches [\"from\", \"x-a\"] [\"x*\", \"A*\", \"*\"] { stop; }",
-        b"f.sieve:1:4: header yes \"ann@example.org\" matches \"A*\"\nf.sieve:1:59: stop\n",
+        b"f.sieve:1:4: header yes \"ann@example.org\" matches \"A*\"\nf.sieve:1:56: stop\n",
     ),
     (
         b"require \"mime\";\nif header :mime :type \"content-type\" [\"text\", \"multipart\"] { stop; }",
-        b"f.sieve:2:4: header yes \"multipart\" is \"multipart\"\nf.sieve:2:64: stop\n",
+        b"f.sieve:2:4: header yes \"multipart\" is \"multipart\"\nf.sieve:2:62: stop\n",
     ),
     (
         b"require \"mime\";\nif header :mime :anychild :subtype \"content-type\" \"PDF\" { stop; }",
-        b"f.sieve:2:4: header yes \"pdf\" is \"PDF\"\nf.sieve:2:57: stop\n",
+        b"f.sieve:2:4: header yes \"pdf\" is \"PDF\"\nf.sieve:2:59: stop\n",
     ),
     (
         b"require \"mime\";\nif header :mime :anychild :type \"content-type\" \"image\" { stop; }",
@@ -57,7 +57,7 @@ const ROWS: [(&[u8], &[u8]); 21] = [
     ),
     (
         b"require \"mime\";\nif header :mime :anychild :contenttype :contains \"content-type\" \"n/p\" { stop; }",
-        b"f.sieve:2:4: header yes \"application/pdf\" contains \"n/p\"\nf.sieve:2:71: stop\n",
+        b"f.sieve:2:4: header yes \"application/pdf\" contains \"n/p\"\nf.sieve:2:73: stop\n",
     ),
     (
         b"require \"mime\";\nif header :mime :param [\"charset\", \"boundary\"] \"content-type\" \"o\" { stop; }",
@@ -81,7 +81,7 @@ const ROWS: [(&[u8], &[u8]); 21] = [
     ),
     (
         b"require [\"variables\", \"fileinto\"];\nset \"a\" \"Lists\";\nif string :contains [\"a\", \"bc\", \"cb\"] [\"x\", \"b\"] { fileinto \"${a}/b\"; }\nif string [\"\", \"a\", \"b\"] \"c\" { stop; }",
-        b"f.sieve:2:1: set \"a\" \"Lists\"\nf.sieve:3:4: string yes \"bc\" contains \"b\"\nf.sieve:3:54: fileinto \"Lists/b\"\nf.sieve:4:4: string no, 3 values\n",
+        b"f.sieve:2:1: set \"a\" \"Lists\"\nf.sieve:3:4: string yes \"bc\" contains \"b\"\nf.sieve:3:52: fileinto \"Lists/b\"\nf.sieve:4:4: string no, 3 values\n",
     ),
     (
         b"require \"foreverypart\";\nforeverypart { keep; }",
@@ -171,7 +171,7 @@ fn many_values(rt: HostRuntime) -> Result<(), Fail> {
     }
     mail.push(b'\n')?;
     let told = traced(alloc, b"if header [\"a\", \"b\", \"a\"] \"c\" {}", &mail)?;
-    assert!(rt; told == b"f.sieve:1:4: header no, 40000 values\n");
+    assert!(rt; told.as_slice() == b"f.sieve:1:4: header no, 40000 values\n".as_slice());
     Ok(())
 }
 
@@ -217,7 +217,7 @@ fn a_sink_that_fails_in_the_middle(rt: HostRuntime) -> Result<(), Fail> {
         });
         let told = trace(alloc, "f.sieve", &places, &checked, &message, &mut out);
         assert!(rt; matches!(told, Err(TraceError::Write)));
-        assert!(rt; out.inner.taken == whole[..room]);
+        assert!(rt; out.inner.taken.as_slice() == &whole[..room]);
     }
     Ok(())
 }
