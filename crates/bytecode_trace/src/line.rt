@@ -99,7 +99,7 @@ fn taken_text(alloc: Global, run: &Progress<'_, '_, '_>, told: Told) -> Result<V
 }
 
 /// What is known of a run's next step.
-pub fn begun(alloc: Global, run: &Progress<'_, '_, '_>) -> Result<Begun, AllocError>
+pub fn begin_step(alloc: Global, run: &Progress<'_, '_, '_>) -> Result<Begun, AllocError>
     requires { goes_on (turn_at run.now) ≡ true }
     ensures { IfOk result (λ begun. (before : State) → state_at run.now ≡ Some before
         → IsBegun run.now.code before begun) }
