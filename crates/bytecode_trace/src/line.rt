@@ -134,7 +134,6 @@ fn put_left(
 }
 
 /// The line of a step that was taken.
-#[tactic(auto, unfolding(crate::specs::Printed::line_of))]
 pub fn line_of(
     alloc: Global,
     begun: &Begun,
