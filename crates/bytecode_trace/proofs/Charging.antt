@@ -60,31 +60,27 @@ module _ (code : Code) (mail : Mail) (is : IsAccepted code) (known : IsMail mail
   -- each of the steps from there
   pub all_charged : (most : ℕ) (s : State) → IsReached code mail s → All (IsCharged code mail) (steps_from code mail most s)
   all_charged zero s there = All-nil (IsCharged code mail)
-  all_charged (suc most) s there = by_turn (step code mail s) refl
+  all_charged (suc most) s there = by_turn (step code mail s) refl (λ t at. all_charged most t at)
     where
-      by_turn : (u : Turn) → step code mail s ≡ u → All (IsCharged code mail) (and_then s u (steps_from code mail most))
-      by_turn (goes t) e =
+      by_turn : (u : Turn) → step code mail s ≡ u → ((t : State) → IsReached code mail t → All (IsCharged code mail) (steps_from code mail most t)) → All (IsCharged code mail) (and_then s u (steps_from code mail most))
+      by_turn (goes t) e others =
           let sound : IsSound code mail s (goes t) = subst (IsSound code mail s) e (step_is_sound code mail is known s there) in
-          All-cons (IsCharged code mail) _ _ (charged_step s t there (ap state_in e)) (all_charged most t sound.0)
-      by_turn (ends t) e = All-cons (IsCharged code mail) _ _ (charged_step s t there (ap state_in e)) (All-nil (IsCharged code mail))
-      by_turn traps e = All-nil (IsCharged code mail)
-
-  -- what is charged by a step
-  pub charge_in : TakenStep → ℕ
-  charge_in taken = taken.after.charge - taken.before.charge
+          All-cons (IsCharged code mail) (record { before = s; after = t }) (steps_from code mail most t) (charged_step s t there (ap state_in e)) (others t sound.0)
+      by_turn (ends t) e others = All-cons (IsCharged code mail) (record { before = s; after = t }) [] (charged_step s t there (ap state_in e)) (All-nil (IsCharged code mail))
+      by_turn traps e others = All-nil (IsCharged code mail)
 
   -- along a run up to its end
   pub charged_in_all : (n most : ℕ) (from last end : State) → n < most → IsReached code mail from → Run code mail n from last → step code mail last ≡ ends end → sum_by (λ (taken : TakenStep). taken.after.charge - taken.before.charge) (steps_from code mail most from) + from.charge ≡ end.charge
-  charged_in_all n zero from last end below there run halts = absurd (omega (arith, below))
-  charged_in_all zero (suc most) from last end below there run halts =
-      let one : step code mail from ≡ ends end = subst (λ s. step code mail s ≡ ends end) (sym run) halts in
+  charged_in_all n zero from last end below there run last_one = absurd (omega (arith, below))
+  charged_in_all zero (suc most) from last end below there run last_one =
+      let one : step code mail from ≡ ends end = subst (λ s. step code mail s ≡ ends end) (sym run) last_one in
       let sound : IsSound code mail from (ends end) = subst (IsSound code mail from) one (step_is_sound code mail is known from there) in
       let sum = sum_by-cons (λ (taken : TakenStep). taken.after.charge - taken.before.charge) (record { before = from; after = end }) [] in
       ap (λ u. sum_by (λ (taken : TakenStep). taken.after.charge - taken.before.charge) (and_then from u (steps_from code mail most)) + from.charge) one
       ∙ omega (arith, sum, sound.0.dearer)
-  charged_in_all (suc n) (suc most) from last end below there run halts =
+  charged_in_all (suc n) (suc most) from last end below there run last_one =
       let sound : IsSound code mail from (goes run.0) = subst (IsSound code mail from) run.1 (step_is_sound code mail is known from there) in
-      let rest = charged_in_all n most run.0 last end (omega (arith, below)) sound.0 run.2 halts in
+      let rest = charged_in_all n most run.0 last end (omega (arith, below)) sound.0 run.2 last_one in
       let sum = sum_by-cons (λ (taken : TakenStep). taken.after.charge - taken.before.charge) (record { before = from; after = run.0 }) (steps_from code mail most run.0) in
       ap (λ u. sum_by (λ (taken : TakenStep). taken.after.charge - taken.before.charge) (and_then from u (steps_from code mail most)) + from.charge) run.1
       ∙ omega (arith, sum, rest, sound.1.dearer)

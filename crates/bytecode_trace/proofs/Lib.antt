@@ -1,3 +1,4 @@
 pub mod Remaining
 pub mod Following
 pub mod Charging
+pub mod Lines

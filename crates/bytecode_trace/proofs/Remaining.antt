@@ -1,14 +1,15 @@
 -- What is left to be written of a trace.
-use Rattle.std.proofs.Common.{◌≡◌, ℕ, zero, suc, ◌-◌, ◌<◌, Bool, true, false, List, [], ◌∷◌, ◌++◌, Option, Some, None, IsSome, option_map, refl, sym, ap, subst, ◌∙◌, append_assoc, append-nil, arith}
+use Rattle.std.proofs.Common.{◌≡◌, ℕ, zero, suc, ◌-◌, ◌<◌, Bool, true, false, List, [], ◌∷◌, ◌++◌, Option, Some, None, IsSome, option_map, Result, IfErr, IsErrAnd, refl, sym, ap, subst, ◌∙◌, append_assoc, append-nil, arith}
+use Rattle.std.proofs.lemmas.Result.{err_from_is_err_and}
 use Rattle.std.specs.List.{flat_map}
 use Rattle.bytecode_format.specs.Code.{Code}
 use Rattle.mime_decode.specs.Mail.{Mail}
-use Rattle.encodings.specs.Device.{HasBegun, HasBroken, HasStopped, HasTaken, Output}
+use Rattle.encodings.specs.Device.{HasStopped, HasTaken, Output}
 use Rattle.encodings.proofs.Outputs.{Leaves, broken_in_piece, taken_both, taken_none}
 use Rattle.refusals.specs.declared.refusal.Refusal.{Refusal}
 use Rattle.refusals.specs.declared.refusal.Refusal.TheVariants.{Memory, Write}
 use Rattle.sieve_vm.specs.Machine.{step}
-use Rattle.sieve_vm.specs.Moment.{come_to, further, goes_on, state_in}
+use Rattle.sieve_vm.specs.Moment.{Moment, come_to, further, goes_on, state_in, turn_at}
 use Rattle.sieve_vm.specs.Potential.{limit_of}
 use Rattle.sieve_vm.specs.State.{State, Turn, goes, ends, traps, start}
 use Rattle.bytecode_trace.specs.Steps.{and_then, steps_from}
@@ -72,3 +73,30 @@ stopped_in_piece text left xs ys s0 s1 s2 _ before is later = absurd later
 -- memory was refused between two pieces
 pub refused_between : (text left : List ℕ) (s0 s1 : Output) → Leaves text left s0 s1 → HasStopped Memory text s0 s1
 refused_between text left s0 s1 before = before.0
+
+-- ---- states that a run has come to
+
+-- where it goes on there is one
+pub going : (t : Turn) → goes_on t ≡ true → (s : State) × (state_in t ≡ Some s)
+going (goes s) on = (s, refl)
+going (ends s) on = absurd cc
+going traps on = absurd cc
+
+pub some_of : {A B : Type 0} (f : A → B) (x : Option A) (r : B) → option_map f x ≡ Some r → IsSome x
+some_of f (Some a) r e = refl
+some_of f None r e = absurd cc
+
+pub some_there : {A : Type 0} (x : Option A) → IsSome x → (a : A) × (x ≡ Some a)
+some_there (Some a) h = (a, refl)
+some_there None h = absurd cc
+
+-- a run on its way, of this program and message, goes on within the budget
+pub within_run : (run : Moment) (code : Code) (mail : Mail) → run.code ≡ code → run.mail ≡ mail → goes_on (turn_at run) ≡ true → run.steps < limit_of run.code run.mail → (run.steps < limit_of code mail) × (goes_on (come_to code mail run.steps) ≡ true)
+within_run run code mail same_code same_mail on below = (
+  subst (λ (x : Code). run.steps < limit_of x mail) same_code (subst (λ (y : Mail). run.steps < limit_of run.code y) same_mail below),
+  subst (λ (x : Code). goes_on (come_to x mail run.steps) ≡ true) same_code (subst (λ (y : Mail). goes_on (come_to run.code y run.steps) ≡ true) same_mail on),
+)
+
+-- an error is passed on
+pub passed_on : {T : Type 0} (r : Result T Refusal) (cause : Refusal) (P : Refusal → Type 0) → IsErrAnd r (λ y. y ≡ cause) → P cause → IfErr r P
+passed_on r cause P h p = let e = err_from_is_err_and r h in rw e.1 (subst P (sym e.2) p)

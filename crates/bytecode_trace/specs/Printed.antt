@@ -79,7 +79,7 @@ told_value Nothing i taken = None
 
 -- the line of an instruction at a place: what it charged and the sum so far, the current part where a loop is
 -- open, and the value that is told
-unfoldable pub line_of : ℕ → Instruction → ℕ → ℕ → Option ℕ → Option Value → List ℕ
+abbrev pub line_of : ℕ → Instruction → ℕ → ℕ → Option ℕ → Option Value → List ℕ
 line_of place i charge sum part value =
     instruction_text place i ++ codes " | " ++ decimal charge ++ codes " " ++ decimal sum
     ++ column (option_map part_text part) ++ column (option_map value_text value) ++ 10 ∷ []

@@ -1,12 +1,12 @@
 // The line of a step.
-ghost use Rattle.std.specs.Prelude.{◌≡◌, ◌++◌, true, IfOk, OnOk, Some, option_map};
+ghost use Rattle.std.specs.Prelude.{◌≡◌, ◌++◌, true, IfOk, IsSome, OnOk, Some, option_map};
 ghost use Rattle.std.specs.Fmt.{decimal};
 ghost use Rattle.bytecode_format.specs.Code.{Code};
 ghost use Rattle.sieve_vm.specs.Lent.{value_of};
 ghost use Rattle.sieve_vm.specs.Moment.{goes_on, state_at, turn_at};
 ghost use Rattle.sieve_vm.specs.State.{State};
 ghost use Rattle.bytecode_trace.specs.Printed.{column, part_text, shown, step_line, value_text};
-ghost use Rattle.bytecode_trace.specs.Private.{IsBegun, told_after, told_before};
+ghost use Rattle.bytecode_trace.specs.Private.{IsBegun, beginning, told_after, told_before};
 
 use crate::telling::{Told, told_of};
 use bytecode_format::{Instruction, Operation};
@@ -99,7 +99,7 @@ fn taken_text(alloc: Global, run: &Progress<'_, '_, '_>, told: Told) -> Result<V
 }
 
 /// What is known of a run's next step.
-pub fn begun(alloc: Global, run: &Progress<'_, '_, '_>) -> Result<Begun, AllocError>
+pub fn begin_step(alloc: Global, run: &Progress<'_, '_, '_>) -> Result<Begun, AllocError>
     requires { goes_on (turn_at run.now) ≡ true }
     ensures { IfOk result (λ begun. (before : State) → state_at run.now ≡ Some before
         → IsBegun run.now.code before begun) }
@@ -133,25 +133,40 @@ fn put_left(
     }
 }
 
+// Appends the line of a step up to the value that is told.
+fn put_beginning(
+    out: &mut Vec<u8>,
+    begun: &Begun,
+    charge: u128,
+    sum: u128,
+    part: Option<usize>,
+) -> Result<(), AllocError>
+    ensures { OnOk result (out.new.items ≡ out.old.items
+        ++ beginning begun.now.place begun.now.instruction charge sum part) }
+{
+    put_instruction(out, begun.place, begun.instruction)?;
+    out.extend_from_slice(b" | ")?;
+    put_number(out, charge)?;
+    out.extend_from_slice(b" ")?;
+    put_number(out, sum)?;
+    put_part(out, part)
+}
+
 /// The line of a step that was taken.
-#[tactic(auto, unfolding(crate::specs::Printed::line_of))]
 pub fn line_of(
     alloc: Global,
     begun: &Begun,
     run: &Progress<'_, '_, '_>,
 ) -> Result<Vec<u8>, AllocError>
-    ensures { IfOk result (λ line. (code : Code) (before after : State) → IsBegun code before begun.now
-        → state_at run.now ≡ Some after
+    ensures line { IfOk result (λ line. (code : Code) (before after : State)
+        → IsBegun code before begun.now → state_at run.now ≡ Some after
         → line.items ≡ step_line code (record { before = before; after = after })) }
+    ensures reached { IsSome (state_at run.now) }
 {
-    let charged = run.charged();
+    let sum = run.charged();
+    let charge = sum.saturating_sub(begun.charged);
     let mut out = Vec::new(alloc);
-    put_instruction(&mut out, begun.place, begun.instruction)?;
-    out.extend_from_slice(b" | ")?;
-    put_number(&mut out, charged.saturating_sub(begun.charged))?;
-    out.extend_from_slice(b" ")?;
-    put_number(&mut out, charged)?;
-    put_part(&mut out, run.part())?;
+    put_beginning(&mut out, begun, charge, sum, run.part())?;
     out.extend_from_slice(&begun.taken)?;
     put_left(&mut out, run, begun.told, begun.instruction.c as usize)?;
     out.extend_from_slice(b"\n")?;

@@ -6,7 +6,7 @@ ghost use Rattle.sieve_vm.specs.Moment.{goes_on, turn_at};
 ghost use Rattle.bytecode_trace.specs.Printed.{trace_text};
 ghost use Rattle.bytecode_trace.specs.Private.{line_at};
 
-use crate::line::{begun, line_of};
+use crate::line::{begin_step, line_of};
 use bytecode_verifier::Verified;
 use encodings::{Sink, put};
 use mime_decode::Message;
@@ -59,7 +59,7 @@ fn tell_step<'p, 's, 'm, O: Sink>(
         (line_at run.entry.code run.entry.mail run.entry.steps) (O.output out.old)
         (O.output out.new)) }
 {
-    let begun = begun(alloc, &run)?;
+    let begun = begin_step(alloc, &run)?;
     let run = run.advance(alloc)?;
     let line = line_of(alloc, &begun, &run)?;
     put(out, &line)?;

@@ -151,7 +151,7 @@ each names are name rows e =
     ▸ asked names name rows e (codes "disassemble") _ refl refl (λ has. any rows _ has (codes "PROGRAM") _ refl refl ▸ tt)
     ▸ asked names name rows e (codes "assemble") _ refl refl (λ has. any rows _ has (codes "LISTING") _ refl refl ▸ any rows _ has (codes "OUT") _ refl refl ▸ tt)
     ▸ asked names name rows e (codes "eval") _ refl refl (λ has. any rows _ has (codes "SCRIPT") _ refl refl ▸ any rows _ has (codes "MESSAGE") _ refl refl ▸ tt)
-    ▸ asked names name rows e (codes "trace") _ refl refl (λ has. any rows _ has (codes "SCRIPT") _ refl refl ▸ any rows _ has (codes "MESSAGE") _ refl refl ▸ tt)
+    ▸ asked names name rows e (codes "trace") _ refl refl (λ has. any rows _ has (codes "FILE") _ refl refl ▸ any rows _ has (codes "MESSAGE") _ refl refl ▸ tt)
     ▸ asked names name rows e (codes "parts") _ refl refl (λ has. any rows _ has (codes "MESSAGE") _ refl refl ▸ tt)
     ▸ asked names name rows e (codes "encode") _ refl refl (λ has. encoding rows _ has names are (codes "ENCODING") _ refl refl refl refl ▸ tt)
     ▸ asked names name rows e (codes "decode") _ refl refl (λ has. encoding rows _ has names are (codes "ENCODING") _ refl refl refl refl ▸ tt)

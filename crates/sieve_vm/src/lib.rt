@@ -20,6 +20,7 @@ mod numbers;
 mod outcome;
 mod progress;
 mod shared_text;
+mod stepping;
 mod testing;
 mod value;
 mod workspace;

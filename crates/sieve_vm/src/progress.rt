@@ -1,12 +1,10 @@
 // A run on its way.
 ghost use Rattle.std.specs.Prelude.{◌≡◌, ◌<◌, ℕ, suc, true, false, List, Some, IfOk, IsSome, option_map, slice_get};
 
-use crate::loops::Loops;
-use crate::machine::Machine;
 use crate::outcome::Outcome;
+use crate::stepping::Stepping;
 use crate::value::StackValue;
-use crate::workspace::Workspace;
-use bytecode_format::{ActionList, Instruction, Program};
+use bytecode_format::Instruction;
 use bytecode_verifier::Verified;
 use mime_decode::Message;
 use std::alloc::{AllocError, Global};
@@ -18,35 +16,19 @@ use std::marker::Model;
 /// [`run`](crate::run) takes all steps at once, and faster.
 #[derive(Drop)]
 pub struct Progress<'p, 's, 'm> {
-    program: &'p Program,
-    message: &'s Message<'m>,
-    machine: Machine<'p, 's, 'm>,
-    // How many steps were taken.
-    steps: u128,
-    // Whether there is a step to take.
-    goes_on: bool,
+    run: Stepping<'p, 's, 'm>,
 }
 
 impl<'p, 's, 'm> Model for Progress<'p, 's, 'm> {
-    ghost use Rattle.bytecode_format.specs.Spelling.{IsProgram};
-    ghost use Rattle.bytecode_verifier.specs.Acceptance.{IsAccepted};
-    ghost use Rattle.mime_decode.specs.Mail.{IsMail};
-    ghost use Rattle.sieve_vm.specs.Moment.{Moment, come_to};
-    ghost use Rattle.sieve_vm.specs.Going.{StandsFor};
+    ghost use Rattle.sieve_vm.specs.Moment.{Moment};
 
     ghost Value = { Moment };
 
-    ghost view = { λ p. record { code = p.program.now; mail = p.message.now; steps = p.steps } };
-
-    ghost invariant = { λ p. IsProgram p.program.now × IsAccepted p.program.now
-        × IsMail p.message.now
-        × StandsFor p.message.now (come_to p.program.now p.message.now p.steps) p.goes_on p.machine };
+    ghost view = { λ p. p.run };
 }
 
 impl<'p, 's, 'm> Progress<'p, 's, 'm> {
     ghost use Rattle.std.specs.Borrow.{Bor};
-    ghost use Rattle.bytecode_verifier.specs.Acceptance.{IsAccepted};
-    ghost use Rattle.mime_decode.specs.Mail.{IsMail};
     ghost use Rattle.sieve_vm.specs.Ending.{IsOutcome};
     ghost use Rattle.sieve_vm.specs.Lent.{top, value_of};
     ghost use Rattle.sieve_vm.specs.Moment.{goes_on, state_at, turn_at};
@@ -61,28 +43,11 @@ impl<'p, 's, 'm> Progress<'p, 's, 'm> {
         verified: &'p Verified,
         message: &'s Message<'m>,
     ) -> Result<Progress<'p, 's, 'm>, AllocError>
-        ensures { IfOk result (λ run. run ≡ record { code = verified.now; mail = message.now; steps = 0 }) }
+        ensures { IfOk result
+            (λ run. run ≡ record { code = verified.now; mail = message.now; steps = 0 }) }
     {
-        let program = verified.program();
-        // What holds of every program and of every message is known where it is asked.
-        let _instructions = program.instructions();
-        let _size = message.size();
-        let mut machine = Machine {
-            place: 0,
-            work: Workspace::new(alloc),
-            loops: Loops::new(alloc, message),
-            actions: ActionList::new(alloc),
-            implicit_keep: true,
-            charged: 0,
-        };
-        machine.begin(program)?;
-        Ok(Progress {
-            program,
-            message,
-            machine,
-            steps: 0,
-            goes_on: true,
-        })
+        let run = Stepping::begin(alloc, verified, message)?;
+        Ok(Progress { run })
     }
 
     /// Whether there is a step to take. Where there is none, the run is over.
@@ -91,7 +56,7 @@ impl<'p, 's, 'm> Progress<'p, 's, 'm> {
         ensures reached { IsSome (state_at self.now) }
         ensures within { result ≡ true → self.now.steps < limit_of self.now.code self.now.mail }
     {
-        self.goes_on
+        self.run.goes_on()
     }
 
     /// Takes a step.
@@ -101,21 +66,9 @@ impl<'p, 's, 'm> Progress<'p, 's, 'm> {
         requires { goes_on (turn_at self) ≡ true }
         ensures { IfOk result (λ run. run ≡ record self.entry { steps = suc self.entry.steps }) }
     {
-        let Progress {
-            program,
-            message,
-            mut machine,
-            steps,
-            ..
-        } = self;
-        let turn = machine.advance(alloc, program, message)?;
-        Ok(Progress {
-            program,
-            message,
-            machine,
-            steps: steps + 1,
-            goes_on: turn.goes_on(),
-        })
+        let Progress { run } = self;
+        let run = run.advance(alloc)?;
+        Ok(Progress { run })
     }
 
     /// The instruction that comes next.
@@ -124,43 +77,46 @@ impl<'p, 's, 'm> Progress<'p, 's, 'm> {
         ensures { (state : State) → state_at self.now ≡ Some state
             → slice_get self.now.code.instructions state.place ≡ Some result }
     {
-        self.program.instructions()[self.machine.place]
+        self.run.instruction()
     }
 
     /// The place of the instruction that comes next; at the end of the run, that of the last one.
     pub fn place(&self) -> usize
         ensures { option_map (λ (state : State). state.place) (state_at self.now) ≡ Some result }
     {
-        self.machine.place
+        self.run.place()
     }
 
     /// What the steps so far have charged.
     pub fn charged(&self) -> u128
         ensures { option_map (λ (state : State). state.charge) (state_at self.now) ≡ Some result }
     {
-        self.machine.charged
+        self.run.charged()
     }
 
     /// The number of the current part, that of the innermost open loop; none where no loop is open.
     pub fn part(&self) -> Option<usize>
-        ensures { (state : State) → state_at self.now ≡ Some state → result ≡ current_part state.frames }
+        ensures { (state : State) → state_at self.now ≡ Some state
+            → result ≡ current_part state.frames }
     {
-        self.machine.loops.current()
+        self.run.part()
     }
 
     /// The entry on top of the stack; none where it is empty.
     pub fn top(&self) -> Option<StackValue<'_>>
-        ensures { (state : State) → state_at self.now ≡ Some state → option_map value_of result ≡ top state.stack }
+        ensures { (state : State) → state_at self.now ≡ Some state
+            → option_map value_of result ≡ top state.stack }
     {
-        self.machine.work.top()
+        self.run.top()
     }
 
     /// The value of a variable; none where the program has no such variable.
     pub fn variable(&self, number: usize) -> Option<&[u8]>
         ensures { (state : State) → state_at self.now ≡ Some state
-            → option_map (λ (value : Bor (List ℕ)). value.now) result ≡ slice_get state.variables number }
+            → option_map (λ (value : Bor (List ℕ)). value.now) result
+            ≡ slice_get state.variables number }
     {
-        self.machine.work.value(number)
+        self.run.variable(number)
     }
 
     /// What the run came to.
@@ -168,12 +124,10 @@ impl<'p, 's, 'm> Progress<'p, 's, 'm> {
     /// An error comes only where memory was refused.
     pub fn into_outcome(self) -> Result<Outcome, AllocError>
         requires { goes_on (turn_at self) ≡ false }
-        ensures { IfOk result (λ outcome. IsOutcome self.entry.code self.entry.mail outcome.actions.items outcome.charged) }
+        ensures { IfOk result (λ outcome. IsOutcome self.entry.code self.entry.mail
+            outcome.actions.items outcome.charged) }
     {
-        let Progress { machine, .. } = self;
-        Ok(Outcome {
-            actions: machine.actions.into_final(machine.implicit_keep)?,
-            charged: machine.charged,
-        })
+        let Progress { run } = self;
+        run.into_outcome()
     }
 }

@@ -3,7 +3,7 @@ use Rattle.sieve_vm.specs.Going.{StandsFor}
 use Rattle.sieve_vm.specs.Machine.{step}
 use Rattle.sieve_vm.specs.Moment.{Moment, come_to, goes_on, turn_at}
 use Rattle.sieve_vm.proofs.Moments.{counts, going_at, stands_next}
-use Rattle.sieve_vm.proofs.progress.Progress.advance.Goals as goal
+use Rattle.sieve_vm.proofs.stepping.Stepping.advance.Goals as goal
 
 pub advance-requires-clause-running : goal.advance-requires-clause-running
 advance-requires-clause-running c =

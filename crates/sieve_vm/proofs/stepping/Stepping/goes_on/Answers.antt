@@ -3,7 +3,7 @@ use Rattle.sieve_vm.specs.Moment.{Moment, come_to}
 use Rattle.sieve_vm.specs.Potential.{limit_of}
 use Rattle.sieve_vm.specs.Going.{StandsFor}
 use Rattle.sieve_vm.proofs.Moments.{stands_going, steps_within}
-use Rattle.sieve_vm.proofs.progress.Progress.goes_on.Goals as goal
+use Rattle.sieve_vm.proofs.stepping.Stepping.goes_on.Goals as goal
 
 pub returns-clause-within : goal.returns-clause-within
 returns-clause-within c = λ on.

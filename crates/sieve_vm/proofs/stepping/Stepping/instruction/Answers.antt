@@ -3,7 +3,7 @@ use Rattle.std.proofs.lemmas.Option.{slice_get-get_or}
 use Rattle.sieve_vm.specs.Moment.{Moment, goes_on, state_at, turn_at}
 use Rattle.sieve_vm.proofs.Moments.{going_at, stands_in}
 use Rattle.sieve_vm.proofs.Steps.{no_instruction, place_within}
-use Rattle.sieve_vm.proofs.progress.Progress.instruction.Goals as goal
+use Rattle.sieve_vm.proofs.stepping.Stepping.instruction.Goals as goal
 
 pub bounds-instructions-self-inside : goal.bounds-instructions-self-inside
 bounds-instructions-self-inside c =

@@ -3,7 +3,7 @@ use Rattle.bytecode_verifier.specs.Acceptance.{IsAccepted}
 use Rattle.sieve_vm.specs.State.{start}
 use Rattle.sieve_vm.specs.Standing.{IsIn}
 use Rattle.sieve_vm.specs.Visits.{Visits}
-use Rattle.sieve_vm.proofs.progress.Progress.begin.Goals as goal
+use Rattle.sieve_vm.proofs.stepping.Stepping.begin.Goals as goal
 
 pub invariant_of-result : goal.invariant_of-result
 invariant_of-result c =

@@ -3,7 +3,7 @@ use Rattle.sieve_vm.specs.Ending.{IsOutcome}
 use Rattle.sieve_vm.specs.Moment.{Moment, goes_on, turn_at}
 use Rattle.sieve_vm.proofs.Moments.{over_at}
 use Rattle.sieve_vm.proofs.Steps.{outcome_of}
-use Rattle.sieve_vm.proofs.progress.Progress.into_outcome.Goals as goal
+use Rattle.sieve_vm.proofs.stepping.Stepping.into_outcome.Goals as goal
 
 pub returns : goal.returns
 returns c =

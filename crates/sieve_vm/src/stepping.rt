@@ -1,0 +1,177 @@
+// The machine of a run on its way.
+ghost use Rattle.std.specs.Prelude.{◌≡◌, ◌<◌, ℕ, suc, true, false, List, Some, IfOk, IsSome, option_map, slice_get};
+
+use crate::loops::Loops;
+use crate::machine::Machine;
+use crate::outcome::Outcome;
+use crate::value::StackValue;
+use crate::workspace::Workspace;
+use bytecode_format::{ActionList, Instruction, Program};
+use bytecode_verifier::Verified;
+use mime_decode::Message;
+use std::alloc::{AllocError, Global};
+use std::marker::Model;
+
+/// A program, a message, and the machine of the program's run on it, as it is after so many steps. A contract sees the program, the
+/// message and the number of steps.
+#[derive(Drop)]
+pub struct Stepping<'p, 's, 'm> {
+    program: &'p Program,
+    message: &'s Message<'m>,
+    machine: Machine<'p, 's, 'm>,
+    // How many steps were taken.
+    steps: u128,
+    // Whether there is a step to take.
+    goes_on: bool,
+}
+
+impl<'p, 's, 'm> Model for Stepping<'p, 's, 'm> {
+    ghost use Rattle.bytecode_format.specs.Spelling.{IsProgram};
+    ghost use Rattle.bytecode_verifier.specs.Acceptance.{IsAccepted};
+    ghost use Rattle.mime_decode.specs.Mail.{IsMail};
+    ghost use Rattle.sieve_vm.specs.Moment.{Moment, come_to};
+    ghost use Rattle.sieve_vm.specs.Going.{StandsFor};
+
+    ghost Value = { Moment };
+
+    ghost view = { λ p. record { code = p.program.now; mail = p.message.now; steps = p.steps } };
+
+    ghost invariant = { λ p. IsProgram p.program.now × IsAccepted p.program.now
+        × IsMail p.message.now
+        × StandsFor p.message.now (come_to p.program.now p.message.now p.steps) p.goes_on p.machine };
+}
+
+impl<'p, 's, 'm> Stepping<'p, 's, 'm> {
+    ghost use Rattle.std.specs.Borrow.{Bor};
+    ghost use Rattle.bytecode_verifier.specs.Acceptance.{IsAccepted};
+    ghost use Rattle.mime_decode.specs.Mail.{IsMail};
+    ghost use Rattle.sieve_vm.specs.Ending.{IsOutcome};
+    ghost use Rattle.sieve_vm.specs.Lent.{top, value_of};
+    ghost use Rattle.sieve_vm.specs.Moment.{goes_on, state_at, turn_at};
+    ghost use Rattle.sieve_vm.specs.Potential.{limit_of};
+    ghost use Rattle.sieve_vm.specs.State.{State, current_part};
+
+    /// The run of an accepted program on a message, before its first step.
+    ///
+    /// An error comes only where memory was refused.
+    pub fn begin(
+        alloc: Global,
+        verified: &'p Verified,
+        message: &'s Message<'m>,
+    ) -> Result<Stepping<'p, 's, 'm>, AllocError>
+        ensures { IfOk result (λ run. run ≡ record { code = verified.now; mail = message.now; steps = 0 }) }
+    {
+        let program = verified.program();
+        // What holds of every program and of every message is known where it is asked.
+        let _instructions = program.instructions();
+        let _size = message.size();
+        let mut machine = Machine {
+            place: 0,
+            work: Workspace::new(alloc),
+            loops: Loops::new(alloc, message),
+            actions: ActionList::new(alloc),
+            implicit_keep: true,
+            charged: 0,
+        };
+        machine.begin(program)?;
+        Ok(Stepping {
+            program,
+            message,
+            machine,
+            steps: 0,
+            goes_on: true,
+        })
+    }
+
+    /// Whether there is a step to take. Where there is none, the run is over.
+    pub fn goes_on(&self) -> bool
+        ensures value { result ≡ goes_on (turn_at self.now) }
+        ensures reached { IsSome (state_at self.now) }
+        ensures within { result ≡ true → self.now.steps < limit_of self.now.code self.now.mail }
+    {
+        self.goes_on
+    }
+
+    /// Takes a step.
+    ///
+    /// An error comes only where memory was refused, and ends the run.
+    pub fn advance(self, alloc: Global) -> Result<Stepping<'p, 's, 'm>, AllocError>
+        requires { goes_on (turn_at self) ≡ true }
+        ensures { IfOk result (λ run. run ≡ record self.entry { steps = suc self.entry.steps }) }
+    {
+        let Stepping {
+            program,
+            message,
+            mut machine,
+            steps,
+            ..
+        } = self;
+        let turn = machine.advance(alloc, program, message)?;
+        Ok(Stepping {
+            program,
+            message,
+            machine,
+            steps: steps + 1,
+            goes_on: turn.goes_on(),
+        })
+    }
+
+    /// The instruction that comes next.
+    pub fn instruction(&self) -> Instruction
+        requires { goes_on (turn_at self.now) ≡ true }
+        ensures { (state : State) → state_at self.now ≡ Some state
+            → slice_get self.now.code.instructions state.place ≡ Some result }
+    {
+        self.program.instructions()[self.machine.place]
+    }
+
+    /// The place of the instruction that comes next; at the end of the run, that of the last one.
+    pub fn place(&self) -> usize
+        ensures { option_map (λ (state : State). state.place) (state_at self.now) ≡ Some result }
+    {
+        self.machine.place
+    }
+
+    /// What the steps so far have charged.
+    pub fn charged(&self) -> u128
+        ensures { option_map (λ (state : State). state.charge) (state_at self.now) ≡ Some result }
+    {
+        self.machine.charged
+    }
+
+    /// The number of the current part, that of the innermost open loop; none where no loop is open.
+    pub fn part(&self) -> Option<usize>
+        ensures { (state : State) → state_at self.now ≡ Some state → result ≡ current_part state.frames }
+    {
+        self.machine.loops.current()
+    }
+
+    /// The entry on top of the stack; none where it is empty.
+    pub fn top(&self) -> Option<StackValue<'_>>
+        ensures { (state : State) → state_at self.now ≡ Some state → option_map value_of result ≡ top state.stack }
+    {
+        self.machine.work.top()
+    }
+
+    /// The value of a variable; none where the program has no such variable.
+    pub fn variable(&self, number: usize) -> Option<&[u8]>
+        ensures { (state : State) → state_at self.now ≡ Some state
+            → option_map (λ (value : Bor (List ℕ)). value.now) result ≡ slice_get state.variables number }
+    {
+        self.machine.work.value(number)
+    }
+
+    /// What the run came to.
+    ///
+    /// An error comes only where memory was refused.
+    pub fn into_outcome(self) -> Result<Outcome, AllocError>
+        requires { goes_on (turn_at self) ≡ false }
+        ensures { IfOk result (λ outcome. IsOutcome self.entry.code self.entry.mail outcome.actions.items outcome.charged) }
+    {
+        let Stepping { machine, .. } = self;
+        Ok(Outcome {
+            actions: machine.actions.into_final(machine.implicit_keep)?,
+            charged: machine.charged,
+        })
+    }
+}
