@@ -1,5 +1,5 @@
 -- What the steps of a run charge.
-use Rattle.std.proofs.Common.{◌≡◌, ◌≢◌, ℕ, zero, suc, ◌+◌, ◌-◌, ◌<◌, ◌≤◌, Bool, true, false, cond, List, [], ◌∷◌, Option, Some, None, All, length, slice_get, refl, sym, ap, subst, ◌∙◌, arith}
+use Rattle.std.proofs.Common.{◌≡◌, ℕ, zero, suc, ◌+◌, ◌-◌, ◌<◌, Bool, true, false, cond, [], Option, Some, None, All, slice_get, refl, sym, ap, subst, ◌∙◌, arith}
 use Rattle.std.proofs.lemmas.List.Elements.{All-cons, All-nil}
 use Rattle.std.proofs.lemmas.List.Sums.{sum_by-cons}
 use Rattle.std.specs.List.{sum_by}
@@ -11,14 +11,13 @@ use Rattle.bytecode_verifier.specs.Acceptance.{IsAccepted}
 use Rattle.bytecode_verifier.specs.Rows.{is_well_formed}
 use Rattle.bytecode_verifier.specs.Rules.{row_in}
 use Rattle.mime_decode.specs.Mail.{Mail, IsMail}
-use Rattle.sieve_vm.specs.State.{State, Turn, goes, ends, traps, start}
+use Rattle.sieve_vm.specs.State.{State, Turn, goes, ends, traps}
 use Rattle.sieve_vm.specs.Charge.{charge_of}
 use Rattle.sieve_vm.specs.Machine.{Effect, on, jumps, halts, fails, effect, turn, turn_of, turn_at, step, referred_in}
 use Rattle.sieve_vm.specs.Moment.{state_in}
 use Rattle.sieve_vm.specs.Runs.{Run}
-use Rattle.sieve_vm.proofs.Bounds.{Run-push, reached}
 use Rattle.sieve_vm.proofs.Reached.{IsReached, IsSound, Leads}
-use Rattle.sieve_vm.proofs.SoundSteps.{leads, step_is_sound, start_is_reached}
+use Rattle.sieve_vm.proofs.SoundSteps.{leads, step_is_sound}
 use Rattle.bytecode_trace.specs.Steps.{IsCharged, TakenStep, and_then, steps_from}
 
 -- an effect charges nothing itself

@@ -1,10 +1,10 @@
 -- The line of a step, from what is known before it and after it.
-use Rattle.std.proofs.Common.{◌≡◌, ℕ, ◌-◌, List, [], ◌∷◌, ◌++◌, Option, Some, option_map, refl, sym, ap, subst, ◌∙◌, append_assoc, append-nil}
+use Rattle.std.proofs.Common.{◌≡◌, ℕ, ◌-◌, List, [], ◌∷◌, ◌++◌, Option, option_map, refl, sym, ap, ◌∙◌, append_assoc, append-nil}
 use Rattle.std.specs.Option.{option_map_or}
 use Rattle.bytecode_format.specs.Code.{Code}
 use Rattle.bytecode_format.specs.Operations.{operation_of}
 use Rattle.bytecode_format.specs.declared.instruction.Instruction.{Instruction}
-use Rattle.sieve_vm.specs.State.{State, Value, current_part}
+use Rattle.sieve_vm.specs.State.{State, current_part}
 use Rattle.bytecode_trace.specs.Printed.{column, instruction_line, step_line, told_of, told_value, value_text}
 use Rattle.bytecode_trace.specs.Private.{IsBegun, beginning, told_after, told_before}
 use Rattle.bytecode_trace.specs.Steps.{TakenStep}

@@ -1,5 +1,5 @@
 -- The line of a step, and the trace of a program on a message.
-use Rattle.std.specs.Prelude.{ℕ, ◌-◌, Bool, true, false, List, [], ◌∷◌, ◌++◌, length, take, slice_get, nat_le, codes, Option, None, Some, option_map, if◌then◌else◌}
+use Rattle.std.specs.Prelude.{ℕ, ◌-◌, true, false, List, [], ◌∷◌, ◌++◌, length, take, slice_get, nat_le, codes, Option, None, Some, option_map, if◌then◌else◌}
 use Rattle.std.specs.List.{flat_map}
 use Rattle.std.specs.Option.{option_map_or}
 use Rattle.std.specs.Fmt.{decimal}
@@ -10,7 +10,7 @@ use Rattle.bytecode_format.specs.declared.operation.Operation.{Operation}
 use Rattle.bytecode_format.specs.declared.operation.Operation.TheVariants.{Halt, Literal, Variable, Capture, Join, Set as SetOp, Bool as BoolOp, Not, Jump, JumpIfTrue, JumpIfFalse, Header, Exists, String, Size, PartSize, PartBody, PartDigest, Keep, Discard, File, Store, Each, Next, Break, Take}
 use Rattle.bytecode_listing.specs.Listing.{instruction_text, quoted}
 use Rattle.mime_decode.specs.Mail.{Mail}
-use Rattle.sieve_vm.specs.State.{Value, truth, text, State, current_part}
+use Rattle.sieve_vm.specs.State.{Value, truth, text, current_part}
 use Rattle.sieve_vm.specs.Lent.{top}
 use Rattle.bytecode_trace.specs.Steps.{TakenStep, steps_of}
 use Rattle.bytecode_trace.specs.declared.telling.Told.{Told}

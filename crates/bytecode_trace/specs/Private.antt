@@ -1,5 +1,5 @@
 -- Private: how the code goes: what is known before a step, and what is left to be written.
-use Rattle.std.specs.Prelude.{◌≡◌, ℕ, suc, ◌-◌, List, [], ◌++◌, codes, Option, None, Some, option_map, slice_get}
+use Rattle.std.specs.Prelude.{◌≡◌, ℕ, suc, ◌-◌, List, [], ◌++◌, codes, Option, Some, option_map, slice_get}
 use Rattle.std.specs.List.{flat_map}
 use Rattle.std.specs.Fmt.{decimal}
 use Rattle.bytecode_format.specs.Code.{Code}

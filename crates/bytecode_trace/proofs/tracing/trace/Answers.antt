@@ -1,10 +1,9 @@
-use Rattle.std.proofs.Common.{◌≡◌, ◌∙◌, ◌++◌, ◌<◌, ℕ, suc, true, false, sym, ap, subst, arith}
+use Rattle.std.proofs.Common.{◌≡◌, ◌∙◌, suc, false, sym, ap, subst, arith}
 use Rattle.encodings.specs.Device.{HasStopped, HasTaken}
 use Rattle.encodings.proofs.Outputs.{Leaves, leaves_all, leaves_none, leaves_rest}
 use Rattle.bytecode_format.specs.Code.{Code}
 use Rattle.mime_decode.specs.Mail.{Mail}
 use Rattle.sieve_vm.specs.Moment.{Moment, come_to, goes_on}
-use Rattle.sieve_vm.specs.Potential.{limit_of}
 use Rattle.bytecode_trace.specs.Printed.{trace_text}
 use Rattle.bytecode_trace.specs.Private.{line_at, lines_left}
 use Rattle.bytecode_trace.proofs.Remaining.{all_left, next_line, none_left, passed_on, stopped_in_piece, within_run}
