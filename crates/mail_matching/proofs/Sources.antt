@@ -1,5 +1,5 @@
 -- The first of some values that matches a key, looked for one by one.
-use Rattle.std.proofs.Common.{◌≡◌, ℕ, ◌+◌, ◌<◌, Bool, true, false, List, [], ◌∷◌, length, drop, get_or, Option, None, Some, is_some, option_map, refl, sym, ◌∙◌, ap, subst}
+use Rattle.std.proofs.Common.{◌≡◌, ℕ, ◌+◌, ◌<◌, true, false, List, [], ◌∷◌, length, drop, get_or, Option, None, Some, is_some, option_map, refl, sym, ◌∙◌, ap}
 use Rattle.std.specs.Option.{option_or}
 use Rattle.std.proofs.lemmas.List.{drop_more}
 use Rattle.glob_match.specs.declared.match_type.Match.{Match}
@@ -7,7 +7,6 @@ use Rattle.mail_matching.specs.Findings.{Pair, finding_from, finding_of, first_p
 use Rattle.mail_matching.specs.FirstMatch.{first_key, first_match}
 use Rattle.mail_matching.specs.Outcomes.{after, holds}
 use Rattle.mail_matching.specs.Private.{further}
-use Rattle.mail_matching.specs.declared.finding.Finding.{Finding}
 use Rattle.mail_matching.specs.declared.finding.Finding.TheVariants.{NoneOf}
 use Rattle.mail_matching.specs.declared.outcome.Outcome.{Outcome}
 use Rattle.mail_matching.proofs.Onward.{fails, holds_after}

@@ -1,4 +1,4 @@
-use Rattle.std.proofs.Common.{◌∙◌, ◌<◌, ap, arith, length, subst, sym}
+use Rattle.std.proofs.Common.{◌∙◌, ◌<◌, arith, length, subst, sym}
 use Rattle.std.proofs.lemmas.Bool.{false≢true}
 use Rattle.mail_matching.proofs.Keeping.{keeps_next}
 use Rattle.mail_matching.proofs.Sources.{match_left, one_matched, one_missed, pair_left}
