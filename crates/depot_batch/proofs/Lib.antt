@@ -5,6 +5,7 @@ mod Writing
 mod LineLemmas
 mod LineReading
 mod Batches
+mod Readying
 mod Closing
 mod Refusing
 mod ClosingAnswers

@@ -132,14 +132,14 @@ AreDeliveries (line ∷ lines) (command ∷ commands) host host2 =
     (mid : HostState) × IsDelivery line command host mid × AreDeliveries lines commands mid host2
 AreDeliveries lines commands host host2 = ⊥
 
--- the next line asks for a delivery, and its file was not read
-abbrev pub IsUnread : List (List ℕ) → HostState → HostState → Type 0
-IsUnread [] host host2 = ⊥
-IsUnread (line ∷ lines) host host2 =
+-- a line asks for a delivery, and its file was not read
+abbrev pub IsUnread : List ℕ → HostState → HostState → Type 0
+IsUnread line host host2 =
     (user file : Bor Text) × IsAsked line (Reply (Deliver user file))
     × (refusal : Refusal) × HasNotReadFile refusal (Some file.now) host host2
 
--- of a beginning of the lines, each asks for a delivery, and the files were read in turn; perhaps one more wasn't
+-- of a beginning of the lines, each asks for a delivery, and the files were read in turn; that of the
+-- next perhaps was not
 pub record AreLookedUp (lines : List (List ℕ)) (host host2 : HostState) : Type 0 where
   pub read : List (List ℕ)
   pub later : List (List ℕ)
@@ -147,11 +147,12 @@ pub record AreLookedUp (lines : List (List ℕ)) (host host2 : HostState) : Type
   pub commands : List Command
   pub mid : HostState
   pub files : AreDeliveries read commands host mid
-  pub stops : (host2 ≡ mid) ⊎ IsUnread later mid host2
+  pub stops : (host2 ≡ mid)
+      ⊎ ((next : List ℕ) × (others : List (List ℕ)) × (later ≡ next ∷ others) × IsUnread next mid host2)
 
--- the answers to deliveries, of which each filed these entries
-abbrev pub filed_text : List (List Listing) → List ℕ
-filed_text filed = flat_map (λ entries. entries_text Brief entries ++ closing Done) filed
+-- the answer to a delivery that filed these entries
+abbrev pub filed_text : List Listing → List ℕ
+filed_text entries = entries_text Brief entries ++ closing Done
 
 -- as many lines are done together at most
 abbrev pub most_together : ℕ
@@ -226,7 +227,7 @@ module _ {S : Type 0} (g : Ghosts S) where
       pub filed : List (List Listing)
       pub done : HasCleanDisk (state g new.depot)
           → DoesAll commands (map Listed filed) (state g old.depot) (state g new.depot)
-      pub written : Written (filed_text filed) old.out new.out
+      pub written : Written (flat_map filed_text filed) old.out new.out
       pub outlasts : Outlasts (Together lines) old new
 
   -- nothing came of lines that were to be done together: the depot is as it was, and nothing was written
