@@ -79,7 +79,7 @@ all_true : {A : Type 0} (xs : List A) → list_all (λ _. true) xs ≡ true
 all_true [] = refl
 all_true (x ∷ xs) = all_true xs
 
-brief_closes_none : (entries : List Listing) → has_closing true (entries_text Brief entries) ≡ false
+pub brief_closes_none : (entries : List Listing) → has_closing true (entries_text Brief entries) ≡ false
 brief_closes_none [] = refl
 brief_closes_none (e ∷ es) =
     lines_pass (entry_text Brief) (e ∷ es) (λ _. true) (all_true (e ∷ es)) (λ x fit. (brief_safe x).0) (λ x fit. (brief_safe x).1)

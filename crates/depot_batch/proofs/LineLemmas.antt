@@ -26,7 +26,7 @@ use Rattle.depot_batch.specs.declared.outcome.Outcome.{Outcome}
 use Rattle.depot_batch.specs.declared.outcome.Outcome.TheVariants.{Done, Refused, Wrong}
 
 -- what nothing happened to survives
-still : {P : Trees → Type 0} (s : State) → Survives s s P
+pub still : {P : Trees → Type 0} (s : State) → Survives s s P
 still s = record {
   clean = omega arith;
   shield = λ shielded. shielded;
@@ -37,7 +37,7 @@ still s = record {
 }
 
 -- what may be left may be left for more than one reason
-more_left : {P Q : Trees → Type 0} (old new : State) → ((db : Trees) → P db → Q db) → Survives old new P → Survives old new Q
+pub more_left : {P Q : Trees → Type 0} (old new : State) → ((db : Trees) → P db → Q db) → Survives old new P → Survives old new Q
 more_left old new more survives = record {
   clean = survives.clean;
   shield = survives.shield;

@@ -62,6 +62,7 @@ lines_of lines = map (λ line. line.items) lines
 pub record AreShown (lines : List (List ℕ)) (octets : List ℕ) : Type 0 where
   pub whole : All IsLine lines
   pub few : length lines ≤ most_together
+  pub small : length octets < 2 ^ 64
   pub later : List ℕ
   pub are : octets ≡ concat lines ++ later
 
@@ -79,13 +80,14 @@ IsSeen (Deliveries lines) left = All IsLine (lines_of lines.items) × (length (l
 IsSeen Other left = Unit {0}
 IsSeen End left = IfSome left (λ all. all ≡ [])
 
--- a reader that has so much left may be told that these octets were taken
+-- a reader that had so much left, and so much ready, may be told that these octets were taken
 abbrev pub CanTake : List ℕ → Option (List ℕ) → Option ℕ → Type 0
-CanTake octets left limit = (length octets < 2 ^ 64) × IfSome left (λ _. IfSome limit (λ n. length octets ≤ n))
+CanTake octets left limit = IfSome left (λ _. IfSome limit (λ n. length octets ≤ n))
 
--- so may one with lines ready
+-- so may one with lines ready, whose length is a number of the machine
 abbrev pub MayTake : Ahead → Option (List ℕ) → Option ℕ → Type 0
-MayTake (Deliveries lines) left limit = CanTake (concat (lines_of lines.items)) left limit
+MayTake (Deliveries lines) left limit = (length (concat (lines_of lines.items)) < 2 ^ 64)
+    × CanTake (concat (lines_of lines.items)) left limit
 MayTake Other left limit = Unit {0}
 MayTake End left limit = Unit {0}
 

@@ -30,6 +30,17 @@ abbrev pub lines_done : List Turn → List (List ℕ)
 lines_done [] = []
 lines_done (turn ∷ turns) = done_in turn ++ lines_done turns
 
+-- the lines that are answered in a turn
+abbrev pub answered_in : Turn → List (List ℕ)
+answered_in (Alone line outcome) = line ∷ []
+answered_in (Together lines) = lines
+answered_in (Withdrawn lines) = []
+
+-- the lines that are answered in turns
+abbrev pub lines_answered : List Turn → List (List ℕ)
+lines_answered [] = []
+lines_answered (turn ∷ turns) = answered_in turn ++ lines_answered turns
+
 -- What is taken of an input in a turn: the line, or the lines, that are answered in it. Lines that
 -- were to be done together come next; none of them is taken.
 abbrev pub Takes : Turn → Supply → Supply → Type 0

@@ -41,7 +41,7 @@ pub fn look_ahead<R: BufRead + Drop>(
 ) -> Result<Ahead, Refusal>
     ensures ahead { IfOk result (λ ahead. IsAhead ahead (⟦<OfRead<R> as Source>⟧.supply input.old)
         (⟦<OfRead<R> as Source>⟧.supply input.new)) }
-    ensures ready { IfOk result (λ ahead. MayTake ahead (R.remaining input.new.inner)
+    ensures ready { IfOk result (λ ahead. MayTake ahead (R.remaining input.old.inner)
         (R.consumable_len input.new.inner)) }
     ensures refused { IfErr result (λ e. HasNotTaken e [] (⟦<OfRead<R> as Source>⟧.supply input.old)
         (⟦<OfRead<R> as Source>⟧.supply input.new)) }
@@ -64,7 +64,7 @@ pub fn look_ahead<R: BufRead + Drop>(
 fn look<R: BufRead>(alloc: Global, reader: &mut R) -> Result<Ahead, Refusal>
     ensures seen { IfOk result (λ ahead. IsSeen ahead (R.remaining reader.old)) }
     ensures kept { Keeps (R.remaining reader.old) (R.remaining reader.new) }
-    ensures ready { IfOk result (λ ahead. MayTake ahead (R.remaining reader.new)
+    ensures ready { IfOk result (λ ahead. MayTake ahead (R.remaining reader.old)
         (R.consumable_len reader.new)) }
     ensures refused { IfErr result (λ e. (e ≡ Memory) ⊎ (e ≡ Read)) }
 {
@@ -120,15 +120,18 @@ fn first_delivery(octets: &[u8]) -> Option<(&[u8], &[u8])>
     if !octets.starts_with(DELIVER) {
         return None;
     }
-    let len = octets.iter().position(|octet| *octet == b'\n')?;
-    Some(octets.split_at(len + 1))
+    match octets.iter().position(|octet| *octet == b'\n') {
+        Some(len) => Some(octets.split_at(len + 1)),
+        None => None,
+    }
 }
 
 /// Takes lines that were looked at.
 pub fn take_lines<R: BufRead + Drop>(input: &mut OfRead<R>, lines: &[Vec<u8>])
-    requires { CanTake (concat (lines_of lines.now)) (R.remaining input.inner)
-        (R.consumable_len input.inner) }
-    ensures { (before : Supply) → HasShown (concat (lines_of lines.now)) before
+    requires { length (concat (lines_of lines.now)) < 2 ^ 64 }
+    ensures { (before : Supply)
+        → CanTake (concat (lines_of lines.now)) before.left (R.consumable_len input.old.inner)
+        → HasShown (concat (lines_of lines.now)) before
         (⟦<OfRead<R> as Source>⟧.supply input.old)
         → HasGiven (concat (lines_of lines.now)) before
         (⟦<OfRead<R> as Source>⟧.supply input.new) }

@@ -1,5 +1,5 @@
 // The messages that lines ask to deliver.
-ghost use Rattle.std.specs.Prelude.{◌≡◌, ◌≤◌, ◌⊎◌, IfSome, OnNone, Some, length, map, string_bytes, take};
+ghost use Rattle.std.specs.Prelude.{◌≡◌, ◌≤◌, ◌⊎◌, IfSome, IfNone, Some, length, map, string_bytes, take};
 ghost use Rattle.depot_jobs.specs.Inputs.{HasNotReadFile, HasReadFile};
 ghost use Rattle.refusals.specs.declared.refusal.Refusal.{Refusal};
 ghost use Rattle.depot_batch.specs.Batch.{AreDeliveries, AreLookedUp, IsDelivery};
@@ -30,7 +30,7 @@ pub fn read_mails<H: Host>(alloc: Global, lines: &[Vec<u8>], host: &mut H) -> Op
     ensures read { IfSome result (λ mails.
         AreDeliveries (take (length mails.items) (lines_of lines.now))
         (map command_of mails.items) (H.state host.old) (H.state host.new)) }
-    ensures given_up { OnNone result (AreLookedUp (lines_of lines.now)
+    ensures given_up { IfNone result (AreLookedUp (lines_of lines.now)
         (H.state host.old) (H.state host.new)) }
 {
     let mut mails = Vec::new(alloc);
@@ -52,7 +52,7 @@ pub fn read_mails<H: Host>(alloc: Global, lines: &[Vec<u8>], host: &mut H) -> Op
 fn read_mail<H: Host>(alloc: Global, line: &[u8], host: &mut H) -> Option<Mail>
     ensures read { IfSome result (λ mail. IsDelivery line.now (command_of mail)
         (H.state host.old) (H.state host.new)) }
-    ensures unread { OnNone result (IsPassedOver line.now (H.state host.old) (H.state host.new)) }
+    ensures unread { IfNone result (IsPassedOver line.now (H.state host.old) (H.state host.new)) }
 {
     let Ok(words) = line_words(alloc, line) else {
         return None;
@@ -73,7 +73,7 @@ fn mail_for<H: Host>(alloc: Global, user: &str, file: &str, host: &mut H) -> Opt
     ensures user { IfSome result (λ mail. string_bytes mail.user ≡ user.now) }
     ensures read { IfSome result (λ mail. HasReadFile (Some file.now) mail.message.items
         (H.state host.old) (H.state host.new)) }
-    ensures unread { OnNone result ((H.state host.new ≡ H.state host.old)
+    ensures unread { IfNone result ((H.state host.new ≡ H.state host.old)
         ⊎ ((refusal : Refusal) × HasNotReadFile refusal (Some file.now)
         (H.state host.old) (H.state host.new))) }
 {

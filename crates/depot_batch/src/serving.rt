@@ -1,5 +1,5 @@
 // The lines of a batch.
-ghost use Rattle.std.specs.Prelude.{◌≡◌, ◌≤◌, length, true, false};
+ghost use Rattle.std.specs.Prelude.{◌≡◌, ◌<◌, ◌≤◌, ◌^◌, length, true, false};
 ghost use Rattle.std.specs.List.{All, concat};
 ghost use Rattle.refusals.specs.declared.refusal.Refusal.TheVariants.{Database};
 ghost use Rattle.encodings.specs.Supply.{Supply};
@@ -133,9 +133,10 @@ fn take_together<S: Alter, H: Host, R: BufRead + Drop, W: Write + Drop, E: Sink>
 ) -> Option<u8>
     requires whole { All IsLine (lines_of lines.items) }
     requires few { length (lines_of lines.items) ≤ most_together }
-    requires ready { CanTake (concat (lines_of lines.items)) (R.remaining input.inner)
-        (R.consumable_len input.inner) }
-    ensures { (before : Supply) → HasShown (concat (lines_of lines.items)) before
+    requires small { length (concat (lines_of lines.items)) < 2 ^ 64 }
+    ensures { (before : Supply)
+        → CanTake (concat (lines_of lines.items)) before.left (R.consumable_len input.old.inner)
+        → HasShown (concat (lines_of lines.items)) before
         (⟦<OfRead<R> as Source>⟧.supply input.old)
         → HasTurned S.Store name.now result before (⟦<OfRead<R> as Source>⟧.supply input.new)
         (office S.Store depot.old (H.state host.old) (⟦<OfWrite<W> as Sink>⟧.output out.old))

@@ -1,5 +1,5 @@
 // Lines that are done together.
-ghost use Rattle.std.specs.Prelude.{◌≡◌, ◌≤◌, ◌++◌, IfOk, IfSome, List, OnErr, OnNone, OnOk, Vec, length, map, ℕ};
+ghost use Rattle.std.specs.Prelude.{◌≡◌, ◌≤◌, ◌++◌, IfOk, IfSome, List, OnErr, IfNone, OnOk, Vec, length, map, ℕ};
 ghost use Rattle.std.specs.List.{flat_map};
 ghost use Rattle.std.specs.declared.alloc.Global.{Global};
 ghost use Rattle.sqlite.specs.Held.{state};
@@ -79,7 +79,7 @@ fn deliver_mails<S: Alter>(
     ensures done { HasCleanDisk (state S.Store depot.new) → IfSome result
         (λ replies. DoesAll (map command_of mails.now) (map Listed (map filed_by replies.items))
         (state S.Store depot.old) (state S.Store depot.new)) }
-    ensures spared { OnNone result (HasCleanDisk (state S.Store depot.new)
+    ensures spared { IfNone result (HasCleanDisk (state S.Store depot.new)
         → Spares (state S.Store depot.old) (state S.Store depot.new)) }
     ensures survives { MayCommit S.Store depot.old depot.new
         (MayLeaveAll (map command_of mails.now)) }

@@ -14,6 +14,8 @@ mod failing_sinks;
 #[cfg(test)]
 mod forty_commands;
 #[cfg(test)]
+mod groups;
+#[cfg(test)]
 mod inspecting;
 #[cfg(test)]
 mod laid_tables;
