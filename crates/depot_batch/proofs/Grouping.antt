@@ -3,7 +3,8 @@ use Rattle.std.proofs.Common.{◌≡◌, ◌⊎◌, ◌++◌, ◌∙◌, ◌+◌
 use Rattle.std.specs.Borrow.{Bor}
 use Rattle.std.specs.List.{flat_map}
 use Rattle.std.proofs.Math.ListN.{get_or}
-use Rattle.std.proofs.lemmas.List.{drop_more, map-append, take-append-drop, take_more}
+use Rattle.std.proofs.lemmas.Grind.{flat_map-append}
+use Rattle.std.proofs.lemmas.List.{drop_more, map-append, take-append-drop, take-map, take_more}
 use Rattle.sqlite_trees.specs.declared.store.Store.{Ghosts}
 use Rattle.sqlite_trees.specs.Tree.{Trees}
 use Rattle.sqlite.specs.Held.{Held, state}
@@ -11,15 +12,16 @@ use Rattle.sqlite.specs.State.{HasCleanDisk, State, Survives}
 use Rattle.part_store.specs.Entries.{Listing}
 use Rattle.part_store.specs.Standing.{Spares}
 use Rattle.part_store.specs.declared.entry.EntryRow.{EntryRow}
-use Rattle.encodings.specs.Device.{Output}
-use Rattle.depot_actions.specs.Deliveries.{DoesAll, MayLeaveAll}
+use Rattle.encodings.specs.Device.{HasBroken, HasTaken, Output}
+use Rattle.encodings.proofs.Outputs.{broken_first, broken_later}
+use Rattle.depot_actions.specs.Deliveries.{DoesAll, MayLeaveAll, reply_of}
 use Rattle.depot_actions.specs.DepotState.{Command, Deliver, Listed}
 use Rattle.depot_jobs.specs.Host.{HostState}
 use Rattle.depot_jobs.specs.Inputs.{HasReadFile}
 use Rattle.depot_jobs.specs.declared.request.Request.TheVariants as requests
 use Rattle.depot_batch.specs.Asked.{Text}
-use Rattle.depot_batch.specs.Batch.{AreAnsweredBy, AreDeliveries, AreLookedUp, AreWithdrawn, IsAsked, IsDelivery, Office, filed_text, most_together}
-use Rattle.depot_batch.specs.Private.{IsPassedOver, command_of}
+use Rattle.depot_batch.specs.Batch.{AreAnsweredBy, AreDeliveries, AreLookedUp, AreWithdrawn, IsAsked, IsDelivery, MayMakeAll, Office, closing, filed_text, most_together}
+use Rattle.depot_batch.specs.Private.{IsPassedOver, command_of, filed_by, lines_of}
 use Rattle.depot_batch.specs.declared.asked.Asked.TheVariants.{Reply}
 use Rattle.depot_batch.specs.declared.mails.Mail.{Mail}
 use Rattle.depot_batch.proofs.LineLemmas.{more_left, still}
@@ -86,7 +88,7 @@ module _ {S : Type 0} (g : Ghosts S) where
     files = files;
     spared = λ clean. subst (λ (d : Held S). Spares (state g old.depot) (state g d)) (sym same) (spared_still (state g old.depot));
     out = out;
-    outlasts = subst (λ (d : Held S). Survives (state g old.depot) (state g d) _) (sym same) (still (state g old.depot));
+    outlasts = subst (λ (d : Held S). Survives (state g old.depot) (state g d) (MayMakeAll lines (state g old.depot) old.host new.host)) (sym same) (still (state g old.depot));
   }
 
   -- they were withdrawn since it refused them
@@ -117,7 +119,45 @@ module _ {S : Type 0} (g : Ghosts S) where
     outlasts = more_left (state g old.depot) (state g new.depot) (λ db made. (commands, files, made)) survives;
   }
 
+-- the first of lines, by their octets
+pub cut_lines : (lines shown cut : List (Vec ℕ Global)) (n k : ℕ) → cut ≡ take n lines → n ≡ k → shown ≡ lines → take k (lines_of shown) ≡ lines_of cut
+cut_lines lines shown cut n k is count same =
+    ap (λ (ls : List (Vec ℕ Global)). take k (lines_of ls)) same ∙ ap (λ m. take m (lines_of lines)) (sym count)
+    ∙ take-map (λ (l : Vec ℕ Global). l.items) n lines ∙ sym (ap lines_of is)
+
+pub cut_rest : (lines cut : List (Vec ℕ Global)) (n : ℕ) → cut ≡ take n lines → lines ≡ cut ++ drop n lines
+cut_rest lines cut n is = sym (take-append-drop n lines) ∙ ap (λ (ls : List (Vec ℕ Global)). ls ++ drop n lines) (sym is)
+
+-- ---- answers
+
+-- the sink broke in the answer to one of several deliveries
+pub broken_in_turn : {s0 s1 s2 : Output} (replies done : List (Vec EntryRow Global)) (rows : Vec EntryRow Global) → length done < length replies → done ≡ take (length done) replies
+    → rows ≡ get_or replies (length done) rows → HasTaken (flat_map filed_text (map filed_by done)) s0 s1 → HasBroken (filed_text (filed_by rows)) s1 s2
+    → HasBroken (flat_map filed_text (map filed_by replies)) s0 s2
+broken_in_turn {s0 = s0} {s1 = s1} {s2 = s2} replies done rows within so_far is taken broken =
+    let others = drop (length done + 1) replies in
+    let next : drop (length done) replies ≡ rows ∷ others =
+    drop_more replies (length done) rows within ∙ ap (λ (r : Vec EntryRow Global). r ∷ others) (sym is) in
+    let parts : replies ≡ done ++ (rows ∷ others) =
+    sym (take-append-drop (length done) replies) ∙ ap (λ (l : List (Vec EntryRow Global)). l ++ drop (length done) replies) (sym so_far) ∙ ap (λ (l : List (Vec EntryRow Global)). done ++ l) next in
+    let text : flat_map filed_text (map filed_by replies) ≡ flat_map filed_text (map filed_by done) ++ (filed_text (filed_by rows) ++ flat_map filed_text (map filed_by others)) =
+    ap (λ (l : List (Vec EntryRow Global)). flat_map filed_text (map filed_by l)) parts ∙ ap (flat_map filed_text) (map-append filed_by done (rows ∷ others))
+    ∙ flat_map-append filed_text (map filed_by done) (map filed_by (rows ∷ others)) in
+    subst (λ octets. HasBroken octets s0 s2) (sym text)
+    (broken_later (flat_map filed_text (map filed_by done)) (filed_text (filed_by rows) ++ flat_map filed_text (map filed_by others)) taken
+    (broken_first (filed_text (filed_by rows)) (flat_map filed_text (map filed_by others)) broken))
+
 -- what holds anyway holds where there is nothing
 pub on_none : {A P : Type 0} (r : Option A) → P → IfNone r P
 on_none None p = p
 on_none (Some x) p = tt
+
+-- replies of deliveries list what was filed
+replies_filed : (replies : List (Vec EntryRow Global)) → map reply_of replies ≡ map Listed (map filed_by replies)
+replies_filed [] = refl
+replies_filed (rows ∷ replies) = ap (λ others. Listed (filed_by rows) ∷ others) (replies_filed replies)
+
+pub done_as : (commands commands2 : List Command) (replies : List (Vec EntryRow Global)) (old new : State) → commands ≡ commands2 → DoesAll commands (map reply_of replies) old new
+    → DoesAll commands2 (map Listed (map filed_by replies)) old new
+done_as commands commands2 replies old new same does =
+    subst (λ rs. DoesAll commands2 rs old new) (replies_filed replies) (subst (λ cs. DoesAll cs (map reply_of replies) old new) same does)

@@ -91,6 +91,16 @@ module _ (all front later : List (Vec ℕ Global)) (are : all ≡ front ++ later
     faults = shown.faults;
   }
 
+  -- the first of lines that are shown are taken, if they may be
+  pub first_taken : (shown : List (Vec ℕ Global)) (before old new : Supply) (limit : Option ℕ) → shown ≡ front → CanTake (concat (lines_of all)) before.left limit
+      → HasShown (concat (lines_of all)) before old
+      → (CanTake (concat (lines_of shown)) before.left limit → HasShown (concat (lines_of shown)) before old → HasGiven (concat (lines_of shown)) before new)
+      → HasGiven (concat (lines_of front)) before new
+  first_taken shown before old new limit is can has takes =
+      subst (λ (ls : List (Vec ℕ Global)). HasGiven (concat (lines_of ls)) before new) is
+      (takes (subst (λ (ls : List (Vec ℕ Global)). CanTake (concat (lines_of ls)) before.left limit) (sym is) (first_ready before.left limit can))
+      (subst (λ (ls : List (Vec ℕ Global)). HasShown (concat (lines_of ls)) before old) (sym is) (first_shown before old has)))
+
 -- ---- lines that are taken
 
 -- octets that were shown, and then as many that were taken
