@@ -29,7 +29,7 @@ turns-preserved g c =
     let mid = office g.S.Store c.turns.depot (g.H.Host.state c.turns.host) out in
     let new = office g.S.Store c.take_turn.new.depot (g.H.Host.state c.take_turn.new.host) out2 in
     stands_on g.S.Store c.args.name.now c.turns.counter _ rest left _ mid new _ (g.E.Sink.output c.turns.err) (g.E.Sink.output c.take_turn.new.err) c.turns.invariant
-    (subst (λ (came : Option ℕ). HasTurned g.S.Store c.args.name.now came rest left mid new (g.E.Sink.output c.turns.err) (g.E.Sink.output c.take_turn.new.err)) c.in-None.is c.take_turn.ensures)
+    (subst (λ (came : Option ℕ). HasTurned g.S.Store c.args.name.now came rest left mid new (g.E.Sink.output c.turns.err) (g.E.Sink.output c.take_turn.new.err)) c.in_default.is c.take_turn.ensures)
 
 pub returns : goal.returns
 returns g c = ends_counting g.S.Store c.args.name.now c.turns.counter _ _ _ _ _ _ c.turns.invariant (omega (arith, c.turns-test.false, c.turns.auto.counter-end))

@@ -40,8 +40,8 @@ returns-then-is_shut_by g c =
     (subst (λ (o : Outcome). IsAnsweredBy g.S.Store HasTaken c.args.name.now c.next_line.new.line.items o old new) (c.is_shut_by.ensures.shut c.if-is_shut_by.true)
     (subst (λ (octets : List ℕ). IsAnsweredBy g.S.Store HasTaken c.args.name.now octets c.in-Ok.outcome old new) c.deref.ensures.value c.in-Ok.ensures.answered))
 
-pub returns-else-is_shut_by : goal.returns-else-is_shut_by
-returns-else-is_shut_by g c =
+pub returns-in-Ok : goal.returns-in-Ok
+returns-in-Ok g c =
     let rest : Supply = record { left = g.R.Read.remaining c.args.input.now.inner; given = c.args.input.now.given; has_ended = c.args.input.now.has_ended; faults = c.args.input.now.faults } in
     let left : Supply = record { left = g.R.Read.remaining c.next_line.new.input.inner; given = c.next_line.new.input.given; has_ended = c.next_line.new.input.has_ended; faults = c.next_line.new.input.faults } in
     let out : Output = record { written = g.W.Write.contents c.args.out.now.inner; faults = c.args.out.now.faults } in
@@ -53,8 +53,8 @@ returns-else-is_shut_by g c =
     (subst (λ (octets : List ℕ). IsAnsweredBy g.S.Store HasTaken c.args.name.now octets c.in-Ok.outcome old new) c.deref.ensures.value c.in-Ok.ensures.answered)
     (c.is_shut_by.ensures.goes_on c.if-is_shut_by.false)
 
-pub returns-in-Err-serve : goal.returns-in-Err-serve
-returns-in-Err-serve g c =
+pub returns-in-Ok-Line : goal.returns-in-Ok-Line
+returns-in-Ok-Line g c =
     let rest : Supply = record { left = g.R.Read.remaining c.args.input.now.inner; given = c.args.input.now.given; has_ended = c.args.input.now.has_ended; faults = c.args.input.now.faults } in
     let left : Supply = record { left = g.R.Read.remaining c.next_line.new.input.inner; given = c.next_line.new.input.given; has_ended = c.next_line.new.input.has_ended; faults = c.next_line.new.input.faults } in
     let out : Output = record { written = g.W.Write.contents c.args.out.now.inner; faults = c.args.out.now.faults } in
@@ -66,8 +66,8 @@ returns-in-Err-serve g c =
     turned_broken g.S.Store c.args.name.now (Alone c.next_line.new.line.items broken.0) c.tell.result rest left old new _ _ taken
     (subst (λ (octets : List ℕ). IsAnsweredBy g.S.Store HasBroken c.args.name.now octets broken.0 old new) c.deref.ensures.value broken.1) c.tell.ensures.status c.tell.ensures.told
 
-pub returns-in-Err : goal.returns-in-Err
-returns-in-Err g c =
+pub returns : goal.returns
+returns g c =
     let rest : Supply = record { left = g.R.Read.remaining c.args.input.now.inner; given = c.args.input.now.given; has_ended = c.args.input.now.has_ended; faults = c.args.input.now.faults } in
     let left : Supply = record { left = g.R.Read.remaining c.next_line.new.input.inner; given = c.next_line.new.input.given; has_ended = c.next_line.new.input.has_ended; faults = c.next_line.new.input.faults } in
     turned_unread g.S.Store c.args.name.now c.in-Err.refusal c.next_line.new.line.items c.tell-in-Err.result rest left _ _ _

@@ -16,8 +16,8 @@ take_lines-requires g c =
     subst (λ (ls : List (Vec ℕ Global)). length (concat (lines_of ls)) < 2 ^ 64) (sym c.deref.ensures.value)
     (first_small c.args.lines.items c.serve_together.new.lines.items first.0 first.1 c.requires.small)
 
-pub take_lines-in-Err-requires : goal.take_lines-in-Err-requires
-take_lines-in-Err-requires g c =
+pub take_lines-requires-in-Err : goal.take_lines-requires-in-Err
+take_lines-requires-in-Err g c =
     let first = c.in-Err.ensures.first in
     subst (λ (ls : List (Vec ℕ Global)). length (concat (lines_of ls)) < 2 ^ 64) (sym c.deref-in-Err.ensures.value)
     (first_small c.args.lines.items c.serve_together.new.lines.items first.0 first.1 c.requires.small)
@@ -60,8 +60,8 @@ returns-in-Ok-Withdrawn g c before can shown =
       refl,
     )
 
-pub returns-in-Err : goal.returns-in-Err
-returns-in-Err g c before can shown =
+pub returns : goal.returns
+returns g c before can shown =
     let cut = c.serve_together.new.lines.items in
     let first = c.in-Err.ensures.first in
     let input : Supply = record { left = g.R.Read.remaining c.args.input.now.inner; given = c.args.input.now.given; has_ended = c.args.input.now.has_ended; faults = c.args.input.now.faults } in
