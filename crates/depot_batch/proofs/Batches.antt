@@ -1,5 +1,5 @@
 -- Turns that are taken one after another, and why that ends.
-use Rattle.std.proofs.Common.{◌≡◌, ◌⊎◌, ◌+◌, ◌-◌, ◌^◌, ◌++◌, ◌∙◌, length-append, ap, inl, inr, min, refl, subst, sym, arith, ℕ, zero, suc, List, [], ◌∷◌, Option, Some, None, IfSome, length}
+use Rattle.std.proofs.Common.{◌≡◌, ◌+◌, ◌-◌, ◌^◌, ◌++◌, ◌∙◌, length-append, ap, inl, inr, min, refl, subst, sym, arith, ℕ, zero, suc, List, [], ◌∷◌, Option, Some, None, IfSome, length}
 use Rattle.std.specs.Io.KnownBytes.{Keeps}
 use Rattle.std.proofs.KnownBytes.{Consumes-kept, Consumes-nil, Consumes-trans, Keeps-trans}
 use Rattle.sqlite_trees.specs.declared.store.Store.{Ghosts}
@@ -9,7 +9,7 @@ use Rattle.refusals.specs.declared.refusal.Refusal.{Refusal}
 use Rattle.refusals.specs.declared.refusal.Refusal.TheVariants.{Database, Memory, Read, Write}
 use Rattle.depot_jobs.specs.Jobs.{HasTold}
 use Rattle.depot_batch.specs.Batch.{AreTaken, Breaks, Happens, HasServed, IsAnsweredBy, Office}
-use Rattle.encodings.specs.Device.{HasBroken, HasTaken}
+use Rattle.encodings.specs.Device.{HasTaken}
 use Rattle.depot_batch.specs.Lines.{HasNotTaken, HasShown, HasTakenAll, IsLine, IsUnfinished}
 use Rattle.depot_batch.specs.Private.{HasServedLast, HasTurned}
 use Rattle.depot_batch.specs.Turns.{Alone, EndsBy, GoesOn, Takes, Together, Turn, Withdrawn}

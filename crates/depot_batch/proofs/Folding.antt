@@ -9,12 +9,12 @@ use Rattle.encodings.specs.Supply.{Supply}
 use Rattle.part_store.specs.Entries.{Entries}
 use Rattle.part_store.specs.Standing.{Spares, Stands}
 use Rattle.depot_actions.specs.Deliveries.{calls_of}
-use Rattle.depot_actions.specs.DepotState.{Command, Does, Export as Exports, Listed, Reply as DepotReply, Text as Written}
+use Rattle.depot_actions.specs.DepotState.{Command, Does, Listed, Reply as DepotReply, Text as Written}
 use Rattle.depot_actions.specs.History.{AreSteps, Call}
 use Rattle.depot_jobs.specs.Host.{HostState}
-use Rattle.depot_cli.specs.Requests.{request_command}
+use Rattle.depot_jobs.specs.declared.request.Request.TheVariants as requests
 use Rattle.refusals.specs.declared.refusal.Refusal.{Refusal}
-use Rattle.depot_batch.specs.Batch.{AreDeliveries, AreTaken, Happens, HasCome, IsAsked, IsCallOf, IsDone, IsMadeAtOne, IsRefused, MayMakeIn, Office, Outlasts, command_asked}
+use Rattle.depot_batch.specs.Batch.{AreDeliveries, AreTaken, Happens, HasCome, IsAsked, IsCallOf, IsDone, IsMadeAtOne, IsRefused, Office, Outlasts, command_asked}
 use Rattle.depot_batch.specs.Turns.{Alone, Together, Turn, Withdrawn, done_in, lines_done}
 use Rattle.depot_batch.specs.declared.asked.Asked.{Asked}
 use Rattle.depot_batch.specs.declared.asked.Asked.TheVariants.{Reply, Export as IntoFile}
@@ -47,7 +47,7 @@ delivered (line ∷ lines) [] replies host host2 are each = absurd are
 delivered (line ∷ lines) (command ∷ commands) [] host host2 are each = absurd (omega (arith, each))
 delivered (line ∷ lines) (command ∷ commands) (reply ∷ replies) host host2 are each =
     let one = are.1 in (
-      (_, one.2, one.3, reply, ap (λ (c : Command). record { command = c; reply = Some reply }) one.5),
+      (Reply (requests.Deliver one.0 one.1), one.2, one.3, reply, ap (λ (c : Command). record { command = c; reply = Some reply }) one.5),
       delivered lines commands replies are.0 host2 are.2 (omega (arith, each)),
     )
 
@@ -153,8 +153,7 @@ module _ {S : Type 0} (g : Ghosts S) where
       ([], before, tt, refl, subst (λ (o : Office S). IsTrue (state g o.depot).is_open → Stands (state g o.depot).now before) (sym are.1) given)
   turns_went name (turn ∷ turns) input rest old new before are clean given =
       let one = turn_went name old are.1 before (clean_all name turns are.0 rest are.1 new are.5 clean) given turn are.3 in
-      let more = turns_went name turns are.0 rest are.1 new one.after are.5 clean one.stands in
-      (
+      let more = turns_went name turns are.0 rest are.1 new one.after are.5 clean one.stands in (
         one.calls ++ more.0,
         more.1,
         zips_both (done_in turn) (lines_done turns) one.calls more.0 one.are more.2,

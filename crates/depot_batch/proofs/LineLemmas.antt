@@ -1,18 +1,10 @@
 -- What comes of a line, from what came of its words and of what they ask for.
-use Rattle.std.proofs.Common.{◌≡◌, ◌⊎◌, ◌+◌, ◌-◌, ◌^◌, ◌++◌, ◌∙◌, append-nil, length-append, ap, inl, inr, refl, subst, sym, arith, ℕ, List, [], ◌∷◌, Option, Result, Ok, Err, IfOk, OnErr, length}
-use Rattle.std.specs.List.{concat}
-use Rattle.std.specs.Io.{StopsAt}
-use Rattle.std.specs.Io.KnownBytes.{Consumes, IsAtEnd}
-use Rattle.std.proofs.KnownBytes.{Consumes-nil, Consumes-trans}
-use Rattle.std.proofs.lemmas.List.Folds.{concat-append}
+use Rattle.std.proofs.Common.{◌≡◌, ◌++◌, inl, inr, refl, subst, sym, arith, ℕ, List, Result, Ok, Err, IfOk, OnErr}
 use Rattle.sqlite_trees.specs.declared.store.Store.{Ghosts}
 use Rattle.sqlite_trees.specs.Tree.{Trees}
 use Rattle.sqlite.specs.Held.{state}
 use Rattle.sqlite.specs.State.{State, Survives}
-use Rattle.encodings.specs.Device.{HasBroken, HasTaken, Output}
-use Rattle.refusals.specs.declared.refusal.Refusal.{Refusal}
-use Rattle.refusals.specs.declared.refusal.Refusal.TheVariants.{Database, Memory, Read, Write}
-use Rattle.depot_jobs.specs.Jobs.{HasTold}
+use Rattle.encodings.specs.Device.{HasBroken, HasTaken}
 use Rattle.depot_batch.specs.Answers.{AreNoTexts, HasComeOf, IsUnasked, IsUnaskedText}
 use Rattle.depot_batch.specs.Asked.{AskNothing}
 use Rattle.depot_batch.specs.Batch.{HasCome, HasWords, IsAnsweredBy, IsAsked, IsWrong, MayMake, MayMakeOne, Office, Outlasts, closing}
@@ -106,12 +98,15 @@ module _ {S : Type 0} (g : Ghosts S) where
       → OnErr r ((outcome : Outcome) × (text : List ℕ) × HasComeOf g name asked outcome text old.depot new.depot old.host new.host × HasBroken (text ++ closing outcome) old.out new.out)
       → OnErr r ((outcome : Outcome) × IsAnsweredBy g HasBroken name octets outcome old new)
   asked_broken (Ok outcome) name octets asked old new is survives broken = tt
-  asked_broken (Err e) name octets asked old new is survives broken = (broken.0, record {
-    text = broken.1;
-    come = come_of name octets asked broken.0 broken.1 old new is broken.2;
-    written = broken.3;
-    outlasts = outlasts_asked octets broken.0 asked old new is survives;
-  })
+  asked_broken (Err e) name octets asked old new is survives broken = (
+    broken.0,
+    record {
+      text = broken.1;
+      come = come_of name octets asked broken.0 broken.1 old new is broken.2;
+      written = broken.3;
+      outlasts = outlasts_asked octets broken.0 asked old new is survives;
+    },
+  )
 
   -- a line that wasn't asked for anything was answered
   pub unasked_answered : {E : Type 0} (r : Result Outcome E) (name octets : List ℕ) (why : Unasked) (old new : Office S) → IsUnasked octets why
@@ -131,9 +126,12 @@ module _ {S : Type 0} (g : Ghosts S) where
       → OnErr r ((outcome : Outcome) × (text : List ℕ) × IsUnaskedText why outcome text × HasBroken (text ++ closing outcome) old.out new.out)
       → OnErr r ((outcome : Outcome) × IsAnsweredBy g HasBroken name octets outcome old new)
   unasked_broken (Ok outcome) name octets why old new wrong depot host broken = tt
-  unasked_broken (Err e) name octets why old new wrong depot host broken = (broken.0, record {
-    text = broken.1;
-    come = unasked_come name octets why broken.0 broken.1 old new wrong broken.2 depot host;
-    written = broken.3;
-    outlasts = outlasts_idle octets broken.0 old new depot;
-  })
+  unasked_broken (Err e) name octets why old new wrong depot host broken = (
+    broken.0,
+    record {
+      text = broken.1;
+      come = unasked_come name octets why broken.0 broken.1 old new wrong broken.2 depot host;
+      written = broken.3;
+      outlasts = outlasts_idle octets broken.0 old new depot;
+    },
+  )

@@ -1,5 +1,5 @@
 -- Lines that an input has ready.
-use Rattle.std.proofs.Common.{◌≡◌, ◌∙◌, ◌≢◌, ◌+◌, ◌<◌, ◌≤◌, ◌^◌, ap, append-nil, append_assoc, arith, get_or-take, length-append, length-take-le, MatchOption, refl, subst, sym, ℕ, List, [], ◌∷◌, ◌++◌, Option, Some, None, IfSome, length, take, drop, map, Vec, Global}
+use Rattle.std.proofs.Common.{◌≡◌, ◌∙◌, ◌≢◌, ◌+◌, ◌<◌, ◌≤◌, ◌^◌, ap, append-nil, append_assoc, arith, get_or-take, length-append, length-take-le, MatchOption, subst, sym, ℕ, List, [], ◌∷◌, ◌++◌, Option, Some, None, IfSome, length, take, drop, Vec, Global}
 use Rattle.std.specs.Io.{StartsWith}
 use Rattle.std.specs.Io.BufRead.{DropsConsumable}
 use Rattle.std.specs.Io.KnownBytes.{Consumes, Keeps}

@@ -1,5 +1,5 @@
 -- What is taken of an input in turns.
-use Rattle.std.proofs.Common.{◌≡◌, ◌++◌, ◌∙◌, append-nil, ap, length-append, refl, subst, sym, ℕ, List, [], ◌∷◌, length}
+use Rattle.std.proofs.Common.{◌++◌, ◌∙◌, append-nil, ap, length-append, refl, subst, sym, ℕ, List, [], ◌∷◌, length}
 use Rattle.std.specs.List.{concat}
 use Rattle.std.proofs.KnownBytes.{Consumes-kept, Consumes-nil, Consumes-trans}
 use Rattle.std.proofs.lemmas.List.Folds.{concat-append}

@@ -26,7 +26,7 @@ use Rattle.depot_cli.specs.declared.entries.Detail.TheVariants.{Brief}
 use Rattle.depot_jobs.specs.declared.request.Request.{Request}
 use Rattle.depot_jobs.specs.declared.request.Request.TheVariants.{Deliver}
 use Rattle.refusals.specs.declared.refusal.Refusal.{Refusal}
-use Rattle.refusals.specs.declared.refusal.Refusal.TheVariants.{Database, Memory, Write}
+use Rattle.refusals.specs.declared.refusal.Refusal.TheVariants.{Memory, Write}
 use Rattle.depot_batch.specs.Asked.{AskNothing, Asks, Text}
 use Rattle.depot_batch.specs.Sentences.{wrong_line}
 use Rattle.depot_batch.specs.Turns.{Alone, AreTakenBy, HasServedBy, Together, Turn, Withdrawn}

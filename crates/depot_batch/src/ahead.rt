@@ -35,10 +35,7 @@ pub enum Ahead {
 /// # Errors
 ///
 /// `Memory` where an allocation was refused, and `Read` where a call failed, which is counted.
-pub fn look_ahead<R: BufRead + Drop>(
-    alloc: Global,
-    input: &mut OfRead<R>,
-) -> Result<Ahead, Refusal>
+pub fn look_ahead<R: BufRead + Drop>(alloc: Global, input: &mut OfRead<R>) -> Result<Ahead, Refusal>
     ensures ahead { IfOk result (λ ahead. IsAhead ahead (⟦<OfRead<R> as Source>⟧.supply input.old)
         (⟦<OfRead<R> as Source>⟧.supply input.new)) }
     ensures ready { IfOk result (λ ahead. MayTake ahead (R.remaining input.old.inner)

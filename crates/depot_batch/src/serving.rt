@@ -187,9 +187,7 @@ fn take_alone<S: Alter, H: Host, R: BufRead + Drop, W: Write + Drop, E: Sink>(
             }
             Err(DeviceFailed) => Some(tell(err, &Refusal::Write)),
         },
-        Ok(Taken::Unfinished) => Some(serve_last(
-            alloc, name, &line, depot, host, out, err,
-        )),
+        Ok(Taken::Unfinished) => Some(serve_last(alloc, name, &line, depot, host, out, err)),
         Ok(Taken::Nothing) => Some(SUCCESS),
         Err(refusal) => Some(tell(err, &refusal)),
     }

@@ -1,4 +1,4 @@
-use Rattle.std.proofs.Common.{◌≡◌, ◌≤◌, ◌-◌, ◌++◌, length, vec_len}
+use Rattle.std.proofs.Common.{◌≡◌, ◌≤◌, ◌-◌, ◌++◌, vec_len}
 use Rattle.std.specs.List.{All, concat}
 use Rattle.depot_batch.specs.Batch.{most_together}
 use Rattle.depot_batch.specs.Lines.{IsLine}

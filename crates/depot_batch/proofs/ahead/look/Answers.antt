@@ -1,8 +1,8 @@
-use Rattle.std.proofs.Common.{subst, arith, rules}
+use Rattle.std.proofs.Common.{subst}
 use Rattle.std.specs.Io.BufRead.{FillKeeps}
 use Rattle.std.specs.List.{concat}
 use Rattle.depot_batch.specs.Private.{lines_of}
-use Rattle.depot_batch.proofs.Readying.{shown_fit, shown_first}
+use Rattle.depot_batch.proofs.Readying.{shown_fit}
 use Rattle.depot_batch.proofs.ahead.look.Goals as goal
 
 pub returns-in-Ok-deliveries_in-clause-ready : goal.returns-in-Ok-deliveries_in-clause-ready

@@ -1,4 +1,4 @@
-use Rattle.std.proofs.Common.{◌≡◌, ◌∙◌, ◌+◌, ◌<◌, ◌++◌, ap, length-append, refl, subst, sym, length, ℕ, List, [], ◌∷◌, Vec, Global, map}
+use Rattle.std.proofs.Common.{◌≡◌, ◌∙◌, ◌+◌, ◌<◌, ◌++◌, ap, length-append, refl, subst, sym, length, ℕ, [], ◌∷◌, Vec, Global, map}
 use Rattle.std.proofs.Math.ListN.{get_or}
 use Rattle.std.proofs.lemmas.List.{get_or-map, length-map}
 use Rattle.depot_batch.specs.Batch.{IsDelivery}

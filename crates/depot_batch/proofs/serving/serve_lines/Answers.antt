@@ -1,4 +1,4 @@
-use Rattle.std.proofs.Common.{◌≡◌, arith, subst, Option, Some, None, ℕ}
+use Rattle.std.proofs.Common.{arith, subst, Option, ℕ}
 use Rattle.encodings.specs.Device.{Output}
 use Rattle.encodings.specs.Supply.{Supply}
 use Rattle.depot_batch.specs.Batch.{office}

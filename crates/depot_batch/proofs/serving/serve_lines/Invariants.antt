@@ -1,4 +1,3 @@
-use Rattle.encodings.specs.Supply.{Supply}
 use Rattle.depot_batch.specs.Batch.{office}
 use Rattle.depot_batch.proofs.Batches.{StandsAfter}
 use Rattle.depot_batch.proofs.serving.serve_lines.Given as goal

@@ -1,8 +1,8 @@
-use Rattle.std.proofs.Common.{◌≡◌, ◌<◌, ◌^◌, length, refl, subst, sym, ℕ, List, Vec, Global}
+use Rattle.std.proofs.Common.{◌<◌, ◌^◌, length, refl, subst, sym, ℕ, List, Vec, Global}
 use Rattle.std.specs.List.{concat}
-use Rattle.encodings.specs.Device.{HasBroken, HasTaken, Output}
+use Rattle.encodings.specs.Device.{Output}
 use Rattle.encodings.specs.Supply.{Supply}
-use Rattle.depot_batch.specs.Batch.{most_together, office}
+use Rattle.depot_batch.specs.Batch.{office}
 use Rattle.depot_batch.specs.Private.{HasTried, lines_of}
 use Rattle.depot_batch.specs.Turns.{Together, Withdrawn}
 use Rattle.depot_batch.specs.declared.together.Tried.{Tried}
@@ -31,8 +31,7 @@ returns-in-Ok-Done g c before can shown =
     let out : Output = record { written = g.W.Write.contents c.args.out.now.inner; faults = c.args.out.now.faults } in
     let out2 : Output = record { written = g.W.Write.contents c.serve_together.new.out.inner; faults = c.serve_together.new.out.faults } in
     let old = office g.S.Store c.args.depot.now (g.H.Host.state c.args.host.now) out in
-    let new = office g.S.Store c.serve_together.new.depot (g.H.Host.state c.serve_together.new.host) out2 in
-    (
+    let new = office g.S.Store c.serve_together.new.depot (g.H.Host.state c.serve_together.new.host) out2 in (
       Together (lines_of cut),
       (
         first_whole c.args.lines.items cut first.0 first.1 c.requires.whole,
@@ -51,8 +50,7 @@ returns-in-Ok-Withdrawn g c before can shown =
     let out : Output = record { written = g.W.Write.contents c.args.out.now.inner; faults = c.args.out.now.faults } in
     let out2 : Output = record { written = g.W.Write.contents c.serve_together.new.out.inner; faults = c.serve_together.new.out.faults } in
     let old = office g.S.Store c.args.depot.now (g.H.Host.state c.args.host.now) out in
-    let new = office g.S.Store c.serve_together.new.depot (g.H.Host.state c.serve_together.new.host) out2 in
-    (
+    let new = office g.S.Store c.serve_together.new.depot (g.H.Host.state c.serve_together.new.host) out2 in (
       Withdrawn (lines_of cut),
       (first_whole c.args.lines.items cut first.0 first.1 c.requires.whole, first_shown c.args.lines.items cut first.0 first.1 before input shown),
       subst (λ (t : Tried). HasTried g.S.Store t (lines_of cut) old new) c.in-Ok-Withdrawn.field-0-is c.in-Ok-Withdrawn.ensures.tried,
@@ -70,8 +68,7 @@ returns g c before can shown =
     let out2 : Output = record { written = g.W.Write.contents c.serve_together.new.out.inner; faults = c.serve_together.new.out.faults } in
     let old = office g.S.Store c.args.depot.now (g.H.Host.state c.args.host.now) out in
     let new = office g.S.Store c.serve_together.new.depot (g.H.Host.state c.serve_together.new.host) out2 in
-    turned_broken g.S.Store c.args.name.now (Together (lines_of cut)) c.tell.result before rest old new _ _
-    (
+    turned_broken g.S.Store c.args.name.now (Together (lines_of cut)) c.tell.result before rest old new _ _ (
       first_whole c.args.lines.items cut first.0 first.1 c.requires.whole,
       first_taken c.args.lines.items cut first.0 first.1 c.deref-in-Err.result.now before input rest (g.R.BufRead.consumable_len c.args.input.now.inner) c.deref-in-Err.ensures.value can shown (c.take_lines-in-Err.ensures before),
     )

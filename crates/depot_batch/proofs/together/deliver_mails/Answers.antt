@@ -1,9 +1,6 @@
-use Rattle.std.proofs.Common.{◌≡◌, ◌∙◌, ap, map, subst, sym, List, Vec, Global}
+use Rattle.std.proofs.Common.{◌≡◌, ◌∙◌, ap, map}
 use Rattle.sqlite.specs.Held.{state}
-use Rattle.part_store.specs.declared.entry.EntryRow.{EntryRow}
-use Rattle.depot_actions.specs.Deliveries.{DoesAll, command_of as asked_of}
-use Rattle.depot_actions.specs.DepotState.{Command}
-use Rattle.depot_actions.specs.declared.deliveries.Delivery.{Delivery}
+use Rattle.depot_actions.specs.Deliveries.{command_of as asked_of}
 use Rattle.depot_batch.specs.Private.{command_of}
 use Rattle.depot_batch.proofs.Grouping.{done_as}
 use Rattle.depot_batch.proofs.together.deliver_mails.Goals as goal

@@ -1,4 +1,4 @@
-use Rattle.std.proofs.Common.{◌≡◌, ◌≤◌, ◌++◌, ap, drop, length, map, refl, rules, subst, sym, take, ℕ, List, Vec, Global}
+use Rattle.std.proofs.Common.{◌≡◌, drop, length, map, refl, rules, subst, ℕ, List}
 use Rattle.sqlite_trees.specs.Tree.{Trees}
 use Rattle.sqlite.specs.Held.{state}
 use Rattle.sqlite.specs.State.{HasCleanDisk, Survives}
@@ -39,11 +39,11 @@ returns-in_err-put_filed-in-Some-deliver_mails-clause-broken g c =
     let new = office g.S.Store c.deliver_mails.new.depot (g.H.Host.state c.read_mails.new.host) out2 in
     let count : c.len.result ≡ length mails = search rules in
     let files = subst (λ (ls : List (List ℕ)). AreDeliveries ls (map command_of mails) (g.H.Host.state c.args.host.now) (g.H.Host.state c.read_mails.new.host))
-        (cut_lines lines c.deref.result.now cut c.len.result (length mails) c.truncate.ensures.items count c.deref.ensures.value) c.in-Some.ensures.read in
+    (cut_lines lines c.deref.result.now cut c.len.result (length mails) c.truncate.ensures.items count c.deref.ensures.value) c.in-Some.ensures.read in
     let done = subst (λ (ms : List Mail). HasCleanDisk (state g.S.Store c.deliver_mails.new.depot)
-        → DoesAll (map command_of ms) (map Listed filed) (state g.S.Store c.args.depot.now) (state g.S.Store c.deliver_mails.new.depot)) c.deref-2.ensures.value c.in-Some-deliver_mails.ensures.done in
+    → DoesAll (map command_of ms) (map Listed filed) (state g.S.Store c.args.depot.now) (state g.S.Store c.deliver_mails.new.depot)) c.deref-2.ensures.value c.in-Some-deliver_mails.ensures.done in
     let survives = subst (λ (ms : List Mail). Survives (state g.S.Store c.args.depot.now) (state g.S.Store c.deliver_mails.new.depot)
-        (λ (trees : Trees). MayLeaveAll (map command_of ms) (state g.S.Store c.args.depot.now) trees)) c.deref-2.ensures.value c.deliver_mails.ensures.survives in
+    (λ (trees : Trees). MayLeaveAll (map command_of ms) (state g.S.Store c.args.depot.now) trees)) c.deref-2.ensures.value c.deliver_mails.ensures.survives in
     on_err c.from_residual.result
     (answered_together g.S.Store HasBroken (lines_of cut) (map command_of mails) filed old new
     (first_few lines cut (drop c.len.result lines) (cut_rest lines cut c.len.result c.truncate.ensures.items) most_together c.requires) files done survives
@@ -61,11 +61,11 @@ returns-in-Some-deliver_mails-clause-tried g c =
     let new = office g.S.Store c.deliver_mails.new.depot (g.H.Host.state c.read_mails.new.host) out2 in
     let count : c.len.result ≡ length mails = search rules in
     let files = subst (λ (ls : List (List ℕ)). AreDeliveries ls (map command_of mails) (g.H.Host.state c.args.host.now) (g.H.Host.state c.read_mails.new.host))
-        (cut_lines lines c.deref.result.now cut c.len.result (length mails) c.truncate.ensures.items count c.deref.ensures.value) c.in-Some.ensures.read in
+    (cut_lines lines c.deref.result.now cut c.len.result (length mails) c.truncate.ensures.items count c.deref.ensures.value) c.in-Some.ensures.read in
     let done = subst (λ (ms : List Mail). HasCleanDisk (state g.S.Store c.deliver_mails.new.depot)
-        → DoesAll (map command_of ms) (map Listed filed) (state g.S.Store c.args.depot.now) (state g.S.Store c.deliver_mails.new.depot)) c.deref-2.ensures.value c.in-Some-deliver_mails.ensures.done in
+    → DoesAll (map command_of ms) (map Listed filed) (state g.S.Store c.args.depot.now) (state g.S.Store c.deliver_mails.new.depot)) c.deref-2.ensures.value c.in-Some-deliver_mails.ensures.done in
     let survives = subst (λ (ms : List Mail). Survives (state g.S.Store c.args.depot.now) (state g.S.Store c.deliver_mails.new.depot)
-        (λ (trees : Trees). MayLeaveAll (map command_of ms) (state g.S.Store c.args.depot.now) trees)) c.deref-2.ensures.value c.deliver_mails.ensures.survives in
+    (λ (trees : Trees). MayLeaveAll (map command_of ms) (state g.S.Store c.args.depot.now) trees)) c.deref-2.ensures.value c.deliver_mails.ensures.survives in
     answered_together g.S.Store HasTaken (lines_of cut) (map command_of mails) filed old new
     (first_few lines cut (drop c.len.result lines) (cut_rest lines cut c.len.result c.truncate.ensures.items) most_together c.requires) files done survives
     c.in_ok-put_filed-in-Some-deliver_mails.ensures.ok
@@ -80,8 +80,8 @@ returns-clause-tried g c =
     let new = office g.S.Store c.deliver_mails.new.depot (g.H.Host.state c.read_mails.new.host) out in
     let count : c.len.result ≡ length mails = search rules in
     let files = subst (λ (ls : List (List ℕ)). AreDeliveries ls (map command_of mails) (g.H.Host.state c.args.host.now) (g.H.Host.state c.read_mails.new.host))
-        (cut_lines lines c.deref.result.now cut c.len.result (length mails) c.truncate.ensures.items count c.deref.ensures.value) c.in-Some.ensures.read in
+    (cut_lines lines c.deref.result.now cut c.len.result (length mails) c.truncate.ensures.items count c.deref.ensures.value) c.in-Some.ensures.read in
     let survives = subst (λ (ms : List Mail). Survives (state g.S.Store c.args.depot.now) (state g.S.Store c.deliver_mails.new.depot)
-        (λ (trees : Trees). MayLeaveAll (map command_of ms) (state g.S.Store c.args.depot.now) trees)) c.deref-2.ensures.value c.deliver_mails.ensures.survives in
+    (λ (trees : Trees). MayLeaveAll (map command_of ms) (state g.S.Store c.args.depot.now) trees)) c.deref-2.ensures.value c.deliver_mails.ensures.survives in
     withdrawn_late g.S.Store (lines_of cut) (map command_of mails) old new
     (first_few lines cut (drop c.len.result lines) (cut_rest lines cut c.len.result c.truncate.ensures.items) most_together c.requires) files c.in-None.ensures.spared survives refl
