@@ -1,5 +1,5 @@
 -- Lines that are to be done together.
-use Rattle.std.proofs.Common.{◌≡◌, ◌++◌, ◌∙◌, ◌+◌, ◌<◌, ◌≤◌, append-nil, ap, inl, inr, refl, subst, sym, ℕ, IfNone, List, [], ◌∷◌, None, Option, Some, length, map, take, drop, string_bytes, Vec, Global}
+use Rattle.std.proofs.Common.{◌≡◌, ◌++◌, ◌∙◌, ◌+◌, ◌<◌, ◌≤◌, suc, arith, append-nil, ap, inl, inr, refl, subst, sym, ℕ, IfNone, List, [], ◌∷◌, None, Option, Some, length, map, take, drop, string_bytes, Vec, Global}
 use Rattle.std.specs.Borrow.{Bor}
 use Rattle.std.specs.List.{flat_map}
 use Rattle.std.proofs.Math.ListN.{get_or}
@@ -68,6 +68,13 @@ passed_over lines i d commands host mid host2 within are passed = record {
   stops = elim passed [ inl same ↦ inl same | inr unread ↦ inr (get_or lines i d, drop (i + 1) lines, drop_more lines i d within, unread) ];
 }
 
+-- as many are asked for as there are lines
+as_many : (lines : List (List ℕ)) (commands : List Command) (host host2 : HostState) → AreDeliveries lines commands host host2 → length commands ≡ length lines
+as_many [] [] host host2 are = refl
+as_many (line ∷ lines) (command ∷ commands) host host2 are = ap suc (as_many lines commands are.0 host2 are.2)
+as_many [] (command ∷ commands) host host2 are = absurd are
+as_many (line ∷ lines) [] host host2 are = absurd are
+
 pub is_delivery : (line : List ℕ) (user file : Bor Text) (mail : Mail) (host host2 : HostState) → IsAsked line (Reply (requests.Deliver user file))
     → string_bytes mail.user ≡ user.now → HasReadFile (Some file.now) mail.message.items host host2 → IsDelivery line (command_of mail) host host2
 is_delivery line user file mail host host2 is same read = (user, file, is, mail.message.items, read, ap (λ name. Deliver name mail.message.items) same)
@@ -80,9 +87,10 @@ spared_still s = record { same = λ schema is_open. (refl, refl); shut = λ is_o
 
 module _ {S : Type 0} (g : Ghosts S) where
   -- lines were withdrawn before the depot was asked
-  pub withdrawn_early : (lines : List (List ℕ)) (old new : Office S) → length lines ≤ most_together → AreLookedUp lines old.host new.host → new.depot ≡ old.depot → new.out ≡ old.out
+  pub withdrawn_early : (lines : List (List ℕ)) (old new : Office S) → 0 < length lines → length lines ≤ most_together → AreLookedUp lines old.host new.host → new.depot ≡ old.depot → new.out ≡ old.out
       → AreWithdrawn g lines old new
-  withdrawn_early lines old new few files same out = record {
+  withdrawn_early lines old new some few files same out = record {
+    some = some;
     few = few;
     files = files;
     spared = λ clean. subst (λ (d : Held S). Spares (state g old.depot) (state g d)) (sym same) (spared_still (state g old.depot));
@@ -91,10 +99,11 @@ module _ {S : Type 0} (g : Ghosts S) where
   }
 
   -- they were withdrawn since it refused them
-  pub withdrawn_late : (lines : List (List ℕ)) (commands : List Command) (old new : Office S) → length lines ≤ most_together → AreDeliveries lines commands old.host new.host
+  pub withdrawn_late : (lines : List (List ℕ)) (commands : List Command) (old new : Office S) → 0 < length commands → length lines ≤ most_together → AreDeliveries lines commands old.host new.host
       → (HasCleanDisk (state g new.depot) → Spares (state g old.depot) (state g new.depot))
       → Survives (state g old.depot) (state g new.depot) (MayLeaveAll commands (state g old.depot)) → new.out ≡ old.out → AreWithdrawn g lines old new
-  withdrawn_late lines commands old new few files spared survives out = record {
+  withdrawn_late lines commands old new some few files spared survives out = record {
+    some = omega (arith, some, as_many lines commands old.host new.host files);
     few = few;
     files = record { read = lines; later = []; are = sym (append-nil lines); commands = commands; mid = new.host; files = files; stops = inl refl };
     spared = spared;

@@ -1,5 +1,5 @@
 -- What a batch does on a depot.
-use Rattle.std.specs.Prelude.{◌≡◌, ◌≢◌, ◌⊎◌, ℕ, ◌≤◌, List, [], ◌∷◌, ◌++◌, None, Some, Result, Ok, Err, codes, length, map}
+use Rattle.std.specs.Prelude.{◌<◌, ◌≡◌, ◌≢◌, ◌⊎◌, ℕ, ◌≤◌, List, [], ◌∷◌, ◌++◌, None, Some, Result, Ok, Err, codes, length, map}
 use Rattle.std.specs.Fmt.{decimal}
 use Rattle.std.specs.List.{All, flat_map}
 use Rattle.std.specs.Borrow.{Bor}
@@ -232,6 +232,7 @@ module _ {S : Type 0} (g : Ghosts S) where
 
   -- nothing came of lines that were to be done together: the depot is as it was, and nothing was written
   pub record AreWithdrawn (lines : List (List ℕ)) (old new : Office S) : Type 0 where
+    pub some : 0 < length lines
     pub few : length lines ≤ most_together
     pub files : AreLookedUp lines old.host new.host
     pub spared : HasCleanDisk (state g new.depot) → Spares (state g old.depot) (state g new.depot)

@@ -69,14 +69,14 @@ pub record AreShown (lines : List (List ℕ)) (octets : List ℕ) : Type 0 where
 -- what an input has ready; nothing was taken but its end
 abbrev pub IsAhead : Ahead → Supply → Supply → Type 0
 IsAhead (Deliveries lines) old new = All IsLine (lines_of lines.items) × (length (lines_of lines.items) ≤ most_together)
-    × HasShown (concat (lines_of lines.items)) old new
+    × HasShown (concat (lines_of lines.items)) old new × (0 < length (lines_of lines.items))
 IsAhead Other old new = HasShown [] old new
 IsAhead End old new = HasTakenAll [] old new
 
 -- what a reader has ready that had so much left
 abbrev pub IsSeen : Ahead → Option (List ℕ) → Type 0
 IsSeen (Deliveries lines) left = All IsLine (lines_of lines.items) × (length (lines_of lines.items) ≤ most_together)
-    × IfSome left (λ all. StartsWith all (concat (lines_of lines.items)))
+    × IfSome left (λ all. StartsWith all (concat (lines_of lines.items))) × (0 < length (lines_of lines.items))
 IsSeen Other left = Unit {0}
 IsSeen End left = IfSome left (λ all. all ≡ [])
 

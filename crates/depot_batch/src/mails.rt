@@ -1,5 +1,5 @@
 // The messages that lines ask to deliver.
-ghost use Rattle.std.specs.Prelude.{◌≡◌, ◌≤◌, ◌⊎◌, IfSome, IfNone, Some, length, map, string_bytes, take};
+ghost use Rattle.std.specs.Prelude.{◌<◌, ◌≡◌, ◌≤◌, ◌⊎◌, IfSome, IfNone, Some, length, map, string_bytes, take};
 ghost use Rattle.depot_jobs.specs.Inputs.{HasNotReadFile, HasReadFile};
 ghost use Rattle.refusals.specs.declared.refusal.Refusal.{Refusal};
 ghost use Rattle.depot_batch.specs.Batch.{AreDeliveries, AreLookedUp, IsDelivery};
@@ -26,6 +26,8 @@ pub struct Mail {
 /// 16 MiB together. None, where one of the lines asks for something else, or its message can't be
 /// read, or memory is refused.
 pub fn read_mails<H: Host>(alloc: Global, lines: &[Vec<u8>], host: &mut H) -> Option<Vec<Mail>>
+    requires { 0 < length lines.now }
+    ensures some { IfSome result (λ mails. 0 < length mails.items) }
     ensures few { IfSome result (λ mails. length mails.items ≤ length lines.now) }
     ensures read { IfSome result (λ mails.
         AreDeliveries (take (length mails.items) (lines_of lines.now))

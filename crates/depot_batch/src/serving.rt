@@ -132,6 +132,7 @@ fn take_together<S: Alter, H: Host, R: BufRead + Drop, W: Write + Drop, E: Sink>
     err: &mut E,
 ) -> Option<u8>
     requires whole { All IsLine (lines_of lines.items) }
+    requires some { 0 < length (lines_of lines.items) }
     requires few { length (lines_of lines.items) ≤ most_together }
     requires small { length (concat (lines_of lines.items)) < 2 ^ 64 }
     ensures { (before : Supply)

@@ -1,5 +1,5 @@
 // Lines that are done together.
-ghost use Rattle.std.specs.Prelude.{◌≡◌, ◌≤◌, ◌++◌, IfOk, IfSome, List, OnErr, IfNone, OnOk, Vec, length, map, ℕ};
+ghost use Rattle.std.specs.Prelude.{◌<◌, ◌≡◌, ◌≤◌, ◌++◌, IfOk, IfSome, List, OnErr, IfNone, OnOk, Vec, length, map, ℕ};
 ghost use Rattle.std.specs.List.{flat_map};
 ghost use Rattle.std.specs.declared.alloc.Global.{Global};
 ghost use Rattle.sqlite.specs.Held.{state};
@@ -47,7 +47,8 @@ pub fn serve_together<S: Alter, H: Host, W: Write + Drop>(
     host: &mut H,
     out: &mut OfWrite<W>,
 ) -> Result<Tried, DeviceFailed>
-    requires { length (lines_of lines.old.items) ≤ most_together }
+    requires some { 0 < length (lines_of lines.old.items) }
+    requires few { length (lines_of lines.old.items) ≤ most_together }
     ensures first { (later : List (Vec ℕ Global)) × (lines.old.items ≡ lines.new.items ++ later) }
     ensures tried { IfOk result (λ tried. HasTried S.Store tried (lines_of lines.new.items)
         (office S.Store depot.old (H.state host.old) (⟦<OfWrite<W> as Sink>⟧.output out.old))

@@ -1,4 +1,4 @@
-use Rattle.std.proofs.Common.{◌≡◌, ◌∙◌, ◌+◌, ◌<◌, ◌++◌, ap, length-append, refl, subst, sym, length, ℕ, [], ◌∷◌, Vec, Global, map}
+use Rattle.std.proofs.Common.{◌≡◌, ◌∙◌, ◌+◌, ◌<◌, ◌++◌, arith, ap, length-append, refl, subst, sym, length, ℕ, [], ◌∷◌, Vec, Global, map}
 use Rattle.std.proofs.Math.ListN.{get_or}
 use Rattle.std.proofs.lemmas.List.{get_or-map, length-map}
 use Rattle.depot_batch.specs.Batch.{IsDelivery}
@@ -41,6 +41,7 @@ loop-line-preserved g c =
     let within : index < length (lines_of lines) = rw (length-map lines (λ (l : Vec ℕ Global). l.items)) c.loop-line-test.true in
     record {
       number = ap length c.in-Ok.ensures.items ∙ length-append mails (mail ∷ []) ∙ ap (λ n. n + 1) c.loop-line.invariant.number;
+      none = λ first. absurd (omega (arith, first));
       read = read_more (lines_of lines) index [] mails c.push.new.self.items mail (g.H.Host.state c.args.host.now) (g.H.Host.state c.loop-line.host) (g.H.Host.state c.read_mail.new.host) within c.loop-line.invariant.read
           (subst (λ octets. IsDelivery octets (command_of mail) (g.H.Host.state c.loop-line.host) (g.H.Host.state c.read_mail.new.host)) line c.in_ok-mail.ensures.read) c.in-Ok.ensures.items;
     }

@@ -1,4 +1,5 @@
-use Rattle.std.proofs.Common.{◌≡◌, drop, length, map, refl, rules, subst, ℕ, List}
+use Rattle.std.proofs.Common.{◌<◌, ◌≡◌, drop, length, map, refl, rules, subst, ℕ, List}
+use Rattle.std.proofs.lemmas.List.{length-map}
 use Rattle.sqlite_trees.specs.Tree.{Trees}
 use Rattle.sqlite.specs.Held.{state}
 use Rattle.sqlite.specs.State.{HasCleanDisk, Survives}
@@ -46,7 +47,7 @@ returns-in_err-put_filed-in-Some-deliver_mails-clause-broken g c =
     (λ (trees : Trees). MayLeaveAll (map command_of ms) (state g.S.Store c.args.depot.now) trees)) c.deref-2.ensures.value c.deliver_mails.ensures.survives in
     on_err c.from_residual.result
     (answered_together g.S.Store HasBroken (lines_of cut) (map command_of mails) filed old new
-    (first_few lines cut (drop c.len.result lines) (cut_rest lines cut c.len.result c.truncate.ensures.items) most_together c.requires) files done survives
+    (first_few lines cut (drop c.len.result lines) (cut_rest lines cut c.len.result c.truncate.ensures.items) most_together c.requires.few) files done survives
     c.in_err-put_filed-in-Some-deliver_mails.ensures.err)
 
 pub returns-in-Some-deliver_mails-clause-tried : goal.returns-in-Some-deliver_mails-clause-tried
@@ -67,7 +68,7 @@ returns-in-Some-deliver_mails-clause-tried g c =
     let survives = subst (λ (ms : List Mail). Survives (state g.S.Store c.args.depot.now) (state g.S.Store c.deliver_mails.new.depot)
     (λ (trees : Trees). MayLeaveAll (map command_of ms) (state g.S.Store c.args.depot.now) trees)) c.deref-2.ensures.value c.deliver_mails.ensures.survives in
     answered_together g.S.Store HasTaken (lines_of cut) (map command_of mails) filed old new
-    (first_few lines cut (drop c.len.result lines) (cut_rest lines cut c.len.result c.truncate.ensures.items) most_together c.requires) files done survives
+    (first_few lines cut (drop c.len.result lines) (cut_rest lines cut c.len.result c.truncate.ensures.items) most_together c.requires.few) files done survives
     c.in_ok-put_filed-in-Some-deliver_mails.ensures.ok
 
 pub returns-clause-tried : goal.returns-clause-tried
@@ -83,5 +84,6 @@ returns-clause-tried g c =
     (cut_lines lines c.deref.result.now cut c.len.result (length mails) c.truncate.ensures.items count c.deref.ensures.value) c.in-Some.ensures.read in
     let survives = subst (λ (ms : List Mail). Survives (state g.S.Store c.args.depot.now) (state g.S.Store c.deliver_mails.new.depot)
     (λ (trees : Trees). MayLeaveAll (map command_of ms) (state g.S.Store c.args.depot.now) trees)) c.deref-2.ensures.value c.deliver_mails.ensures.survives in
-    withdrawn_late g.S.Store (lines_of cut) (map command_of mails) old new
-    (first_few lines cut (drop c.len.result lines) (cut_rest lines cut c.len.result c.truncate.ensures.items) most_together c.requires) files c.in-None.ensures.spared survives refl
+    let some : 0 < length (map command_of mails) = rw (length-map mails command_of) c.in-Some.ensures.some in
+    withdrawn_late g.S.Store (lines_of cut) (map command_of mails) old new some
+    (first_few lines cut (drop c.len.result lines) (cut_rest lines cut c.len.result c.truncate.ensures.items) most_together c.requires.few) files c.in-None.ensures.spared survives refl
