@@ -209,13 +209,7 @@ fn writers_that_fail_in_a_group(rt: HostRuntime) -> Result<(), Fail> {
     let answer = filed(alloc, 1, 3)?;
     for calls in 0..answer.len() {
         let mut depot = Depot::in_memory(alloc);
-        let seen = served(
-            alloc,
-            &mut depot,
-            65_536,
-            &lines,
-            Calls::new(&rt, 1, calls),
-        )?;
+        let seen = served(alloc, &mut depot, 65_536, &lines, Calls::new(&rt, 1, calls))?;
         assert_eq!(rt; seen.status, 1, "{calls}");
         assert!(rt; seen.out.octets.as_slice() == &answer[..calls], "{calls}");
         assert!(rt;

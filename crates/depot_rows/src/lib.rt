@@ -6,6 +6,8 @@ mod answers;
 #[cfg(test)]
 mod batches;
 #[cfg(test)]
+mod by_lines;
+#[cfg(test)]
 mod devices;
 #[cfg(test)]
 mod exports;
