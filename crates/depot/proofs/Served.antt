@@ -1,5 +1,5 @@
 -- A batch from the open of its files to their close.
-use Rattle.std.proofs.Common.{◌≡◌, ◌⊎◌, ◌++◌, ap, inl, inr, IsTrue, ℕ, List, [], ◌∷◌, Option, Some, None, Result, Ok, Err, refl, sym, subst, arith}
+use Rattle.std.proofs.Common.{◌≡◌, ◌⊎◌, ◌++◌, ◌<◌, ap, inl, inr, IsTrue, ℕ, suc, List, [], ◌∷◌, length, Option, Some, None, Result, Ok, Err, refl, sym, subst, arith}
 use Rattle.sqlite_disk.specs.declared.Disk.{Ghosts}
 use Rattle.sqlite_disk.specs.declared.Files.{Files}
 use Rattle.sqlite_trees.specs.Tree.{Trees}
@@ -12,325 +12,211 @@ use Rattle.part_store.specs.Entries.{Entries}
 use Rattle.part_store.specs.Opening.{HoldsState, IsAt}
 use Rattle.part_store.specs.Standing.{IsStored}
 use Rattle.refusals.specs.declared.refusal.Refusal.{Refusal}
-use Rattle.refusals.specs.declared.refusal.Refusal.TheVariants.{Database}
-use Rattle.encodings.specs.Device.{Output}
-use Rattle.encodings.specs.Supply.{Supply}
-use Rattle.depot_actions.specs.DepotState.{Accepts, Command, Does, Export as Exports, Reply, Text as Written}
+use Rattle.encodings.specs.Device.{HasBroken, HasTaken, Output}
+use Rattle.depot_actions.specs.DepotState.{Command}
 use Rattle.depot_jobs.specs.Host.{HostState}
 use Rattle.depot_cli.specs.Requests.{request_command}
-use Rattle.depot_cli.specs.Tasks.{HasRefused}
 use Rattle.depot_batch.specs.Asked.{Text}
-use Rattle.depot_batch.specs.Batch.{AreAnsweredBy, EndsBy, HasServed, IsAsked, MayMake, Office, office}
+use Rattle.depot_batch.specs.Batch.{AreDeliveries, HasServed, IsAsked, MayMake, MayMakeAll, MayMakeOne, Office, office}
 use Rattle.depot_batch.specs.Batch as batch
+use Rattle.depot_batch.specs.Turns.{Alone, HasServedBy, Together, Turn, Withdrawn}
 use Rattle.depot_batch.specs.declared.asked.Asked.{Asked}
 use Rattle.depot_batch.specs.declared.asked.Asked.TheVariants.{Reply as ToReply, Export as IntoFile}
 use Rattle.depot_batch.specs.declared.outcome.Outcome.{Outcome}
-use Rattle.depot_batch.specs.declared.outcome.Outcome.TheVariants.{Done, Refused, Wrong}
-use Rattle.depot.specs.Batches.{Batch, HasCome, HasEnded, IsAnswered, IsBrokenOff, IsDeclined, IsKept, IsServed, Makes, OneMakes, ledger}
-use Rattle.depot.specs.Ending.{IsRefusal, IsToldAs}
+use Rattle.depot.specs.Batches.{AreAnsweredBy, AreWithdrawn, Batch, Breaks, Happens, HasEnded, IsAnsweredBy, IsKept, IsServed, Ledger, MakeTogether, MakesIn, OneMakes, ledger}
+use Rattle.depot.specs.Ending.{IsToldAs}
 use Rattle.depot.specs.Private.{IsFound, IsLeftOf, IsShut}
-use Rattle.depot.proofs.Ended.{Came, at_state, ends, left_by, left_open, still_at}
+use Rattle.depot.proofs.Chained.{Beside, Follows, both, sound_first}
+use Rattle.depot.proofs.Ended.{Came, at_state, ends, left_by, left_open}
+use Rattle.depot.proofs.Turned.{Shows, Turned, alone, together, withdrawn}
 
--- one of the lines, or the last one, makes this: one of all does
-one_of_all : (lines : List (List ℕ)) (last : List ℕ) (state held : Entries) → OneMakes lines state held ⊎ Makes last state held → OneMakes (lines ++ last ∷ []) state held
-one_of_all [] last state held (inl none) = absurd none
-one_of_all [] last state held (inr made) = inl made
-one_of_all (line ∷ lines) last state held (inl (inl made)) = inl made
-one_of_all (line ∷ lines) last state held (inl (inr one)) = inr (one_of_all lines last state held (inl one))
-one_of_all (line ∷ lines) last state held (inr made) = inr (one_of_all lines last state held (inr made))
+-- the turns before, and some more: what one of the first makes is made by one of all
+earlier : (turns more : List Turn) (state held : Entries) → OneMakes turns state held → OneMakes (turns ++ more) state held
+earlier [] more state held none = absurd none
+earlier (turn ∷ turns) more state held (inl made) = inl made
+earlier (turn ∷ turns) more state held (inr one) = inr (earlier turns more state held one)
+
+-- so is what the last makes
+latest : (turns : List Turn) (turn : Turn) (state held : Entries) → MakesIn turn state held → OneMakes (turns ++ turn ∷ []) state held
+latest [] turn state held made = inl made
+latest (other ∷ turns) turn state held made = inr (latest turns turn state held made)
+
+-- lines ask for as many deliveries
+as_many : (lines : List (List ℕ)) (commands : List Command) (host host2 : HostState) → AreDeliveries lines commands host host2 → length commands ≡ length lines
+as_many [] [] host host2 are = refl
+as_many (line ∷ lines) (command ∷ commands) host host2 are = ap suc (as_many lines commands are.0 host2 are.2)
+as_many [] (command ∷ commands) host host2 are = absurd are
+as_many (line ∷ lines) [] host host2 are = absurd are
 
 module _ {D : Type 0} (g : Ghosts D) where
-  -- a depot shows this state, as long as it is open
-  abbrev Shows : Entries → Held (FileStore D g) → Type 0
-  Shows state depot = IsTrue (file_state depot).is_open → IsAt state (file_state depot)
-
-  -- ---- what a line does
-
-  -- a depot did a command, and is at what it leaves
-  record Did (command : Command) (reply : Reply) (before : Entries) (new : Held (FileStore D g)) : Type 0 where
-    after : Entries
-    accepts : Accepts before command reply after
-    shows : Shows after new
-    closes : IsTrue (file_state new).is_open ⊎ (after ≡ before)
-
-  did : (old new : Held (FileStore D g)) (command : Command) (reply : Reply) (before : Entries) → Shows before old → Does command reply (file_state old) (file_state new)
-      → Did command reply before new
-  did old new command reply before shows does =
-      let one = does.1 before (shows does.0).0 in
-      record {
-        after = one.0;
-        accepts = one.1;
-        shows = λ is_open. let both = one.2.stands is_open in (both.0, both.1, is_open);
-        closes = elim one.2.closes [ inl is_open ↦ inl is_open | inr same ↦ inr same.0 ];
-      }
-
-  refusal_of : (old new : Held (FileStore D g)) (command : Command) (refusal : Refusal) (before : Entries) → Shows before old → HasCleanDisk (file_state new)
-      → HasRefused command refusal (file_state old) (file_state new) → IsRefusal g command before refusal
-  refusal_of old new command refusal before shows clean refused =
-      let all = refused.1 clean in record { may = refused.0; depot = old; shows = shows; cause = all.0; left = new; fault = all.1 }
-
-  -- what came of a line, and the depot at the state after it
-  record Step (name line : Text) (outcome : Outcome) (text : List ℕ) (before : Entries) (old new : Office (FileStore D g)) : Type 0 where
-    after : Entries
-    come : HasCome g name line outcome text (ledger before old.host old.out) (ledger after new.host new.out)
-    shows : Shows after new.depot
-    closes : IsTrue (file_state new.depot).is_open ⊎ (after ≡ before)
-
-  -- the state stays, as the depot does
-  stays_at : (old new : Held (FileStore D g)) (before : Entries) → Shows before old → new ≡ old → Shows before new
-  stays_at old new before shows same = subst (λ (d : Held (FileStore D g)). Shows before d) (sym same) shows
-
-  module _ (name line : Text) (text : List ℕ) (before : Entries) (old new : Office (FileStore D g)) (shows : Shows before old.depot) (clean : HasCleanDisk (file_state new.depot)) where
-    step_done : (asked : Asked) → IsAsked line asked → batch.IsDone over_files name asked text old.depot new.depot old.host new.host → Step name line Done text before old new
-    step_done (ToReply request) is done =
-        let answered = done.2 in
-        let one = did old.depot new.depot (request_command request done.0) answered.0 before shows (answered.1 clean) in
-        record { after = one.after; come = (ToReply request, is, (done.0, done.1, answered.0, one.accepts, answered.2)); shows = one.shows; closes = one.closes }
-    step_done (IntoFile export) is done =
-        let made = done.1 in
-        let one = did old.depot new.depot (Exports export.user.now export.number export.encoding) (Written made.0) before shows (made.2 clean) in
-        record { after = one.after; come = (IntoFile export, is, (made.0, made.1, one.accepts, done.0)); shows = one.shows; closes = one.closes }
-
-    -- what is asked was refused
-    record Declined (asked : Asked) (refusal : Refusal) : Type 0 where
-      why : IsDeclined g name asked refusal (ledger before old.host old.out) (ledger before new.host new.out)
-      shows_still : Shows before new.depot
-
-    declined : (asked : Asked) (refusal : Refusal) → batch.IsRefused over_files name asked refusal old.depot new.depot old.host new.host → Declined asked refusal
-    declined (ToReply request) refusal refused = elim refused [
-      | inl unread ↦ record { why = inl unread.0; shows_still = stays_at old.depot new.depot before shows unread.1 }
-      | inr asked ↦
-          let all = asked.2.1 clean in
-          record {
-            why = inr (asked.0, asked.1, refusal_of old.depot new.depot (request_command request asked.0) refusal before shows clean asked.2);
-            shows_still = still_at g old.depot new.depot before shows all.2;
-          }
-    ]
-    declined (IntoFile export) refusal refused = elim refused.0 [
-      | inl unmade ↦ record { why = inl unmade; shows_still = still_at g old.depot new.depot before shows (refused.1 clean) }
-      | inr asked ↦ record {
-        why = inr (asked.0, asked.1, refusal_of old.depot new.depot (Exports export.user.now export.number export.encoding) refusal before shows clean asked.2);
-        shows_still = still_at g old.depot new.depot before shows (refused.1 clean);
-      }
-    ]
-
-    step : (outcome : Outcome) → batch.HasCome over_files name line outcome text old new → Step name line outcome text before old new
-    step Done come = step_done come.0 come.1 come.2
-    step (Refused refusal) come = elim come.1 [
-      | inl idle ↦
-          let still = idle.1 in
-          record { after = before; come = (come.0, refl, inl (idle.0, still.1)); shows = stays_at old.depot new.depot before shows still.0; closes = inr refl }
-      | inr asked ↦
-          let it = declined asked.0 refusal asked.2 in
-          record { after = before; come = (come.0, refl, inr (asked.0, asked.1, it.why)); shows = it.shows_still; closes = inr refl }
-    ]
-    step Wrong come =
-        let still = come.3 in
-        record { after = before; come = (come.0, come.1, come.2, refl, still.1); shows = stays_at old.depot new.depot before shows still.0; closes = inr refl }
-
   -- ---- what a crash leaves
 
-  -- trees stand for the state, or for what was made of it
-  abbrev Left : (Entries → Entries → Type 0) → Entries → Trees → Type 0
-  Left Made state trees = IsStored trees state ⊎ ((held : Entries) × Made state held × IsStored trees held)
+  -- trees stand for the state, or for what one of the turns makes of it
+  abbrev Left : List Turn → Entries → Trees → Type 0
+  Left turns state trees = IsStored trees state ⊎ ((held : Entries) × OneMakes turns state held × IsStored trees held)
 
-  -- where a depot stands after lines of which some made this
-  record Track (Made : Entries → Entries → Type 0) (state : Entries) (depot : Held (FileStore D g)) : Type 0 where
-    shows : Shows state depot
-    left : (trees : Trees) → (file_state depot).may_leave trees → Left Made state trees
+  -- where a depot stands after turns
+  record Track (turns : List Turn) (state : Entries) (depot : Held (FileStore D g)) : Type 0 where
+    shows : Shows g state depot
+    left : (trees : Trees) → (file_state depot).may_leave trees → Left turns state trees
 
-  more : (Made Other : Entries → Entries → Type 0) (state : Entries) (depot : Held (FileStore D g)) → ((held : Entries) → Made state held → Other state held) → Track Made state depot
-      → Track Other state depot
-  more Made Other state depot map track = record {
-    shows = track.shows;
-    left = λ trees may. elim (track.left trees may) [ inl stored ↦ inl stored | inr made ↦ inr (made.0, map made.0 made.1, made.2) ];
-  }
+  -- what a turn makes of a depot that was at a state
+  abbrev MadeIn : Turn → Entries → Trees → Type 0
+  MadeIn turn before trees = (held : Entries) × MakesIn turn before held × IsStored trees held
 
-  -- what a line made, too
-  abbrev With : (Entries → Entries → Type 0) → List ℕ → Entries → Entries → Type 0
-  With Made line state held = Made state held ⊎ Makes line state held
-
-  made_of : (Made : Entries → Entries → Type 0) (line : Text) (asked : Asked) (before : Entries) (depot : Held (FileStore D g)) (host host2 : HostState) (trees : Trees)
-      → Shows before depot → IsAsked line asked → MayMake asked (file_state depot) host host2 trees → Left (With Made line) before trees
-  made_of Made line (ToReply request) before depot host host2 trees shows is may =
+  made_alone : (line : Text) (outcome : Outcome) (asked : Asked) (before : Entries) (depot : Held (FileStore D g)) (host host2 : HostState) (trees : Trees)
+      → Shows g before depot → IsAsked line asked → MayMake asked (file_state depot) host host2 trees → MadeIn (Alone line outcome) before trees
+  made_alone line outcome (ToReply request) before depot host host2 trees shows is may =
       let can = left_by (request_command request may.0) (file_state depot) trees may.2 in
       let one = can.1 before (shows can.0).0 in
-      inr (one.1, inr (request, is, may.0, host, host2, may.1, one.0, one.2), one.3)
-  made_of Made line (IntoFile export) before depot host host2 trees shows is may = absurd may
+      (one.1, (request, is, may.0, host, host2, may.1, one.0, one.2), one.3)
+  made_alone line outcome (IntoFile export) before depot host host2 trees shows is may = absurd may
 
-  track_on : (Made : Entries → Entries → Type 0) (line : Text) (before after : Entries) (old new : Office (FileStore D g)) → ((file : D) → g.may_leave file (g.seen file))
-      → Track Made before old.depot → Shows after new.depot → IsTrue (file_state new.depot).is_open ⊎ (after ≡ before) → HasCleanDisk (file_state new.depot)
-      → batch.Outlasts over_files line old new → Track (With Made line) after new.depot
-  track_on Made line before after old new stays track shows closes clean outlasts = record {
+  made_together : (lines : List (List ℕ)) (before : Entries) (depot : Held (FileStore D g)) (host host2 : HostState) (trees : Trees) → Shows g before depot
+      → IsTrue (file_state depot).is_open ⊎ (0 < length lines) → MayMakeAll lines (file_state depot) host host2 trees → (held : Entries) × MakeTogether lines before held × IsStored trees held
+  made_together lines before depot host host2 trees shows works may =
+      let count = as_many lines may.0 host host2 may.1 in
+      let is_open : IsTrue (file_state depot).is_open = elim works [
+        | inl is_open ↦ is_open
+        | inr some ↦ may.2.0 (omega (arith, count, some))
+      ] in
+      let one = may.2.1 before (shows is_open).0 in
+      (one.1, (may.0, host, host2, may.1, one.0, one.2), one.3)
+
+  -- a turn was had, and the depot is at the state after it
+  tracked : (done : List Turn) (turn : Turn) (before after : Entries) (old new : Held (FileStore D g)) (May : Trees → Type 0) → ((file : D) → g.may_leave file (g.seen file))
+      → Track done before old → Shows g after new → IsTrue (file_state new).is_open ⊎ (after ≡ before) → HasCleanDisk (file_state new)
+      → Survives (file_state old) (file_state new) May → ((trees : Trees) → May trees → MadeIn turn before trees) → Track (done ++ turn ∷ []) after new
+  tracked done turn before after old new May stays track shows closes clean survives made = record {
     shows = shows;
     left = λ trees may. elim closes [
-      | inl is_open ↦ inl (left_open g new.depot stays after (shows is_open) trees may)
+      | inl is_open ↦ inl (left_open g new stays after (shows is_open) trees may)
       | inr same ↦
-          let was : Left (With Made line) before trees = elim (outlasts.crash clean trees may) [
-            | inl was ↦ elim (track.left trees was) [ inl stored ↦ inl stored | inr made ↦ inr (made.0, inl made.1, made.2) ]
-            | inr made ↦ made_of Made line made.0 before old.depot old.host new.host trees track.shows made.1 made.2
+          let was : Left (done ++ turn ∷ []) before trees = elim (survives.crash clean trees may) [
+            | inl was ↦ elim (track.left trees was) [
+              | inl stored ↦ inl stored
+              | inr one ↦ inr (one.0, earlier done (turn ∷ []) before one.0 one.1, one.2)
+            ]
+            | inr may ↦ let one = made trees may in inr (one.0, latest done turn before one.0 one.1, one.2)
           ] in
-          subst (λ (e : Entries). Left (With Made line) e trees) (sym same) was
+          subst (λ (e : Entries). Left (done ++ turn ∷ []) e trees) (sym same) was
     ];
   }
-
-  -- ---- lines
 
   clean_before : {P : Trees → Type 0} (old new : State) → Survives old new P → HasCleanDisk new → HasCleanDisk old
   clean_before old new survives clean = omega (arith, survives.clean, clean)
 
-  clean_all : (name : Text) (lines : List (List ℕ)) (old new : Office (FileStore D g)) → batch.AreAnswered over_files name lines old new → HasCleanDisk (file_state new.depot)
-      → HasCleanDisk (file_state old.depot)
-  clean_all name [] old new are clean = subst (λ (o : Office (FileStore D g)). HasCleanDisk (file_state o.depot)) are clean
-  clean_all name (line ∷ lines) old new are clean =
-      clean_before (file_state old.depot) (file_state are.2.depot) are.3.outlasts (clean_all name lines are.2 new are.5 clean)
+  -- ---- turns
+
+  abbrev IsClean : Office (FileStore D g) → Type 0
+  IsClean office = HasCleanDisk (file_state office.depot)
+
+  -- a ledger goes beside an office: the depot stands at its state, and the rest is the same
+  record Fits (turns : List Turn) (office : Office (FileStore D g)) (beside : Ledger) : Type 0 where
+    is : beside ≡ ledger beside.held office.host office.out
+    track : Track turns beside.held office.depot
 
   module _ (stays : (file : D) → g.may_leave file (g.seen file)) (name : Text) where
-    -- a line was answered, or its answer broke off, and the depot stands at what it leaves
-    record Next (Made : Entries → Entries → Type 0) (line : Text) (outcome : Outcome) (text : List ℕ) (before : Entries) (old new : Office (FileStore D g)) : Type 0 where
-      after : Entries
-      come : HasCome g name line outcome text (ledger before old.host old.out) (ledger after new.host new.out)
-      track : Track (With Made line) after new.depot
+    abbrev After : (Ledger → Ledger → Type 0) → List Turn → Office (FileStore D g) → Ledger → Type 0
+    After Other turns new old = Beside (batch.Happens over_files name) (batch.Breaks over_files name) (Happens g name) (Breaks g name) IsClean Fits Other turns new old
 
-    next : (Made : Entries → Entries → Type 0) (line : Text) (outcome : Outcome) (text : List ℕ) (before : Entries) (old new : Office (FileStore D g)) → Track Made before old.depot
-        → HasCleanDisk (file_state new.depot) → batch.HasCome over_files name line outcome text old new → batch.Outlasts over_files line old new
-        → Next Made line outcome text before old new
-    next Made line outcome text before old new track clean come outlasts =
-        let one = step name line text before old new track.shows clean outcome come in
-        record { after = one.after; come = one.come; track = track_on Made line before one.after old new stays track one.shows one.closes clean outlasts }
-
-    record Lines (Made : Entries → Entries → Type 0) (lines : List (List ℕ)) (before : Entries) (old new : Office (FileStore D g)) : Type 0 where
-      after : Entries
-      answered : AreAnsweredBy (IsAnswered g name) lines (ledger before old.host old.out) (ledger after new.host new.out)
-      track : Track (λ state held. Made state held ⊎ OneMakes lines state held) after new.depot
-
-    lines_at : (Made : Entries → Entries → Type 0) (lines : List (List ℕ)) (before : Entries) (old new : Office (FileStore D g)) → Track Made before old.depot
-        → batch.AreAnswered over_files name lines old new → HasCleanDisk (file_state new.depot) → Lines Made lines before old new
-    lines_at Made [] before old new track are clean = record {
-      after = before;
-      answered = ap (λ (o : Office (FileStore D g)). ledger before o.host o.out) are;
-      track = subst (λ (o : Office (FileStore D g)). Track (λ state held. Made state held ⊎ OneMakes [] state held) before o.depot) (sym are)
-          (more Made (λ state held. Made state held ⊎ OneMakes [] state held) before old.depot (λ held made. inl made) track);
-    }
-    lines_at Made (line ∷ lines) before old new track are clean =
-        let mid = are.2 in
-        let one = next Made line are.1 are.3.text before old mid track (clean_all name lines mid new are.5 clean) are.3.come are.3.outlasts in
-        let rest = lines_at (With Made line) lines one.after mid new one.track are.5 clean in
-        record {
-          after = rest.after;
-          answered = (are.0, are.1, ledger one.after mid.host mid.out, (are.3.text, one.come, are.3.written), are.4, rest.answered);
-          track = more (λ state held. With Made line state held ⊎ OneMakes lines state held) (λ state held. Made state held ⊎ OneMakes (line ∷ lines) state held) rest.after new.depot
-              (λ held made. elim made [
-                | inl (inl made) ↦ inl made
-                | inl (inr made) ↦ inr (inl made)
-                | inr one ↦ inr (inr one)
-              ]) rest.track;
-        }
-
-    -- ---- the end
-
-    abbrev Ends : ℕ → ℕ → List ℕ → Supply → Supply → Office (FileStore D g) → Office (FileStore D g) → Output → Output → Type 0
-    Ends status count last rest left old new err err2 =
-        EndsBy (batch.IsAnswered over_files name) (batch.IsBrokenOff over_files name) status count last rest left old new err err2
-
-    clean_at_end : (status count : ℕ) (last : List ℕ) (rest left : Supply) (old new : Office (FileStore D g)) (err err2 : Output) → Ends status count last rest left old new err err2
-        → HasCleanDisk (file_state new.depot) → HasCleanDisk (file_state old.depot)
-    clean_at_end status count last rest left old new err err2 (inl all) clean = subst (λ (o : Office (FileStore D g)). HasCleanDisk (file_state o.depot)) all.3 clean
-    clean_at_end status count last rest left old new err err2 (inr (inl (unfinished, taken, inl served))) clean =
-        clean_before (file_state old.depot) (file_state new.depot) served.2.outlasts clean
-    clean_at_end status count last rest left old new err err2 (inr (inl (unfinished, taken, inr broken))) clean =
-        clean_before (file_state old.depot) (file_state new.depot) broken.1.outlasts clean
-    clean_at_end status count last rest left old new err err2 (inr (inr (inl all))) clean = clean_before (file_state old.depot) (file_state new.depot) all.3.outlasts clean
-    clean_at_end status count last rest left old new err err2 (inr (inr (inr (inl all)))) clean = clean_before (file_state old.depot) (file_state new.depot) all.3.outlasts clean
-    clean_at_end status count last rest left old new err err2 (inr (inr (inr (inr all)))) clean = subst (λ (o : Office (FileStore D g)). HasCleanDisk (file_state o.depot)) all.4 clean
-
-    record AtEnd (Made : Entries → Entries → Type 0) (status count : ℕ) (last : List ℕ) (rest left : Supply) (before : Entries) (old new : Office (FileStore D g)) (err err2 : Output) : Type 0 where
-      after : Entries
-      ended : EndsBy (IsAnswered g name) (IsBrokenOff g name) status count last rest left (ledger before old.host old.out) (ledger after new.host new.out) err err2
-      track : Track (With Made last) after new.depot
-
-    -- the depot, the host and standard output stay
-    still_there : (Made : Entries → Entries → Type 0) (last : List ℕ) (before : Entries) (old new : Office (FileStore D g)) → Track Made before old.depot → new ≡ old
-        → Track (With Made last) before new.depot
-    still_there Made last before old new track same =
-        subst (λ (o : Office (FileStore D g)). Track (With Made last) before o.depot) (sym same) (more Made (With Made last) before old.depot (λ held made. inl made) track)
-
-    at_end : (Made : Entries → Entries → Type 0) (status count : ℕ) (last : List ℕ) (rest left : Supply) (before : Entries) (old new : Office (FileStore D g)) (err err2 : Output)
-        → Track Made before old.depot → HasCleanDisk (file_state new.depot) → Ends status count last rest left old new err err2
-        → AtEnd Made status count last rest left before old new err err2
-    at_end Made status count last rest left before old new err err2 track clean (inl all) = record {
-      after = before;
-      ended = inl (all.0, all.1, all.2, ap (λ (o : Office (FileStore D g)). ledger before o.host o.out) all.3, all.4);
-      track = still_there Made last before old new track all.3;
-    }
-    at_end Made status count last rest left before old new err err2 track clean (inr (inl (unfinished, taken, inl served))) =
-        let one = next Made last served.1 served.2.text before old new track clean served.2.come served.2.outlasts in
-        record {
-          after = one.after;
-          ended = inr (inl (unfinished, taken, inl (served.0, served.1, (served.2.text, one.come, served.2.written), served.3)));
-          track = one.track;
-        }
-    at_end Made status count last rest left before old new err err2 track clean (inr (inl (unfinished, taken, inr broken))) =
-        let it = broken.1 in
-        let one = next Made last it.outcome it.text before old new track clean it.come it.outlasts in
-        record {
-          after = one.after;
-          ended = inr (inl (unfinished, taken, inr (broken.0, (it.outcome, it.text, one.come, it.broken), broken.2)));
-          track = one.track;
-        }
-    at_end Made status count last rest left before old new err err2 track clean (inr (inr (inl all))) =
-        let it = all.3 in
-        let one = next Made last (Refused Database) it.text before old new track clean it.come it.outlasts in
-        record { after = one.after; ended = inr (inr (inl (all.0, all.1, all.2, (it.text, one.come, it.written), all.4))); track = one.track }
-    at_end Made status count last rest left before old new err err2 track clean (inr (inr (inr (inl all)))) =
-        let it = all.3 in
-        let one = next Made last it.outcome it.text before old new track clean it.come it.outlasts in
-        record { after = one.after; ended = inr (inr (inr (inl (all.0, all.1, all.2, (it.outcome, it.text, one.come, it.broken), all.4)))); track = one.track }
-    at_end Made status count last rest left before old new err err2 track clean (inr (inr (inr (inr all)))) = record {
-      after = before;
-      ended = inr (inr (inr (inr (all.0, all.1, all.2, all.3, ap (λ (o : Office (FileStore D g)). ledger before o.host o.out) all.4))));
-      track = still_there Made last before old new track all.4;
+    -- what a turn does goes beside it
+    goes : (Other : Ledger → Ledger → Type 0) (done : List Turn) (turn : Turn) (old new : Office (FileStore D g)) (beside : Ledger) (May : Trees → Type 0) → Fits done old beside
+        → HasCleanDisk (file_state new.depot) → Survives (file_state old.depot) (file_state new.depot) May
+        → ((trees : Trees) → May trees → MadeIn turn beside.held trees) → Turned g Other beside.held old new → After Other (done ++ turn ∷ []) new beside
+    goes Other done turn old new beside May fits clean survives made one = record {
+      after = ledger one.after new.host new.out;
+      other = subst (λ (l : Ledger). Other l (ledger one.after new.host new.out)) (sym fits.is) one.happens;
+      fits = record {
+        is = refl;
+        track = tracked done turn beside.held one.after old.depot new.depot May stays fits.track one.shows one.closes clean survives made;
+      };
     }
 
-  -- nothing was made yet
-  abbrev Nothing : Entries → Entries → Type 0
-  Nothing state held = ⊥
+    module _ (WrittenAs : List ℕ → Output → Output → Type 0) (done : List Turn) (old new : Office (FileStore D g)) (beside : Ledger) (fits : Fits done old beside) (clean : HasCleanDisk (file_state new.depot)) where
+      goes_alone : (line : Text) (outcome : Outcome) → batch.IsAnsweredBy over_files WrittenAs name line outcome old new
+          → After (IsAnsweredBy WrittenAs g name line outcome) (done ++ Alone line outcome ∷ []) new beside
+      goes_alone line outcome it =
+          goes (IsAnsweredBy WrittenAs g name line outcome) done (Alone line outcome) old new beside (MayMakeOne line (file_state old.depot) old.host new.host) fits clean it.outlasts
+          (λ trees may. made_alone line outcome may.0 beside.held old.depot old.host new.host trees fits.track.shows may.1 may.2)
+          (alone g WrittenAs beside.held old new fits.track.shows clean name line outcome it)
 
-  came : (old new : Held (FileStore D g)) → ((file : D) → g.may_leave file (g.seen file)) → (it : Batch) (before : Entries) → IsAt before (file_state old) → HasCleanDisk (file_state new)
-      → HasServed over_files it.name it.status it.input it.input_after (office over_files old it.old.host it.old.out) (office over_files new it.new.host it.new.out) it.old.err it.new.err
-      → Came g (IsServed g it) (IsKept g it) before new
-  came old new stays it before at clean served =
-      let first = office over_files old it.old.host it.old.out in
-      let end = office over_files new it.new.host it.new.out in
-      let early = clean_at_end stays it.name it.status _ served.last served.rest it.input_after served.mid end it.old.err it.new.err served.ended clean in
-      let begun : Track Nothing before old = record { shows = λ is_open. at; left = λ trees may. inl (left_open g old stays before at trees may) } in
-      let lines = lines_at stays it.name Nothing served.lines before first served.mid begun served.answered early in
-      let all = at_end stays it.name (λ state held. Nothing state held ⊎ OneMakes served.lines state held) it.status _ served.last served.rest it.input_after lines.after served.mid end it.old.err it.new.err lines.track clean served.ended in
-      record {
-        after = all.after;
-        answered = record {
-          lines = served.lines;
-          rest = served.rest;
-          read = served.read;
-          mid = ledger lines.after served.mid.host served.mid.out;
-          answered = lines.answered;
-          last = served.last;
-          ended = all.ended;
-        };
-        shows = λ is_open. (all.track.shows is_open).0;
-        left = λ trees may. elim (all.track.left trees may) [
-          | inl stored ↦ (all.after, stored, inl refl)
-          | inr made ↦ (
-            made.0,
-            made.2,
-            inr (one_of_all served.lines served.last all.after made.0 (elim made.1 [
-              | inl (inl none) ↦ absurd none
-              | inl (inr one) ↦ inl one
-              | inr last ↦ inr last
-            ])),
-          )
-        ];
-      }
+      goes_together : (lines : List (List ℕ)) → batch.AreAnsweredBy over_files WrittenAs lines old new
+          → After (AreAnsweredBy WrittenAs lines) (done ++ Together lines ∷ []) new beside
+      goes_together lines it =
+          goes (AreAnsweredBy WrittenAs lines) done (Together lines) old new beside (MayMakeAll lines (file_state old.depot) old.host new.host) fits clean it.outlasts
+          (λ trees may. made_together lines beside.held old.depot old.host new.host trees fits.track.shows (inl (it.done clean).0) may)
+          (together g WrittenAs beside.held old new fits.track.shows clean lines it)
+
+    step : (done : List Turn) (turn : Turn) (old new : Office (FileStore D g)) (beside : Ledger) → Fits done old beside → HasCleanDisk (file_state new.depot)
+        → batch.Happens over_files name turn old new → After (Happens g name turn) (done ++ turn ∷ []) new beside
+    step done (Alone line outcome) old new beside fits clean it = goes_alone HasTaken done old new beside fits clean line outcome it
+    step done (Together lines) old new beside fits clean it = goes_together HasTaken done old new beside fits clean lines it
+    step done (Withdrawn lines) old new beside fits clean it =
+        goes (AreWithdrawn lines) done (Withdrawn lines) old new beside (MayMakeAll lines (file_state old.depot) old.host new.host) fits clean it.outlasts
+        (λ trees may. made_together lines beside.held old.depot old.host new.host trees fits.track.shows (inr it.some) may)
+        (withdrawn g beside.held old new fits.track.shows clean lines it)
+
+    broken : (done : List Turn) (turn : Turn) (old new : Office (FileStore D g)) (beside : Ledger) → Fits done old beside → HasCleanDisk (file_state new.depot)
+        → batch.Breaks over_files name turn old new → After (Breaks g name turn) (done ++ turn ∷ []) new beside
+    broken done (Alone line outcome) old new beside fits clean it = goes_alone HasBroken done old new beside fits clean line outcome it
+    broken done (Together lines) old new beside fits clean it = goes_together HasBroken done old new beside fits clean lines it
+    broken done (Withdrawn lines) old new beside fits clean it = absurd it
+
+    was_clean : (turn : Turn) (old new : Office (FileStore D g)) → batch.Happens over_files name turn old new → IsClean new → IsClean old
+    was_clean (Alone line outcome) old new it clean = clean_before (file_state old.depot) (file_state new.depot) it.outlasts clean
+    was_clean (Together lines) old new it clean = clean_before (file_state old.depot) (file_state new.depot) it.outlasts clean
+    was_clean (Withdrawn lines) old new it clean = clean_before (file_state old.depot) (file_state new.depot) it.outlasts clean
+
+    was_clean_broken : (turn : Turn) (old new : Office (FileStore D g)) → batch.Breaks over_files name turn old new → IsClean new → IsClean old
+    was_clean_broken (Alone line outcome) old new it clean = clean_before (file_state old.depot) (file_state new.depot) it.outlasts clean
+    was_clean_broken (Together lines) old new it clean = clean_before (file_state old.depot) (file_state new.depot) it.outlasts clean
+    was_clean_broken (Withdrawn lines) old new it clean = absurd it
+
+    follows : Follows (batch.Happens over_files name) (batch.Breaks over_files name) (Happens g name) (Breaks g name) IsClean Fits
+    follows = record { sound = was_clean; sound_broken = was_clean_broken; step = step; broken = broken }
+
+  -- ---- from the open to the close
+
+  module _ (old new : Held (FileStore D g)) (stays : (file : D) → g.may_leave file (g.seen file)) (it : Batch) (clean : HasCleanDisk (file_state new)) where
+    abbrev first : Office (FileStore D g)
+    first = office over_files old it.old.host it.old.out
+
+    abbrev end : Office (FileStore D g)
+    end = office over_files new it.new.host it.new.out
+
+    abbrev Serves : Type 0
+    Serves = HasServed over_files it.name it.status it.input it.input_after first end it.old.err it.new.err
+
+    clean_first : Serves → HasCleanDisk (file_state old)
+    clean_first served =
+        sound_first (batch.Happens over_files it.name) (batch.Breaks over_files it.name) (Happens g it.name) (Breaks g it.name) IsClean Fits (follows stays it.name) it.status it.input it.input_after first end it.old.err it.new.err served clean
+
+    -- a batch was served up to this ledger, and the depot stands at its state
+    abbrev Reached : Entries → Ledger → Type 0
+    Reached before beside =
+        (served : HasServedBy (Happens g it.name) (Breaks g it.name) it.status it.input it.input_after (ledger before it.old.host it.old.out) beside it.old.err it.new.err)
+        × Track (served.turns ++ served.last) beside.held new
+
+    came_to : (before after : Entries) → Reached before (ledger after it.new.host it.new.out) → Came g (IsServed g it) (IsKept g it) before new
+    came_to before after reached = record {
+      after = after;
+      answered = reached.0;
+      shows = λ is_open. (reached.1.shows is_open).0;
+      left = λ trees may. elim (reached.1.left trees may) [
+        | inl stored ↦ (after, stored, inl refl)
+        | inr one ↦ (one.0, one.2, inr one.1)
+      ];
+    }
+
+    came : (before : Entries) → IsAt before (file_state old) → Serves → Came g (IsServed g it) (IsKept g it) before new
+    came before at served =
+        let begun : Fits [] first (ledger before it.old.host it.old.out) = record {
+          is = refl;
+          track = record { shows = λ is_open. at; left = λ trees may. inl (left_open g old stays before at trees may) };
+        } in
+        let all = both (batch.Happens over_files it.name) (batch.Breaks over_files it.name) (Happens g it.name) (Breaks g it.name) IsClean Fits (follows stays it.name) it.status it.input it.input_after first end it.old.err it.new.err served clean (ledger before it.old.host it.old.out) begun in
+        came_to before all.after.held (subst (λ (l : Ledger). Reached before l) all.fits.is (all.served, all.fits.track))
 
   -- a batch was served by what opening gave, which was closed then
   pub ended : (opened mid : Result (Held (FileStore D g)) Refusal) (left : Option (Result (Files D) (FileStore D g))) → ((file : D) → g.may_leave file (g.seen file))
@@ -339,9 +225,7 @@ module _ {D : Type 0} (g : Ghosts D) where
       → IsShut mid left → HasEnded it image left
   ended (Ok old) (Ok new) left stays it image found served shut =
       ends g (IsServed g it) (IsKept g it) Refusal _ (HoldsState image) new left shut (λ clean before stood.
-      let whole = clean_all it.name _ (office over_files old it.old.host it.old.out) served.mid served.answered
-      (clean_at_end stays it.name it.status _ served.last served.rest it.input_after served.mid (office over_files new it.new.host it.new.out) it.old.err it.new.err served.ended clean) in
-      came old new stays it before (at_state image old found whole before stood) clean served)
+      came old new stays it clean before (at_state image old found (clean_first old new stays it clean served) before stood) served)
   ended (Ok old) (Err refusal) left stays it image found served shut = absurd served
   ended (Err refusal) (Ok new) left stays it image found served shut = absurd served
   ended (Err refusal) (Err same) None stays it image found served shut = ((refusal, found, (served.1, served.2, served.5)), served.3, served.4)

@@ -1,16 +1,18 @@
 -- What a batch answers, and what it leaves of its depot's files, from the open to the close.
-use Rattle.std.specs.Prelude.{◌≡◌, ◌≢◌, ◌⊎◌, ◌++◌, ℕ, List, [], ◌∷◌, Option, Result}
+use Rattle.std.specs.Prelude.{◌≡◌, ◌≢◌, ◌⊎◌, ◌++◌, ◌<◌, ◌≤◌, ℕ, List, [], ◌∷◌, length, map, Option, Result}
+use Rattle.std.specs.List.{flat_map}
 use Rattle.sqlite_disk.specs.declared.Disk.{Ghosts}
 use Rattle.sqlite_disk.specs.declared.Files.{Files}
 use Rattle.sqlite.specs.declared.FileStore.{FileStore}
 use Rattle.sqlite.specs.Recovery.{Image}
-use Rattle.part_store.specs.Entries.{Entries}
+use Rattle.part_store.specs.Entries.{Entries, Listing}
 use Rattle.part_store.specs.Opening.{HoldsState}
 use Rattle.refusals.specs.declared.refusal.Refusal.{Refusal}
 use Rattle.refusals.specs.declared.refusal.Refusal.TheVariants.{Memory, Write}
 use Rattle.encodings.specs.Device.{HasBroken, HasTaken, Output}
 use Rattle.encodings.specs.Supply.{Supply}
-use Rattle.depot_actions.specs.DepotState.{Accepts, Export as Exports, Reply, Text as Written}
+use Rattle.depot_actions.specs.Deliveries.{AcceptsAll}
+use Rattle.depot_actions.specs.DepotState.{Accepts, Command, Export as Exports, Listed, Reply, Text as Written}
 use Rattle.depot_jobs.specs.Host.{HasMade, HasNotMade, HostState, makes, with_call}
 use Rattle.depot_jobs.specs.Inputs.{HasNotReadFile, HasReadFile, file_of}
 use Rattle.depot_jobs.specs.Jobs.{World}
@@ -19,8 +21,9 @@ use Rattle.depot_jobs.specs.declared.request.Request.{Request}
 use Rattle.depot_cli.specs.Printed.{reply_text}
 use Rattle.depot_cli.specs.Requests.{request_command}
 use Rattle.depot_batch.specs.Asked.{Text}
-use Rattle.depot_batch.specs.Batch.{HasServedBy, IsAsked, IsWrong, closing, exported_text}
+use Rattle.depot_batch.specs.Batch.{AreDeliveries, AreLookedUp, IsAsked, IsWrong, closing, exported_text, filed_text, most_together}
 use Rattle.depot_batch.specs.Sentences.{wrong_line}
+use Rattle.depot_batch.specs.Turns.{Alone, HasServedBy, Together, Turn, Withdrawn}
 use Rattle.depot_batch.specs.declared.asked.Asked.{Asked}
 use Rattle.depot_batch.specs.declared.asked.Asked.TheVariants.{Reply as ToReply, Export as IntoFile}
 use Rattle.depot_batch.specs.declared.asked.Export.{Export}
@@ -52,18 +55,6 @@ IsDone name (IntoFile export) text old new =
     × Accepts old.held (Exports export.user.now export.number export.encoding) (Written octets) new.held
     × (text ≡ exported_text export.number)
 
--- a line makes this of the state, with octets that were read of its file
-abbrev pub Makes : List ℕ → Entries → Entries → Type 0
-Makes line before after =
-    (request : Request) × IsAsked line (ToReply request)
-    × (octets : List ℕ) × (host : HostState) × (host2 : HostState) × HasReadFile (file_of request) octets host host2
-    × (reply : Reply) × Accepts before (request_command request octets) reply after
-
--- one of the lines does
-abbrev pub OneMakes : List (List ℕ) → Entries → Entries → Type 0
-OneMakes [] before after = ⊥
-OneMakes (line ∷ lines) before after = Makes line before after ⊎ OneMakes lines before after
-
 module _ {D : Type 0} (g : Ghosts D) where
   -- what is asked was refused: its file was not read or not made, or the depot refuses it
   abbrev pub IsDeclined : Text → Asked → Refusal → Ledger → Ledger → Type 0
@@ -87,15 +78,71 @@ module _ {D : Type 0} (g : Ghosts D) where
       (fault : LineFault) × IsWrong line fault × (text ≡ wrong_line fault) × (new.held ≡ old.held)
       × (new.host ≡ old.host)
 
-  -- a line was answered: the text and what ends that were written
-  abbrev pub IsAnswered : Text → List ℕ → Outcome → Ledger → Ledger → Type 0
-  IsAnswered name line outcome old new = (text : List ℕ) × HasCome name line outcome text old new
-      × HasTaken (text ++ closing outcome) old.out new.out
+-- ---- what a turn comes to
 
-  -- or the sink broke while they were
-  abbrev pub IsBrokenOff : Text → List ℕ → Ledger → Ledger → Type 0
-  IsBrokenOff name line old new = (outcome : Outcome) × (text : List ℕ) × HasCome name line outcome text old new
-      × HasBroken (text ++ closing outcome) old.out new.out
+-- Answers were written so: whole, or up to where the sink broke.
+module _ (WrittenAs : List ℕ → Output → Output → Type 0) where
+  -- a line was answered alone, by its text and what ends that
+  abbrev pub IsAnsweredBy : {D : Type 0} → Ghosts D → Text → List ℕ → Outcome → Ledger → Ledger → Type 0
+  IsAnsweredBy g name line outcome old new = (text : List ℕ) × HasCome g name line outcome text old new
+      × WrittenAs (text ++ closing outcome) old.out new.out
+
+  -- Lines were done together, and answered: each asks for a delivery, the files were read in turn,
+  -- and the depot accepts all, one after another. Then the answers were written, in the lines' order.
+  pub record AreAnsweredBy (lines : List (List ℕ)) (old new : Ledger) : Type 0 where
+    pub few : length lines ≤ most_together
+    pub commands : List Command
+    pub files : AreDeliveries lines commands old.host new.host
+    pub filed : List (List Listing)
+    pub accepted : AcceptsAll old.held commands (map Listed filed) new.held
+    pub written : WrittenAs (flat_map filed_text filed) old.out new.out
+
+-- nothing came of lines that were to be done together: the state is as it was, and nothing was written
+pub record AreWithdrawn (lines : List (List ℕ)) (old new : Ledger) : Type 0 where
+  pub some : 0 < length lines
+  pub few : length lines ≤ most_together
+  pub files : AreLookedUp lines old.host new.host
+  pub held : new.held ≡ old.held
+  pub out : new.out ≡ old.out
+
+module _ {D : Type 0} (g : Ghosts D) where
+  -- what happens in a turn
+  abbrev pub Happens : Text → Turn → Ledger → Ledger → Type 0
+  Happens name (Alone line outcome) old new = IsAnsweredBy HasTaken g name line outcome old new
+  Happens name (Together lines) old new = AreAnsweredBy HasTaken lines old new
+  Happens name (Withdrawn lines) old new = AreWithdrawn lines old new
+
+  -- the sink broke while its answers were written
+  abbrev pub Breaks : Text → Turn → Ledger → Ledger → Type 0
+  Breaks name (Alone line outcome) old new = IsAnsweredBy HasBroken g name line outcome old new
+  Breaks name (Together lines) old new = AreAnsweredBy HasBroken lines old new
+  Breaks name (Withdrawn lines) old new = ⊥
+
+-- ---- what a crash may find
+
+-- a line makes this of the state, with octets that were read of its file
+abbrev pub Makes : List ℕ → Entries → Entries → Type 0
+Makes line before after =
+    (request : Request) × IsAsked line (ToReply request)
+    × (octets : List ℕ) × (host : HostState) × (host2 : HostState) × HasReadFile (file_of request) octets host host2
+    × (reply : Reply) × Accepts before (request_command request octets) reply after
+
+-- lines that were to be done together make this of it, all of them
+abbrev pub MakeTogether : List (List ℕ) → Entries → Entries → Type 0
+MakeTogether lines before after =
+    (commands : List Command) × (host : HostState) × (host2 : HostState) × AreDeliveries lines commands host host2
+    × (replies : List Reply) × AcceptsAll before commands replies after
+
+-- a turn does, whole
+abbrev pub MakesIn : Turn → Entries → Entries → Type 0
+MakesIn (Alone line outcome) before after = Makes line before after
+MakesIn (Together lines) before after = MakeTogether lines before after
+MakesIn (Withdrawn lines) before after = MakeTogether lines before after
+
+-- one of the turns does
+abbrev pub OneMakes : List Turn → Entries → Entries → Type 0
+OneMakes [] before after = ⊥
+OneMakes (turn ∷ turns) before after = MakesIn turn before after ⊎ OneMakes turns before after
 
 -- ---- from the open to the close
 
@@ -113,17 +160,17 @@ abbrev pub batch_of : Text → ℕ → Supply → Supply → World → World →
 batch_of name status input input_after old new =
     record { name = name; status = status; input = input; input_after = input_after; old = old; new = new }
 
--- the lines brought the state from the one before to the one after, each as it was answered
+-- the turns brought the state from the one before to the one after, as their lines were answered
 abbrev pub IsServed : {D : Type 0} → Ghosts D → Batch → Entries → Entries → Type 0
 IsServed g it before after =
-    HasServedBy (IsAnswered g it.name) (IsBrokenOff g it.name) it.status it.input it.input_after
+    HasServedBy (Happens g it.name) (Breaks g it.name) it.status it.input it.input_after
     (ledger before it.old.host it.old.out) (ledger after it.new.host it.new.out) it.old.err it.new.err
 
 -- Files whose close failed or was cut off stand for the state that was answered; or for what one of the
--- lines makes of that, at which a failure shut the depot, so that nothing changed any more.
+-- turns, whole, makes of that, at which a failure shut the depot, so that nothing changed any more.
 abbrev pub IsKept : {D : Type 0} (g : Ghosts D) (it : Batch) (before after : Entries) → IsServed g it before after
     → Entries → Type 0
-IsKept g it before after served held = (held ≡ after) ⊎ OneMakes (served.lines ++ served.last ∷ []) after held
+IsKept g it before after served held = (held ≡ after) ⊎ OneMakes (served.turns ++ served.last) after held
 
 -- no depot was opened: that was told, and nothing was read or done
 abbrev pub IsNotBegun : Batch → Type 0

@@ -20,10 +20,11 @@ use std::io::{BufRead, Write};
 /// Opens the depot of this name, has the lines of the input done on it, and closes it. Gives the status, and what is left of the files;
 /// none where the depot wasn't opened.
 ///
-/// `B` stands for what the two files held. Where they stood for a state and no lie of the disk was taken for true, the lines bring that
-/// state to the one after them, each line as it was answered, and the files hold that state, also after a crash. Where the close fails or a
-/// crash comes before its end, the files hold that state, too, or what one of the lines makes of it, at which a failure shut the depot. No
-/// clause ties `B` to the name: that the file there is opened is seen in the body.
+/// `B` stands for what the two files held. Where they stood for a state and no lie of the disk was taken for true, the turns of the batch
+/// bring that state to the one after them, as their lines were answered: a line alone, or deliveries together, all of them or none. The
+/// files hold the state after them, also after a crash. Where the close fails or a crash comes before its end, the files hold that state,
+/// too, or what one of the turns, whole, makes of it, at which a failure shut the depot. No clause ties `B` to the name: that the file
+/// there is opened is seen in the body.
 pub fn serve_from<B: Start, H: Host, R: BufRead + Drop, W: Write + Drop, E: Sink>(
     rt: &HostRuntime,
     name: &str,

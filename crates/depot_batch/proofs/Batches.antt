@@ -1,17 +1,18 @@
--- Lines that are read and answered one after another, and why that ends.
-use Rattle.std.proofs.Common.{◌≡◌, ◌⊎◌, ◌+◌, ◌-◌, ◌^◌, ◌++◌, ◌∙◌, append-nil, length-append, ap, inl, inr, min, refl, subst, sym, arith, ℕ, zero, suc, List, [], ◌∷◌, length}
-use Rattle.std.specs.List.{concat}
-use Rattle.std.proofs.KnownBytes.{Consumes-nil, Consumes-trans}
-use Rattle.std.proofs.lemmas.List.Folds.{concat-append}
+-- Turns that are taken one after another, and why that ends.
+use Rattle.std.proofs.Common.{◌≡◌, ◌+◌, ◌-◌, ◌^◌, ◌++◌, ◌∙◌, length-append, ap, inl, inr, min, refl, subst, sym, arith, ℕ, zero, suc, List, [], ◌∷◌, Option, Some, None, IfSome, length}
+use Rattle.std.specs.Io.KnownBytes.{Keeps}
+use Rattle.std.proofs.KnownBytes.{Consumes-kept, Consumes-nil, Consumes-trans, Keeps-trans}
 use Rattle.sqlite_trees.specs.declared.store.Store.{Ghosts}
 use Rattle.encodings.specs.Device.{Output, counted}
-use Rattle.encodings.specs.Supply.{HasGiven, Supply}
+use Rattle.encodings.specs.Supply.{HasGiven, HasStoppedGiving, Supply}
 use Rattle.refusals.specs.declared.refusal.Refusal.{Refusal}
-use Rattle.refusals.specs.declared.refusal.Refusal.TheVariants.{Database, Write}
+use Rattle.refusals.specs.declared.refusal.Refusal.TheVariants.{Database, Memory, Read, Write}
 use Rattle.depot_jobs.specs.Jobs.{HasTold}
-use Rattle.depot_batch.specs.Batch.{AreAnswered, HasServed, IsAnswered, IsBrokenOff, Office}
-use Rattle.depot_batch.specs.Answers.{HasServedLast}
-use Rattle.depot_batch.specs.Lines.{HasNotTaken, HasTakenAll, IsLine, IsUnfinished}
+use Rattle.depot_batch.specs.Batch.{AreTaken, Breaks, Happens, HasServed, IsAnsweredBy, Office}
+use Rattle.encodings.specs.Device.{HasTaken}
+use Rattle.depot_batch.specs.Lines.{HasNotTaken, HasShown, HasTakenAll, IsLine, IsUnfinished}
+use Rattle.depot_batch.specs.Private.{HasServedLast, HasTurned}
+use Rattle.depot_batch.specs.Turns.{Alone, EndsBy, GoesOn, Takes, Together, Turn, Withdrawn}
 use Rattle.depot_batch.specs.declared.outcome.Outcome.{Outcome}
 use Rattle.depot_batch.specs.declared.outcome.Outcome.TheVariants.{Refused}
 
@@ -21,129 +22,166 @@ capped_both : (count a b most : ℕ) → min (min (count + a) most + b) most ≡
 capped_both count a b most = omega arith
 
 -- a count after so many more, and then some more
-counted_both : (m n count : ℕ) → counted n (counted m count) ≡ counted (m + n) count
+pub counted_both : (m n count : ℕ) → counted n (counted m count) ≡ counted (m + n) count
 counted_both zero n count = let same : zero + n ≡ n = omega arith in ap (λ k. counted k count) (sym same)
 counted_both (suc m) zero count = let same : suc m + zero ≡ suc m = omega arith in ap (λ k. counted k count) (sym same)
 counted_both (suc m) (suc n) count =
     let more : suc (m + suc n) ≡ suc m + suc n = omega arith in
     capped_both count (suc m) (suc n) (2 ^ 64 - 1) ∙ ap (λ k. min (count + k) (2 ^ 64 - 1)) (sym more) ∙ ap (λ k. counted k count) more
 
-given_none : (s : Supply) → HasGiven [] s s
-given_none s = record { left = Consumes-nil s.left; given = refl; faults = refl }
+-- what is known of what is left was known before
+kept_known : (a b : Option (List ℕ)) (P : List ℕ → Type 0) → Keeps a b → IfSome b P → IfSome a P
+kept_known None b P kept known = tt
+kept_known (Some x) None P kept known = absurd kept
+kept_known (Some x) (Some y) P kept known = subst P kept known
 
-given_both : (s0 s1 s2 : Supply) (xs ys : List ℕ) → HasGiven xs s0 s1 → HasGiven ys s1 s2 → HasGiven (xs ++ ys) s0 s2
-given_both s0 s1 s2 xs ys first later = record {
-  left = Consumes-trans s0.left s1.left s2.left xs ys first.left later.left;
-  given = later.given ∙ ap (counted (length ys)) first.given ∙ counted_both (length xs) (length ys) s0.given ∙ ap (λ n. counted n s0.given) (sym (length-append xs ys));
-  faults = later.faults ∙ first.faults;
-}
+-- ---- an input that was looked at
 
--- lines were given, and then one more
-given_more : (s0 s1 s2 : Supply) (lines : List (List ℕ)) (octets : List ℕ) → HasGiven (concat lines) s0 s1 → HasGiven octets s1 s2 → HasGiven (concat (lines ++ octets ∷ [])) s0 s2
-given_more s0 s1 s2 lines octets first later =
-    subst (λ bs. HasGiven bs s0 s2) (sym (concat-append lines (octets ∷ []) ∙ ap (λ bs. concat lines ++ bs) (append-nil octets))) (given_both s0 s1 s2 (concat lines) octets first later)
+module _ (s0 s1 s2 : Supply) (first : HasShown [] s0 s1) where
+  given_after : (octets : List ℕ) → HasGiven octets s1 s2 → HasGiven octets s0 s2
+  given_after octets later = record {
+    left = Consumes-trans s0.left s1.left s2.left [] octets (Consumes-kept s0.left s0.left s1.left [] (Consumes-nil s0.left) first.left) later.left;
+    given = later.given ∙ ap (counted (length octets)) first.given;
+    faults = later.faults ∙ first.faults;
+  }
 
--- ---- what is answered
+  all_after : (octets : List ℕ) → HasTakenAll octets s1 s2 → HasTakenAll octets s0 s2
+  all_after octets later = record {
+    given = given_after octets later.given;
+    all = kept_known s0.left s1.left (λ left. left ≡ octets) first.left later.all;
+    flag = later.flag;
+  }
 
--- the length of a list with one element more
-length_more : (lines : List (List ℕ)) (octets : List ℕ) (n : ℕ) → length lines ≡ n → length (lines ++ octets ∷ []) ≡ n + 1
-length_more lines octets n is = length-append lines (octets ∷ []) ∙ ap (λ m. m + 1) is
+  shown_after : (octets : List ℕ) → HasShown octets s1 s2 → HasShown octets s0 s2
+  shown_after octets later = record {
+    left = Keeps-trans s0.left s1.left s2.left first.left later.left;
+    next = kept_known s0.left s1.left _ first.left later.next;
+    given = later.given ∙ first.given;
+    faults = later.faults ∙ first.faults;
+  }
 
--- where a batch stands after so many lines
+  stopped_after : (octets : List ℕ) → HasStoppedGiving octets s1 s2 → HasStoppedGiving octets s0 s2
+  stopped_after octets later = record {
+    left = Consumes-trans s0.left s1.left s2.left [] octets (Consumes-kept s0.left s0.left s1.left [] (Consumes-nil s0.left) first.left) later.left;
+    given = later.given ∙ ap (counted (length octets)) first.given;
+    faults = later.faults ∙ ap (counted 1) first.faults;
+  }
+
+  unread_after : (refusal : Refusal) (octets : List ℕ) → HasNotTaken refusal octets s1 s2 → HasNotTaken refusal octets s0 s2
+  unread_after Memory octets later = (later.0, given_after octets later.1)
+  unread_after Read octets later = (later.0, stopped_after octets later.1)
+  unread_after _ octets later = absurd later
+
+  takes_after : (turn : Turn) → Takes turn s1 s2 → Takes turn s0 s2
+  takes_after (Alone line outcome) takes = (takes.0, given_after line takes.1)
+  takes_after (Together lines) takes = (takes.0, given_after _ takes.1)
+  takes_after (Withdrawn lines) takes = (takes.0, shown_after _ takes.1)
+
+-- ---- turns
+
+-- where a batch stands after so many turns
 pub record StandsAfter {S : Type 0} (g : Ghosts S) (name : List ℕ) (count : ℕ) (input rest : Supply) (old new : Office S) (err err2 : Output) : Type 0 where
-  pub lines : List (List ℕ)
-  pub read : HasGiven (concat lines) input rest
-  pub answered : AreAnswered g name lines old new
-  pub counted : length lines ≡ count
+  pub turns : List Turn
+  pub taken : AreTaken g name turns input rest old new
+  pub counted : length turns ≡ count
   pub silent : err2 ≡ err
 
 module _ {S : Type 0} (g : Ghosts S) (name : List ℕ) where
-  -- one line more was answered
-  answered_more : (lines : List (List ℕ)) (octets : List ℕ) (outcome : Outcome) (old mid new : Office S) → AreAnswered g name lines old mid
-      → IsLine octets → IsAnswered g name octets outcome mid new → (outcome ≡ Refused Database → ⊥) → AreAnswered g name (lines ++ octets ∷ []) old new
-  answered_more [] octets outcome old mid new before is answered on = (is, outcome, new, subst (λ (o : Office S). IsAnswered g name octets outcome o new) before answered, on, refl)
-  answered_more (first ∷ lines) octets outcome old mid new before is answered on =
-      (before.0, before.1, before.2, before.3, before.4, answered_more lines octets outcome before.2 mid new before.5 is answered on)
+  -- why a batch ends, whatever number of turns it had
+  abbrev Ends : ℕ → ℕ → List Turn → Supply → Supply → Office S → Office S → Output → Output → Type 0
+  Ends status count last rest left old new err err2 = EndsBy (Happens g name) (Breaks g name) status count last rest left old new err err2
+
+  -- one turn more was taken
+  taken_more : (turns : List Turn) (turn : Turn) (input rest left : Supply) (old mid new : Office S) → AreTaken g name turns input rest old mid
+      → Takes turn rest left → Happens g name turn mid new → GoesOn turn → AreTaken g name (turns ++ turn ∷ []) input left old new
+  taken_more [] turn input rest left old mid new before takes happens on =
+      (left, new, subst (λ (s : Supply). Takes turn s left) before.0 takes, subst (λ (o : Office S). Happens g name turn o new) before.1 happens, on, (refl, refl))
+  taken_more (first ∷ turns) turn input rest left old mid new before takes happens on =
+      (before.0, before.1, before.2, before.3, before.4, taken_more turns turn before.0 rest left before.1 mid new before.5 takes happens on)
 
   pub stands_first : (input : Supply) (old : Office S) (err : Output) → StandsAfter g name 0 input input old old err err
-  stands_first input old err = record { lines = []; read = given_none input; answered = refl; counted = refl; silent = refl }
+  stands_first input old err = record { turns = []; taken = (refl, refl); counted = refl; silent = refl }
 
-  pub stands_on : (count : ℕ) (input rest left : Supply) (old mid new : Office S) (err err2 err3 : Output) (octets : List ℕ) (outcome : Outcome)
-      → StandsAfter g name count input rest old mid err err2 → IsLine octets × HasGiven octets rest left → IsAnswered g name octets outcome mid new
-      → (outcome ≡ Refused Database → ⊥) → err3 ≡ err2 → StandsAfter g name (count + 1) input left old new err err3
-  stands_on count input rest left old mid new err err2 err3 octets outcome before taken answered on silent = record {
-    lines = before.lines ++ octets ∷ [];
-    read = given_more input rest left before.lines octets before.read taken.1;
-    answered = answered_more before.lines octets outcome old mid new before.answered taken.0 answered on;
-    counted = length_more before.lines octets count before.counted;
-    silent = silent ∙ before.silent;
+  pub stands_on : (count : ℕ) (input rest left : Supply) (old mid new : Office S) (err err2 err3 : Output) → StandsAfter g name count input rest old mid err err2
+      → HasTurned g name None rest left mid new err2 err3 → StandsAfter g name (count + 1) input left old new err err3
+  stands_on count input rest left old mid new err err2 err3 before turned = record {
+    turns = before.turns ++ turned.0 ∷ [];
+    taken = taken_more before.turns turned.0 input rest left old mid new before.taken turned.1 turned.2 turned.3;
+    counted = length-append before.turns (turned.0 ∷ []) ∙ ap (λ m. m + 1) before.counted;
+    silent = turned.4 ∙ before.silent;
   }
 
-  -- the end of the input, or of counting
-  pub ends : (count : ℕ) (input rest left : Supply) (old new : Office S) (err err2 : Output) → StandsAfter g name count input rest old new err err2
-      → HasTakenAll [] rest left ⊎ ((count ≡ 2 ^ 64 - 1) × (left ≡ rest)) → HasServed g name 0 input left old new err err2
-  ends count input rest left old new err err2 before which = record {
-    lines = before.lines;
+  -- the reasons don't hang on the number of turns, but for that of counting
+  ends_at : (status count : ℕ) (last : List Turn) (rest left : Supply) (old new : Office S) (err err2 : Output) → Ends status 0 last rest left old new err err2
+      → Ends status count last rest left old new err err2
+  ends_at status count last rest left old new err err2 (inl all) = inl (all.0, all.1, elim all.2 [ inl end ↦ inl end | inr counted ↦ absurd (omega (arith, counted.0)) ], all.3, all.4)
+  ends_at status count last rest left old new err err2 (inr others) = inr others
+
+  -- a turn with which the batch ends
+  pub ends : (status count : ℕ) (input rest left : Supply) (old mid new : Office S) (err err2 err3 : Output) → StandsAfter g name count input rest old mid err err2
+      → HasTurned g name (Some status) rest left mid new err2 err3 → HasServed g name status input left old new err err3
+  ends status count input rest left old mid new err err2 err3 before turned = record {
+    turns = before.turns;
     rest = rest;
-    read = before.read;
-    mid = new;
-    answered = before.answered;
-    last = [];
-    ended = inl (refl, refl, elim which [ inl end ↦ inl end | inr all ↦ inr (before.counted ∙ all.0, all.1) ], refl, before.silent);
+    mid = mid;
+    taken = before.taken;
+    last = turned.0;
+    ended = subst (λ (e : Output). Ends status (length before.turns) turned.0 rest left mid new e err3) before.silent (ends_at status (length before.turns) turned.0 rest left mid new err2 err3 turned.1);
   }
+
+  -- the end of counting
+  pub ends_counting : (count : ℕ) (input rest : Supply) (old new : Office S) (err err2 : Output) → StandsAfter g name count input rest old new err err2
+      → count ≡ 2 ^ 64 - 1 → HasServed g name 0 input rest old new err err2
+  ends_counting count input rest old new err err2 before all = record {
+    turns = before.turns;
+    rest = rest;
+    mid = new;
+    taken = before.taken;
+    last = [];
+    ended = inl (refl, refl, inr (before.counted ∙ all, refl), refl, before.silent);
+  }
+
+  -- ---- one turn
+
+  -- the input was only looked at before a turn
+  pub turned_after : (came : Option ℕ) (s0 s1 s2 : Supply) (old new : Office S) (err err2 : Output) → HasShown [] s0 s1
+      → HasTurned g name came s1 s2 old new err err2 → HasTurned g name came s0 s2 old new err err2
+  turned_after None s0 s1 s2 old new err err2 first turned = (turned.0, takes_after s0 s1 s2 first turned.0 turned.1, turned.2, turned.3, turned.4)
+  turned_after (Some status) s0 s1 s2 old new err err2 first turned = (turned.0, after turned.1)
+    where
+      after : Ends status 0 turned.0 s1 s2 old new err err2 → Ends status 0 turned.0 s0 s2 old new err err2
+      after (inl all) = inl (all.0, all.1, inl (elim all.2 [ inl end ↦ all_after s0 s1 s2 first [] end | inr counted ↦ absurd (omega (arith, counted.0)) ]), all.3, all.4)
+      after (inr (inl all)) = inr (inl (all.0, all.1, all.2, all.3, all_after s0 s1 s2 first all.0 all.4, all.5))
+      after (inr (inr (inl all))) = inr (inr (inl (all.0, all.1, all.2, all.3, given_after s0 s1 s2 first all.1 all.4, all.5, all.6)))
+      after (inr (inr (inr (inl all)))) = inr (inr (inr (inl (all.0, all.1, all.2, takes_after s0 s1 s2 first all.1 all.3, all.4, all.5))))
+      after (inr (inr (inr (inr all)))) = inr (inr (inr (inr (all.0, all.1, all.2, all.3, unread_after s0 s1 s2 first all.2 all.3 all.4, all.5, all.6))))
+
+  -- the end of the input
+  pub turned_end : (s0 s1 : Supply) (old : Office S) (err : Output) → HasTakenAll [] s0 s1 → HasTurned g name (Some 0) s0 s1 old old err err
+  turned_end s0 s1 old err end = ([], inl (refl, refl, inl end, refl, refl))
 
   -- the end of the input within a line
-  pub ends_within : (status count : ℕ) (input rest left : Supply) (old mid new : Office S) (err err2 err3 : Output) (octets : List ℕ)
-      → StandsAfter g name count input rest old mid err err2 → IsUnfinished octets × HasTakenAll octets rest left
-      → HasServedLast g name status octets mid new err2 err3 → HasServed g name status input left old new err err3
-  ends_within status count input rest left old mid new err err2 err3 octets before taken served = record {
-    lines = before.lines;
-    rest = rest;
-    read = before.read;
-    mid = mid;
-    answered = before.answered;
-    last = octets;
-    ended = inr (inl (taken.0, taken.1, subst (λ (e : Output). HasServedLast g name status octets mid new e err3) before.silent served));
-  }
+  pub turned_within : (status : ℕ) (octets : List ℕ) (s0 s1 : Supply) (old new : Office S) (err err2 : Output) → IsUnfinished octets × HasTakenAll octets s0 s1
+      → HasServedLast g name status octets old new err err2 → HasTurned g name (Some status) s0 s1 old new err err2
+  turned_within status octets s0 s1 old new err err2 taken served =
+      (Alone octets served.0 ∷ [], inr (inl (octets, served.0, refl, taken.0, taken.1, served.1)))
 
-  -- a line that is refused `Database`
-  pub ends_shut : (count : ℕ) (input rest left : Supply) (old mid new : Office S) (err err2 err3 : Output) (octets : List ℕ)
-      → StandsAfter g name count input rest old mid err err2 → IsLine octets × HasGiven octets rest left → IsAnswered g name octets (Refused Database) mid new
-      → err3 ≡ err2 → HasServed g name 1 input left old new err err3
-  ends_shut count input rest left old mid new err err2 err3 octets before taken answered silent = record {
-    lines = before.lines;
-    rest = rest;
-    read = before.read;
-    mid = mid;
-    answered = before.answered;
-    last = octets;
-    ended = inr (inr (inl (refl, taken.0, taken.1, answered, silent ∙ before.silent)));
-  }
+  -- a line was answered
+  pub turned_on : (line : List ℕ) (outcome : Outcome) (s0 s1 : Supply) (old new : Office S) (err : Output) → IsLine line × HasGiven line s0 s1
+      → IsAnsweredBy g HasTaken name line outcome old new → (outcome ≡ Refused Database → ⊥) → HasTurned g name None s0 s1 old new err err
+  turned_on line outcome s0 s1 old new err taken answered on = (Alone line outcome, taken, answered, on, refl)
 
-  -- an answer that breaks off
-  pub ends_broken : (status count : ℕ) (input rest left : Supply) (old mid new : Office S) (err err2 err3 : Output) (octets : List ℕ)
-      → StandsAfter g name count input rest old mid err err2 → IsLine octets × HasGiven octets rest left → IsBrokenOff g name octets mid new
-      → status ≡ 1 → HasTold Write err2 err3 → HasServed g name status input left old new err err3
-  ends_broken status count input rest left old mid new err err2 err3 octets before taken broken one told = record {
-    lines = before.lines;
-    rest = rest;
-    read = before.read;
-    mid = mid;
-    answered = before.answered;
-    last = octets;
-    ended = inr (inr (inr (inl (one, taken.0, taken.1, broken, subst (λ (e : Output). HasTold Write e err3) before.silent told))));
-  }
+  -- a line was refused `Database`
+  pub turned_shut : (line : List ℕ) (s0 s1 : Supply) (old new : Office S) (err : Output) → IsLine line × HasGiven line s0 s1
+      → IsAnsweredBy g HasTaken name line (Refused Database) old new → HasTurned g name (Some 1) s0 s1 old new err err
+  turned_shut line s0 s1 old new err taken answered = (Alone line (Refused Database) ∷ [], inr (inr (inl (refl, line, refl, taken.0, taken.1, answered, refl))))
 
-  -- a line that can't be read
-  pub ends_unread : (status count : ℕ) (input rest left : Supply) (old new : Office S) (err err2 err3 : Output) (octets : List ℕ) (refusal : Refusal)
-      → StandsAfter g name count input rest old new err err2 → HasNotTaken refusal octets rest left
-      → status ≡ 1 → HasTold refusal err2 err3 → HasServed g name status input left old new err err3
-  ends_unread status count input rest left old new err err2 err3 octets refusal before unread one told = record {
-    lines = before.lines;
-    rest = rest;
-    read = before.read;
-    mid = new;
-    answered = before.answered;
-    last = octets;
-    ended = inr (inr (inr (inr (one, refusal, unread, subst (λ (e : Output). HasTold refusal e err3) before.silent told, refl))));
-  }
+  -- answers broke off
+  pub turned_broken : (turn : Turn) (status : ℕ) (s0 s1 : Supply) (old new : Office S) (err err2 : Output) → Takes turn s0 s1 → Breaks g name turn old new
+      → status ≡ 1 → HasTold Write err err2 → HasTurned g name (Some status) s0 s1 old new err err2
+  turned_broken turn status s0 s1 old new err err2 takes breaks one told = (turn ∷ [], inr (inr (inr (inl (one, turn, refl, takes, breaks, told)))))
+
+  -- no line could be read
+  pub turned_unread : (refusal : Refusal) (octets : List ℕ) (status : ℕ) (s0 s1 : Supply) (old : Office S) (err err2 : Output) → HasNotTaken refusal octets s0 s1
+      → status ≡ 1 → HasTold refusal err err2 → HasTurned g name (Some status) s0 s1 old old err err2
+  turned_unread refusal octets status s0 s1 old err err2 unread one told = ([], inr (inr (inr (inr (one, refl, refusal, octets, unread, told, refl)))))

@@ -1,6 +1,6 @@
 -- Texts without a line that begins with `= `.
-use Rattle.std.proofs.Common.{◌≡◌, ◌∙◌, refl, sym, ap, subst, cond, codes, Bool, true, false, not, ◌&&◌, ◌||◌, ◌++◌, append_assoc, arith, ℕ, ◌≤◌, ◌<◌, ◌+◌, zero, suc, eqb-true, lt-ltb, ltb-true, ne_eqb, List, [], ◌∷◌, true≢false}
-use Rattle.std.specs.Prelude.{◌==◌, ◌/◌, ◌%◌, nat_le, nat_lt, if◌then◌else◌}
+use Rattle.std.proofs.Common.{◌≡◌, ◌∙◌, refl, sym, ap, cond, Bool, true, false, not, ◌&&◌, ◌||◌, ◌++◌, append_assoc, arith, ℕ, ◌+◌, zero, suc, ltb-true, ne_eqb, List, [], ◌∷◌, true≢false}
+use Rattle.std.specs.Prelude.{◌==◌, ◌/◌, ◌%◌, nat_le, nat_lt}
 use Rattle.std.specs.List.{flat_map, list_all}
 use Rattle.std.specs.Fmt.{decimal, digit_glyph, digits, digits_onto}
 use Rattle.depot_jobs.specs.Printed.{escaped, escaped_octet, is_plain, quoted}

@@ -1,5 +1,5 @@
 -- No line of an answer begins with `= `.
-use Rattle.std.proofs.Common.{◌≡◌, ◌∙◌, refl, sym, ap, subst, cond, codes, Bool, true, false, ◌&&◌, ◌++◌, ℕ, List, [], ◌∷◌, map, Option, Some, None, true≢false}
+use Rattle.std.proofs.Common.{◌≡◌, ◌∙◌, refl, sym, ap, cond, codes, Bool, true, false, ◌++◌, ℕ, List, [], ◌∷◌, map, Option, Some, None, true≢false}
 use Rattle.std.specs.Prelude.{filter, bytes_eq}
 use Rattle.std.specs.List.{list_all}
 use Rattle.std.specs.Fmt.{decimal}
@@ -18,11 +18,11 @@ use Rattle.refusals.specs.declared.refusal.Refusal.TheVariants.{Memory, MessageT
 use Rattle.depot_jobs.specs.Printed.{line, quoted, refusal_line}
 use Rattle.depot_jobs.specs.declared.request.Request.{Request}
 use Rattle.depot_jobs.specs.declared.request.Request.TheVariants.{Script, Code, Deliver, List as ListEntries, Export, Remove, Migrate}
-use Rattle.depot_cli.specs.Printed.{entries_text, entry_text, kind_text, migrated_text, removed_text, reply_text}
+use Rattle.depot_cli.specs.Printed.{entries_text, entry_text, kind_text, reply_text}
 use Rattle.depot_cli.specs.Requests.{request_command}
 use Rattle.depot_cli.specs.Tasks.{HasDone}
 use Rattle.depot_cli.specs.declared.entries.Detail.TheVariants.{Brief, Full}
-use Rattle.depot_batch.specs.Batch.{HasCome, IsDone, Office, exported_text}
+use Rattle.depot_batch.specs.Batch.{HasCome, IsDone, Office}
 use Rattle.depot_batch.specs.Asked.{Asks, Text}
 use Rattle.depot_batch.specs.Closings.{HavePlainMedia, has_closing, is_one_line}
 use Rattle.depot_batch.specs.Sentences.{wrong_line}
@@ -79,7 +79,7 @@ all_true : {A : Type 0} (xs : List A) → list_all (λ _. true) xs ≡ true
 all_true [] = refl
 all_true (x ∷ xs) = all_true xs
 
-brief_closes_none : (entries : List Listing) → has_closing true (entries_text Brief entries) ≡ false
+pub brief_closes_none : (entries : List Listing) → has_closing true (entries_text Brief entries) ≡ false
 brief_closes_none [] = refl
 brief_closes_none (e ∷ es) =
     lines_pass (entry_text Brief) (e ∷ es) (λ _. true) (all_true (e ∷ es)) (λ x fit. (brief_safe x).0) (λ x fit. (brief_safe x).1)

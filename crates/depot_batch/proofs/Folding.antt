@@ -1,16 +1,21 @@
--- The lines of a batch as calls of its depot.
-use Rattle.std.proofs.Common.{◌≡◌, ◌⊎◌, ap, arith, inl, inr, refl, subst, ℕ, List, [], ◌∷◌, Some, None}
+-- The turns of a batch as steps of what its depot holds.
+use Rattle.std.proofs.Common.{◌≡◌, ◌⊎◌, ◌++◌, ap, arith, inl, inr, refl, subst, sym, ℕ, IsTrue, List, [], ◌∷◌, Some, length, map}
+use Rattle.std.specs.List.{AllZip}
 use Rattle.sqlite_trees.specs.declared.store.Store.{Ghosts}
 use Rattle.sqlite_trees.specs.Tree.{Trees}
 use Rattle.sqlite.specs.Held.{Held, state}
 use Rattle.sqlite.specs.State.{HasCleanDisk, State, Survives}
-use Rattle.depot_actions.specs.DepotState.{Export as Exports, Text as Written}
-use Rattle.depot_actions.specs.History.{Answers, AreAnswered as HaveReplied, Call}
+use Rattle.encodings.specs.Supply.{Supply}
+use Rattle.part_store.specs.Entries.{Entries}
+use Rattle.part_store.specs.Standing.{Spares, Stands}
+use Rattle.depot_actions.specs.Deliveries.{calls_of}
+use Rattle.depot_actions.specs.DepotState.{Command, Does, Listed, Reply as DepotReply, Text as Written}
+use Rattle.depot_actions.specs.History.{AreSteps, Call}
 use Rattle.depot_jobs.specs.Host.{HostState}
-use Rattle.depot_cli.specs.Requests.{request_command}
-use Rattle.depot_jobs.specs.declared.request.Request.{Request}
+use Rattle.depot_jobs.specs.declared.request.Request.TheVariants as requests
 use Rattle.refusals.specs.declared.refusal.Refusal.{Refusal}
-use Rattle.depot_batch.specs.Batch.{AreAnswered, HasCome, HasNotReplied, HasReplied, IsDone, IsMadeAtOne, IsRefused, Office}
+use Rattle.depot_batch.specs.Batch.{AreDeliveries, AreTaken, Happens, HasCome, IsAsked, IsCallOf, IsDone, IsMadeAtOne, IsRefused, Office, Outlasts, command_asked}
+use Rattle.depot_batch.specs.Turns.{Alone, Together, Turn, Withdrawn, done_in, lines_done}
 use Rattle.depot_batch.specs.declared.asked.Asked.{Asked}
 use Rattle.depot_batch.specs.declared.asked.Asked.TheVariants.{Reply, Export as IntoFile}
 use Rattle.depot_batch.specs.declared.outcome.Outcome.{Outcome}
@@ -20,87 +25,171 @@ use Rattle.depot_batch.specs.declared.outcome.Outcome.TheVariants.{Done, Refused
 clean_before : {P : Trees → Type 0} (old new : State) → Survives old new P → HasCleanDisk new → HasCleanDisk old
 clean_before old new survives clean = omega (arith, survives.clean, clean)
 
+-- ---- steps
+
+-- steps, and then others
+steps_both : (first later : List Call) (before mid after : Entries) → AreSteps first before mid → AreSteps later mid after → AreSteps (first ++ later) before after
+steps_both [] later before mid after are more = subst (λ (e : Entries). AreSteps later e after) are more
+steps_both (call ∷ calls) later before mid after are more = (are.0, are.1, steps_both calls later are.0 mid after are.2 more)
+
+zips_both : (lines others : List (List ℕ)) (calls more : List Call) → AllZip IsCallOf lines calls → AllZip IsCallOf others more → AllZip IsCallOf (lines ++ others) (calls ++ more)
+zips_both [] others [] more are later = later
+zips_both [] others (call ∷ calls) more are later = absurd are
+zips_both (line ∷ lines) others [] more are later = absurd are
+zips_both (line ∷ lines) others (call ∷ calls) more are later = (are.0, zips_both lines others calls more are.1 later)
+
+-- deliveries that were read are calls of their lines
+delivered : (lines : List (List ℕ)) (commands : List Command) (replies : List DepotReply) (host host2 : HostState) → AreDeliveries lines commands host host2
+    → length replies ≡ length commands → AllZip IsCallOf lines (calls_of commands replies)
+delivered [] [] replies host host2 are each = tt
+delivered [] (command ∷ commands) replies host host2 are each = absurd are
+delivered (line ∷ lines) [] replies host host2 are each = absurd are
+delivered (line ∷ lines) (command ∷ commands) [] host host2 are each = absurd (omega (arith, each))
+delivered (line ∷ lines) (command ∷ commands) (reply ∷ replies) host host2 are each =
+    let one = are.1 in (
+      (Reply (requests.Deliver one.0 one.1), one.2, one.3, reply, ap (λ (c : Command). record { command = c; reply = Some reply }) one.5),
+      delivered lines commands replies are.0 host2 are.2 (omega (arith, each)),
+    )
+
+-- what lines made of what was held
+record Went (lines : List (List ℕ)) (before : Entries) (new : State) : Type 0 where
+  calls : List Call
+  after : Entries
+  are : AllZip IsCallOf lines calls
+  steps : AreSteps calls before after
+  stands : IsTrue new.is_open → Stands new.now after
+
+spared : (old new : State) (before : Entries) → Spares old new → (IsTrue old.is_open → Stands old.now before) → Went [] before new
+spared old new before spares given = record {
+  calls = [];
+  after = before;
+  are = tt;
+  steps = refl;
+  stands = λ is_open.
+      let stood = given (spares.shut is_open) in
+      subst (λ d. Stands d before) (sym (spares.same stood.schema is_open).0) stood;
+}
+
+did : (line : List ℕ) (asked : Asked) (octets : List ℕ) (reply : DepotReply) (old new : State) (before : Entries) → IsAsked line asked → Does (command_asked asked octets) reply old new
+    → (IsTrue old.is_open → Stands old.now before) → Went (line ∷ []) before new
+did line asked octets reply old new before is does given =
+    let done = does.1 before (given does.0) in
+    record {
+      calls = record { command = command_asked asked octets; reply = Some reply } ∷ [];
+      after = done.0;
+      are = ((asked, is, octets, reply, refl), tt);
+      steps = (done.0, done.1, refl);
+      stands = λ is_open. (done.2.stands is_open).0;
+    }
+
 module _ {S : Type 0} (g : Ghosts S) where
-  -- nothing was asked of the depot, or one call was answered
-  abbrev pub IsCall : Held S → Held S → Type 0
-  IsCall old new = (new ≡ old) ⊎ ((call : Call) × Answers call.command call.reply (state g old) (state g new))
+  same : (old new : Held S) (before : Entries) → new ≡ old → (IsTrue (state g old).is_open → Stands (state g old).now before) → Went [] before (state g new)
+  same old new before is given = record {
+    calls = [];
+    after = before;
+    are = tt;
+    steps = refl;
+    stands = subst (λ (h : Held S). IsTrue (state g h).is_open → Stands (state g h).now before) (sym is) given;
+  }
 
-  replied : (request : Request) (text : List ℕ) (old new : Held S) (host host2 : HostState) → HasCleanDisk (state g new) → HasReplied g request text old new host host2 → IsCall old new
-  replied request text old new host host2 clean done =
-      let answered = done.2 in
-      inr (record { command = request_command request done.0; reply = Some answered.0 }, answered.1 clean)
+  module _ (name line : List ℕ) (old new : Held S) (host host2 : HostState) (before : Entries) (clean : HasCleanDisk (state g new))
+      (given : IsTrue (state g old).is_open → Stands (state g old).now before) where
+    done_went : (asked : Asked) (text : List ℕ) → IsAsked line asked → IsDone g name asked text old new host host2 → Went (line ∷ []) before (state g new)
+    done_went (Reply request) text is done =
+        let answered = done.2 in
+        did line (Reply request) done.0 answered.0 (state g old) (state g new) before is (answered.1 clean) given
+    done_went (IntoFile export) text is done =
+        let made = done.1 in
+        did line (IntoFile export) [] (Written made.0) (state g old) (state g new) before is (made.2 clean) given
 
-  unreplied : (request : Request) (refusal : Refusal) (old new : Held S) (host host2 : HostState) → HasCleanDisk (state g new) → HasNotReplied g request refusal old new host host2 → IsCall old new
-  unreplied request refusal old new host host2 clean refused = elim refused [
-    | inl unread ↦ inl unread.1
-    | inr asked ↦ inr (record { command = request_command request asked.0; reply = None }, (asked.2.1 clean).2)
-  ]
+    refused_went : (asked : Asked) (refusal : Refusal) → IsRefused g name asked refusal old new host host2 → Went [] before (state g new)
+    refused_went (Reply request) refusal refused = elim refused [
+      | inl unread ↦ same old new before unread.1 given
+      | inr asked ↦ spared (state g old) (state g new) before (asked.2.1 clean).2 given
+    ]
+    refused_went (IntoFile export) refusal refused = spared (state g old) (state g new) before (refused.1 clean) given
 
-  done_call : (name : List ℕ) (asked : Asked) (text : List ℕ) (old new : Held S) (host host2 : HostState) → HasCleanDisk (state g new) → IsDone g name asked text old new host host2 → IsCall old new
-  done_call name (Reply request) text old new host host2 clean done = replied request text old new host host2 clean done
-  done_call name (IntoFile export) text old new host host2 clean done =
-      let made = done.1 in
-      inr (record { command = Exports export.user.now export.number export.encoding; reply = Some (Written made.0) }, made.2 clean)
+  module _ (name : List ℕ) (old new : Office S) (before : Entries) (clean : HasCleanDisk (state g new.depot))
+      (given : IsTrue (state g old.depot).is_open → Stands (state g old.depot).now before) where
+    come_went : (line : List ℕ) (outcome : Outcome) (text : List ℕ) → HasCome g name line outcome text old new → Went (done_in (Alone line outcome)) before (state g new.depot)
+    come_went line Done text come = done_went name line old.depot new.depot old.host new.host before clean given come.0 text come.1 come.2
+    come_went line (Refused refusal) text come = elim come.1 [
+      | inl idle ↦ let still = idle.1 in same old.depot new.depot before still.0 given
+      | inr asked ↦ refused_went name line old.depot new.depot old.host new.host before clean given asked.0 refusal asked.2
+    ]
+    come_went line Wrong text come = let still = come.3 in same old.depot new.depot before still.0 given
 
-  refused_call : (name : List ℕ) (asked : Asked) (refusal : Refusal) (old new : Held S) (host host2 : HostState) → HasCleanDisk (state g new) → IsRefused g name asked refusal old new host host2 → IsCall old new
-  refused_call name (Reply request) refusal old new host host2 clean refused = unreplied request refusal old new host host2 clean refused
-  refused_call name (IntoFile export) refusal old new host host2 clean refused =
-      inr (record { command = Exports export.user.now export.number export.encoding; reply = None }, refused.1 clean)
+    turn_went : (turn : Turn) → Happens g name turn old new → Went (done_in turn) before (state g new.depot)
+    turn_went (Alone line outcome) happens = come_went line outcome happens.text happens.come
+    turn_went (Together lines) happens =
+        let does = happens.done clean in
+        let done = does.1 before (given does.0) in
+        record {
+          calls = calls_of happens.commands (map Listed happens.filed);
+          after = done.0;
+          are = delivered lines happens.commands (map Listed happens.filed) old.host new.host happens.files done.1.each;
+          steps = done.1.steps;
+          stands = λ is_open. (done.2.stands is_open).0;
+        }
+    turn_went (Withdrawn lines) happens = spared (state g old.depot) (state g new.depot) before (happens.spared clean) given
 
-  come_call : (name octets : List ℕ) (outcome : Outcome) (text : List ℕ) (old new : Office S) → HasCleanDisk (state g new.depot) → HasCome g name octets outcome text old new → IsCall old.depot new.depot
-  come_call name octets Done text old new clean come = done_call name come.0 text old.depot new.depot old.host new.host clean come.2
-  come_call name octets (Refused refusal) text old new clean come = elim come.1 [
-    | inl idle ↦ let still = idle.1 in inl still.0
-    | inr asked ↦ refused_call name asked.0 refusal old.depot new.depot old.host new.host clean asked.2
-  ]
-  come_call name octets Wrong text old new clean come = let still = come.3 in inl still.0
+  outlasts : (name : List ℕ) (turn : Turn) (old new : Office S) → Happens g name turn old new → Outlasts g turn old new
+  outlasts name (Alone line outcome) old new happens = happens.outlasts
+  outlasts name (Together lines) old new happens = happens.outlasts
+  outlasts name (Withdrawn lines) old new happens = happens.outlasts
 
-  -- a disk that is clean after lines was clean before them
-  pub clean_all : (name : List ℕ) (lines : List (List ℕ)) (old new : Office S) → AreAnswered g name lines old new → HasCleanDisk (state g new.depot) → HasCleanDisk (state g old.depot)
-  clean_all name [] old new are clean = subst (λ (o : Office S). HasCleanDisk (state g o.depot)) are clean
-  clean_all name (octets ∷ lines) old new are clean = clean_before (state g old.depot) (state g are.2.depot) are.3.outlasts (clean_all name lines are.2 new are.5 clean)
+  -- a disk that is clean after turns was clean before them
+  clean_all : (name : List ℕ) (turns : List Turn) (input rest : Supply) (old new : Office S) → AreTaken g name turns input rest old new → HasCleanDisk (state g new.depot)
+      → HasCleanDisk (state g old.depot)
+  clean_all name [] input rest old new are clean = subst (λ (o : Office S). HasCleanDisk (state g o.depot)) are.1 clean
+  clean_all name (turn ∷ turns) input rest old new are clean =
+      clean_before (state g old.depot) (state g are.1.depot) (outlasts name turn old are.1 are.3) (clean_all name turns are.0 rest are.1 new are.5 clean)
 
-  pub calls_of : (name : List ℕ) (lines : List (List ℕ)) (old new : Office S) → AreAnswered g name lines old new → HasCleanDisk (state g new.depot) → (calls : List Call) × HaveReplied g calls old.depot new.depot
-  calls_of name [] old new are clean = ([], ap (λ (o : Office S). o.depot) are)
-  calls_of name (octets ∷ lines) old new are clean =
-      let mid = are.2 in
-      let later = calls_of name lines mid new are.5 clean in
-      elim (come_call name octets are.1 are.3.text old mid (clean_all name lines mid new are.5 clean) are.3.come) [
-        | inl same ↦ (later.0, subst (λ d. HaveReplied g later.0 d new.depot) same later.1)
-        | inr call ↦ (call.0 ∷ later.0, (mid.depot, call.1, later.1))
-      ]
+  pub turns_went : (name : List ℕ) (turns : List Turn) (input rest : Supply) (old new : Office S) (before : Entries) → AreTaken g name turns input rest old new
+      → HasCleanDisk (state g new.depot) → (IsTrue (state g old.depot).is_open → Stands (state g old.depot).now before)
+      → (calls : List Call) × (after : Entries) × AllZip IsCallOf (lines_done turns) calls × AreSteps calls before after
+      × (IsTrue (state g new.depot).is_open → Stands (state g new.depot).now after)
+  turns_went name [] input rest old new before are clean given =
+      ([], before, tt, refl, subst (λ (o : Office S). IsTrue (state g o.depot).is_open → Stands (state g o.depot).now before) (sym are.1) given)
+  turns_went name (turn ∷ turns) input rest old new before are clean given =
+      let one = turn_went name old are.1 before (clean_all name turns are.0 rest are.1 new are.5 clean) given turn are.3 in
+      let more = turns_went name turns are.0 rest are.1 new one.after are.5 clean one.stands in (
+        one.calls ++ more.0,
+        more.1,
+        zips_both (done_in turn) (lines_done turns) one.calls more.0 one.are more.2,
+        steps_both one.calls more.0 before one.after more.1 one.steps more.3,
+        more.4,
+      )
 
-  -- what a crash leaves after lines
-  pub left_by_lines : (name : List ℕ) (lines : List (List ℕ)) (old new : Office S) → AreAnswered g name lines old new → HasCleanDisk (state g new.depot)
-      → (trees : Trees) → (state g new.depot).may_leave trees → (state g old.depot).may_leave trees ⊎ IsMadeAtOne g name lines old trees
-  left_by_lines name [] old new are clean trees left = inl (subst (λ (o : Office S). (state g o.depot).may_leave trees) are left)
-  left_by_lines name (octets ∷ lines) old new are clean trees left =
-      let mid = are.2 in
-      elim (left_by_lines name lines mid new are.5 clean trees left) [
-        | inl before ↦ elim (are.3.outlasts.crash (clean_all name lines mid new are.5 clean) trees before) [
+  -- what a crash leaves after turns
+  pub left_by_turns : (name : List ℕ) (turns : List Turn) (input rest : Supply) (old new : Office S) → AreTaken g name turns input rest old new → HasCleanDisk (state g new.depot)
+      → (trees : Trees) → (state g new.depot).may_leave trees → (state g old.depot).may_leave trees ⊎ IsMadeAtOne g name turns input old trees
+  left_by_turns name [] input rest old new are clean trees left = inl (subst (λ (o : Office S). (state g o.depot).may_leave trees) are.1 left)
+  left_by_turns name (turn ∷ turns) input rest old new are clean trees left =
+      let mid = are.1 in
+      elim (left_by_turns name turns are.0 rest mid new are.5 clean trees left) [
+        | inl before ↦ elim ((outlasts name turn old mid are.3).crash (clean_all name turns are.0 rest mid new are.5 clean) trees before) [
           | inl was ↦ inl was
           | inr made ↦ inr (record {
             before = [];
-            octets = octets;
-            later = lines;
+            turn = turn;
+            later = turns;
             are = refl;
+            here = input;
             mid = old;
-            answered = refl;
-            asked = made.0;
-            is_asked = made.1;
+            taken = (refl, refl);
             host = mid.host;
-            made = made.2;
+            made = made;
           })
         ]
         | inr one ↦ inr (record {
-          before = octets ∷ one.before;
-          octets = one.octets;
+          before = turn ∷ one.before;
+          turn = one.turn;
           later = one.later;
-          are = ap (λ others. octets ∷ others) one.are;
+          are = ap (λ others. turn ∷ others) one.are;
+          here = one.here;
           mid = one.mid;
-          answered = (are.0, are.1, mid, are.3, are.4, one.answered);
-          asked = one.asked;
-          is_asked = one.is_asked;
+          taken = (are.0, mid, are.2, are.3, are.4, one.taken);
           host = one.host;
           made = one.made;
         })

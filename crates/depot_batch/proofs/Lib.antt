@@ -1,10 +1,13 @@
 mod WordLemmas
 mod Spoken
 mod Folding
+mod Taking
 mod Writing
 mod LineLemmas
 mod LineReading
 mod Batches
+mod Readying
+mod Grouping
 mod Closing
 mod Refusing
 mod ClosingAnswers

@@ -1,21 +1,14 @@
 -- What comes of a line, from what came of its words and of what they ask for.
-use Rattle.std.proofs.Common.{◌≡◌, ◌⊎◌, ◌+◌, ◌-◌, ◌^◌, ◌++◌, ◌∙◌, append-nil, length-append, ap, inl, inr, refl, subst, sym, arith, ℕ, List, [], ◌∷◌, Option, Result, Ok, Err, IfOk, OnErr, length}
-use Rattle.std.specs.List.{concat}
-use Rattle.std.specs.Io.{StopsAt}
-use Rattle.std.specs.Io.KnownBytes.{Consumes, IsAtEnd}
-use Rattle.std.proofs.KnownBytes.{Consumes-nil, Consumes-trans}
-use Rattle.std.proofs.lemmas.List.Folds.{concat-append}
+use Rattle.std.proofs.Common.{◌≡◌, ◌++◌, inl, inr, refl, subst, sym, arith, ℕ, List, Result, Ok, Err, IfOk, OnErr}
 use Rattle.sqlite_trees.specs.declared.store.Store.{Ghosts}
 use Rattle.sqlite_trees.specs.Tree.{Trees}
 use Rattle.sqlite.specs.Held.{state}
 use Rattle.sqlite.specs.State.{State, Survives}
-use Rattle.encodings.specs.Device.{HasBroken, HasTaken, Output}
-use Rattle.refusals.specs.declared.refusal.Refusal.{Refusal}
-use Rattle.refusals.specs.declared.refusal.Refusal.TheVariants.{Database, Memory, Read, Write}
-use Rattle.depot_jobs.specs.Jobs.{HasTold}
+use Rattle.encodings.specs.Device.{HasBroken, HasTaken}
 use Rattle.depot_batch.specs.Answers.{AreNoTexts, HasComeOf, IsUnasked, IsUnaskedText}
 use Rattle.depot_batch.specs.Asked.{AskNothing}
-use Rattle.depot_batch.specs.Batch.{AreAnswered, HasCome, HasServed, HasWords, IsAnswered, IsAsked, IsBrokenOff, IsWrong, MayMake, Office, Outlasts, closing}
+use Rattle.depot_batch.specs.Batch.{HasCome, HasWords, IsAnsweredBy, IsAsked, IsWrong, MayMake, MayMakeOne, Office, Outlasts, closing}
+use Rattle.depot_batch.specs.Turns.{Alone}
 use Rattle.depot_batch.specs.declared.asked.Asked.{Asked}
 use Rattle.depot_batch.specs.declared.fault.LineFault.{LineFault}
 use Rattle.depot_batch.specs.declared.fault.LineFault.TheVariants as faults
@@ -25,7 +18,7 @@ use Rattle.depot_batch.specs.declared.outcome.Outcome.{Outcome}
 use Rattle.depot_batch.specs.declared.outcome.Outcome.TheVariants.{Done, Refused, Wrong}
 
 -- what nothing happened to survives
-still : {P : Trees → Type 0} (s : State) → Survives s s P
+pub still : {P : Trees → Type 0} (s : State) → Survives s s P
 still s = record {
   clean = omega arith;
   shield = λ shielded. shielded;
@@ -36,7 +29,7 @@ still s = record {
 }
 
 -- what may be left may be left for more than one reason
-more_left : {P Q : Trees → Type 0} (old new : State) → ((db : Trees) → P db → Q db) → Survives old new P → Survives old new Q
+pub more_left : {P Q : Trees → Type 0} (old new : State) → ((db : Trees) → P db → Q db) → Survives old new P → Survives old new Q
 more_left old new more survives = record {
   clean = survives.clean;
   shield = survives.shield;
@@ -78,63 +71,67 @@ module _ {S : Type 0} (g : Ghosts S) where
   unasked_come name octets unasked.NoMemory outcome text old new wrong is depot host =
       subst (λ o. HasCome g name octets o text old new) (sym is.0) (is.1, inl (refl, (depot, host)))
 
-  outlasts_asked : (octets : List ℕ) (asked : Asked) (old new : Office S) → IsAsked octets asked
-      → Survives (state g old.depot) (state g new.depot) (MayMake asked (state g old.depot) old.host new.host) → Outlasts g octets old new
-  outlasts_asked octets asked old new is survives = more_left (state g old.depot) (state g new.depot) (λ db made. (asked, is, made)) survives
+  outlasts_asked : (octets : List ℕ) (outcome : Outcome) (asked : Asked) (old new : Office S) → IsAsked octets asked
+      → Survives (state g old.depot) (state g new.depot) (MayMake asked (state g old.depot) old.host new.host) → Outlasts g (Alone octets outcome) old new
+  outlasts_asked octets outcome asked old new is survives = more_left (state g old.depot) (state g new.depot) (λ db made. (asked, is, made)) survives
 
-  outlasts_idle : (octets : List ℕ) (old new : Office S) → new.depot ≡ old.depot → Outlasts g octets old new
-  outlasts_idle octets old new same =
-      subst (λ d. Survives (state g old.depot) (state g d) (λ trees. (asked : Asked) × IsAsked octets asked × MayMake asked (state g old.depot) old.host new.host trees)) (sym same)
+  outlasts_idle : (octets : List ℕ) (outcome : Outcome) (old new : Office S) → new.depot ≡ old.depot → Outlasts g (Alone octets outcome) old new
+  outlasts_idle octets outcome old new same =
+      subst (λ d. Survives (state g old.depot) (state g d) (MayMakeOne octets (state g old.depot) old.host new.host)) (sym same)
       (still (state g old.depot))
 
   -- what is asked was answered
   pub asked_answered : {E : Type 0} (r : Result Outcome E) (name octets : List ℕ) (asked : Asked) (old new : Office S) → IsAsked octets asked
       → Survives (state g old.depot) (state g new.depot) (MayMake asked (state g old.depot) old.host new.host)
       → IfOk r (λ outcome. (text : List ℕ) × HasComeOf g name asked outcome text old.depot new.depot old.host new.host × HasTaken (text ++ closing outcome) old.out new.out)
-      → IfOk r (λ outcome. IsAnswered g name octets outcome old new)
+      → IfOk r (λ outcome. IsAnsweredBy g HasTaken name octets outcome old new)
   asked_answered (Ok outcome) name octets asked old new is survives answered = record {
     text = answered.0;
     come = come_of name octets asked outcome answered.0 old new is answered.1;
     written = answered.2;
-    outlasts = outlasts_asked octets asked old new is survives;
+    outlasts = outlasts_asked octets outcome asked old new is survives;
   }
   asked_answered (Err e) name octets asked old new is survives answered = tt
 
   pub asked_broken : {E : Type 0} (r : Result Outcome E) (name octets : List ℕ) (asked : Asked) (old new : Office S) → IsAsked octets asked
       → Survives (state g old.depot) (state g new.depot) (MayMake asked (state g old.depot) old.host new.host)
       → OnErr r ((outcome : Outcome) × (text : List ℕ) × HasComeOf g name asked outcome text old.depot new.depot old.host new.host × HasBroken (text ++ closing outcome) old.out new.out)
-      → OnErr r (IsBrokenOff g name octets old new)
+      → OnErr r ((outcome : Outcome) × IsAnsweredBy g HasBroken name octets outcome old new)
   asked_broken (Ok outcome) name octets asked old new is survives broken = tt
-  asked_broken (Err e) name octets asked old new is survives broken = record {
-    outcome = broken.0;
-    text = broken.1;
-    come = come_of name octets asked broken.0 broken.1 old new is broken.2;
-    broken = broken.3;
-    outlasts = outlasts_asked octets asked old new is survives;
-  }
+  asked_broken (Err e) name octets asked old new is survives broken = (
+    broken.0,
+    record {
+      text = broken.1;
+      come = come_of name octets asked broken.0 broken.1 old new is broken.2;
+      written = broken.3;
+      outlasts = outlasts_asked octets broken.0 asked old new is survives;
+    },
+  )
 
   -- a line that wasn't asked for anything was answered
   pub unasked_answered : {E : Type 0} (r : Result Outcome E) (name octets : List ℕ) (why : Unasked) (old new : Office S) → IsUnasked octets why
       → new.depot ≡ old.depot → new.host ≡ old.host
       → IfOk r (λ outcome. (text : List ℕ) × IsUnaskedText why outcome text × HasTaken (text ++ closing outcome) old.out new.out)
-      → IfOk r (λ outcome. IsAnswered g name octets outcome old new)
+      → IfOk r (λ outcome. IsAnsweredBy g HasTaken name octets outcome old new)
   unasked_answered (Ok outcome) name octets why old new wrong depot host answered = record {
     text = answered.0;
     come = unasked_come name octets why outcome answered.0 old new wrong answered.1 depot host;
     written = answered.2;
-    outlasts = outlasts_idle octets old new depot;
+    outlasts = outlasts_idle octets outcome old new depot;
   }
   unasked_answered (Err e) name octets why old new wrong depot host answered = tt
 
   pub unasked_broken : {E : Type 0} (r : Result Outcome E) (name octets : List ℕ) (why : Unasked) (old new : Office S) → IsUnasked octets why
       → new.depot ≡ old.depot → new.host ≡ old.host
       → OnErr r ((outcome : Outcome) × (text : List ℕ) × IsUnaskedText why outcome text × HasBroken (text ++ closing outcome) old.out new.out)
-      → OnErr r (IsBrokenOff g name octets old new)
+      → OnErr r ((outcome : Outcome) × IsAnsweredBy g HasBroken name octets outcome old new)
   unasked_broken (Ok outcome) name octets why old new wrong depot host broken = tt
-  unasked_broken (Err e) name octets why old new wrong depot host broken = record {
-    outcome = broken.0;
-    text = broken.1;
-    come = unasked_come name octets why broken.0 broken.1 old new wrong broken.2 depot host;
-    broken = broken.3;
-    outlasts = outlasts_idle octets old new depot;
-  }
+  unasked_broken (Err e) name octets why old new wrong depot host broken = (
+    broken.0,
+    record {
+      text = broken.1;
+      come = unasked_come name octets why broken.0 broken.1 old new wrong broken.2 depot host;
+      written = broken.3;
+      outlasts = outlasts_idle octets broken.0 old new depot;
+    },
+  )

@@ -1,12 +1,11 @@
 -- What is taken of a reader up to a line break.
-use Rattle.std.proofs.Common.{◌≡◌, ◌≢◌, ◌∙◌, ◌⊎◌, ◌+◌, ◌-◌, ◌==◌, ap, arith, inl, inr, refl, subst, sym, ℕ, Bool, true, false, List, [], ◌∷◌, ◌++◌, Option, Some, None, IfSome, length, take, drop, if◌then◌else◌, eqb-true}
+use Rattle.std.proofs.Common.{◌≡◌, ◌≢◌, ◌∙◌, ◌⊎◌, ◌-◌, ◌==◌, ap, arith, inl, inr, refl, subst, sym, ℕ, Bool, true, false, List, [], ◌∷◌, ◌++◌, Option, Some, None, IfSome, length, take, if◌then◌else◌, eqb-true}
 use Rattle.std.specs.Io.{StopsAt, appended_bytes}
 use Rattle.std.specs.Io.BufRead.{take_through}
 use Rattle.std.specs.List.{All}
 use Rattle.std.proofs.lemmas.List.{length-append}
 use Rattle.std.proofs.Math.Seq.{take-append_seam}
 use Rattle.std.proofs.lemmas.List.Elements.{All-push}
-use Rattle.depot_batch.specs.Lines.{IsLine, IsUnfinished}
 use Rattle.depot_batch.specs.Private.{EndsSo, IsTaken}
 use Rattle.depot_batch.specs.declared.reading.Taken.{Taken}
 use Rattle.depot_batch.specs.declared.reading.Taken.TheVariants.{Line, Unfinished, Nothing}

@@ -1,18 +1,16 @@
 -- A line of texts that write words has these words.
-use Rattle.std.proofs.Common.{◌≡◌, ◌∙◌, ◌<◌, ◌+◌, ◌*◌, ◌/◌, ◌%◌, ◌==◌, ◌&&◌, ◌||◌, ap, refl, sym, subst, ℕ, Bool, true, false, cond, List, [], ◌∷◌, ◌++◌, Option, Some, None, inl, inr, map, if◌then◌else◌, append_assoc, append-nil, arith, eqb-true}
+use Rattle.std.proofs.Common.{◌≡◌, ◌∙◌, ◌<◌, ◌/◌, ◌%◌, ◌==◌, ◌&&◌, ◌||◌, ap, refl, sym, subst, ℕ, Bool, true, false, List, [], ◌∷◌, ◌++◌, Some, inl, inr, map, if◌then◌else◌, append_assoc, append-nil, arith}
 use Rattle.std.specs.Prelude.{not, nat_le}
-use Rattle.std.specs.List.{All, flat_map, list_any}
+use Rattle.std.specs.List.{All, list_any}
 use Rattle.std.specs.Fmt.{digit_glyph}
-use Rattle.std.specs.Char.{digit_value}
-use Rattle.std.specs.Option.{option_map}
 use Rattle.std.proofs.lemmas.List.Concat.{flat_map-cons}
 use Rattle.std.proofs.lemmas.List.Elements.{All-append, All-cons, All-head, All-nil, All-tail}
-use Rattle.std.proofs.lemmas.Bool.{and_parts, agree_below_at}
+use Rattle.std.proofs.lemmas.Bool.{agree_below_at}
 use Rattle.octets.specs.Escapes.{octet_of_digits}
 use Rattle.octets.proofs.Digits.{both_digits}
 use Rattle.depot_jobs.specs.Printed.{escaped, escaped_octet, is_plain, quoted}
 use Rattle.depot_jobs.specs.declared.piece.Setting.TheVariants.{Quotes}
-use Rattle.depot_batch.specs.Words.{Escape, Half, IsBare, Plain, Writes, before_first, ending, is_gap, is_quote, is_quoted_after, said_before, said_from, spaced, texts_from, texts_of, with_word, word_in, words_in, words_of}
+use Rattle.depot_batch.specs.Words.{IsBare, Plain, Writes, before_first, is_gap, is_quote, is_quoted_after, said_before, said_from, spaced, texts_from, texts_of, with_word, word_in, words_in, words_of}
 use Rattle.depot_batch.proofs.WordLemmas.{said_end, step, words_none, words_step}
 
 -- ---- texts

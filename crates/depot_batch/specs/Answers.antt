@@ -1,4 +1,4 @@
--- Private: how the code answers a line, and what the input ends with.
+-- Private: how the code answers a line.
 use Rattle.std.specs.Prelude.{◌≡◌, ℕ, List, [], ◌∷◌, ◌++◌, Some}
 use Rattle.std.specs.List.{All}
 use Rattle.std.specs.Str.{IsUtf8}
@@ -9,7 +9,7 @@ use Rattle.depot_jobs.specs.Host.{HostState}
 use Rattle.depot_jobs.specs.Printed.{refusal_line}
 use Rattle.depot_cli.specs.Tasks.{text_in as reply_text}
 use Rattle.refusals.specs.declared.refusal.Refusal.TheVariants.{Memory}
-use Rattle.depot_batch.specs.Batch.{HasServedLastBy, IsAnswered, IsBrokenOff, IsDone, IsRefused, IsWrong, Office, closing, exported_text}
+use Rattle.depot_batch.specs.Batch.{IsDone, IsRefused, IsWrong, closing, exported_text}
 use Rattle.depot_batch.specs.Sentences.{wrong_line}
 use Rattle.depot_batch.specs.Words.{words_of}
 use Rattle.depot_batch.specs.declared.answering.Answer.{Answer}
@@ -61,9 +61,3 @@ HasWritten outcome text old new = HasTaken (text ++ closing outcome) old new
 
 abbrev pub HasNotWritten : Outcome → List ℕ → Output → Output → Type 0
 HasNotWritten outcome text old new = HasBroken (text ++ closing outcome) old new
-
-module _ {S : Type 0} (g : Ghosts S) where
-  -- the last octets of the input were answered; or the answer broke off
-  abbrev pub HasServedLast : List ℕ → ℕ → List ℕ → Office S → Office S → Output → Output → Type 0
-  HasServedLast name status octets old new err err2 =
-      HasServedLastBy (IsAnswered g name) (IsBrokenOff g name) status octets old new err err2

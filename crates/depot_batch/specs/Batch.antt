@@ -1,29 +1,35 @@
--- What a batch does, line by line.
-use Rattle.std.specs.Prelude.{◌≡◌, ◌≢◌, ◌⊎◌, ℕ, ◌-◌, ◌^◌, List, [], ◌∷◌, ◌++◌, None, Some, Result, Ok, Err, codes, length}
+-- What a batch does on a depot.
+use Rattle.std.specs.Prelude.{◌<◌, ◌≡◌, ◌≢◌, ◌⊎◌, ℕ, ◌≤◌, List, [], ◌∷◌, ◌++◌, None, Some, Result, Ok, Err, codes, length, map}
 use Rattle.std.specs.Fmt.{decimal}
-use Rattle.std.specs.List.{All, concat}
+use Rattle.std.specs.List.{All, flat_map}
+use Rattle.std.specs.Borrow.{Bor}
 use Rattle.std.specs.Str.{IsUtf8}
 use Rattle.sqlite_trees.specs.declared.store.Store.{Ghosts}
 use Rattle.sqlite_trees.specs.Tree.{Trees}
 use Rattle.sqlite.specs.Held.{Held, state}
 use Rattle.sqlite.specs.State.{HasCleanDisk, State, Survives}
+use Rattle.part_store.specs.Entries.{Listing}
 use Rattle.part_store.specs.Standing.{Spares}
-use Rattle.depot_actions.specs.DepotState.{Export as Exports, Text as Written}
+use Rattle.depot_actions.specs.Deliveries.{DoesAll, MayLeaveAll}
+use Rattle.depot_actions.specs.DepotState.{Command, Export as Exports, Listed, Reply as DepotReply, Text as Written}
+use Rattle.depot_actions.specs.History.{Call}
 use Rattle.encodings.specs.Device.{HasBroken, HasTaken, Output}
-use Rattle.encodings.specs.Supply.{HasGiven, Supply}
+use Rattle.encodings.specs.Supply.{Supply}
 use Rattle.depot_jobs.specs.Host.{HasMade, HasNotMade, HostState, makes, with_call}
 use Rattle.depot_jobs.specs.Jobs.{HasTold}
 use Rattle.depot_jobs.specs.Printed.{line, refusal_line}
-use Rattle.depot_jobs.specs.Inputs.{file_of}
+use Rattle.depot_jobs.specs.Inputs.{HasNotReadFile, HasReadFile, file_of}
+use Rattle.depot_cli.specs.Printed.{entries_text}
 use Rattle.depot_cli.specs.Requests.{request_command}
-use Rattle.depot_jobs.specs.Inputs.{HasNotReadFile, HasReadFile}
 use Rattle.depot_cli.specs.Tasks.{HasAnswered, HasDone, HasRefused, MayAdd}
+use Rattle.depot_cli.specs.declared.entries.Detail.TheVariants.{Brief}
 use Rattle.depot_jobs.specs.declared.request.Request.{Request}
+use Rattle.depot_jobs.specs.declared.request.Request.TheVariants.{Deliver}
 use Rattle.refusals.specs.declared.refusal.Refusal.{Refusal}
-use Rattle.refusals.specs.declared.refusal.Refusal.TheVariants.{Database, Memory, Write}
+use Rattle.refusals.specs.declared.refusal.Refusal.TheVariants.{Memory, Write}
 use Rattle.depot_batch.specs.Asked.{AskNothing, Asks, Text}
-use Rattle.depot_batch.specs.Lines.{HasNotTaken, HasTakenAll, IsLine, IsUnfinished}
 use Rattle.depot_batch.specs.Sentences.{wrong_line}
+use Rattle.depot_batch.specs.Turns.{Alone, AreTakenBy, HasServedBy, Together, Turn, Withdrawn}
 use Rattle.depot_batch.specs.Words.{words_of}
 use Rattle.depot_batch.specs.declared.asked.Asked.{Asked}
 use Rattle.depot_batch.specs.declared.asked.Asked.TheVariants.{Reply, Export as IntoFile}
@@ -110,51 +116,64 @@ module _ {S : Type 0} (g : Ghosts S) where
   IsRefused name (Reply request) refusal old new host host2 = HasNotReplied request refusal old new host host2
   IsRefused name (IntoFile export) refusal old new host host2 = HasNotExported name export refusal old new host host2
 
--- ---- line by line
+-- ---- lines together
 
--- Lines are answered one after another, by what they are answered with before each and after it. How
--- a line is answered with this outcome, and what it is that its answer broke off, is said elsewhere.
-module _ {T : Type 0} (Answered : List ℕ → Outcome → T → T → Type 0) (BrokenOff : List ℕ → T → T → Type 0) where
-  -- the last octets of the input were answered, in which no line break is; or the answer broke off
-  abbrev pub HasServedLastBy : ℕ → List ℕ → T → T → Output → Output → Type 0
-  HasServedLastBy status octets old new err err2 =
-      ((status ≡ 0) × (outcome : Outcome) × Answered octets outcome old new × (err2 ≡ err))
-      ⊎ ((status ≡ 1) × BrokenOff octets old new × HasTold Write err err2)
+-- A line asks for a delivery, and its file was read: this is what it asks of the depot.
+abbrev pub IsDelivery : List ℕ → Command → HostState → HostState → Type 0
+IsDelivery line command host host2 =
+    (user file : Bor Text) × IsAsked line (Reply (Deliver user file))
+    × (octets : List ℕ) × HasReadFile (Some file.now) octets host host2
+    × (command ≡ request_command (Deliver user file) octets)
 
-  -- Why a batch ends, with this status, after so many lines and these last octets, of an input that
-  -- had so much left and has this left now: at the end of the input, or of counting; at the end of
-  -- the input within a line, which is answered as what it is; after a line that is refused
-  -- `Database`; after one whose answer broke off, which is told on standard error; or since no line
-  -- could be read, which is told there.
-  abbrev pub EndsBy : ℕ → ℕ → List ℕ → Supply → Supply → T → T → Output → Output → Type 0
-  EndsBy status lines last rest left old new err err2 =
-      ((status ≡ 0) × (last ≡ []) × (HasTakenAll [] rest left ⊎ ((lines ≡ 2 ^ 64 - 1) × (left ≡ rest)))
-      × (new ≡ old) × (err2 ≡ err))
-      ⊎ (IsUnfinished last × HasTakenAll last rest left × HasServedLastBy status last old new err err2)
-      ⊎ ((status ≡ 1) × IsLine last × HasGiven last rest left × Answered last (Refused Database) old new
-      × (err2 ≡ err))
-      ⊎ ((status ≡ 1) × IsLine last × HasGiven last rest left × BrokenOff last old new × HasTold Write err err2)
-      ⊎ ((status ≡ 1) × (refusal : Refusal) × HasNotTaken refusal last rest left × HasTold refusal err err2
-      × (new ≡ old))
+-- each line does, and the files were read in turn
+abbrev pub AreDeliveries : List (List ℕ) → List Command → HostState → HostState → Type 0
+AreDeliveries [] [] host host2 = host2 ≡ host
+AreDeliveries (line ∷ lines) (command ∷ commands) host host2 =
+    (mid : HostState) × IsDelivery line command host mid × AreDeliveries lines commands mid host2
+AreDeliveries lines commands host host2 = ⊥
 
--- lines of a batch were answered, one after another; none was refused `Database`
-abbrev pub AreAnsweredBy : {T : Type 0} → (List ℕ → Outcome → T → T → Type 0) → List (List ℕ) → T → T → Type 0
-AreAnsweredBy Answered [] old new = new ≡ old
-AreAnsweredBy {T} Answered (octets ∷ lines) old new =
-    IsLine octets × (outcome : Outcome) × (mid : T) × Answered octets outcome old mid
-    × (outcome ≢ Refused Database)
-    × AreAnsweredBy Answered lines mid new
+-- a line asks for a delivery, and its file was not read
+abbrev pub IsUnread : List ℕ → HostState → HostState → Type 0
+IsUnread line host host2 =
+    (user file : Bor Text) × IsAsked line (Reply (Deliver user file))
+    × (refusal : Refusal) × HasNotReadFile refusal (Some file.now) host host2
 
--- a batch was served, with this status: lines were read and answered one after another, until it ended
-pub record HasServedBy {T : Type 0} (Answered : List ℕ → Outcome → T → T → Type 0) (BrokenOff : List ℕ → T → T → Type 0)
-    (status : ℕ) (input input2 : Supply) (old new : T) (err err2 : Output) : Type 0 where
-  pub lines : List (List ℕ)
-  pub rest : Supply
-  pub read : HasGiven (concat lines) input rest
-  pub mid : T
-  pub answered : AreAnsweredBy Answered lines old mid
-  pub last : List ℕ
-  pub ended : EndsBy Answered BrokenOff status (length lines) last rest input2 mid new err err2
+-- of a beginning of the lines, each asks for a delivery, and the files were read in turn; that of the
+-- next perhaps was not
+pub record AreLookedUp (lines : List (List ℕ)) (host host2 : HostState) : Type 0 where
+  pub read : List (List ℕ)
+  pub later : List (List ℕ)
+  pub are : lines ≡ read ++ later
+  pub commands : List Command
+  pub mid : HostState
+  pub files : AreDeliveries read commands host mid
+  pub stops : (host2 ≡ mid)
+      ⊎ ((next : List ℕ) × (others : List (List ℕ)) × (later ≡ next ∷ others) × IsUnread next mid host2)
+
+-- the answer to a delivery that filed these entries
+abbrev pub filed_text : List Listing → List ℕ
+filed_text entries = entries_text Brief entries ++ closing Done
+
+-- as many lines are done together at most
+abbrev pub most_together : ℕ
+most_together = 64
+
+-- ---- what a crash may leave
+
+-- what a crash may leave of a line that it couldn't leave before
+abbrev pub MayMakeOne : List ℕ → State → HostState → HostState → Trees → Type 0
+MayMakeOne line old host host2 trees = (asked : Asked) × IsAsked line asked × MayMake asked old host host2 trees
+
+-- Of lines that are done together: what they make, all of them.
+abbrev pub MayMakeAll : List (List ℕ) → State → HostState → HostState → Trees → Type 0
+MayMakeAll lines old host host2 trees =
+    (commands : List Command) × AreDeliveries lines commands host host2 × MayLeaveAll commands old trees
+
+-- of a turn
+abbrev pub MayMakeIn : Turn → State → HostState → HostState → Trees → Type 0
+MayMakeIn (Alone line outcome) old host host2 trees = MayMakeOne line old host host2 trees
+MayMakeIn (Together lines) old host host2 trees = MayMakeAll lines old host host2 trees
+MayMakeIn (Withdrawn lines) old host host2 trees = MayMakeAll lines old host host2 trees
 
 -- ---- on a depot
 
@@ -184,49 +203,74 @@ module _ {S : Type 0} (g : Ghosts S) where
   HasCome name octets Wrong text old new = (fault : LineFault) × IsWrong octets fault × (text ≡ wrong_line fault)
       × IsIdle old new
 
-  -- what a crash may leave of the depot at a line: what it could have left before, or what the
-  -- line's command makes of it
-  abbrev pub Outlasts : List ℕ → Office S → Office S → Type 0
-  Outlasts octets old new =
-      Survives (state g old.depot) (state g new.depot)
-      (λ trees. (asked : Asked) × IsAsked octets asked × MayMake asked (state g old.depot) old.host new.host trees)
+  -- what a crash may leave of the depot at a turn: what it could have left before, or what the turn
+  -- makes of it
+  abbrev pub Outlasts : Turn → Office S → Office S → Type 0
+  Outlasts turn old new =
+      Survives (state g old.depot) (state g new.depot) (MayMakeIn turn (state g old.depot) old.host new.host)
 
-  -- a line was answered: its text and what ends that were written
-  pub record IsAnswered (name octets : List ℕ) (outcome : Outcome) (old new : Office S) : Type 0 where
-    pub text : List ℕ
-    pub come : HasCome name octets outcome text old new
-    pub written : HasTaken (text ++ closing outcome) old.out new.out
-    pub outlasts : Outlasts octets old new
+  -- Answers were written so: whole, or up to where the sink broke.
+  module _ (Written : List ℕ → Output → Output → Type 0) where
+    -- a line was answered alone, by its text and what ends that
+    pub record IsAnsweredBy (name line : List ℕ) (outcome : Outcome) (old new : Office S) : Type 0 where
+      pub text : List ℕ
+      pub come : HasCome name line outcome text old new
+      pub written : Written (text ++ closing outcome) old.out new.out
+      pub outlasts : Outlasts (Alone line outcome) old new
 
-  -- or the sink broke while they were
-  pub record IsBrokenOff (name octets : List ℕ) (old new : Office S) : Type 0 where
-    pub outcome : Outcome
-    pub text : List ℕ
-    pub come : HasCome name octets outcome text old new
-    pub broken : HasBroken (text ++ closing outcome) old.out new.out
-    pub outlasts : Outlasts octets old new
+    -- Lines were done together, and answered: each asks for a delivery, the files were read in turn,
+    -- and the depot did all. Then the answers were written, in the lines' order.
+    pub record AreAnsweredBy (lines : List (List ℕ)) (old new : Office S) : Type 0 where
+      pub few : length lines ≤ most_together
+      pub commands : List Command
+      pub files : AreDeliveries lines commands old.host new.host
+      pub filed : List (List Listing)
+      pub done : HasCleanDisk (state g new.depot)
+          → DoesAll commands (map Listed filed) (state g old.depot) (state g new.depot)
+      pub written : Written (flat_map filed_text filed) old.out new.out
+      pub outlasts : Outlasts (Together lines) old new
 
-  -- lines of a batch were answered, one after another; none was refused `Database`
-  abbrev pub AreAnswered : Text → List (List ℕ) → Office S → Office S → Type 0
-  AreAnswered name lines old new = AreAnsweredBy (IsAnswered name) lines old new
+  -- nothing came of lines that were to be done together: the depot is as it was, and nothing was written
+  pub record AreWithdrawn (lines : List (List ℕ)) (old new : Office S) : Type 0 where
+    pub some : 0 < length lines
+    pub few : length lines ≤ most_together
+    pub files : AreLookedUp lines old.host new.host
+    pub spared : HasCleanDisk (state g new.depot) → Spares (state g old.depot) (state g new.depot)
+    pub out : new.out ≡ old.out
+    pub outlasts : Outlasts (Withdrawn lines) old new
 
-  -- the trees are what a command of one of the lines makes of what the lines before it left
-  pub record IsMadeAtOne (name : Text) (lines : List (List ℕ)) (old : Office S) (trees : Trees) : Type 0 where
-    pub before : List (List ℕ)
-    pub octets : List ℕ
-    pub later : List (List ℕ)
-    pub are : lines ≡ before ++ octets ∷ later
+  -- what happens in a turn
+  abbrev pub Happens : Text → Turn → Office S → Office S → Type 0
+  Happens name (Alone line outcome) old new = IsAnsweredBy HasTaken name line outcome old new
+  Happens name (Together lines) old new = AreAnsweredBy HasTaken lines old new
+  Happens name (Withdrawn lines) old new = AreWithdrawn lines old new
+
+  -- the sink broke while its answers were written
+  abbrev pub Breaks : Text → Turn → Office S → Office S → Type 0
+  Breaks name (Alone line outcome) old new = IsAnsweredBy HasBroken name line outcome old new
+  Breaks name (Together lines) old new = AreAnsweredBy HasBroken lines old new
+  Breaks name (Withdrawn lines) old new = ⊥
+
+  -- turns of a batch, one after another; in none was a line refused `Database`
+  abbrev pub AreTaken : Text → List Turn → Supply → Supply → Office S → Office S → Type 0
+  AreTaken name turns input rest old new = AreTakenBy (Happens name) turns input rest old new
+
+  -- the trees are what one of the turns makes, whole, of what the turns before it left
+  pub record IsMadeAtOne (name : Text) (turns : List Turn) (input : Supply) (old : Office S) (trees : Trees) : Type 0 where
+    pub before : List Turn
+    pub turn : Turn
+    pub later : List Turn
+    pub are : turns ≡ before ++ turn ∷ later
+    pub here : Supply
     pub mid : Office S
-    pub answered : AreAnswered name before old mid
-    pub asked : Asked
-    pub is_asked : IsAsked octets asked
+    pub taken : AreTaken name before input here old mid
     pub host : HostState
-    pub made : MayMake asked (state g mid.depot) mid.host host trees
+    pub made : MayMakeIn turn (state g mid.depot) mid.host host trees
 
   -- a batch was served, with this status
   abbrev pub HasServed : Text → ℕ → Supply → Supply → Office S → Office S → Output → Output → Type 0
   HasServed name status input input2 old new err err2 =
-      HasServedBy (IsAnswered name) (IsBrokenOff name) status input input2 old new err err2
+      HasServedBy (Happens name) (Breaks name) status input input2 old new err err2
 
   -- What opening a depot gave was served a batch, with this status, and it is open still; or the
   -- refusal of opening was told, with status 1, and nothing else happened.
@@ -238,3 +282,16 @@ module _ {S : Type 0} (g : Ghosts S) where
   IsServed name status input input2 (Err refusal) (Err same) host host2 out out2 err err2 =
       (same ≡ refusal) × (status ≡ 1) × HasTold refusal err err2 × (input2 ≡ input) × (host2 ≡ host) × (out2 ≡ out)
   IsServed name status input input2 opened now host host2 out out2 err err2 = ⊥
+
+-- ---- lines as calls
+
+-- what is asked of a depot, with the octets of its file
+abbrev pub command_asked : Asked → List ℕ → Command
+command_asked (Reply request) octets = request_command request octets
+command_asked (IntoFile export) octets = Exports export.user.now export.number export.encoding
+
+-- a call of the depot is what a line asks for, and is accepted
+abbrev pub IsCallOf : List ℕ → Call → Type 0
+IsCallOf line call =
+    (asked : Asked) × IsAsked line asked × (octets : List ℕ) × (reply : DepotReply)
+    × (call ≡ record { command = command_asked asked octets; reply = Some reply })

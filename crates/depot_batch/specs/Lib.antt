@@ -2,6 +2,7 @@ pub mod Words
 pub mod Asked
 pub mod Lines
 pub mod Sentences
+pub mod Turns
 pub mod Batch
 pub mod Closings
 -- private: how the code goes; no public contract names these

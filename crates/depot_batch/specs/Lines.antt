@@ -1,6 +1,7 @@
 -- The lines of an input.
 use Rattle.std.specs.Prelude.{◌≡◌, ◌≢◌, ℕ, List, [], ◌∷◌, ◌++◌, IfSome, true}
-use Rattle.std.specs.Io.{StopsAt}
+use Rattle.std.specs.Io.{StartsWith, StopsAt}
+use Rattle.std.specs.Io.KnownBytes.{Keeps}
 use Rattle.std.specs.List.{All}
 use Rattle.encodings.specs.Supply.{HasGiven, HasStoppedGiving, Supply}
 use Rattle.refusals.specs.declared.refusal.Refusal.{Refusal}
@@ -22,6 +23,13 @@ pub record HasTakenAll (octets : List ℕ) (old new : Supply) : Type 0 where
   pub given : HasGiven octets old new
   pub all : IfSome old.left (λ left. left ≡ octets)
   pub flag : new.has_ended ≡ true
+
+-- these are the octets that come next; none was taken, and no call failed
+pub record HasShown (octets : List ℕ) (old new : Supply) : Type 0 where
+  pub left : Keeps old.left new.left
+  pub next : IfSome old.left (λ left. StartsWith left octets)
+  pub given : new.given ≡ old.given
+  pub faults : new.faults ≡ old.faults
 
 -- Why no line was taken: memory was refused, or a call failed; the octets that were given before
 -- have no line break among them but perhaps as the last.

@@ -1,9 +1,28 @@
--- Private: how lines are read, and how they are parted.
-use Rattle.std.specs.Prelude.{◌≡◌, ◌≢◌, ℕ, List, [], ◌∷◌, ◌++◌, Option, IfSome, take, drop}
+-- Private: how lines are read, parted and done together.
+use Rattle.std.specs.Prelude.{◌≡◌, ◌≢◌, ◌⊎◌, ◌<◌, ◌≤◌, ◌^◌, ℕ, List, [], ◌∷◌, ◌++◌, Option, Some, None, IfSome, take, drop, length, map, Vec, string_bytes}
+use Rattle.std.specs.Io.{StartsWith}
+use Rattle.std.specs.List.{All, concat}
+use Rattle.std.specs.declared.alloc.Global.{Global}
+use Rattle.sqlite_trees.specs.declared.store.Store.{Ghosts}
+use Rattle.part_store.specs.Entries.{Listing}
+use Rattle.part_store.specs.Standing.{listed}
+use Rattle.part_store.specs.declared.entry.EntryRow.{EntryRow}
+use Rattle.encodings.specs.Device.{HasTaken, Output}
 use Rattle.encodings.specs.Supply.{HasGiven, Supply}
+use Rattle.depot_actions.specs.DepotState.{Command, Deliver}
+use Rattle.depot_jobs.specs.Host.{HostState}
+use Rattle.depot_batch.specs.declared.ahead.Ahead.{Ahead}
+use Rattle.depot_batch.specs.declared.ahead.Ahead.TheVariants.{Deliveries, Other, End}
+use Rattle.depot_batch.specs.declared.mails.Mail.{Mail}
+use Rattle.depot_batch.specs.declared.outcome.Outcome.{Outcome}
 use Rattle.depot_batch.specs.declared.reading.Taken.{Taken}
 use Rattle.depot_batch.specs.declared.reading.Taken.TheVariants.{Line, Unfinished, Nothing}
-use Rattle.depot_batch.specs.Lines.{HasTakenAll, IsLine, IsUnfinished}
+use Rattle.depot_batch.specs.declared.together.Tried.{Tried}
+use Rattle.depot_batch.specs.declared.together.Tried.TheVariants as tried
+use Rattle.depot_batch.specs.Asked.{Text}
+use Rattle.depot_batch.specs.Batch.{AreAnsweredBy, AreWithdrawn, Breaks, Happens, IsUnread, Office, most_together}
+use Rattle.depot_batch.specs.Lines.{HasShown, HasTakenAll, IsLine, IsUnfinished}
+use Rattle.depot_batch.specs.Turns.{Alone, EndsBy, GoesOn, HasServedLastBy, Takes, Turn}
 use Rattle.depot_batch.specs.Words.{texts_of}
 
 -- what was taken of an input next: a line; what it ends with; or nothing, at its end
@@ -32,3 +51,72 @@ parted text (space ∷ rest) = text ∷ texts_of rest
 -- the same, where the first has so many octets
 abbrev pub parted_at : ℕ → List ℕ → List (List ℕ)
 parted_at len line = parted (take len line) (drop len line)
+
+-- ---- lines together
+
+-- the octets of each of these lines
+abbrev pub lines_of : List (Vec ℕ Global) → List (List ℕ)
+lines_of lines = map (λ line. line.items) lines
+
+-- octets begin with these lines, which are few enough to be done together
+pub record AreShown (lines : List (List ℕ)) (octets : List ℕ) : Type 0 where
+  pub whole : All IsLine lines
+  pub few : length lines ≤ most_together
+  pub small : length octets < 2 ^ 64
+  pub later : List ℕ
+  pub are : octets ≡ concat lines ++ later
+
+-- what an input has ready; nothing was taken but its end
+abbrev pub IsAhead : Ahead → Supply → Supply → Type 0
+IsAhead (Deliveries lines) old new = All IsLine (lines_of lines.items) × (length (lines_of lines.items) ≤ most_together)
+    × HasShown (concat (lines_of lines.items)) old new × (0 < length (lines_of lines.items))
+IsAhead Other old new = HasShown [] old new
+IsAhead End old new = HasTakenAll [] old new
+
+-- what a reader has ready that had so much left
+abbrev pub IsSeen : Ahead → Option (List ℕ) → Type 0
+IsSeen (Deliveries lines) left = All IsLine (lines_of lines.items) × (length (lines_of lines.items) ≤ most_together)
+    × IfSome left (λ all. StartsWith all (concat (lines_of lines.items))) × (0 < length (lines_of lines.items))
+IsSeen Other left = Unit {0}
+IsSeen End left = IfSome left (λ all. all ≡ [])
+
+-- a reader that had so much left, and so much ready, may be told that these octets were taken
+abbrev pub CanTake : List ℕ → Option (List ℕ) → Option ℕ → Type 0
+CanTake octets left limit = IfSome left (λ _. IfSome limit (λ n. length octets ≤ n))
+
+-- so may one with lines ready, whose length is a number of the machine
+abbrev pub MayTake : Ahead → Option (List ℕ) → Option ℕ → Type 0
+MayTake (Deliveries lines) left limit = (length (concat (lines_of lines.items)) < 2 ^ 64)
+    × CanTake (concat (lines_of lines.items)) left limit
+MayTake Other left limit = Unit {0}
+MayTake End left limit = Unit {0}
+
+-- what a message is to the depot
+abbrev pub command_of : Mail → Command
+command_of mail = Deliver (string_bytes mail.user) mail.message.items
+
+-- what rows of new entries are
+abbrev pub filed_by : Vec EntryRow Global → List Listing
+filed_by rows = map listed rows.items
+
+-- the file of a line wasn't read, or the host wasn't asked for it
+abbrev pub IsPassedOver : List ℕ → HostState → HostState → Type 0
+IsPassedOver line host host2 = (host2 ≡ host) ⊎ IsUnread line host host2
+
+module _ {S : Type 0} (g : Ghosts S) where
+  -- what came of lines that were to be done together
+  abbrev pub HasTried : Tried → List (List ℕ) → Office S → Office S → Type 0
+  HasTried tried.Done lines old new = AreAnsweredBy g HasTaken lines old new
+  HasTried tried.Withdrawn lines old new = AreWithdrawn g lines old new
+
+  -- a turn was taken, and the batch goes on; or it ended, with this status
+  abbrev pub HasTurned : Text → Option ℕ → Supply → Supply → Office S → Office S → Output → Output → Type 0
+  HasTurned name None input rest old new err err2 =
+      (turn : Turn) × Takes turn input rest × Happens g name turn old new × GoesOn turn × (err2 ≡ err)
+  HasTurned name (Some status) input rest old new err err2 =
+      (last : List Turn) × EndsBy (Happens g name) (Breaks g name) status 0 last input rest old new err err2
+
+  -- the last octets of the input were answered, in which no line break is
+  abbrev pub HasServedLast : Text → ℕ → List ℕ → Office S → Office S → Output → Output → Type 0
+  HasServedLast name status octets old new err err2 =
+      (outcome : Outcome) × HasServedLastBy (Happens g name) (Breaks g name) status (Alone octets outcome) old new err err2

@@ -1,14 +1,18 @@
 //! What holds of the definitions alone.
-ghost use Rattle.std.specs.Prelude.{◌≡◌, ◌<◌, ◌⊎◌, ◌∷◌, List, Some, false, map, true, ℕ};
-ghost use Rattle.std.specs.List.{All};
+ghost use Rattle.std.specs.Prelude.{◌≡◌, ◌<◌, ◌⊎◌, ◌∷◌, IsTrue, List, Some, false, map, true, ℕ};
+ghost use Rattle.std.specs.List.{All, AllZip, concat};
 ghost use Rattle.sqlite.specs.Held.{state};
 ghost use Rattle.sqlite.specs.State.{HasCleanDisk};
 ghost use Rattle.sqlite_trees.specs.Tree.{Trees};
-ghost use Rattle.part_store.specs.Entries.{Entries};
+ghost use Rattle.encodings.specs.Supply.{HasGiven, Supply};
+ghost use Rattle.part_store.specs.Entries.{Entries, Listing};
 ghost use Rattle.part_store.specs.Standing.{Stands};
-ghost use Rattle.depot_actions.specs.History.{AreAnswered as HaveReplied, Call};
-ghost use Rattle.depot_batch.specs.Batch.{AreAnswered, HasCome, IsMadeAtOne, Office};
+ghost use Rattle.depot_actions.specs.History.{AreSteps, Call};
+ghost use Rattle.depot_cli.specs.Printed.{entries_text};
+ghost use Rattle.depot_cli.specs.declared.entries.Detail.TheVariants.{Brief};
+ghost use Rattle.depot_batch.specs.Batch.{AreTaken, HasCome, IsCallOf, IsMadeAtOne, Office};
 ghost use Rattle.depot_batch.specs.Closings.{HavePlainMedia, has_closing};
+ghost use Rattle.depot_batch.specs.Turns.{Turn, lines_answered, lines_done};
 ghost use Rattle.depot_batch.specs.Words.{Writes, spaced, words_of};
 ghost use Rattle.depot_batch.specs.declared.outcome.Outcome.{Outcome};
 
@@ -23,29 +27,43 @@ pub fn lines_say_their_words()
         ≡ Some (map (λ w. w.1) (first ∷ others)) }
 {}
 
-/// The lines of a batch are calls of its depot, one after another, of which each is done or refused. So what the depot holds is the fold of
-/// the accepted commands (`commands_are_a_fold` of depot_actions).
-pub fn batches_are_calls<S: Alter>()
-    ensures { (name : List ℕ) (lines : List (List ℕ)) (old new : Office S)
-        → AreAnswered S.Store name lines old new → HasCleanDisk (state S.Store new.depot)
-        → (calls : List Call) × HaveReplied S.Store calls old.depot new.depot }
+/// What an open depot holds after turns of a batch is what the commands of the lines that were answered `= 0` make of what it held before, one
+/// after another, in the order of the lines, whether they were done alone or together. Other lines make nothing.
+pub fn batches_are_a_fold<S: Alter>()
+    ensures { (name : List ℕ) (turns : List Turn) (input rest : Supply) (old new : Office S)
+        (before : Entries)
+        → AreTaken S.Store name turns input rest old new → HasCleanDisk (state S.Store new.depot)
+        → (IsTrue (state S.Store old.depot).is_open → Stands (state S.Store old.depot).now before)
+        → (calls : List Call) × (after : Entries) × AllZip IsCallOf (lines_done turns) calls
+        × AreSteps calls before after
+        × (IsTrue (state S.Store new.depot).is_open → Stands (state S.Store new.depot).now after) }
 {}
 
-/// A crash, at any moment of a batch, leaves what it could have left before the batch, or what the command of one of the lines makes of what
-/// the lines before it left: never a part of that.
-pub fn crashes_leave_one_line_whole<S: Alter>()
-    ensures { (name : List ℕ) (lines : List (List ℕ)) (old new : Office S)
-        → AreAnswered S.Store name lines old new → HasCleanDisk (state S.Store new.depot)
+/// A crash, at any moment of a batch, leaves what it could have left before the batch, or what one of the turns makes, whole, of what the turns
+/// before it left: the command of a line that is done alone, or all commands of lines that are done together.
+pub fn crashes_leave_one_turn_whole<S: Alter>()
+    ensures { (name : List ℕ) (turns : List Turn) (input rest : Supply) (old new : Office S)
+        → AreTaken S.Store name turns input rest old new → HasCleanDisk (state S.Store new.depot)
         → (trees : Trees) → (state S.Store new.depot).may_leave trees
-        → (state S.Store old.depot).may_leave trees ⊎ IsMadeAtOne S.Store name lines old trees }
+        → (state S.Store old.depot).may_leave trees
+        ⊎ IsMadeAtOne S.Store name turns input old trees }
+{}
+
+/// Exactly the lines that are answered in turns are taken of the input, in their order.
+pub fn lines_are_taken_as_answered<S: Alter>()
+    ensures { (name : List ℕ) (turns : List Turn) (input rest : Supply) (old new : Office S)
+        → AreTaken S.Store name turns input rest old new
+        → HasGiven (concat (lines_answered turns)) input rest }
 {}
 
 /// No line of an answer begins with `= `, so whoever reads a batch's output can tell the line that ends an answer from its own lines,
 /// whatever was filed. Of the depot this takes one thing: no media type of an entry has a line break.
 pub fn no_answer_closes_itself<S: Alter>()
-    ensures { (name octets : List ℕ) (outcome : Outcome) (text : List ℕ) (old new : Office S)
+    ensures alone { (name octets : List ℕ) (outcome : Outcome) (text : List ℕ) (old new : Office S)
         → HasCome S.Store name octets outcome text old new
         → HasCleanDisk (state S.Store new.depot) → (before : Entries)
         → Stands (state S.Store old.depot).now before → HavePlainMedia before
         → has_closing true text ≡ false }
+    ensures together { (entries : List Listing)
+        → has_closing true (entries_text Brief entries) ≡ false }
 {}

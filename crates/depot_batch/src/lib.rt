@@ -6,14 +6,17 @@
 //! when it has happened.
 #![tactic(auto)]
 
+mod ahead;
 mod answering;
 mod asked;
 mod fault;
 pub mod laws;
 mod line;
+mod mails;
 mod outcome;
 mod reading;
 mod serving;
+mod together;
 mod words;
 
 pub use asked::{Asked, Export, asked_by};

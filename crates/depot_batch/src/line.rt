@@ -8,7 +8,7 @@ ghost use Rattle.depot_jobs.specs.Printed.{line as line_of, refusal_line};
 ghost use Rattle.depot_batch.specs.Answers.{AreNoTexts, HasComeOf, HasLineWords, HasNotWritten, HasWritten, IsUnasked, IsUnaskedText};
 ghost use Rattle.depot_batch.specs.Asked.{Asks, Text};
 ghost use Rattle.depot_batch.specs.Sentences.{wrong_line};
-ghost use Rattle.depot_batch.specs.Batch.{IsAnswered, IsBrokenOff, MayMake, closing, office};
+ghost use Rattle.depot_batch.specs.Batch.{IsAnsweredBy, MayMake, closing, office};
 ghost use Rattle.depot_batch.specs.declared.outcome.Outcome.{Outcome};
 ghost use Rattle.depot_batch.specs.declared.outcome.Outcome.TheVariants.{Refused};
 
@@ -48,10 +48,11 @@ pub fn serve<S: Alter, H: Host, W: Write + Drop>(
     host: &mut H,
     out: &mut OfWrite<W>,
 ) -> Result<Outcome, DeviceFailed>
-    ensures answered { IfOk result (λ outcome. IsAnswered S.Store name.now line.now outcome
+    ensures answered { IfOk result (λ outcome. IsAnsweredBy S.Store HasTaken name.now line.now outcome
         (office S.Store depot.old (H.state host.old) (⟦<OfWrite<W> as Sink>⟧.output out.old))
         (office S.Store depot.new (H.state host.new) (⟦<OfWrite<W> as Sink>⟧.output out.new))) }
-    ensures broken { OnErr result (IsBrokenOff S.Store name.now line.now
+    ensures broken { OnErr result ((outcome : Outcome)
+        × IsAnsweredBy S.Store HasBroken name.now line.now outcome
         (office S.Store depot.old (H.state host.old) (⟦<OfWrite<W> as Sink>⟧.output out.old))
         (office S.Store depot.new (H.state host.new) (⟦<OfWrite<W> as Sink>⟧.output out.new))) }
 {
@@ -67,8 +68,12 @@ pub fn serve<S: Alter, H: Host, W: Write + Drop>(
     }
 }
 
-// The words of a line, which a line break ends.
-fn line_words(alloc: Global, line: &[u8]) -> Result<Vec<Vec<u8>>, Unasked>
+/// The words of a line, which a line break ends.
+///
+/// # Errors
+///
+/// It is wrong, or memory was refused.
+pub fn line_words(alloc: Global, line: &[u8]) -> Result<Vec<Vec<u8>>, Unasked>
     ensures words { IfOk result (λ words. HasLineWords line.now (map (λ w. w.items) words.items)) }
     ensures unasked { IfErr result (IsUnasked line.now) }
 {
@@ -82,8 +87,12 @@ fn line_words(alloc: Global, line: &[u8]) -> Result<Vec<Vec<u8>>, Unasked>
     }
 }
 
-// Words as texts.
-fn texts<'a>(alloc: Global, words: &'a [Vec<u8>]) -> Result<Vec<&'a str>, Unasked>
+/// Words as texts.
+///
+/// # Errors
+///
+/// One of them isn't UTF-8, or memory was refused.
+pub fn texts<'a>(alloc: Global, words: &'a [Vec<u8>]) -> Result<Vec<&'a str>, Unasked>
     ensures texts { IfOk result (λ texts. map (λ t. t.now) texts.items
         ≡ map (λ w. w.items) words.entry.now) }
     ensures unasked { IfErr result (AreNoTexts (map (λ w. w.items) words.entry.now)) }
@@ -196,8 +205,8 @@ fn close<W: Write + Drop>(out: &mut OfWrite<W>, outcome: Outcome) -> Result<Outc
     Ok(outcome)
 }
 
-// The status of a line, as it is written.
-fn status_of(outcome: &Outcome) -> &'static str
+/// The status of a line, as it is written.
+pub fn status_of(outcome: &Outcome) -> &'static str
     ensures { line_of result.now ≡ closing outcome.now }
 {
     match outcome {
@@ -207,8 +216,12 @@ fn status_of(outcome: &Outcome) -> &'static str
     }
 }
 
-// Has what a writer holds back written.
-fn flush<W: Write + Drop>(out: &mut OfWrite<W>) -> Result<(), DeviceFailed>
+/// Has what a writer holds back written.
+///
+/// # Errors
+///
+/// The writer failed, which is counted.
+pub fn flush<W: Write + Drop>(out: &mut OfWrite<W>) -> Result<(), DeviceFailed>
     ensures ok { OnOk result (HasTaken [] (⟦<OfWrite<W> as Sink>⟧.output out.old)
         (⟦<OfWrite<W> as Sink>⟧.output out.new)) }
     ensures err { OnErr result (HasFailed (⟦<OfWrite<W> as Sink>⟧.output out.old)

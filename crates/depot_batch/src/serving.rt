@@ -1,13 +1,18 @@
 // The lines of a batch.
-ghost use Rattle.std.specs.Prelude.{◌≡◌, true, false};
+ghost use Rattle.std.specs.Prelude.{◌≡◌, ◌<◌, ◌≤◌, ◌^◌, length, true, false};
+ghost use Rattle.std.specs.List.{All, concat};
 ghost use Rattle.refusals.specs.declared.refusal.Refusal.TheVariants.{Database};
-ghost use Rattle.depot_batch.specs.Batch.{HasServed, IsServed, office};
-ghost use Rattle.depot_batch.specs.Answers.{HasServedLast};
+ghost use Rattle.encodings.specs.Supply.{Supply};
+ghost use Rattle.depot_batch.specs.Batch.{HasServed, IsServed, most_together, office};
+ghost use Rattle.depot_batch.specs.Lines.{HasShown, IsLine};
+ghost use Rattle.depot_batch.specs.Private.{CanTake, HasServedLast, HasTurned, lines_of};
 ghost use Rattle.depot_batch.specs.declared.outcome.Outcome.TheVariants.{Refused};
 
+use crate::ahead::{Ahead, look_ahead, take_lines};
 use crate::line::serve;
 use crate::outcome::Outcome;
 use crate::reading::{Taken, next_line};
+use crate::together::{Tried, serve_together};
 use depot_actions::Depot;
 use depot_jobs::{Host, tell};
 use encodings::{DeviceFailed, OfRead, OfWrite, Sink, Source};
@@ -24,7 +29,9 @@ const REFUSED: u8 = 1;
 
 /// Serves a batch to what opening the depot in the file of this name gave, and gives the status: the
 /// commands of the lines that the input has are done, one after another, and each is answered before
-/// the next one is read; or the line of the refusal of opening is written to `err`, with 1. What was
+/// the next one is read. Deliveries of which the lines are there already, up to 64, are done together,
+/// in one transaction, and answered when it is committed; if one of them would be refused, or can't be read,
+/// all are done one after another. Or the line of the refusal of opening is written to `err`, with 1. What was
 /// opened stays open, for whoever closes it.
 ///
 /// The status is 0 at the end of the input. Where that comes within a line, the octets after the last line break are answered as what
@@ -53,7 +60,7 @@ pub fn batch<S: Alter, H: Host, R: BufRead + Drop, W: Write + Drop, E: Sink>(
     }
 }
 
-// Does the commands of the lines that the input has, one after another, on a depot.
+// Does the commands of the lines that the input has, turn by turn, on a depot.
 fn serve_lines<S: Alter, H: Host, R: BufRead + Drop, W: Write + Drop, E: Sink>(
     alloc: Global,
     name: &str,
@@ -69,23 +76,122 @@ fn serve_lines<S: Alter, H: Host, R: BufRead + Drop, W: Write + Drop, E: Sink>(
         (office S.Store depot.new (H.state host.new) (⟦<OfWrite<W> as Sink>⟧.output out.new))
         (E.output err.old) (E.output err.new) }
 {
-    let mut line = Vec::new(alloc);
-    'lines: for _ in 0..u64::MAX {
-        match next_line(input, &mut line) {
-            Ok(Taken::Line) => match serve(alloc, name, &line, depot, host, out) {
-                Ok(outcome) => {
-                    if is_shut_by(&outcome) {
-                        return REFUSED;
-                    }
-                }
-                Err(DeviceFailed) => return tell(err, &Refusal::Write),
-            },
-            Ok(Taken::Unfinished) => return serve_last(alloc, name, &line, depot, host, out, err),
-            Ok(Taken::Nothing) => return SUCCESS,
-            Err(refusal) => return tell(err, &refusal),
+    let mut alone = 0;
+    'turns: for _ in 0..u64::MAX {
+        if let Some(status) = take_turn(alloc, name, &mut alone, depot, host, input, out, err) {
+            return status;
         }
     }
     SUCCESS
+}
+
+// Takes a turn: does lines together that are ready and begin as deliveries do, or the next line alone,
+// where there are none, and where so many are to be done alone. Gives the status of a batch that ends
+// with this turn.
+fn take_turn<S: Alter, H: Host, R: BufRead + Drop, W: Write + Drop, E: Sink>(
+    alloc: Global,
+    name: &str,
+    alone: &mut usize,
+    depot: &mut Depot<S>,
+    host: &mut H,
+    input: &mut OfRead<R>,
+    out: &mut OfWrite<W>,
+    err: &mut E,
+) -> Option<u8>
+    ensures { HasTurned S.Store name.now result (⟦<OfRead<R> as Source>⟧.supply input.old)
+        (⟦<OfRead<R> as Source>⟧.supply input.new)
+        (office S.Store depot.old (H.state host.old) (⟦<OfWrite<W> as Sink>⟧.output out.old))
+        (office S.Store depot.new (H.state host.new) (⟦<OfWrite<W> as Sink>⟧.output out.new))
+        (E.output err.old) (E.output err.new) }
+{
+    if *alone > 0 {
+        *alone -= 1;
+        return take_alone(alloc, name, depot, host, input, out, err);
+    }
+    match look_ahead(alloc, input) {
+        Ok(Ahead::Deliveries(lines)) => {
+            take_together(alloc, name, lines, alone, depot, host, input, out, err)
+        }
+        Ok(Ahead::Other) => take_alone(alloc, name, depot, host, input, out, err),
+        Ok(Ahead::End) => Some(SUCCESS),
+        Err(refusal) => Some(tell(err, &refusal)),
+    }
+}
+
+// Does lines together that the input has ready, and takes them; or says that so many of them are to be
+// done alone, where nothing came of it. Gives the status of a batch that ends with them.
+fn take_together<S: Alter, H: Host, R: BufRead + Drop, W: Write + Drop, E: Sink>(
+    alloc: Global,
+    name: &str,
+    lines: Vec<Vec<u8>>,
+    alone: &mut usize,
+    depot: &mut Depot<S>,
+    host: &mut H,
+    input: &mut OfRead<R>,
+    out: &mut OfWrite<W>,
+    err: &mut E,
+) -> Option<u8>
+    requires whole { All IsLine (lines_of lines.items) }
+    requires some { 0 < length (lines_of lines.items) }
+    requires few { length (lines_of lines.items) ≤ most_together }
+    requires small { length (concat (lines_of lines.items)) < 2 ^ 64 }
+    ensures { (before : Supply)
+        → CanTake (concat (lines_of lines.items)) before.left (R.consumable_len input.old.inner)
+        → HasShown (concat (lines_of lines.items)) before
+        (⟦<OfRead<R> as Source>⟧.supply input.old)
+        → HasTurned S.Store name.now result before (⟦<OfRead<R> as Source>⟧.supply input.new)
+        (office S.Store depot.old (H.state host.old) (⟦<OfWrite<W> as Sink>⟧.output out.old))
+        (office S.Store depot.new (H.state host.new) (⟦<OfWrite<W> as Sink>⟧.output out.new))
+        (E.output err.old) (E.output err.new) }
+{
+    let mut lines = lines;
+    match serve_together(alloc, &mut lines, depot, host, out) {
+        Ok(Tried::Done) => {
+            take_lines(input, &lines);
+            None
+        }
+        Ok(Tried::Withdrawn) => {
+            *alone = lines.len();
+            None
+        }
+        Err(DeviceFailed) => {
+            take_lines(input, &lines);
+            Some(tell(err, &Refusal::Write))
+        }
+    }
+}
+
+// Does the command of the next line. Gives the status of a batch that ends with it.
+fn take_alone<S: Alter, H: Host, R: BufRead + Drop, W: Write + Drop, E: Sink>(
+    alloc: Global,
+    name: &str,
+    depot: &mut Depot<S>,
+    host: &mut H,
+    input: &mut OfRead<R>,
+    out: &mut OfWrite<W>,
+    err: &mut E,
+) -> Option<u8>
+    ensures { HasTurned S.Store name.now result (⟦<OfRead<R> as Source>⟧.supply input.old)
+        (⟦<OfRead<R> as Source>⟧.supply input.new)
+        (office S.Store depot.old (H.state host.old) (⟦<OfWrite<W> as Sink>⟧.output out.old))
+        (office S.Store depot.new (H.state host.new) (⟦<OfWrite<W> as Sink>⟧.output out.new))
+        (E.output err.old) (E.output err.new) }
+{
+    let mut line = Vec::new(alloc);
+    match next_line(input, &mut line) {
+        Ok(Taken::Line) => match serve(alloc, name, &line, depot, host, out) {
+            Ok(outcome) => {
+                if is_shut_by(&outcome) {
+                    return Some(REFUSED);
+                }
+                None
+            }
+            Err(DeviceFailed) => Some(tell(err, &Refusal::Write)),
+        },
+        Ok(Taken::Unfinished) => Some(serve_last(alloc, name, &line, depot, host, out, err)),
+        Ok(Taken::Nothing) => Some(SUCCESS),
+        Err(refusal) => Some(tell(err, &refusal)),
+    }
 }
 
 // Answers what the input ends with, in which no line break is, and gives the status.

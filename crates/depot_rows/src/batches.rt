@@ -187,7 +187,6 @@ fn many_lines(rt: HostRuntime) -> Result<(), Fail> {
 #[test]
 fn answers_that_break_off(rt: HostRuntime) -> Result<(), Fail> {
     let alloc = rt.alloc();
-    let one = ANSWERS.len() / 3;
     for calls in 0..ANSWERS.len() {
         let mut depot = Depot::in_memory(alloc);
         let seen = served(
@@ -203,7 +202,8 @@ fn answers_that_break_off(rt: HostRuntime) -> Result<(), Fail> {
             seen.err.as_slice() == b"refused 45 Write\n".as_slice(),
             "{calls}"
         );
-        assert_eq!(rt; entries(&mut depot)?, calls / one + 1, "{calls}");
+        // the three lines are ready together
+        assert_eq!(rt; entries(&mut depot)?, 3, "{calls}");
     }
     Ok(())
 }

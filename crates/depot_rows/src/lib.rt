@@ -6,6 +6,8 @@ mod answers;
 #[cfg(test)]
 mod batches;
 #[cfg(test)]
+mod by_lines;
+#[cfg(test)]
 mod devices;
 #[cfg(test)]
 mod exports;
@@ -13,6 +15,8 @@ mod exports;
 mod failing_sinks;
 #[cfg(test)]
 mod forty_commands;
+#[cfg(test)]
+mod groups;
 #[cfg(test)]
 mod inspecting;
 #[cfg(test)]

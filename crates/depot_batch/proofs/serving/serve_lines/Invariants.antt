@@ -1,10 +1,9 @@
-use Rattle.encodings.specs.Supply.{Supply}
 use Rattle.depot_batch.specs.Batch.{office}
 use Rattle.depot_batch.proofs.Batches.{StandsAfter}
 use Rattle.depot_batch.proofs.serving.serve_lines.Given as goal
 
-abbrev pub invariant-lines : goal.invariant-lines
-invariant-lines g l =
+abbrev pub invariant-turns : goal.invariant-turns
+invariant-turns g l =
     StandsAfter g.S.Store l.name l.counter
     (record { left = g.R.Read.remaining l.initial.input.inner; given = l.initial.input.given; has_ended = l.initial.input.has_ended; faults = l.initial.input.faults })
     (record { left = g.R.Read.remaining l.input.inner; given = l.input.given; has_ended = l.input.has_ended; faults = l.input.faults })

@@ -1,0 +1,151 @@
+-- What a turn of a batch does to a depot, by the state that the depot stands for.
+use Rattle.std.proofs.Common.{◌≡◌, ◌⊎◌, inl, inr, IsTrue, ℕ, List, map, refl, sym, subst}
+use Rattle.sqlite_disk.specs.declared.Disk.{Ghosts}
+use Rattle.sqlite.specs.declared.FileStore.{FileStore}
+use Rattle.sqlite.specs.Files.{file_state, over_files}
+use Rattle.sqlite.specs.Held.{Held}
+use Rattle.sqlite.specs.State.{HasCleanDisk}
+use Rattle.part_store.specs.Entries.{Entries}
+use Rattle.part_store.specs.Opening.{IsAt}
+use Rattle.part_store.specs.Standing.{Stands}
+use Rattle.refusals.specs.declared.refusal.Refusal.{Refusal}
+use Rattle.encodings.specs.Device.{Output}
+use Rattle.depot_actions.specs.Deliveries.{AcceptsAll}
+use Rattle.depot_actions.specs.DepotState.{Accepts, Command, Export as Exports, Leaves, Listed, Text as Written}
+use Rattle.depot_cli.specs.Requests.{request_command}
+use Rattle.depot_cli.specs.Tasks.{HasRefused}
+use Rattle.depot_batch.specs.Asked.{Text}
+use Rattle.depot_batch.specs.Batch.{IsAsked, Office}
+use Rattle.depot_batch.specs.Batch as batch
+use Rattle.depot_batch.specs.declared.asked.Asked.{Asked}
+use Rattle.depot_batch.specs.declared.asked.Asked.TheVariants.{Reply as ToReply, Export as IntoFile}
+use Rattle.depot_batch.specs.declared.outcome.Outcome.{Outcome}
+use Rattle.depot_batch.specs.declared.outcome.Outcome.TheVariants.{Done, Refused, Wrong}
+use Rattle.depot.specs.Batches.{AreAnsweredBy, AreWithdrawn, HasCome, IsAnsweredBy, IsDeclined, Ledger, ledger}
+use Rattle.depot.specs.Ending.{IsRefusal}
+use Rattle.depot.proofs.Ended.{still_at}
+
+module _ {D : Type 0} (g : Ghosts D) where
+  -- a depot shows this state, as long as it is open
+  abbrev pub Shows : Entries → Held (FileStore D g) → Type 0
+  Shows state depot = IsTrue (file_state depot).is_open → IsAt state (file_state depot)
+
+  -- ---- what a line does
+
+  -- a depot did what was asked of it, and is at what that leaves
+  record Did (Accepted : Entries → Type 0) (before : Entries) (new : Held (FileStore D g)) : Type 0 where
+    after : Entries
+    accepted : Accepted after
+    shows : Shows after new
+    closes : IsTrue (file_state new).is_open ⊎ (after ≡ before)
+
+  did : (Accepted : Entries → Entries → Type 0) (old new : Held (FileStore D g)) (before : Entries) → Shows before old
+      → IsTrue (file_state old).is_open × ((state : Entries) → Stands (file_state old).now state → (after : Entries) × Accepted state after × Leaves state after (file_state old) (file_state new))
+      → Did (Accepted before) before new
+  did Accepted old new before shows does =
+      let one = does.1 before (shows does.0).0 in
+      record {
+        after = one.0;
+        accepted = one.1;
+        shows = λ is_open. let both = one.2.stands is_open in (both.0, both.1, is_open);
+        closes = elim one.2.closes [ inl is_open ↦ inl is_open | inr same ↦ inr same.0 ];
+      }
+
+  refusal_of : (old new : Held (FileStore D g)) (command : Command) (refusal : Refusal) (before : Entries) → Shows before old → HasCleanDisk (file_state new)
+      → HasRefused command refusal (file_state old) (file_state new) → IsRefusal g command before refusal
+  refusal_of old new command refusal before shows clean refused =
+      let all = refused.1 clean in record { may = refused.0; depot = old; shows = shows; cause = all.0; left = new; fault = all.1 }
+
+  -- what came of a line, and the depot at the state after it
+  record Step (name line : Text) (outcome : Outcome) (text : List ℕ) (before : Entries) (old new : Office (FileStore D g)) : Type 0 where
+    after : Entries
+    come : HasCome g name line outcome text (ledger before old.host old.out) (ledger after new.host new.out)
+    shows : Shows after new.depot
+    closes : IsTrue (file_state new.depot).is_open ⊎ (after ≡ before)
+
+  -- the state stays, as the depot does
+  stays_at : (old new : Held (FileStore D g)) (before : Entries) → Shows before old → new ≡ old → Shows before new
+  stays_at old new before shows same = subst (λ (d : Held (FileStore D g)). Shows before d) (sym same) shows
+
+  module _ (name line : Text) (text : List ℕ) (before : Entries) (old new : Office (FileStore D g)) (shows : Shows before old.depot) (clean : HasCleanDisk (file_state new.depot)) where
+    step_done : (asked : Asked) → IsAsked line asked → batch.IsDone over_files name asked text old.depot new.depot old.host new.host → Step name line Done text before old new
+    step_done (ToReply request) is done =
+        let answered = done.2 in
+        let one = did (λ state after. Accepts state (request_command request done.0) answered.0 after) old.depot new.depot before shows (answered.1 clean) in
+        record { after = one.after; come = (ToReply request, is, (done.0, done.1, answered.0, one.accepted, answered.2)); shows = one.shows; closes = one.closes }
+    step_done (IntoFile export) is done =
+        let made = done.1 in
+        let one = did (λ state after. Accepts state (Exports export.user.now export.number export.encoding) (Written made.0) after) old.depot new.depot before shows (made.2 clean) in
+        record { after = one.after; come = (IntoFile export, is, (made.0, made.1, one.accepted, done.0)); shows = one.shows; closes = one.closes }
+
+    -- what is asked was refused
+    record Declined (asked : Asked) (refusal : Refusal) : Type 0 where
+      why : IsDeclined g name asked refusal (ledger before old.host old.out) (ledger before new.host new.out)
+      shows_still : Shows before new.depot
+
+    declined : (asked : Asked) (refusal : Refusal) → batch.IsRefused over_files name asked refusal old.depot new.depot old.host new.host → Declined asked refusal
+    declined (ToReply request) refusal refused = elim refused [
+      | inl unread ↦ record { why = inl unread.0; shows_still = stays_at old.depot new.depot before shows unread.1 }
+      | inr asked ↦
+          let all = asked.2.1 clean in
+          record {
+            why = inr (asked.0, asked.1, refusal_of old.depot new.depot (request_command request asked.0) refusal before shows clean asked.2);
+            shows_still = still_at g old.depot new.depot before shows all.2;
+          }
+    ]
+    declined (IntoFile export) refusal refused = elim refused.0 [
+      | inl unmade ↦ record { why = inl unmade; shows_still = still_at g old.depot new.depot before shows (refused.1 clean) }
+      | inr asked ↦ record {
+        why = inr (asked.0, asked.1, refusal_of old.depot new.depot (Exports export.user.now export.number export.encoding) refusal before shows clean asked.2);
+        shows_still = still_at g old.depot new.depot before shows (refused.1 clean);
+      }
+    ]
+
+    step : (outcome : Outcome) → batch.HasCome over_files name line outcome text old new → Step name line outcome text before old new
+    step Done come = step_done come.0 come.1 come.2
+    step (Refused refusal) come = elim come.1 [
+      | inl idle ↦
+          let still = idle.1 in
+          record { after = before; come = (come.0, refl, inl (idle.0, still.1)); shows = stays_at old.depot new.depot before shows still.0; closes = inr refl }
+      | inr asked ↦
+          let it = declined asked.0 refusal asked.2 in
+          record { after = before; come = (come.0, refl, inr (asked.0, asked.1, it.why)); shows = it.shows_still; closes = inr refl }
+    ]
+    step Wrong come =
+        let still = come.3 in
+        record { after = before; come = (come.0, come.1, come.2, refl, still.1); shows = stays_at old.depot new.depot before shows still.0; closes = inr refl }
+
+  -- ---- what a turn does
+
+  -- what happened in a turn, and the depot at the state after it
+  pub record Turned (Other : Ledger → Ledger → Type 0) (before : Entries) (old new : Office (FileStore D g)) : Type 0 where
+    pub after : Entries
+    pub happens : Other (ledger before old.host old.out) (ledger after new.host new.out)
+    pub shows : Shows after new.depot
+    pub closes : IsTrue (file_state new.depot).is_open ⊎ (after ≡ before)
+
+  module _ (WrittenAs : List ℕ → Output → Output → Type 0) (before : Entries) (old new : Office (FileStore D g)) (shows : Shows before old.depot) (clean : HasCleanDisk (file_state new.depot)) where
+    pub alone : (name line : Text) (outcome : Outcome) → batch.IsAnsweredBy over_files WrittenAs name line outcome old new
+        → Turned (IsAnsweredBy WrittenAs g name line outcome) before old new
+    alone name line outcome it =
+        let one = step name line it.text before old new shows clean outcome it.come in
+        record { after = one.after; happens = (it.text, one.come, it.written); shows = one.shows; closes = one.closes }
+
+    pub together : (lines : List (List ℕ)) → batch.AreAnsweredBy over_files WrittenAs lines old new → Turned (AreAnsweredBy WrittenAs lines) before old new
+    together lines it =
+        let one = did (λ state after. AcceptsAll state it.commands (map Listed it.filed) after) old.depot new.depot before shows (it.done clean) in
+        record {
+          after = one.after;
+          happens = record { few = it.few; commands = it.commands; files = it.files; filed = it.filed; accepted = one.accepted; written = it.written };
+          shows = one.shows;
+          closes = one.closes;
+        }
+
+  pub withdrawn : (before : Entries) (old new : Office (FileStore D g)) → Shows before old.depot → HasCleanDisk (file_state new.depot) → (lines : List (List ℕ))
+      → batch.AreWithdrawn over_files lines old new → Turned (AreWithdrawn lines) before old new
+  withdrawn before old new shows clean lines it = record {
+    after = before;
+    happens = record { some = it.some; few = it.few; files = it.files; held = refl; out = it.out };
+    shows = still_at g old.depot new.depot before shows (it.spared clean);
+    closes = inr refl;
+  }

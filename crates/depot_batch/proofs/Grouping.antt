@@ -1,0 +1,171 @@
+-- Lines that are to be done together.
+use Rattle.std.proofs.Common.{◌≡◌, ◌++◌, ◌∙◌, ◌+◌, ◌<◌, ◌≤◌, suc, arith, append-nil, ap, inl, inr, refl, subst, sym, ℕ, IfNone, List, [], ◌∷◌, None, Option, Some, length, map, take, drop, string_bytes, Vec, Global}
+use Rattle.std.specs.Borrow.{Bor}
+use Rattle.std.specs.List.{flat_map}
+use Rattle.std.proofs.Math.ListN.{get_or}
+use Rattle.std.proofs.lemmas.Grind.{flat_map-append}
+use Rattle.std.proofs.lemmas.List.{drop_more, map-append, take-append-drop, take-map, take_more}
+use Rattle.sqlite_trees.specs.declared.store.Store.{Ghosts}
+use Rattle.sqlite.specs.Held.{Held, state}
+use Rattle.sqlite.specs.State.{HasCleanDisk, State, Survives}
+use Rattle.part_store.specs.Entries.{Listing}
+use Rattle.part_store.specs.Standing.{Spares}
+use Rattle.part_store.specs.declared.entry.EntryRow.{EntryRow}
+use Rattle.encodings.specs.Device.{HasBroken, HasTaken, Output}
+use Rattle.encodings.proofs.Outputs.{broken_first, broken_later}
+use Rattle.depot_actions.specs.Deliveries.{DoesAll, MayLeaveAll, reply_of}
+use Rattle.depot_actions.specs.DepotState.{Command, Deliver, Listed}
+use Rattle.depot_jobs.specs.Host.{HostState}
+use Rattle.depot_jobs.specs.Inputs.{HasReadFile}
+use Rattle.depot_jobs.specs.declared.request.Request.TheVariants as requests
+use Rattle.depot_batch.specs.Asked.{Text}
+use Rattle.depot_batch.specs.Batch.{AreAnsweredBy, AreDeliveries, AreLookedUp, AreWithdrawn, IsAsked, IsDelivery, MayMakeAll, Office, filed_text, most_together}
+use Rattle.depot_batch.specs.Private.{IsPassedOver, command_of, filed_by, lines_of}
+use Rattle.depot_batch.specs.declared.asked.Asked.TheVariants.{Reply}
+use Rattle.depot_batch.specs.declared.mails.Mail.{Mail}
+use Rattle.depot_batch.proofs.LineLemmas.{more_left, still}
+
+-- ---- messages that were read
+
+-- one line more was read
+deliveries_more : (lines : List (List ℕ)) (commands : List Command) (line : List ℕ) (command : Command) (host mid host2 : HostState)
+    → AreDeliveries lines commands host mid → IsDelivery line command mid host2 → AreDeliveries (lines ++ line ∷ []) (commands ++ command ∷ []) host host2
+deliveries_more [] [] line command host mid host2 are is = (host2, subst (λ (h : HostState). IsDelivery line command h host2) are is, refl)
+deliveries_more [] (c ∷ commands) line command host mid host2 are is = absurd are
+deliveries_more (l ∷ lines) [] line command host mid host2 are is = absurd are
+deliveries_more (l ∷ lines) (c ∷ commands) line command host mid host2 are is = (are.0, are.1, deliveries_more lines commands line command are.0 mid host2 are.2 is)
+
+pub read_more : (lines : List (List ℕ)) (i : ℕ) (d : List ℕ) (mails mails2 : List Mail) (mail : Mail) (host mid host2 : HostState) → i < length lines
+    → AreDeliveries (take i lines) (map command_of mails) host mid → IsDelivery (get_or lines i d) (command_of mail) mid host2 → mails2 ≡ mails ++ mail ∷ []
+    → AreDeliveries (take (i + 1) lines) (map command_of mails2) host host2
+read_more lines i d mails mails2 mail host mid host2 within are is more =
+    subst (λ (ls : List (List ℕ)). AreDeliveries ls (map command_of mails2) host host2) (sym (take_more lines i d within))
+    (subst (λ (cs : List Command). AreDeliveries (take i lines ++ get_or lines i d ∷ []) cs host host2) (sym (ap (map command_of) more ∙ map-append command_of mails (mail ∷ [])))
+    (deliveries_more (take i lines) (map command_of mails) (get_or lines i d) (command_of mail) host mid host2 are is))
+
+-- so many lines were read
+pub looked_up : (lines : List (List ℕ)) (k : ℕ) (commands : List Command) (host host2 : HostState) → AreDeliveries (take k lines) commands host host2 → AreLookedUp lines host host2
+looked_up lines k commands host host2 are = record {
+  read = take k lines;
+  later = drop k lines;
+  are = sym (take-append-drop k lines);
+  commands = commands;
+  mid = host2;
+  files = are;
+  stops = inl refl;
+}
+
+-- and the next was passed over
+pub passed_over : (lines : List (List ℕ)) (i : ℕ) (d : List ℕ) (commands : List Command) (host mid host2 : HostState) → i < length lines
+    → AreDeliveries (take i lines) commands host mid → IsPassedOver (get_or lines i d) mid host2 → AreLookedUp lines host host2
+passed_over lines i d commands host mid host2 within are passed = record {
+  read = take i lines;
+  later = drop i lines;
+  are = sym (take-append-drop i lines);
+  commands = commands;
+  mid = mid;
+  files = are;
+  stops = elim passed [ inl same ↦ inl same | inr unread ↦ inr (get_or lines i d, drop (i + 1) lines, drop_more lines i d within, unread) ];
+}
+
+-- as many are asked for as there are lines
+as_many : (lines : List (List ℕ)) (commands : List Command) (host host2 : HostState) → AreDeliveries lines commands host host2 → length commands ≡ length lines
+as_many [] [] host host2 are = refl
+as_many (line ∷ lines) (command ∷ commands) host host2 are = ap suc (as_many lines commands are.0 host2 are.2)
+as_many [] (command ∷ commands) host host2 are = absurd are
+as_many (line ∷ lines) [] host host2 are = absurd are
+
+pub is_delivery : (line : List ℕ) (user file : Bor Text) (mail : Mail) (host host2 : HostState) → IsAsked line (Reply (requests.Deliver user file))
+    → string_bytes mail.user ≡ user.now → HasReadFile (Some file.now) mail.message.items host host2 → IsDelivery line (command_of mail) host host2
+is_delivery line user file mail host host2 is same read = (user, file, is, mail.message.items, read, ap (λ name. Deliver name mail.message.items) same)
+
+-- ---- on a depot
+
+-- what nothing happened to is spared
+pub spared_still : (s : State) → Spares s s
+spared_still s = record { same = λ schema is_open. (refl, refl); shut = λ is_open. is_open; closes = λ is_open. inl is_open }
+
+module _ {S : Type 0} (g : Ghosts S) where
+  -- lines were withdrawn before the depot was asked
+  pub withdrawn_early : (lines : List (List ℕ)) (old new : Office S) → 0 < length lines → length lines ≤ most_together → AreLookedUp lines old.host new.host → new.depot ≡ old.depot → new.out ≡ old.out
+      → AreWithdrawn g lines old new
+  withdrawn_early lines old new some few files same out = record {
+    some = some;
+    few = few;
+    files = files;
+    spared = λ clean. subst (λ (d : Held S). Spares (state g old.depot) (state g d)) (sym same) (spared_still (state g old.depot));
+    out = out;
+    outlasts = subst (λ (d : Held S). Survives (state g old.depot) (state g d) (MayMakeAll lines (state g old.depot) old.host new.host)) (sym same) (still (state g old.depot));
+  }
+
+  -- they were withdrawn since it refused them
+  pub withdrawn_late : (lines : List (List ℕ)) (commands : List Command) (old new : Office S) → 0 < length commands → length lines ≤ most_together → AreDeliveries lines commands old.host new.host
+      → (HasCleanDisk (state g new.depot) → Spares (state g old.depot) (state g new.depot))
+      → Survives (state g old.depot) (state g new.depot) (MayLeaveAll commands (state g old.depot)) → new.out ≡ old.out → AreWithdrawn g lines old new
+  withdrawn_late lines commands old new some few files spared survives out = record {
+    some = omega (arith, some, as_many lines commands old.host new.host files);
+    few = few;
+    files = record { read = lines; later = []; are = sym (append-nil lines); commands = commands; mid = new.host; files = files; stops = inl refl };
+    spared = spared;
+    out = out;
+    outlasts = more_left (state g old.depot) (state g new.depot) (λ db made. (commands, files, made)) survives;
+  }
+
+  -- they were done
+  pub answered_together : (Written : List ℕ → Output → Output → Type 0) (lines : List (List ℕ)) (commands : List Command) (filed : List (List Listing)) (old new : Office S)
+      → length lines ≤ most_together → AreDeliveries lines commands old.host new.host
+      → (HasCleanDisk (state g new.depot) → DoesAll commands (map Listed filed) (state g old.depot) (state g new.depot))
+      → Survives (state g old.depot) (state g new.depot) (MayLeaveAll commands (state g old.depot)) → Written (flat_map filed_text filed) old.out new.out
+      → AreAnsweredBy g Written lines old new
+  answered_together Written lines commands filed old new few files done survives written = record {
+    few = few;
+    commands = commands;
+    files = files;
+    filed = filed;
+    done = done;
+    written = written;
+    outlasts = more_left (state g old.depot) (state g new.depot) (λ db made. (commands, files, made)) survives;
+  }
+
+-- the first of lines, by their octets
+pub cut_lines : (lines shown cut : List (Vec ℕ Global)) (n k : ℕ) → cut ≡ take n lines → n ≡ k → shown ≡ lines → take k (lines_of shown) ≡ lines_of cut
+cut_lines lines shown cut n k is count same =
+    ap (λ (ls : List (Vec ℕ Global)). take k (lines_of ls)) same ∙ ap (λ m. take m (lines_of lines)) (sym count)
+    ∙ take-map (λ (l : Vec ℕ Global). l.items) n lines ∙ sym (ap lines_of is)
+
+pub cut_rest : (lines cut : List (Vec ℕ Global)) (n : ℕ) → cut ≡ take n lines → lines ≡ cut ++ drop n lines
+cut_rest lines cut n is = sym (take-append-drop n lines) ∙ ap (λ (ls : List (Vec ℕ Global)). ls ++ drop n lines) (sym is)
+
+-- ---- answers
+
+-- the sink broke in the answer to one of several deliveries
+pub broken_in_turn : {s0 s1 s2 : Output} (replies done : List (Vec EntryRow Global)) (rows : Vec EntryRow Global) → length done < length replies → done ≡ take (length done) replies
+    → rows ≡ get_or replies (length done) rows → HasTaken (flat_map filed_text (map filed_by done)) s0 s1 → HasBroken (filed_text (filed_by rows)) s1 s2
+    → HasBroken (flat_map filed_text (map filed_by replies)) s0 s2
+broken_in_turn {s0 = s0} {s1 = s1} {s2 = s2} replies done rows within so_far is taken broken =
+    let others = drop (length done + 1) replies in
+    let next : drop (length done) replies ≡ rows ∷ others =
+    drop_more replies (length done) rows within ∙ ap (λ (r : Vec EntryRow Global). r ∷ others) (sym is) in
+    let parts : replies ≡ done ++ (rows ∷ others) =
+    sym (take-append-drop (length done) replies) ∙ ap (λ (l : List (Vec EntryRow Global)). l ++ drop (length done) replies) (sym so_far) ∙ ap (λ (l : List (Vec EntryRow Global)). done ++ l) next in
+    let text : flat_map filed_text (map filed_by replies) ≡ flat_map filed_text (map filed_by done) ++ (filed_text (filed_by rows) ++ flat_map filed_text (map filed_by others)) =
+    ap (λ (l : List (Vec EntryRow Global)). flat_map filed_text (map filed_by l)) parts ∙ ap (flat_map filed_text) (map-append filed_by done (rows ∷ others))
+    ∙ flat_map-append filed_text (map filed_by done) (map filed_by (rows ∷ others)) in
+    subst (λ octets. HasBroken octets s0 s2) (sym text)
+    (broken_later (flat_map filed_text (map filed_by done)) (filed_text (filed_by rows) ++ flat_map filed_text (map filed_by others)) taken
+    (broken_first (filed_text (filed_by rows)) (flat_map filed_text (map filed_by others)) broken))
+
+-- what holds anyway holds where there is nothing
+pub on_none : {A P : Type 0} (r : Option A) → P → IfNone r P
+on_none None p = p
+on_none (Some x) p = tt
+
+-- replies of deliveries list what was filed
+replies_filed : (replies : List (Vec EntryRow Global)) → map reply_of replies ≡ map Listed (map filed_by replies)
+replies_filed [] = refl
+replies_filed (rows ∷ replies) = ap (λ others. Listed (filed_by rows) ∷ others) (replies_filed replies)
+
+pub done_as : (commands commands2 : List Command) (replies : List (Vec EntryRow Global)) (old new : State) → commands ≡ commands2 → DoesAll commands (map reply_of replies) old new
+    → DoesAll commands2 (map Listed (map filed_by replies)) old new
+done_as commands commands2 replies old new same does =
+    subst (λ rs. DoesAll commands2 rs old new) (replies_filed replies) (subst (λ cs. DoesAll cs (map reply_of replies) old new) same does)

@@ -1,0 +1,138 @@
+// Lines that are done together.
+ghost use Rattle.std.specs.Prelude.{◌<◌, ◌≡◌, ◌≤◌, ◌++◌, IfOk, IfSome, List, OnErr, IfNone, OnOk, Vec, length, map, ℕ};
+ghost use Rattle.std.specs.List.{flat_map};
+ghost use Rattle.std.specs.declared.alloc.Global.{Global};
+ghost use Rattle.sqlite.specs.Held.{state};
+ghost use Rattle.sqlite.specs.State.{HasCleanDisk};
+ghost use Rattle.part_store.specs.Calls.{MayCommit};
+ghost use Rattle.part_store.specs.Standing.{Spares};
+ghost use Rattle.encodings.specs.Device.{HasBroken, HasTaken};
+ghost use Rattle.depot_actions.specs.Deliveries.{DoesAll, MayLeaveAll, command_of as asked_of};
+ghost use Rattle.depot_actions.specs.DepotState.{Listed};
+ghost use Rattle.depot_batch.specs.Batch.{AreAnsweredBy, filed_text, most_together, office};
+ghost use Rattle.depot_batch.specs.Private.{HasTried, command_of, filed_by, lines_of};
+
+use crate::line::{flush, status_of};
+use crate::mails::{Mail, read_mails};
+use crate::outcome::Outcome;
+use depot_actions::{Delivery, Depot};
+use depot_cli::{Reply, put_reply};
+use depot_jobs::{Host, put_line};
+use encodings::{DeviceFailed, OfWrite, Sink};
+use part_store::EntryRow;
+use sqlite::Alter;
+use std::alloc::{AllocError, Global};
+use std::io::Write;
+
+/// What came of lines that were to be done together.
+#[derive(Clone, Copy)]
+pub enum Tried {
+    /// They were done, and answered.
+    Done,
+    /// They were withdrawn: nothing has changed.
+    Withdrawn,
+}
+
+/// Does lines together, if each asks for a delivery: in one transaction, and then writes the answers.
+/// Where their messages have much more than 16 MiB, only the first of them stay, as many as have that,
+/// and are done.
+///
+/// # Errors
+///
+/// The writer failed. What the commands did stands.
+pub fn serve_together<S: Alter, H: Host, W: Write + Drop>(
+    alloc: Global,
+    lines: &mut Vec<Vec<u8>>,
+    depot: &mut Depot<S>,
+    host: &mut H,
+    out: &mut OfWrite<W>,
+) -> Result<Tried, DeviceFailed>
+    requires some { 0 < length (lines_of lines.old.items) }
+    requires few { length (lines_of lines.old.items) ≤ most_together }
+    ensures first { (later : List (Vec ℕ Global)) × (lines.old.items ≡ lines.new.items ++ later) }
+    ensures tried { IfOk result (λ tried. HasTried S.Store tried (lines_of lines.new.items)
+        (office S.Store depot.old (H.state host.old) (⟦<OfWrite<W> as Sink>⟧.output out.old))
+        (office S.Store depot.new (H.state host.new) (⟦<OfWrite<W> as Sink>⟧.output out.new))) }
+    ensures broken { OnErr result (AreAnsweredBy S.Store HasBroken (lines_of lines.new.items)
+        (office S.Store depot.old (H.state host.old) (⟦<OfWrite<W> as Sink>⟧.output out.old))
+        (office S.Store depot.new (H.state host.new) (⟦<OfWrite<W> as Sink>⟧.output out.new))) }
+{
+    let Some(mails) = read_mails(alloc, lines, host) else {
+        return Ok(Tried::Withdrawn);
+    };
+    lines.truncate(mails.len());
+    match deliver_mails(alloc, &mails, depot) {
+        Some(replies) => {
+            put_filed(out, replies)?;
+            Ok(Tried::Done)
+        }
+        None => Ok(Tried::Withdrawn),
+    }
+}
+
+// Delivers messages in one transaction, and gives the rows of each one's new entries; none, where they
+// were refused.
+fn deliver_mails<S: Alter>(
+    alloc: Global,
+    mails: &[Mail],
+    depot: &mut Depot<S>,
+) -> Option<Vec<Vec<EntryRow>>>
+    ensures done { HasCleanDisk (state S.Store depot.new) → IfSome result
+        (λ replies. DoesAll (map command_of mails.now) (map Listed (map filed_by replies.items))
+        (state S.Store depot.old) (state S.Store depot.new)) }
+    ensures spared { IfNone result (HasCleanDisk (state S.Store depot.new)
+        → Spares (state S.Store depot.old) (state S.Store depot.new)) }
+    ensures survives { MayCommit S.Store depot.old depot.new
+        (MayLeaveAll (map command_of mails.now)) }
+{
+    let Ok(deliveries) = deliveries_of(alloc, mails) else {
+        return None;
+    };
+    match depot.deliver_all(alloc, &deliveries) {
+        Ok(replies) => Some(replies),
+        Err(_) => None,
+    }
+}
+
+// Messages as deliveries.
+fn deliveries_of<'a>(alloc: Global, mails: &'a [Mail]) -> Result<Vec<Delivery<'a>>, AllocError>
+    ensures { IfOk result (λ deliveries. map asked_of deliveries.items
+        ≡ map command_of mails.entry.now) }
+{
+    let mut deliveries = Vec::new(alloc);
+    for mail in mails {
+        deliveries.push(Delivery {
+            user: &mail.user,
+            message: &mail.message,
+        })?;
+    }
+    Ok(deliveries)
+}
+
+// Writes the answers to deliveries: the rows of each one's new entries, and what ends an answer. Then
+// has all of them written.
+fn put_filed<W: Write + Drop>(
+    out: &mut OfWrite<W>,
+    replies: Vec<Vec<EntryRow>>,
+) -> Result<(), DeviceFailed>
+    ensures ok { OnOk result (HasTaken (flat_map filed_text (map filed_by replies.items))
+        (⟦<OfWrite<W> as Sink>⟧.output out.old) (⟦<OfWrite<W> as Sink>⟧.output out.new)) }
+    ensures err { OnErr result (HasBroken (flat_map filed_text (map filed_by replies.items))
+        (⟦<OfWrite<W> as Sink>⟧.output out.old) (⟦<OfWrite<W> as Sink>⟧.output out.new)) }
+{
+    for rows in replies {
+        put_one(out, rows)?;
+    }
+    flush(out)
+}
+
+// Writes the answer to a delivery.
+fn put_one<O: Sink>(out: &mut O, rows: Vec<EntryRow>) -> Result<(), DeviceFailed>
+    ensures ok { OnOk result (HasTaken (filed_text (filed_by rows)) (O.output out.old)
+        (O.output out.new)) }
+    ensures err { OnErr result (HasBroken (filed_text (filed_by rows)) (O.output out.old)
+        (O.output out.new)) }
+{
+    put_reply(out, &Reply::Filed(rows))?;
+    put_line(out, status_of(&Outcome::Done))
+}
