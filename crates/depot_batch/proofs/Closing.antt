@@ -5,7 +5,8 @@ use Rattle.std.specs.List.{flat_map, list_all}
 use Rattle.std.specs.Fmt.{decimal, digit_glyph, digits, digits_onto}
 use Rattle.depot_jobs.specs.Printed.{escaped, escaped_octet, is_plain, quoted}
 use Rattle.depot_jobs.specs.declared.piece.Setting.TheVariants.{Quotes}
-use Rattle.depot_batch.specs.Closings.{begins_closing, has_closing, is_one_line}
+use Rattle.depot_actions.specs.PlainMedia.{is_one_line}
+use Rattle.depot_batch.specs.Closings.{begins_closing, has_closing}
 
 pub both : (a b : Bool) → (a && b) ≡ true → (a ≡ true) × (b ≡ true)
 both true b e = (refl, e)

@@ -12,6 +12,7 @@ use Rattle.part_store.specs.declared.entry.Kind.{Kind}
 use Rattle.part_store.specs.declared.entry.Kind.TheVariants.{Message, Part}
 use Rattle.depot_actions.specs.DepotState.{Reply as DepotReply}
 use Rattle.depot_actions.specs.DepotState as depot
+use Rattle.depot_actions.specs.PlainMedia.{HavePlainMedia, is_one_line}
 use Rattle.refusals.specs.Lines.{name_of, number_of, place_of, place_text, refusal_text}
 use Rattle.refusals.specs.declared.refusal.Refusal.{Refusal}
 use Rattle.refusals.specs.declared.refusal.Refusal.TheVariants.{Memory, MessageTooLarge, TooManyParts, NotCanonical, Lexical, ScriptTooLong, Syntax, TooDeep, UnknownCommand, MissingCapability, UnknownCapability, BadArguments, Limit, Spelling, Index, Form, End, Loop, Jump, NoPart, Stack, Listing as BadListing, NoSuchEntry, NumberFull, Collision, Database, UserName, Write, Read}
@@ -24,7 +25,7 @@ use Rattle.depot_cli.specs.Tasks.{HasDone}
 use Rattle.depot_cli.specs.declared.entries.Detail.TheVariants.{Brief, Full}
 use Rattle.depot_batch.specs.Batch.{HasCome, IsDone, Office}
 use Rattle.depot_batch.specs.Asked.{Asks, Text}
-use Rattle.depot_batch.specs.Closings.{HavePlainMedia, has_closing, is_one_line}
+use Rattle.depot_batch.specs.Closings.{has_closing}
 use Rattle.depot_batch.specs.Sentences.{wrong_line}
 use Rattle.depot_batch.specs.declared.asked.Asked.{Asked}
 use Rattle.depot_batch.specs.declared.asked.Asked.TheVariants.{Reply, Export as IntoFile}

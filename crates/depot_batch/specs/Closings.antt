@@ -1,7 +1,5 @@
 -- Lines of an answer that begin as the line does that ends it.
-use Rattle.std.specs.Prelude.{◌≡◌, ℕ, ◌==◌, ◌&&◌, ◌||◌, Bool, true, false, not, List, [], ◌∷◌}
-use Rattle.std.specs.List.{list_all}
-use Rattle.part_store.specs.Entries.{Entries}
+use Rattle.std.specs.Prelude.{ℕ, ◌==◌, ◌&&◌, ◌||◌, Bool, false, List, [], ◌∷◌}
 
 -- a sign of equality (61) and a space stand first
 abbrev pub begins_closing : List ℕ → Bool
@@ -14,11 +12,3 @@ abbrev pub has_closing : Bool → List ℕ → Bool
 has_closing at_start [] = false
 has_closing at_start (octet ∷ rest) =
     (at_start && begins_closing (octet ∷ rest)) || has_closing (octet == 10) rest
-
--- no line break is in the text
-abbrev pub is_one_line : List ℕ → Bool
-is_one_line text = list_all (λ octet. not (octet == 10)) text
-
--- no line break is in the media type of an entry
-abbrev pub HavePlainMedia : Entries → Type 0
-HavePlainMedia entries = list_all (λ entry. is_one_line entry.media) entries.entries ≡ true

@@ -5,13 +5,14 @@ ghost use Rattle.sqlite.specs.Held.{state};
 ghost use Rattle.sqlite.specs.State.{HasCleanDisk};
 ghost use Rattle.sqlite_trees.specs.Tree.{Trees};
 ghost use Rattle.encodings.specs.Supply.{HasGiven, Supply};
-ghost use Rattle.part_store.specs.Entries.{Entries, Listing};
+ghost use Rattle.part_store.specs.Entries.{Entries, Listing, no_entries};
 ghost use Rattle.part_store.specs.Standing.{Stands};
 ghost use Rattle.depot_actions.specs.History.{AreSteps, Call};
+ghost use Rattle.depot_actions.specs.PlainMedia.{HavePlainMedia};
 ghost use Rattle.depot_cli.specs.Printed.{entries_text};
 ghost use Rattle.depot_cli.specs.declared.entries.Detail.TheVariants.{Brief};
 ghost use Rattle.depot_batch.specs.Batch.{AreTaken, HasCome, IsCallOf, IsMadeAtOne, Office};
-ghost use Rattle.depot_batch.specs.Closings.{HavePlainMedia, has_closing};
+ghost use Rattle.depot_batch.specs.Closings.{has_closing};
 ghost use Rattle.depot_batch.specs.Turns.{Turn, lines_answered, lines_done};
 ghost use Rattle.depot_batch.specs.Words.{Writes, spaced, words_of};
 ghost use Rattle.depot_batch.specs.declared.outcome.Outcome.{Outcome};
@@ -57,7 +58,8 @@ pub fn lines_are_taken_as_answered<S: Alter>()
 {}
 
 /// No line of an answer begins with `= `, so whoever reads a batch's output can tell the line that ends an answer from its own lines,
-/// whatever was filed. Of the depot this takes one thing: no media type of an entry has a line break.
+/// whatever was filed. Of the depot this takes one thing: no media type of an entry has a line break. A depot that commands made of
+/// nothing has that.
 pub fn no_answer_closes_itself<S: Alter>()
     ensures alone { (name octets : List ℕ) (outcome : Outcome) (text : List ℕ) (old new : Office S)
         → HasCome S.Store name octets outcome text old new
@@ -66,4 +68,10 @@ pub fn no_answer_closes_itself<S: Alter>()
         → has_closing true text ≡ false }
     ensures together { (entries : List Listing)
         → has_closing true (entries_text Brief entries) ≡ false }
+    ensures begun { (name octets : List ℕ) (outcome : Outcome) (text : List ℕ) (old new : Office S)
+        → HasCome S.Store name octets outcome text old new
+        → HasCleanDisk (state S.Store new.depot) → (before : Entries)
+        → Stands (state S.Store old.depot).now before
+        → (calls : List Call) → AreSteps calls no_entries before
+        → has_closing true text ≡ false }
 {}
