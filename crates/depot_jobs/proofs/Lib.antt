@@ -5,3 +5,4 @@ pub mod PrintedLemmas
 pub mod SaidLemmas
 pub mod WorkingLemmas
 pub mod SupplyLemmas
+pub mod TraceLemmas

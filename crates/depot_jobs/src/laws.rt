@@ -1,6 +1,9 @@
 //! What holds of the definitions alone.
-ghost use Rattle.std.specs.Prelude.{List};
+ghost use Rattle.std.specs.Prelude.{◌≡◌, ℕ, true, List};
+ghost use Rattle.bytecode_format.specs.Code.{Code};
 ghost use Rattle.clap.specs.Words.{Text, subcommand_of};
+ghost use Rattle.sieve_engine.specs.Execution.{Spells};
+ghost use Rattle.depot_jobs.specs.Tracing.{is_program};
 ghost use Rattle.depot_jobs.specs.Words.{AreSaid, IsLine};
 ghost use Rattle.depot_jobs.specs.declared.line.CommandLine.{CommandLine};
 
@@ -10,4 +13,9 @@ ghost use Rattle.depot_jobs.specs.declared.line.CommandLine.{CommandLine};
 pub fn numbers_and_encodings_are_said()
     ensures { (words : List Text) (line : CommandLine) → (is : IsLine words line)
         → AreSaid line (subcommand_of is.app words) }
+{}
+
+/// The octets of every program are taken for one where a trace is asked for.
+pub fn programs_are_taken_for_programs()
+    ensures { (octets : List ℕ) (code : Code) → Spells octets code → is_program octets ≡ true }
 {}
