@@ -191,7 +191,7 @@ fn whatever_is_ready(rt: HostRuntime) -> Result<(), Fail> {
     answer.extend_from_slice(b"none\n= 0\n")?;
     answer.extend_from_slice(filed(alloc, 10, 2)?.as_slice())?;
     answer.extend_from_slice(b"? the input ended within this line\n= 2\n")?;
-    for ready in 1..lines.len() + 2 {
+    for ready in [1, 16, 17, 33, 34, 35, 60, 1_000] {
         let mut depot = Depot::in_memory(alloc);
         let seen = served(alloc, &mut depot, ready, &lines, Vec::new(alloc))?;
         assert_eq!(rt; seen.status, 0, "{ready}");
