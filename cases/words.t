@@ -220,7 +220,7 @@ Help.
     2>   disassemble  Lists a filter program, an instruction a line, and says what the verifier says of it
     2>   assemble     Writes the filter program (bytecode) that a listing says
     2>   eval         Runs a Sieve script on a message, and prints what it does with it
-    2>   trace        Runs a Sieve script on a message, and prints what it asks and does, step by step
+    2>   trace        Runs a Sieve script or a filter program on a message, and prints what it does, step by step
     2>   parts        Lists the parts of a message: place, depth, media type, length and digest of the content
     2>   encode       Writes the octets of standard input as a text
     2>   decode       Writes the octets that the text on standard input stands for
@@ -265,7 +265,7 @@ Help.
     2>   disassemble  Lists a filter program, an instruction a line, and says what the verifier says of it
     2>   assemble     Writes the filter program (bytecode) that a listing says
     2>   eval         Runs a Sieve script on a message, and prints what it does with it
-    2>   trace        Runs a Sieve script on a message, and prints what it asks and does, step by step
+    2>   trace        Runs a Sieve script or a filter program on a message, and prints what it does, step by step
     2>   parts        Lists the parts of a message: place, depth, media type, length and digest of the content
     2>   encode       Writes the octets of standard input as a text
     2>   decode       Writes the octets that the text on standard input stands for
@@ -485,12 +485,12 @@ Help.
 
 ## help trace
     $ depot trace --help
-    2> Runs a Sieve script on a message, and prints what it asks and does, step by step
+    2> Runs a Sieve script or a filter program on a message, and prints what it does, step by step
     2>
-    2> Usage: depot trace <SCRIPT> <MESSAGE>
+    2> Usage: depot trace <FILE> <MESSAGE>
     2>
     2> Arguments:
-    2>   <SCRIPT>   The file of a Sieve script
+    2>   <FILE>     The file of a Sieve script, or of a filter program (bytecode)
     2>   <MESSAGE>  The file of a mail message, as mail servers hold it
     2>
     2> Options:
@@ -501,7 +501,7 @@ Help.
     2>
     2> Status 0: done. 1: refused, or the answer broke off, with one line on standard error.
     2> 2: the words aren't those of a command.
-    2> Refusals: 1 to 3, 11 to 19, 45, 46. `depot help NUMBER` says what each means, and what to do.
+    2> Refusals: 1 to 3, 11 to 27, 45, 46. `depot help NUMBER` says what each means, and what to do.
     2> What is wrong with a script, `depot explain SCRIPT` says in words.
     [2]
 
