@@ -67,4 +67,4 @@ Only if: python3 -c 'import sqlite3' # there is no sqlite3 for python3
 
 ## a batch answers as its commands do alone, and loses nothing where it is killed
     $ "$TOP/cases/batches" depot
-    303 lines, 0 answered otherwise than alone; 20 batches killed, 0 left something else
+    308 lines, 0 answered otherwise than alone; 20 batches killed, 0 left something else; 2 runs of refile killed, 0 left something else
