@@ -84,7 +84,7 @@ fn deliveries(alloc: Global, count: usize) -> Result<Vec<u8>, Fail> {
 // What they are answered, from this number on.
 fn filed(alloc: Global, first: usize, count: usize) -> Result<Vec<u8>, Fail> {
     let mut text = Vec::new(alloc);
-    for number in first..first + count {
+    for number in first..first.saturating_add(count) {
         let line = format!(in alloc; "{number} message \"INBOX\"\n= 0\n")?;
         text.extend_from_slice(line.as_bytes())?;
     }
