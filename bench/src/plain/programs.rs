@@ -103,39 +103,45 @@ enum Entry {
     Text(u64),
 }
 
-// What an instruction costs at most: for a run of it, and for each octet of the message.
+// Whether an instruction names what is there, and its fields are in their ranges.
+fn is_formed(program: &Program, instruction: &Instruction) -> bool {
+    let Instruction { op, a, b, c } = *instruction;
+    match op {
+        0x01 | 0x08 | 0x13 | 0x14 | 0x15 => a == 0 && b == 0 && c == 0,
+        0x02 => a == 0 && b == 0 && (c as usize) < program.strings.len(),
+        0x07 => a <= 1 && b == 0 && c == 0,
+        0x09 | 0x0A | 0x0B | 0x17 | 0x18 => a == 0 && b == 0 && (c as usize) < program.instructions.len(),
+        0x0F => a <= 1 && b == 0 && (c as usize) < program.numbers.len(),
+        0x11 => a & 3 <= 2 && a <= 6 && b == 0 && (1..=512).contains(&c),
+        _ => false,
+    }
+}
+
+// What an instruction of the right form costs at most: for a run of it, and for each octet of the message.
 fn cap(program: &Program, instruction: &Instruction, stack: &mut Vec<Entry>) -> Option<(u64, u64)> {
     let text = |stack: &mut Vec<Entry>| match stack.pop()? {
         Entry::Text(length) => Some(length),
         Entry::Truth => None,
     };
     let truth = |stack: &mut Vec<Entry>| (stack.pop()? == Entry::Truth).then_some(());
-    let Instruction { op, a, b, c } = *instruction;
-    let is_bare = a == 0 && b == 0 && c == 0;
-    match op {
-        0x01 | 0x13 | 0x14 if is_bare => {}
-        0x02 if a == 0 && b == 0 => stack.push(Entry::Text(program.strings.get(c as usize)?.len() as u64)),
-        0x07 if a <= 1 && b == 0 && c == 0 => stack.push(Entry::Truth),
-        0x08 if is_bare => {
+    match instruction.op {
+        0x02 => stack.push(Entry::Text(program.strings.get(instruction.c as usize)?.len() as u64)),
+        0x07 | 0x0F => stack.push(Entry::Truth),
+        0x08 => {
             truth(stack)?;
             stack.push(Entry::Truth);
         }
-        0x09 | 0x17 | 0x18 if a == 0 && b == 0 => {}
-        0x0A | 0x0B if a == 0 && b == 0 => truth(stack)?,
-        0x0F if a <= 1 && b == 0 => {
-            program.numbers.get(c as usize)?;
-            stack.push(Entry::Truth);
-        }
-        0x11 if a & 3 <= 2 && a <= 6 && b == 0 && (1..=512).contains(&c) => {
+        0x0A | 0x0B => truth(stack)?,
+        0x11 => {
             let mut keys = 0;
-            for _ in 0..c {
+            for _ in 0..instruction.c {
                 keys += text(stack)? + 1;
             }
             stack.push(Entry::Truth);
             return Some((1, keys));
         }
-        0x15 if is_bare => return Some((1 + text(stack)?, 0)),
-        _ => return None,
+        0x15 => return Some((1 + text(stack)?, 0)),
+        _ => {}
     }
     Some((1, 0))
 }
@@ -144,6 +150,10 @@ fn verify(octets: &[u8]) -> Option<(Program<'_>, [u64; 4])> {
     let program = read(octets)?;
     let instructions = &program.instructions;
     if instructions.last()?.op != 0x01 {
+        return None;
+    }
+    // Index and Form of all instructions come before Loop, so a broken loop isn't refused before them
+    if !instructions.iter().all(|instruction| is_formed(&program, instruction)) {
         return None;
     }
     let inner = loops(instructions)?;
