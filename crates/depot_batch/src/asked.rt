@@ -1,6 +1,6 @@
 // What a line asks for.
-ghost use Rattle.std.specs.Prelude.{◌≡◌, ◌∷◌, [], ℕ, MatchOption, IfErr, IfOk, codes, length, map};
-ghost use Rattle.depot_batch.specs.Asked.{Asks, AskNothing, IsEntryNumber, encoding_of, name_of, words_after};
+ghost use Rattle.std.specs.Prelude.{◌≡◌, ◌∷◌, [], ℕ, MatchOption, IfErr, IfOk, codes, map};
+ghost use Rattle.depot_batch.specs.Asked.{Asks, AskNothing, IsEntryNumber, encoding_of, name_of};
 ghost use Rattle.depot_batch.specs.declared.fault.Form.{Form};
 
 use crate::fault::{Form, LineFault};
@@ -39,24 +39,12 @@ pub fn asked_by<'a>(words: &[&'a str]) -> Result<Asked<'a>, LineFault>
     ensures asks { IfOk result (Asks (map (λ w. w.now) words.now)) }
     ensures nothing { IfErr result (AskNothing (map (λ w. w.now) words.now)) }
 {
-    match split(words) {
-        Some((name, rest)) => match form_of(name) {
-            Some(form) if rest.len() != form.words_after() => Err(LineFault::Form(form)),
-            Some(form) => asked_in(form, rest),
-            None => Err(LineFault::NoCommand),
-        },
+    let [name, rest @ ..] = words else {
+        return Err(LineFault::NoCommand);
+    };
+    match form_of(name) {
+        Some(form) => asked_in(form, rest),
         None => Err(LineFault::NoCommand),
-    }
-}
-
-// The first word, and those after it.
-fn split<'w, 'a>(words: &'w [&'a str]) -> Option<(&'a str, &'w [&'a str])>
-    ensures { MatchOption result (map (λ w. w.now) words.entry.now ≡ [])
-        (λ x. map (λ w. w.now) words.entry.now ≡ x.0.now ∷ map (λ w. w.now) x.1.now) }
-{
-    match words {
-        [first, rest @ ..] => Some((first, rest)),
-        [] => None,
     }
 }
 
@@ -77,96 +65,52 @@ fn form_of(name: &str) -> Option<Form>
     }
 }
 
-// What a command asks for, with as many words after its name as it takes.
+// What a command asks for, by the words after its name.
 fn asked_in<'a>(form: Form, rest: &[&'a str]) -> Result<Asked<'a>, LineFault>
-    requires { length rest.now ≡ words_after form }
     ensures asks { IfOk result (Asks (name_of form ∷ map (λ w. w.now) rest.now)) }
     ensures nothing { IfErr result (AskNothing (name_of form ∷ map (λ w. w.now) rest.now)) }
 {
-    match form {
-        Form::Script => {
-            let (user, script) = two(rest);
-            Ok(Asked::Reply(Request::Script { user, script }))
-        }
-        Form::Code => {
-            let (user, program) = two(rest);
-            Ok(Asked::Reply(Request::Code { user, program }))
-        }
-        Form::Deliver => {
-            let (user, message) = two(rest);
-            Ok(Asked::Reply(Request::Deliver { user, message }))
-        }
-        Form::List => Ok(Asked::Reply(Request::List { user: one(rest) })),
-        Form::Export => export_in(rest),
-        Form::Remove => remove_in(rest),
-        Form::Migrate => Ok(Asked::Reply(Request::Migrate)),
+    match (form, rest) {
+        (Form::Script, [user, script]) => Ok(Asked::Reply(Request::Script { user, script })),
+        (Form::Code, [user, program]) => Ok(Asked::Reply(Request::Code { user, program })),
+        (Form::Deliver, [user, message]) => Ok(Asked::Reply(Request::Deliver { user, message })),
+        (Form::List, [user]) => Ok(Asked::Reply(Request::List { user })),
+        (Form::Export, [user, digits, name, file]) => export_of(user, digits, name, file),
+        (Form::Remove, [user, digits]) => removal_of(user, digits),
+        (Form::Migrate, []) => Ok(Asked::Reply(Request::Migrate)),
+        _ => Err(LineFault::Form(form)),
     }
 }
 
 // What the words after `export` ask for.
-fn export_in<'a>(rest: &[&'a str]) -> Result<Asked<'a>, LineFault>
-    requires { length rest.now ≡ 4 }
-    ensures asks { IfOk result (Asks (codes "export" ∷ map (λ w. w.now) rest.now)) }
-    ensures nothing { IfErr result (AskNothing (codes "export" ∷ map (λ w. w.now) rest.now)) }
+fn export_of<'a>(
+    user: &'a str,
+    digits: &str,
+    name: &str,
+    file: &'a str,
+) -> Result<Asked<'a>, LineFault>
+    ensures asks { IfOk result
+        (Asks (codes "export" ∷ user.now ∷ digits.now ∷ name.now ∷ file.now ∷ [])) }
+    ensures nothing { IfErr result
+        (AskNothing (codes "export" ∷ user.now ∷ digits.now ∷ name.now ∷ file.now ∷ [])) }
 {
-    let (user, digits, name, file) = four(rest);
-    match (number_of(digits), encoding_of(name)) {
-        (Some(number), Some(encoding)) => Ok(Asked::Export(Export {
-            user,
-            number,
-            encoding,
-            file,
-        })),
-        (None, _) => Err(LineFault::Number),
-        (_, None) => Err(LineFault::Encoding),
-    }
+    let number = number_of(digits).ok_or(LineFault::Number)?;
+    let encoding = encoding_of(name).ok_or(LineFault::Encoding)?;
+    Ok(Asked::Export(Export {
+        user,
+        number,
+        encoding,
+        file,
+    }))
 }
 
 // What the words after `remove` ask for.
-fn remove_in<'a>(rest: &[&'a str]) -> Result<Asked<'a>, LineFault>
-    requires { length rest.now ≡ 2 }
-    ensures asks { IfOk result (Asks (codes "remove" ∷ map (λ w. w.now) rest.now)) }
-    ensures nothing { IfErr result (AskNothing (codes "remove" ∷ map (λ w. w.now) rest.now)) }
+fn removal_of<'a>(user: &'a str, digits: &str) -> Result<Asked<'a>, LineFault>
+    ensures asks { IfOk result (Asks (codes "remove" ∷ user.now ∷ digits.now ∷ [])) }
+    ensures nothing { IfErr result (AskNothing (codes "remove" ∷ user.now ∷ digits.now ∷ [])) }
 {
-    let (user, digits) = two(rest);
-    match number_of(digits) {
-        Some(number) => Ok(Asked::Reply(Request::Remove { user, number })),
-        None => Err(LineFault::Number),
-    }
-}
-
-// One word.
-fn one<'a>(rest: &[&'a str]) -> &'a str
-    requires { length rest.now ≡ 1 }
-    ensures { map (λ w. w.now) rest.now ≡ result.now ∷ [] }
-{
-    match rest {
-        [word] => word,
-        _ => unreachable!(),
-    }
-}
-
-// Two words.
-fn two<'a>(rest: &[&'a str]) -> (&'a str, &'a str)
-    requires { length rest.now ≡ 2 }
-    ensures { map (λ w. w.now) rest.now ≡ result.0.now ∷ result.1.now ∷ [] }
-{
-    match rest {
-        [first, second] => (first, second),
-        _ => unreachable!(),
-    }
-}
-
-// Four words.
-fn four<'a>(rest: &[&'a str]) -> (&'a str, &'a str, &'a str, &'a str)
-    requires { length rest.now ≡ 4 }
-    ensures { map (λ w. w.now) rest.now
-        ≡ result.0.now ∷ result.1.now ∷ result.2.now ∷ result.3.now ∷ [] }
-{
-    match rest {
-        [first, second, third, fourth] => (first, second, third, fourth),
-        _ => unreachable!(),
-    }
+    let number = number_of(digits).ok_or(LineFault::Number)?;
+    Ok(Asked::Reply(Request::Remove { user, number }))
 }
 
 // The number of an entry.

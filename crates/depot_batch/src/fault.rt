@@ -1,6 +1,5 @@
 // Why a line is no command.
 ghost use Rattle.std.specs.Prelude.{◌≡◌};
-ghost use Rattle.depot_batch.specs.Asked.{words_after};
 ghost use Rattle.depot_batch.specs.Sentences.{sentence_of};
 ghost use Rattle.depot_batch.specs.declared.fault.LineFault.TheVariants as faults;
 
@@ -57,18 +56,6 @@ impl LineFault {
 }
 
 impl Form {
-    /// How many words come after the command's name.
-    pub fn words_after(self) -> usize
-        ensures { result ≡ words_after self }
-    {
-        match self {
-            Form::Script | Form::Code | Form::Deliver | Form::Remove => 2,
-            Form::List => 1,
-            Form::Export => 4,
-            Form::Migrate => 0,
-        }
-    }
-
     // The words of the command.
     fn words(self) -> &'static str
         ensures { result.now ≡ sentence_of (faults.Form self) }

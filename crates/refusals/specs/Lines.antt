@@ -4,101 +4,58 @@ use Rattle.std.specs.Fmt.{decimal}
 use Rattle.refusals.specs.declared.refusal.Refusal.{Refusal}
 use Rattle.refusals.specs.declared.refusal.Refusal.TheVariants.{Memory, MessageTooLarge, TooManyParts, NotCanonical, Lexical, ScriptTooLong, Syntax, TooDeep, UnknownCommand, MissingCapability, UnknownCapability, BadArguments, Limit, Spelling, Index, Form, End, Loop, Jump, NoPart, Stack, Listing, NoSuchEntry, NumberFull, Collision, Database, UserName, Write, Read}
 
--- the number of a refusal
+-- a row of the table: a refusal's number, its name, and the place that it names
+pub record Row : Type 0 where
+  pub number : ℕ
+  pub name : List ℕ
+  pub place : Option ℕ
+
+abbrev pub plain : ℕ → List ℕ → Row
+plain number name = record { number = number; name = name; place = None }
+
+abbrev pub placed : ℕ → List ℕ → ℕ → Row
+placed number name place = record { number = number; name = name; place = Some place }
+
+-- the table of refusals
+abbrev pub row_of : Refusal → Row
+row_of Memory = plain 1 (codes "Memory")
+row_of MessageTooLarge = plain 2 (codes "MessageTooLarge")
+row_of TooManyParts = plain 3 (codes "TooManyParts")
+row_of NotCanonical = plain 10 (codes "NotCanonical")
+row_of (Lexical place) = placed 11 (codes "Lexical") place
+row_of ScriptTooLong = plain 12 (codes "ScriptTooLong")
+row_of (Syntax place) = placed 13 (codes "Syntax") place
+row_of (TooDeep place) = placed 14 (codes "TooDeep") place
+row_of (UnknownCommand place) = placed 15 (codes "UnknownCommand") place
+row_of (MissingCapability place) = placed 16 (codes "MissingCapability") place
+row_of (UnknownCapability place) = placed 17 (codes "UnknownCapability") place
+row_of (BadArguments place) = placed 18 (codes "BadArguments") place
+row_of (Limit place) = placed 19 (codes "Limit") place
+row_of Spelling = plain 20 (codes "Spelling")
+row_of (Index place) = placed 21 (codes "Index") place
+row_of (Form place) = placed 22 (codes "Form") place
+row_of (End place) = placed 23 (codes "End") place
+row_of (Loop place) = placed 24 (codes "Loop") place
+row_of (Jump place) = placed 25 (codes "Jump") place
+row_of (NoPart place) = placed 26 (codes "NoPart") place
+row_of (Stack place) = placed 27 (codes "Stack") place
+row_of (Listing place) = placed 28 (codes "Listing") place
+row_of NoSuchEntry = plain 40 (codes "NoSuchEntry")
+row_of NumberFull = plain 41 (codes "NumberFull")
+row_of Collision = plain 42 (codes "Collision")
+row_of Database = plain 43 (codes "Database")
+row_of UserName = plain 44 (codes "UserName")
+row_of Write = plain 45 (codes "Write")
+row_of Read = plain 46 (codes "Read")
+
 abbrev pub number_of : Refusal → ℕ
-number_of Memory = 1
-number_of MessageTooLarge = 2
-number_of TooManyParts = 3
-number_of NotCanonical = 10
-number_of (Lexical place) = 11
-number_of ScriptTooLong = 12
-number_of (Syntax place) = 13
-number_of (TooDeep place) = 14
-number_of (UnknownCommand place) = 15
-number_of (MissingCapability place) = 16
-number_of (UnknownCapability place) = 17
-number_of (BadArguments place) = 18
-number_of (Limit place) = 19
-number_of Spelling = 20
-number_of (Index place) = 21
-number_of (Form place) = 22
-number_of (End place) = 23
-number_of (Loop place) = 24
-number_of (Jump place) = 25
-number_of (NoPart place) = 26
-number_of (Stack place) = 27
-number_of (Listing place) = 28
-number_of NoSuchEntry = 40
-number_of NumberFull = 41
-number_of Collision = 42
-number_of Database = 43
-number_of UserName = 44
-number_of Write = 45
-number_of Read = 46
+number_of refusal = (row_of refusal).number
 
--- its name
 abbrev pub name_of : Refusal → List ℕ
-name_of Memory = codes "Memory"
-name_of MessageTooLarge = codes "MessageTooLarge"
-name_of TooManyParts = codes "TooManyParts"
-name_of NotCanonical = codes "NotCanonical"
-name_of (Lexical place) = codes "Lexical"
-name_of ScriptTooLong = codes "ScriptTooLong"
-name_of (Syntax place) = codes "Syntax"
-name_of (TooDeep place) = codes "TooDeep"
-name_of (UnknownCommand place) = codes "UnknownCommand"
-name_of (MissingCapability place) = codes "MissingCapability"
-name_of (UnknownCapability place) = codes "UnknownCapability"
-name_of (BadArguments place) = codes "BadArguments"
-name_of (Limit place) = codes "Limit"
-name_of Spelling = codes "Spelling"
-name_of (Index place) = codes "Index"
-name_of (Form place) = codes "Form"
-name_of (End place) = codes "End"
-name_of (Loop place) = codes "Loop"
-name_of (Jump place) = codes "Jump"
-name_of (NoPart place) = codes "NoPart"
-name_of (Stack place) = codes "Stack"
-name_of (Listing place) = codes "Listing"
-name_of NoSuchEntry = codes "NoSuchEntry"
-name_of NumberFull = codes "NumberFull"
-name_of Collision = codes "Collision"
-name_of Database = codes "Database"
-name_of UserName = codes "UserName"
-name_of Write = codes "Write"
-name_of Read = codes "Read"
+name_of refusal = (row_of refusal).name
 
--- the place that it names
 abbrev pub place_of : Refusal → Option ℕ
-place_of Memory = None
-place_of MessageTooLarge = None
-place_of TooManyParts = None
-place_of NotCanonical = None
-place_of (Lexical place) = Some place
-place_of ScriptTooLong = None
-place_of (Syntax place) = Some place
-place_of (TooDeep place) = Some place
-place_of (UnknownCommand place) = Some place
-place_of (MissingCapability place) = Some place
-place_of (UnknownCapability place) = Some place
-place_of (BadArguments place) = Some place
-place_of (Limit place) = Some place
-place_of Spelling = None
-place_of (Index place) = Some place
-place_of (Form place) = Some place
-place_of (End place) = Some place
-place_of (Loop place) = Some place
-place_of (Jump place) = Some place
-place_of (NoPart place) = Some place
-place_of (Stack place) = Some place
-place_of (Listing place) = Some place
-place_of NoSuchEntry = None
-place_of NumberFull = None
-place_of Collision = None
-place_of Database = None
-place_of UserName = None
-place_of Write = None
-place_of Read = None
+place_of refusal = (row_of refusal).place
 
 -- the place, where there is one
 abbrev pub place_text : Option ℕ → List ℕ
