@@ -17,7 +17,7 @@ use Rattle.depot_jobs.specs.Host.{HasMade, HasNotMade, HostState, makes, with_ca
 use Rattle.depot_jobs.specs.Inputs.{HasNotReadFile, HasReadFile, file_of}
 use Rattle.depot_jobs.specs.Jobs.{World}
 use Rattle.depot_jobs.specs.Printed.{refusal_line}
-use Rattle.depot_jobs.specs.declared.request.Request.{Request}
+use Rattle.depot_jobs.specs.Requests.{Request}
 use Rattle.depot_cli.specs.Printed.{reply_text}
 use Rattle.depot_cli.specs.Requests.{request_command}
 use Rattle.depot_batch.specs.Asked.{Text}

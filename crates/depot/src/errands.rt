@@ -5,7 +5,7 @@
 //! are saved, and with looks.
 ghost use Rattle.sqlite.specs.Recovery.{Image};
 ghost use Rattle.sqlite.specs.WalFiles.{image_at};
-ghost use Rattle.depot_cli.specs.Tasks.{command_of};
+ghost use Rattle.depot_cli.specs.Requests.{command_of};
 ghost use Rattle.depot.specs.Ending.{IsToldAs};
 ghost use Rattle.depot.specs.Private.{IsFound, IsLeftOf};
 ghost use Rattle.depot.specs.Errands.{HasEnded, answer};

@@ -17,8 +17,8 @@ use Rattle.refusals.specs.Lines.{name_of, number_of, place_of, place_text, refus
 use Rattle.refusals.specs.declared.refusal.Refusal.{Refusal}
 use Rattle.refusals.specs.declared.refusal.Refusal.TheVariants.{Memory, MessageTooLarge, TooManyParts, NotCanonical, Lexical, ScriptTooLong, Syntax, TooDeep, UnknownCommand, MissingCapability, UnknownCapability, BadArguments, Limit, Spelling, Index, Form, End, Loop, Jump, NoPart, Stack, Listing as BadListing, NoSuchEntry, NumberFull, Collision, Database, UserName, Write, Read}
 use Rattle.depot_jobs.specs.Printed.{line, quoted, refusal_line}
-use Rattle.depot_jobs.specs.declared.request.Request.{Request}
-use Rattle.depot_jobs.specs.declared.request.Request.TheVariants.{Script, Code, Deliver, List as ListEntries, Export, Remove, Migrate}
+use Rattle.depot_jobs.specs.Requests.{Request}
+use Rattle.depot_jobs.specs.declared.request.OnDepot.TheVariants.{Script, Code, Deliver, List as ListEntries, Export, Remove, Migrate}
 use Rattle.depot_cli.specs.Printed.{entries_text, entry_text, kind_text, reply_text}
 use Rattle.depot_cli.specs.Requests.{request_command}
 use Rattle.depot_cli.specs.Tasks.{HasDone}

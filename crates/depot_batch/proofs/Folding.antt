@@ -12,7 +12,7 @@ use Rattle.depot_actions.specs.Deliveries.{calls_of}
 use Rattle.depot_actions.specs.DepotState.{Command, Does, Listed, Reply as DepotReply, Text as Written}
 use Rattle.depot_actions.specs.History.{AreSteps, Call}
 use Rattle.depot_jobs.specs.Host.{HostState}
-use Rattle.depot_jobs.specs.declared.request.Request.TheVariants as requests
+use Rattle.depot_jobs.specs.declared.request.OnDepot.TheVariants as requests
 use Rattle.refusals.specs.declared.refusal.Refusal.{Refusal}
 use Rattle.depot_batch.specs.Batch.{AreDeliveries, AreTaken, Happens, HasCome, IsAsked, IsCallOf, IsDone, IsMadeAtOne, IsRefused, Office, Outlasts, command_asked}
 use Rattle.depot_batch.specs.Turns.{Alone, Together, Turn, Withdrawn, done_in, lines_done}

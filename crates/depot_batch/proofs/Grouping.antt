@@ -17,7 +17,7 @@ use Rattle.depot_actions.specs.Deliveries.{DoesAll, MayLeaveAll, reply_of}
 use Rattle.depot_actions.specs.DepotState.{Command, Deliver, Listed}
 use Rattle.depot_jobs.specs.Host.{HostState}
 use Rattle.depot_jobs.specs.Inputs.{HasReadFile}
-use Rattle.depot_jobs.specs.declared.request.Request.TheVariants as requests
+use Rattle.depot_jobs.specs.declared.request.OnDepot.TheVariants as requests
 use Rattle.depot_batch.specs.Asked.{Text}
 use Rattle.depot_batch.specs.Batch.{AreAnsweredBy, AreDeliveries, AreLookedUp, AreWithdrawn, IsAsked, IsDelivery, MayMakeAll, Office, filed_text, most_together}
 use Rattle.depot_batch.specs.Private.{IsPassedOver, command_of, filed_by, lines_of}

@@ -5,7 +5,7 @@ use Rattle.sqlite.specs.Held.{Held, state}
 use Rattle.depot_actions.specs.DepotState.{Command}
 use Rattle.depot_jobs.specs.Host.{HostState}
 use Rattle.depot_jobs.specs.Inputs.{HasReadFile, file_of}
-use Rattle.depot_jobs.specs.declared.request.Request.{Request}
+use Rattle.depot_jobs.specs.Requests.{Request}
 use Rattle.depot_cli.specs.Requests.{request_command}
 use Rattle.depot_cli.specs.Tasks.{HasRefused}
 use Rattle.refusals.specs.declared.refusal.Refusal.{Refusal}

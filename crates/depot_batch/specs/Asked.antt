@@ -5,7 +5,7 @@ use Rattle.std.specs.Str.Parse.{digits_value, without_leading_plus}
 use Rattle.encodings.specs.declared.encoding.Encoding.{Encoding}
 use Rattle.encodings.specs.declared.encoding.Encoding.TheVariants.{Raw, Base64, Base64Mime, Base32, Base32Hex, Base16, Qp}
 use Rattle.depot_jobs.specs.Words.{IsNumberText}
-use Rattle.depot_jobs.specs.declared.request.Request.TheVariants as requests
+use Rattle.depot_jobs.specs.declared.request.OnDepot.TheVariants as requests
 use Rattle.depot_batch.specs.declared.asked.Asked.{Asked}
 use Rattle.depot_batch.specs.declared.asked.Asked.TheVariants.{Reply, Export as IntoFile}
 use Rattle.depot_batch.specs.declared.fault.LineFault.{LineFault}

@@ -23,8 +23,8 @@ use Rattle.depot_cli.specs.Printed.{entries_text}
 use Rattle.depot_cli.specs.Requests.{request_command}
 use Rattle.depot_cli.specs.Tasks.{HasAnswered, HasDone, HasRefused, MayAdd}
 use Rattle.depot_cli.specs.declared.entries.Detail.TheVariants.{Brief}
-use Rattle.depot_jobs.specs.declared.request.Request.{Request}
-use Rattle.depot_jobs.specs.declared.request.Request.TheVariants.{Deliver}
+use Rattle.depot_jobs.specs.Requests.{Request}
+use Rattle.depot_jobs.specs.declared.request.OnDepot.TheVariants.{Deliver}
 use Rattle.refusals.specs.declared.refusal.Refusal.{Refusal}
 use Rattle.refusals.specs.declared.refusal.Refusal.TheVariants.{Memory, Write}
 use Rattle.depot_batch.specs.Asked.{AskNothing, Asks, Text}

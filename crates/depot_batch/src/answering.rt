@@ -11,7 +11,7 @@ ghost use Rattle.depot_batch.specs.Batch.{HasExported, HasNotExported, HasNotRep
 
 use crate::asked::{Asked, Export};
 use depot_actions::Depot;
-use depot_cli::{Reply, Task, put_reply, reply_to};
+use depot_cli::{Reply, put_reply, reply_to};
 use depot_jobs::{Host, Piece, Request, put_pieces, read_file_of};
 use encodings::{DeviceFailed, Sink};
 use refusals::Refusal;
@@ -82,7 +82,7 @@ fn reply<S: Alter, H: Host>(
 {
     match read_file_of(alloc, request, host) {
         Ok(octets) => {
-            let task = Task::of(request, octets);
+            let task = request.with_octets(octets);
             reply_to(alloc, &task, depot)
         }
         Err(refusal) => Err(refusal),

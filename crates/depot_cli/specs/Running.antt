@@ -11,9 +11,8 @@ use Rattle.depot_jobs.specs.Words.{IsLine}
 use Rattle.depot_jobs.specs.Working.{HasNotWorked, HasWorked}
 use Rattle.depot_jobs.specs.declared.line.CommandLine.{CommandLine}
 use Rattle.depot_jobs.specs.declared.line.CommandLine.TheVariants.{Alone, OnDepot, Program, Inspect, Batch}
-use Rattle.depot_jobs.specs.declared.request.Request.{Request}
-use Rattle.depot_cli.specs.Requests.{request_command}
-use Rattle.depot_cli.specs.Tasks.{command_of}
+use Rattle.depot_jobs.specs.Requests.{Request}
+use Rattle.depot_cli.specs.Requests.{command_of, request_command}
 use Rattle.depot_cli.specs.declared.errand.Errand.{Errand}
 use Rattle.depot_cli.specs.declared.running.Next.{Next}
 use Rattle.depot_cli.specs.declared.running.Next.TheVariants as next

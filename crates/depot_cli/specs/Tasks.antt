@@ -1,4 +1,4 @@
--- What tasks ask of a depot, and what performing one does.
+-- What performing a task does.
 use Rattle.std.specs.Prelude.{◌≡◌, ◌≢◌, ◌⊎◌, ℕ, List, map}
 use Rattle.sqlite.specs.State.{HasCleanDisk, State}
 use Rattle.sqlite_trees.specs.Tree.{Trees}
@@ -15,18 +15,6 @@ use Rattle.depot_cli.specs.Printed.{entries_text, migrated_text, removed_text, r
 use Rattle.depot_cli.specs.declared.entries.Detail.TheVariants.{Brief, Full}
 use Rattle.depot_cli.specs.declared.task.Reply.{Reply as Replied}
 use Rattle.depot_cli.specs.declared.task.Reply.TheVariants.{Stored, Filed, Listed, Removed, Migrated}
-use Rattle.depot_cli.specs.declared.task.Task.{Task}
-use Rattle.depot_cli.specs.declared.task.Task.TheVariants.{Script, Code, Deliver, List as ListEntries, Export, Remove, Migrate}
-
--- what a task asks of the depot
-abbrev pub command_of : Task → Command
-command_of (Script user script) = SetScript user.now script.items
-command_of (Code user program) = SetCode user.now program.items
-command_of (Deliver user message) = depot.Deliver user.now message.items
-command_of (ListEntries user) = ListAll user.now
-command_of (Export user number encoding) = depot.Export user.now number encoding
-command_of (Remove user number) = depot.Remove user.now number
-command_of Migrate = depot.Migrate
 
 -- ---- what performing does
 

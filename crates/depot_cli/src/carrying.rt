@@ -1,7 +1,7 @@
 // Errands and inspections, by what opening the file gave.
 ghost use Rattle.sqlite.specs.Held.{state};
 ghost use Rattle.depot_cli.specs.Carrying.{HasCarried, HasReported, OutlastsCarrying, OutlastsReporting};
-ghost use Rattle.depot_cli.specs.Tasks.{command_of};
+ghost use Rattle.depot_cli.specs.Requests.{command_of};
 
 use crate::errand::Errand;
 use crate::inspection::inspect;

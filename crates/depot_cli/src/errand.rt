@@ -1,5 +1,5 @@
 // Errands to a depot.
-use crate::task::Task;
+use depot_jobs::Task;
 
 /// A command on a depot, whose file was read.
 #[derive(Drop)]

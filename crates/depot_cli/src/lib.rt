@@ -1,7 +1,7 @@
 //! The command line of `depot`: what it does with a depot, and what it prints of one.
 //!
 //! [`run`] goes from the words to the status (`specs/Running`). What needs no depot is done by
-//! `depot_jobs`. A [`Request`](depot_jobs::Request) to a depot is a [`Task`] once its file is read
+//! `depot_jobs`. A [`Request`](depot_jobs::Request) to a depot is a [`Task`](depot_jobs::Task) once its file is read
 //! (`specs/Requests`), which [`perform`] has the depot do: it writes exactly the reply, or the line of
 //! the refusal (`specs/Tasks`, `specs/Printed`). Whoever opened the depot's file hands the task to
 //! [`carry`] as an [`Errand`] (`specs/Carrying`), a program that is saved to [`save`]
@@ -23,4 +23,4 @@ pub use inspection::inspect;
 pub use no_depot::{NoDepot, tell_no_depot};
 pub use running::{Next, run};
 pub use saving::{Saving, save};
-pub use task::{Reply, Task, perform, put_reply, reply_to};
+pub use task::{Reply, perform, put_reply, reply_to};

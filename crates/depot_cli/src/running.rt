@@ -6,7 +6,6 @@ ghost use Rattle.depot_cli.specs.Running.{HasPrepared, HasRun, LeadsTo};
 
 use crate::errand::Errand;
 use crate::saving::Saving;
-use crate::task::Task;
 use depot_jobs::{CommandLine, Host, Request, carry_out, line_of, read_file_of, tell, tell_fault};
 use encodings::Sink;
 use refusals::Refusal;
@@ -95,7 +94,7 @@ fn prepare<'a, H: Host>(
     match read_file_of(alloc, request, host) {
         Ok(octets) => Ok(Errand {
             name,
-            task: Task::of(request, octets),
+            task: request.with_octets(octets),
         }),
         Err(refusal) => Err(refusal),
     }

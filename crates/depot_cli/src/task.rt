@@ -7,89 +7,17 @@ ghost use Rattle.encodings.specs.Device.{HasBroken, HasTaken};
 ghost use Rattle.refusals.specs.declared.refusal.Refusal.TheVariants.{Write};
 ghost use Rattle.depot_jobs.specs.Jobs.{HasTold};
 ghost use Rattle.depot_cli.specs.Printed.{migrated_text, removed_text};
-ghost use Rattle.depot_cli.specs.Requests.{request_command};
-ghost use Rattle.depot_cli.specs.Tasks.{HasAnswered, HasPerformed, HasRefused, MayAdd, command_of, desk, text_in};
+ghost use Rattle.depot_cli.specs.Requests.{command_of};
+ghost use Rattle.depot_cli.specs.Tasks.{HasAnswered, HasPerformed, HasRefused, MayAdd, desk, text_in};
 
 use crate::entries::{Detail, put_entries};
 use depot_actions::Depot;
-use depot_jobs::{Piece, Request, SUCCESS, put_line, put_pieces, tell};
-use encodings::{DeviceFailed, Encoding, Sink};
+use depot_jobs::{Piece, SUCCESS, Task, put_line, put_pieces, tell};
+use encodings::{DeviceFailed, Sink};
 use part_store::EntryRow;
 use refusals::Refusal;
 use sqlite::Alter;
 use std::alloc::Global;
-
-/// A command on a depot, with the octets of its file.
-#[derive(Drop)]
-pub enum Task<'a> {
-    /// A script's code as the user's filter.
-    Script {
-        user: &'a str,
-        script: Vec<u8>,
-    },
-    /// A program as the user's filter.
-    Code {
-        user: &'a str,
-        program: Vec<u8>,
-    },
-    /// A message, filed as the user's filter says.
-    Deliver {
-        user: &'a str,
-        message: Vec<u8>,
-    },
-    /// The user's entries.
-    List {
-        user: &'a str,
-    },
-    /// The octets of the user's entry in an encoding.
-    Export {
-        user: &'a str,
-        number: u32,
-        encoding: Encoding,
-    },
-    /// The user's entry, taken away.
-    Remove {
-        user: &'a str,
-        number: u32,
-    },
-    /// All users' filters, given the latest version.
-    Migrate,
-}
-
-impl<'a> Task<'a> {
-    /// The task of a request, with the octets of its file; a request that reads none doesn't look at
-    /// them.
-    pub fn of(request: Request<'a>, octets: Vec<u8>) -> Task<'a>
-        ensures { command_of result ≡ request_command request.entry octets.items }
-    {
-        match request {
-            Request::Script { user, .. } => Task::Script {
-                user,
-                script: octets,
-            },
-            Request::Code { user, .. } => Task::Code {
-                user,
-                program: octets,
-            },
-            Request::Deliver { user, .. } => Task::Deliver {
-                user,
-                message: octets,
-            },
-            Request::List { user } => Task::List { user },
-            Request::Export {
-                user,
-                number,
-                encoding,
-            } => Task::Export {
-                user,
-                number,
-                encoding,
-            },
-            Request::Remove { user, number } => Task::Remove { user, number },
-            Request::Migrate => Task::Migrate,
-        }
-    }
-}
 
 /// What a depot replies to a task that it did, but for an export, whose reply is a text.
 #[derive(Drop)]

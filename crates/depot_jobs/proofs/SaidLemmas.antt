@@ -9,7 +9,7 @@ use Rattle.depot_words.specs.Ranges.{AreComplete, HasArgument, IsOneOf, commands
 use Rattle.depot_jobs.specs.Words.{AreSaid, IsLine, IsNumber, WritesFrom, WritesNumber, argument, encoding_named, name_of}
 use Rattle.depot_jobs.specs.declared.line.CommandLine.{CommandLine}
 use Rattle.depot_jobs.specs.declared.line.CommandLine.TheVariants.{Alone, OnDepot}
-use Rattle.depot_jobs.specs.declared.request.Request.TheVariants.{Export, Remove}
+use Rattle.depot_jobs.specs.declared.request.OnDepot.TheVariants.{Export, Remove}
 use Rattle.depot_jobs.specs.declared.work.Work.TheVariants.{Limit, Encode, Decode}
 
 -- the name of the encoding that a name stands for is that name

@@ -6,8 +6,8 @@ use Rattle.refusals.specs.declared.refusal.Refusal.{Refusal}
 use Rattle.refusals.specs.declared.refusal.Refusal.TheVariants.{Memory, MessageTooLarge, Read}
 use Rattle.depot_jobs.specs.Host.{HostState, Origin, file, opens, standard, with_call, with_faults}
 use Rattle.depot_jobs.specs.Limits.{max_input}
-use Rattle.depot_jobs.specs.declared.request.Request.{Request}
-use Rattle.depot_jobs.specs.declared.request.Request.TheVariants.{Script, Code, Deliver, List as ListEntries, Export, Remove, Migrate}
+use Rattle.depot_jobs.specs.Requests.{Request}
+use Rattle.depot_jobs.specs.declared.request.OnDepot.TheVariants.{Script, Code, Deliver, List as ListEntries, Export, Remove, Migrate}
 use Rattle.depot_jobs.specs.declared.work.Work.{Work}
 use Rattle.depot_jobs.specs.declared.work.Work.TheVariants.{NoWords, Check, Explain, Compile, Verify, Limit, Run, Disassemble, Assemble, Eval, Trace, Parts, Encode, Decode}
 

@@ -7,6 +7,7 @@ pub mod Tracing
 pub mod Jobs
 pub mod Words
 pub mod Statuses
+pub mod Requests
 pub mod Inputs
 pub mod Working
 pub mod Usage

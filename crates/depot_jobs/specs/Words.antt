@@ -10,8 +10,8 @@ use Rattle.encodings.specs.declared.encoding.Encoding.{Encoding}
 use Rattle.encodings.specs.declared.encoding.Encoding.TheVariants.{Raw, Base64, Base64Mime, Base32, Base32Hex, Base16, Qp}
 use Rattle.depot_jobs.specs.declared.line.CommandLine.{CommandLine}
 use Rattle.depot_jobs.specs.declared.line.CommandLine.TheVariants.{Alone, OnDepot, Program, Inspect, Batch}
-use Rattle.depot_jobs.specs.declared.request.Request.{Request}
-use Rattle.depot_jobs.specs.declared.request.Request.TheVariants.{Script, Code, Deliver, List as ListAll, Export, Remove, Migrate}
+use Rattle.depot_jobs.specs.Requests.{Request}
+use Rattle.depot_jobs.specs.declared.request.OnDepot.TheVariants.{Script, Code, Deliver, List as ListAll, Export, Remove, Migrate}
 use Rattle.depot_jobs.specs.declared.work.Work.{Work}
 use Rattle.depot_jobs.specs.declared.work.Work.TheVariants.{NoWords, Check, Explain, Compile, Verify, Limit, Run, Disassemble, Assemble, Eval, Trace, Parts, Encode, Decode}
 

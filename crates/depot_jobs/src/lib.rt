@@ -44,7 +44,7 @@ pub use piece::Piece;
 pub use printing::{put_line, put_pieces, put_refusal, put_wrote};
 pub use process_words::{tell_no_words, texts, words};
 pub use reading::read_limited;
-pub use request::Request;
+pub use request::{OnDepot, Request, Task};
 pub use system::System;
 pub use usage::{tell_fault, tell_usage};
 pub use work::Work;

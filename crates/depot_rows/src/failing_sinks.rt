@@ -1,7 +1,8 @@
 // Replies that can't be written: what was done stands, and what was written is the text's beginning.
 use crate::devices::Calls;
 use depot_actions::{Depot, Refusal};
-use depot_cli::{Task, perform};
+use depot_cli::perform;
+use depot_jobs::Task;
 use encodings::{Encoding, OfWrite, Sink, encode};
 use sqlite::MemStore;
 use std::alloc::{AllocError, Global};

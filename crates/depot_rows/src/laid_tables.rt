@@ -1,6 +1,7 @@
 // Tables that were laid by SQL: what a delivery prints there, and that a refusal leaves every row as it was.
 use depot_actions::Depot;
-use depot_cli::{Task, inspect, perform};
+use depot_cli::{inspect, perform};
+use depot_jobs::Task;
 use encodings::OfWrite;
 use part_store::{PartStore, StoreError};
 use sqlite::{Connection, MemStore};

@@ -1,0 +1,24 @@
+-- Commands on a depot, with what stands for their files.
+use Rattle.std.specs.Prelude.{ℕ, List, Vec}
+use Rattle.std.specs.Borrow.{Bor}
+use Rattle.std.specs.declared.alloc.Global.{Global}
+use Rattle.depot_jobs.specs.declared.request.OnDepot.{OnDepot}
+use Rattle.depot_jobs.specs.declared.request.OnDepot.TheVariants.{Script, Code, Deliver, List as ListEntries, Export, Remove, Migrate}
+
+-- with the names of their files
+abbrev pub Request : Type 0
+Request = OnDepot (Bor (List ℕ))
+
+-- with the octets of their files
+abbrev pub Task : Type 0
+Task = OnDepot (Vec ℕ Global)
+
+-- the same command, with this for its file
+abbrev pub with_file : {F G : Type 0} → G → OnDepot F → OnDepot G
+with_file file (Script user script) = Script user file
+with_file file (Code user program) = Code user file
+with_file file (Deliver user message) = Deliver user file
+with_file file (ListEntries user) = ListEntries user
+with_file file (Export user number encoding) = Export user number encoding
+with_file file (Remove user number) = Remove user number
+with_file file Migrate = Migrate
