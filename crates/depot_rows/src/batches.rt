@@ -1,5 +1,6 @@
 // Batches on a depot in memory, over a shelf: what each line is answered, and what breaks off.
 use crate::devices::Calls;
+use crate::known::{DISCARD, EMPTY, MAIL, entries};
 use crate::shelf::{Known, Shelf};
 use depot_actions::{Depot, Refusal};
 use depot_batch::batch;
@@ -9,7 +10,7 @@ use std::alloc::Global;
 use std::io;
 use std::io::{BufReader, Error, ErrorKind, Read, Write};
 use std::test::Fail;
-use store_rows::samples::{JUMP, KEEP, MESSAGE};
+use store_rows::samples::{JUMP, KEEP};
 
 const PROGRAM: Known<'static> = Known {
     name: "program",
@@ -19,21 +20,6 @@ const PROGRAM: Known<'static> = Known {
 const WRONG: Known<'static> = Known {
     name: "wrong",
     octets: JUMP,
-};
-
-const EMPTY: Known<'static> = Known {
-    name: "empty",
-    octets: b"",
-};
-
-const MAIL: Known<'static> = Known {
-    name: "mail",
-    octets: MESSAGE,
-};
-
-const DISCARD: Known<'static> = Known {
-    name: "discard",
-    octets: b"discard;",
 };
 
 // Three deliveries, and what they are answered.
@@ -128,14 +114,6 @@ fn answers(
     let seen = served(alloc, depot, files, lines, Vec::new(alloc))?;
     let ended = seen.status == 0 && seen.faults == 0 && seen.has_ended;
     Ok(ended && seen.out.as_slice() == answer && seen.err.is_empty())
-}
-
-// How many entries ann has.
-fn entries(depot: &mut Result<Depot<MemStore>, Refusal>) -> Result<usize, Fail> {
-    match depot {
-        Ok(depot) => Ok(depot.list("ann")?.len()),
-        Err(_) => Ok(0),
-    }
 }
 
 #[test]

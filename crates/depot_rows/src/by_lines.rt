@@ -2,7 +2,8 @@
 ghost use Rattle.std.specs.Prelude.{◌≤◌, length};
 
 use crate::devices::Calls;
-use crate::shelf::{Known, Shelf};
+use crate::known::{DISCARD, MAIL, entries};
+use crate::shelf::Shelf;
 use depot_actions::{Depot, Refusal};
 use depot_batch::batch;
 use encodings::{OfRead, OfWrite};
@@ -12,16 +13,6 @@ use std::io;
 use std::io::{BufReader, Read, Write};
 use std::test::Fail;
 use store_rows::samples::MESSAGE;
-
-const MAIL: Known<'static> = Known {
-    name: "mail",
-    octets: MESSAGE,
-};
-
-const DISCARD: Known<'static> = Known {
-    name: "discard",
-    octets: b"discard;",
-};
 
 // Three deliveries, and what they are answered.
 const THREE: &[u8] = b"deliver ann mail\ndeliver ann mail\ndeliver ann mail\n";
@@ -96,14 +87,6 @@ fn answers(
     let seen = served(alloc, depot, lines, Vec::new(alloc))?;
     let ended = seen.status == 0 && seen.err.is_empty() && seen.opened == opened;
     Ok(ended && seen.out.as_slice() == answer)
-}
-
-// How many entries ann has.
-fn entries(depot: &mut Result<Depot<MemStore>, Refusal>) -> Result<usize, Fail> {
-    match depot {
-        Ok(depot) => Ok(depot.list("ann")?.len()),
-        Err(_) => Ok(0),
-    }
 }
 
 #[test]

@@ -1,6 +1,7 @@
 // Deliveries that a batch does together: what they are answered, and what is read of which files.
 use crate::devices::Calls;
-use crate::shelf::{Asked, Known, Shelf};
+use crate::known::{EMPTY, MAIL, entries};
+use crate::shelf::{Asked, Shelf};
 use depot_actions::{Depot, Refusal};
 use depot_batch::batch;
 use encodings::{OfRead, OfWrite};
@@ -9,16 +10,6 @@ use std::alloc::Global;
 use std::io::{BufReader, Write};
 use std::test::Fail;
 use store_rows::samples::MESSAGE;
-
-const MAIL: Known<'static> = Known {
-    name: "mail",
-    octets: MESSAGE,
-};
-
-const EMPTY: Known<'static> = Known {
-    name: "empty",
-    octets: b"",
-};
 
 /// What came of a batch.
 #[derive(Drop)]
@@ -89,14 +80,6 @@ fn filed(alloc: Global, first: usize, count: usize) -> Result<Vec<u8>, Fail> {
         text.extend_from_slice(line.as_bytes())?;
     }
     Ok(text)
-}
-
-// How many entries ann has.
-fn entries(depot: &mut Result<Depot<MemStore>, Refusal>) -> Result<usize, Fail> {
-    match depot {
-        Ok(depot) => Ok(depot.list("ann")?.len()),
-        Err(_) => Ok(0),
-    }
 }
 
 #[test]

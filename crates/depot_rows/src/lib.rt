@@ -20,6 +20,8 @@ mod groups;
 #[cfg(test)]
 mod inspecting;
 #[cfg(test)]
+mod known;
+#[cfg(test)]
 mod laid_tables;
 #[cfg(test)]
 mod readings;
