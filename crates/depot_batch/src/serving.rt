@@ -28,17 +28,19 @@ const SUCCESS: u8 = 0;
 const REFUSED: u8 = 1;
 
 /// Serves a batch to what opening the depot in the file of this name gave, and gives the status: the
-/// commands of the lines that the input has are done, one after another, and each is answered before
-/// the next one is read. Deliveries of which the lines are there already, up to 64, are done together,
-/// in one transaction, and answered when it is committed; if one of them would be refused, or can't be read,
-/// all are done one after another. Or the line of the refusal of opening is written to `err`, with 1. What was
-/// opened stays open, for whoever closes it.
+/// commands of the lines that the input has are done, one after another. One that is done alone is
+/// answered before the next one is done. Deliveries of which the lines are there already, up to 64,
+/// are done together, in one transaction, and answered when it is committed; if one of them would be
+/// refused, or can't be read, all are done one after another. Or the line of the refusal of opening is
+/// written to `err`, with 1. What was opened stays open, for whoever closes it.
 ///
-/// The status is 0 at the end of the input. Where that comes within a line, the octets after the last line break are answered as what
-/// they are, no command, and whatever the input would give afterwards isn't asked for. The status is 1 after a line that is refused
-/// `Database`, since a failure may have shut the depot's store; and where the input or `out` fails, or memory is refused while a line is
-/// read, of which the line of `Read`, `Write` or `Memory` is written to `err`. Memory that is refused for what a line asks is that line's
-/// answer. A batch ends after 2^64 - 1 lines, too.
+/// The status is 0 at the end of the input. Where that comes within a line, the octets after the last
+/// line break are answered as what they are, no command, and whatever the input would give afterwards
+/// isn't asked for. The status is 1 after a line that is refused `Database`, since a failure may have
+/// shut the depot's store; and where the input or `out` fails, or memory is refused while a line is
+/// read, of which the line of `Read`, `Write` or `Memory` is written to `err`. Memory that is refused
+/// for what a line asks is that line's answer. A batch ends after 2^64 - 1 turns, too, where lines that
+/// are done together are one turn.
 pub fn batch<S: Alter, H: Host, R: BufRead + Drop, W: Write + Drop, E: Sink>(
     alloc: Global,
     name: &str,
