@@ -1,9 +1,7 @@
 -- What the words of a line ask for.
-use Rattle.std.specs.Prelude.{◌≡◌, ◌≢◌, ℕ, ◌≤◌, List, [], ◌∷◌, Option, Some, None, codes, if◌then◌else◌, length}
-use Rattle.std.specs.Str.{bytes_eq}
+use Rattle.std.specs.Prelude.{◌≡◌, ◌≢◌, ℕ, ◌≤◌, List, [], ◌∷◌, Option, Some, None, codes, length}
 use Rattle.std.specs.Str.Parse.{digits_value, without_leading_plus}
-use Rattle.encodings.specs.declared.encoding.Encoding.{Encoding}
-use Rattle.encodings.specs.declared.encoding.Encoding.TheVariants.{Raw, Base64, Base64Mime, Base32, Base32Hex, Base16, Qp}
+use Rattle.encodings.specs.Names.{encoding_of}
 use Rattle.depot_jobs.specs.Words.{IsNumberText}
 use Rattle.depot_jobs.specs.declared.request.OnDepot.TheVariants as requests
 use Rattle.depot_batch.specs.declared.asked.Asked.{Asked}
@@ -21,18 +19,6 @@ pub record IsEntryNumber (text : Text) (number : ℕ) : Type 0 where
   pub numeral : IsNumberText text
   pub value : number ≡ digits_value 10 (without_leading_plus text)
   pub some : 1 ≤ number
-
--- the encoding of a name
-abbrev pub encoding_of : Text → Option Encoding
-encoding_of name =
-    if bytes_eq name (codes "raw") then Some Raw
-    else if bytes_eq name (codes "base64") then Some Base64
-    else if bytes_eq name (codes "base64-mime") then Some Base64Mime
-    else if bytes_eq name (codes "base32") then Some Base32
-    else if bytes_eq name (codes "base32hex") then Some Base32Hex
-    else if bytes_eq name (codes "base16") then Some Base16
-    else if bytes_eq name (codes "qp") then Some Qp
-    else None
 
 -- words ask for this; for an export always with its file, so for none that a depot replies to
 abbrev pub Asks : List Text → Asked → Type 0

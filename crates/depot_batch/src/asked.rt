@@ -1,6 +1,6 @@
 // What a line asks for.
 ghost use Rattle.std.specs.Prelude.{◌≡◌, ◌∷◌, [], ℕ, MatchOption, IfErr, IfOk, codes, map};
-ghost use Rattle.depot_batch.specs.Asked.{Asks, AskNothing, IsEntryNumber, encoding_of, name_of};
+ghost use Rattle.depot_batch.specs.Asked.{Asks, AskNothing, IsEntryNumber, name_of};
 ghost use Rattle.depot_batch.specs.declared.fault.Form.{Form};
 
 use crate::fault::{Form, LineFault};
@@ -95,7 +95,7 @@ fn export_of<'a>(
         (AskNothing (codes "export" ∷ user.now ∷ digits.now ∷ name.now ∷ file.now ∷ [])) }
 {
     let number = number_of(digits).ok_or(LineFault::Number)?;
-    let encoding = encoding_of(name).ok_or(LineFault::Encoding)?;
+    let encoding = Encoding::named(name).ok_or(LineFault::Encoding)?;
     Ok(Asked::Export(Export {
         user,
         number,
@@ -120,22 +120,6 @@ fn number_of(digits: &str) -> Option<u32>
 {
     match digits.parse::<u32>() {
         Ok(number) if number > 0 => Some(number),
-        _ => None,
-    }
-}
-
-// The encoding of a name.
-fn encoding_of(name: &str) -> Option<Encoding>
-    ensures { result ≡ encoding_of name.now }
-{
-    match name {
-        "raw" => Some(Encoding::Raw),
-        "base64" => Some(Encoding::Base64),
-        "base64-mime" => Some(Encoding::Base64Mime),
-        "base32" => Some(Encoding::Base32),
-        "base32hex" => Some(Encoding::Base32Hex),
-        "base16" => Some(Encoding::Base16),
-        "qp" => Some(Encoding::Qp),
         _ => None,
     }
 }

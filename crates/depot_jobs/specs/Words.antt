@@ -7,7 +7,8 @@ use Rattle.clap.specs.Words.{App, Row, Text, fault_of, first_of, subcommand_of}
 use Rattle.depot_words.specs.Commands.{IsDepot}
 use Rattle.depot_words.specs.Ranges.{AreComplete, IsEntryNumber, IsNumberFrom, commands}
 use Rattle.encodings.specs.declared.encoding.Encoding.{Encoding}
-use Rattle.encodings.specs.declared.encoding.Encoding.TheVariants.{Raw, Base64, Base64Mime, Base32, Base32Hex, Base16, Qp}
+use Rattle.encodings.specs.declared.encoding.Encoding.TheVariants.{Raw}
+use Rattle.encodings.specs.Names.{encoding_of, name_of}
 use Rattle.depot_jobs.specs.declared.line.CommandLine.{CommandLine}
 use Rattle.depot_jobs.specs.declared.line.CommandLine.TheVariants.{Alone, OnDepot, Program, Inspect, Batch}
 use Rattle.depot_jobs.specs.Requests.{Request}
@@ -21,14 +22,7 @@ argument name rows = unwrap_or (first_of name rows) []
 
 -- the encoding of this name; raw stands for any other, which no command line of the program has
 abbrev pub encoding_named : Text → Encoding
-encoding_named name =
-    if bytes_eq name (codes "base64") then Base64
-    else if bytes_eq name (codes "base64-mime") then Base64Mime
-    else if bytes_eq name (codes "base32") then Base32
-    else if bytes_eq name (codes "base32hex") then Base32Hex
-    else if bytes_eq name (codes "base16") then Base16
-    else if bytes_eq name (codes "qp") then Qp
-    else Raw
+encoding_named name = unwrap_or (encoding_of name) Raw
 
 -- the matches are those of the command of this name
 abbrev pub IsCommand : Text → Option (Text × List Row) → List Row → Type 0
@@ -143,16 +137,6 @@ pub record IsLine (words : List Text) (line : CommandLine) : Type 0 where
   pub taken : fault_of app words ≡ []
   pub complete : IfSome (subcommand_of app words) (λ m. AreComplete commands m.0 m.1)
   pub says : Says line (subcommand_of app words)
-
--- the name of an encoding
-abbrev pub name_of : Encoding → Text
-name_of Raw = codes "raw"
-name_of Base64 = codes "base64"
-name_of Base64Mime = codes "base64-mime"
-name_of Base32 = codes "base32"
-name_of Base32Hex = codes "base32hex"
-name_of Base16 = codes "base16"
-name_of Qp = codes "qp"
 
 -- the matches have the name of this encoding
 abbrev pub NamesEncoding : Encoding → Option (Text × List Row) → Type 0

@@ -200,15 +200,7 @@ fn argument<'a>(matches: &ArgMatches<'a>, name: &str) -> &'a str
 fn encoding_named(name: &str) -> Encoding
     ensures { result ≡ encoding_named name.now }
 {
-    match name {
-        "base64" => Encoding::Base64,
-        "base64-mime" => Encoding::Base64Mime,
-        "base32" => Encoding::Base32,
-        "base32hex" => Encoding::Base32Hex,
-        "base16" => Encoding::Base16,
-        "qp" => Encoding::Qp,
-        _ => Encoding::Raw,
-    }
+    Encoding::named(name).unwrap_or(Encoding::Raw)
 }
 
 // The names of the encodings.

@@ -1,3 +1,4 @@
 pub mod Device
+pub mod Names
 pub mod Texts
 pub mod Supply

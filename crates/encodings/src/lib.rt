@@ -13,6 +13,7 @@
 mod encoding;
 mod exporting;
 pub mod laws;
+mod names;
 mod sink;
 mod source;
 

@@ -1,0 +1,24 @@
+// The names of encodings.
+ghost use Rattle.std.specs.Prelude.{◌≡◌};
+ghost use Rattle.encodings.specs.Names.{encoding_of};
+
+use crate::encoding::Encoding;
+
+impl Encoding {
+    /// The encoding of this name, if it is one's: `raw`, `base64`, `base64-mime`, `base32`, `base32hex`,
+    /// `base16` or `qp`.
+    pub fn named(name: &str) -> Option<Encoding>
+        ensures { result ≡ encoding_of name.now }
+    {
+        match name {
+            "raw" => Some(Encoding::Raw),
+            "base64" => Some(Encoding::Base64),
+            "base64-mime" => Some(Encoding::Base64Mime),
+            "base32" => Some(Encoding::Base32),
+            "base32hex" => Some(Encoding::Base32Hex),
+            "base16" => Some(Encoding::Base16),
+            "qp" => Some(Encoding::Qp),
+            _ => None,
+        }
+    }
+}
