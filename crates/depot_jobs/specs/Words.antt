@@ -1,6 +1,5 @@
 -- What a command line says.
-use Rattle.std.specs.Prelude.{◌≡◌, ◌≢◌, ℕ, ◌<◌, ◌^◌, List, [], Option, Some, IfSome, codes, if◌then◌else◌, unwrap_or, ⊤}
-use Rattle.std.specs.Str.{bytes_eq}
+use Rattle.std.specs.Prelude.{◌≡◌, ◌≢◌, ℕ, ◌<◌, ◌^◌, List, [], Option, Some, IfSome, codes, unwrap_or, ⊤}
 use Rattle.std.specs.Str.Parse.{IsNumeral, digits_value, without_leading_plus}
 use Rattle.octets.specs.Limits.{max_message, max_parts}
 use Rattle.clap.specs.Words.{App, Row, Text, fault_of, first_of, subcommand_of}
