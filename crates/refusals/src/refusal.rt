@@ -73,6 +73,7 @@ pub enum Refusal {
 }
 
 // A row of the table of refusals.
+#[derive(Drop)]
 struct Row {
     number: u8,
     name: &'static str,
