@@ -8,6 +8,7 @@ use crate::words::token;
 use octets::first;
 
 /// Whether a value of a Content-Type that begins so has the type and the subtype of this text, or none as it, whatever follows.
+/// Only the answer that it has is a promise: a text may settle them without being found to.
 ///
 /// It is so where the reading of the two ends before the text does: a token at its end may go on, and a comment that is open
 /// there may be closed. No more is looked at than that reading needs.
@@ -36,6 +37,7 @@ pub fn settles_type(start: &[u8]) -> bool
 }
 
 /// Whether a value of a Content-Disposition that begins so has the disposition of this text, or none as it, whatever follows.
+/// Only the answer that it has is a promise.
 ///
 /// It is so where the reading of it ends before the text does.
 pub fn settles_disposition(start: &[u8]) -> bool

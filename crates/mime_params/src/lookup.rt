@@ -1,5 +1,5 @@
 // One parameter of a value by its name: the others are passed over, and take no memory.
-ghost use Rattle.std.specs.Prelude.{◌≡◌, IfOk};
+ghost use Rattle.std.specs.Prelude.{◌≡◌, IfOk, IsOk, None};
 ghost use Rattle.mime_params.specs.MediaValue.{value_named};
 
 use crate::lent::LentParameters;
@@ -12,7 +12,8 @@ pub(crate) fn first_named(
     params: LentParameters,
     name: &[u8],
 ) -> Result<Option<Octets>, AllocError>
-    ensures { IfOk result (λ value. value ≡ value_named name.now params.entry) }
+    ensures value { IfOk result (λ value. value ≡ value_named name.now params.entry) }
+    ensures without { value_named name.now params.entry ≡ None → IsOk result }
 {
     for param in params {
         if equal_ignoring_case(param.name(), name) {

@@ -1,5 +1,5 @@
 // Media types and dispositions.
-ghost use Rattle.std.specs.Prelude.{◌≡◌, ◌++◌, IfOk, MatchOption, None, OnOk, Some};
+ghost use Rattle.std.specs.Prelude.{◌≡◌, ◌++◌, IfOk, IsOk, MatchOption, None, OnOk, Some};
 ghost use Rattle.octets.specs.Ascii.{lowercase_of};
 ghost use Rattle.mime_params.specs.Gaps.{after_gap};
 ghost use Rattle.mime_params.specs.MediaValue.{disposition_name, disposition_of, disposition_param, media_type_of, params_in, type_names, type_param};
@@ -57,9 +57,10 @@ pub struct Disposition {
 
 /// The media type that the value of a Content-Type has, or nothing where it has no reading.
 ///
-/// An error comes only where memory was refused.
+/// An error comes only where memory was refused, which is never asked for where there is no reading.
 pub fn read_type(alloc: Global, text: &[u8]) -> Result<Option<MediaType>, AllocError>
-    ensures { IfOk result (λ read. read ≡ media_type_of text.now) }
+    ensures read { IfOk result (λ read. read ≡ media_type_of text.now) }
+    ensures without { media_type_of text.now ≡ None → IsOk result }
 {
     let Some((main, sub, after)) = names_at(text) else {
         return Ok(None);
@@ -83,9 +84,10 @@ pub fn type_names(text: &[u8]) -> Option<(&[u8], &[u8])>
 
 /// The value of the first parameter of this name, without ASCII case, that the value of a Content-Type has. No other is kept.
 ///
-/// An error comes only where memory was refused.
+/// An error comes only where memory was refused, which is never asked for where there is no such parameter.
 pub fn type_param(alloc: Global, text: &[u8], name: &[u8]) -> Result<Option<Octets>, AllocError>
-    ensures { IfOk result (λ value. value ≡ type_param name.now text.now) }
+    ensures read { IfOk result (λ value. value ≡ type_param name.now text.now) }
+    ensures without { type_param name.now text.now ≡ None → IsOk result }
 {
     first_named(alloc, LentParameters::of_type(text), name)
 }
@@ -112,9 +114,10 @@ pub(crate) fn names_at(text: &[u8]) -> Option<(&[u8], &[u8], &[u8])>
 
 /// The disposition that the value of a Content-Disposition has, or nothing where it has no reading.
 ///
-/// An error comes only where memory was refused.
+/// An error comes only where memory was refused, which is never asked for where there is no reading.
 pub fn read_disposition(alloc: Global, text: &[u8]) -> Result<Option<Disposition>, AllocError>
-    ensures { IfOk result (λ read. read ≡ disposition_of text.now) }
+    ensures read { IfOk result (λ read. read ≡ disposition_of text.now) }
+    ensures without { disposition_of text.now ≡ None → IsOk result }
 {
     let Some((main, after)) = disposition_at(text) else {
         return Ok(None);
@@ -138,13 +141,14 @@ pub fn disposition_name(text: &[u8]) -> Option<&[u8]>
 /// The value of the first parameter of this name, without ASCII case, that the value of a Content-Disposition has. No other is
 /// kept.
 ///
-/// An error comes only where memory was refused.
+/// An error comes only where memory was refused, which is never asked for where there is no such parameter.
 pub fn disposition_param(
     alloc: Global,
     text: &[u8],
     name: &[u8],
 ) -> Result<Option<Octets>, AllocError>
-    ensures { IfOk result (λ value. value ≡ disposition_param name.now text.now) }
+    ensures read { IfOk result (λ value. value ≡ disposition_param name.now text.now) }
+    ensures without { disposition_param name.now text.now ≡ None → IsOk result }
 {
     first_named(alloc, LentParameters::of_disposition(text), name)
 }

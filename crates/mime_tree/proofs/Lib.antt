@@ -8,6 +8,7 @@ mod Examples
 pub mod Going
 pub mod Heading
 pub mod Hits
+pub mod LengthsMet
 pub mod Meeting
 pub mod Opening
 pub mod Passing

@@ -8,6 +8,7 @@ use Rattle.mime_tree.specs.Enclosing.{first_ends_any}
 use Rattle.mime_tree.specs.OpenParts.{OpenPart, boundaries_in, finished, is_last, lines_at, meets_any, parts_begun}
 use Rattle.mime_tree.specs.declared.delimiter.Mark.{Mark}
 use Rattle.mime_tree.specs.declared.delimiter.Mark.TheVariants.{Delimiter, Closing}
+use Rattle.mime_tree.specs.declared.lengths.BoundaryLengths.{BoundaryLengths}
 use Rattle.mime_tree.specs.declared.hit.Met.{Met}
 use Rattle.mime_tree.specs.declared.hit.Hit.{Hit}
 use Rattle.mime_tree.specs.declared.reader.Beginning.{Beginning}
@@ -51,6 +52,15 @@ pub record IsMet (preamble : Bool) (opened : List OpenPart) (line : List ℕ) (m
 
 abbrev pub GivesMet : Bool → List OpenPart → List ℕ → Option Met → Type 0
 GivesMet preamble opened line answer = MatchOption answer (meets_any preamble opened line ≡ false) (λ met. IsMet preamble opened line met)
+
+-- the boundary of a part has no fewer and no more octets than these
+abbrev pub IsWithin : BoundaryLengths → Option (List ℕ) → Type 0
+IsWithin lengths None = Unit {0}
+IsWithin lengths (Some boundary) = (lengths.least ≤ length boundary) × (length boundary ≤ lengths.most)
+
+abbrev pub AreWithin : BoundaryLengths → List OpenPart → Type 0
+AreWithin lengths [] = Unit {0}
+AreWithin lengths (part ∷ inner) = IsWithin lengths part.boundary × AreWithin lengths inner
 
 abbrev pub AreLeaves : List OpenPart → Type 0
 AreLeaves [] = Unit {0}

@@ -1,12 +1,13 @@
 // The lines that end parts.
-ghost use Rattle.std.specs.Prelude.{◌≡◌, ◌≤◌, [], true, length};
+ghost use Rattle.std.specs.Prelude.{◌≡◌, ◌≤◌, [], length};
 ghost use Rattle.text_lines.specs.Lines.{lines_of};
 ghost use Rattle.mime_tree.specs.Enclosing.{first_ends_any};
 ghost use Rattle.mime_tree.specs.OpenParts.{boundaries_in, cut};
 ghost use Rattle.header_fields.specs.Header.{header_length};
-ghost use Rattle.mime_tree.specs.Reading.{AreLeaves, GivesMet, GivesHit};
+ghost use Rattle.mime_tree.specs.Reading.{AreWithin, GivesMet, GivesHit};
 
 use crate::delimiter::{Mark, after_dashes, name_of};
+use crate::lengths::BoundaryLengths;
 use crate::open_part::OpenPart;
 use crate::run::Runs;
 use text_lines::{Line, Lines};
@@ -31,15 +32,24 @@ pub(crate) struct Hit {
     pub(crate) met: Met,
 }
 
-/// The outermost of the open parts whose delimiter or closing line this is. The last of them may not have come to its first
-/// delimiter yet.
+/// The outermost of the open parts, with boundaries of these lengths, whose delimiter or closing line this is. The last of them may
+/// not have come to its first delimiter yet.
 #[inline]
-pub(crate) fn part_met(opened: &[OpenPart], line: &[u8], preamble: bool) -> Option<Met>
+pub(crate) fn part_met(
+    opened: &[OpenPart],
+    lengths: BoundaryLengths,
+    line: &[u8],
+    preamble: bool,
+) -> Option<Met>
+    requires { AreWithin lengths opened.now }
     ensures { GivesMet preamble opened.now line.now result }
 {
     let Some(name) = name_of(line) else {
         return None;
     };
+    if !lengths.allow(name.len()) {
+        return None;
+    }
     for place in 0..opened.len() {
         let waits = preamble && place + 1 == opened.len();
         if let Some(mark) = opened[place].mark(name, waits) {
@@ -56,8 +66,9 @@ pub(crate) fn first_ends(opened: &[OpenPart], text: &[u8]) -> bool
     if after_dashes(text).is_none() {
         return false;
     }
+    let lengths = BoundaryLengths::of(opened);
     match Lines::new(text).next() {
-        Some(line) => part_met(opened, &text[line.start..line.end], false).is_some(),
+        Some(line) => part_met(opened, lengths, &text[line.start..line.end], false).is_some(),
         None => false,
     }
 }
@@ -66,10 +77,11 @@ pub(crate) fn first_ends(opened: &[OpenPart], text: &[u8]) -> bool
 pub(crate) fn header_end(opened: &[OpenPart], text: &[u8]) -> usize
     ensures { result ≡ header_length (cut (boundaries_in [] opened.now) (lines_of text.now)) }
 {
+    let lengths = BoundaryLengths::of(opened);
     let mut lines = Lines::new(text);
     let mut end = 0;
     'lines: while let Some(line) = lines.next() {
-        if part_met(opened, &text[line.start..line.end], false).is_some() {
+        if part_met(opened, lengths, &text[line.start..line.end], false).is_some() {
             return end;
         }
         if line.start == line.end {
@@ -95,13 +107,14 @@ pub(crate) fn next_hit(
     requires { place ≤ length text.now }
     ensures { GivesHit preamble opened.now text.now place end result }
 {
-    if are_leaves(opened) {
+    let lengths = BoundaryLengths::of(opened);
+    if lengths.are_none() {
         return None;
     }
     let mut lines = Runs::at(text, place);
     let mut before = end;
     'lines: while let Some(line) = lines.next_run() {
-        if let Some(met) = part_met(opened, &text[line.start..line.end], preamble) {
+        if let Some(met) = part_met(opened, lengths, &text[line.start..line.end], preamble) {
             return Some(Hit {
                 end: before,
                 line,
@@ -111,16 +124,4 @@ pub(crate) fn next_hit(
         before = line.end;
     }
     None
-}
-
-// Whether no child of these parts may come any more.
-fn are_leaves(opened: &[OpenPart]) -> bool
-    ensures { result ≡ true → AreLeaves opened.now }
-{
-    for part in opened {
-        if part.has_boundary() {
-            return false;
-        }
-    }
-    true
 }

@@ -9,6 +9,7 @@ mod delimiter;
 mod error;
 mod hit;
 pub mod laws;
+mod lengths;
 mod media;
 mod open_part;
 mod part;

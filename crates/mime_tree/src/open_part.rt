@@ -1,5 +1,5 @@
 // The parts that haven't ended where the reader of a message stands.
-ghost use Rattle.std.specs.Prelude.{◌≡◌, ◌<◌, false, IfOk, None};
+ghost use Rattle.std.specs.Prelude.{◌≡◌, ◌<◌, IfOk, length, option_map};
 ghost use Rattle.octets.specs.Limits.{max_depth};
 ghost use Rattle.mime_tree.specs.OpenParts.{opening};
 ghost use Rattle.mime_tree.specs.PartTree.{default_media};
@@ -93,11 +93,14 @@ impl OpenPart {
         self.default
     }
 
-    /// Whether more children may come.
-    pub(crate) fn has_boundary(&self) -> bool
-        ensures { result ≡ false → self.now.boundary ≡ None }
+    /// How many octets the boundary between its children has, if more of them may come.
+    pub(crate) fn boundary_length(&self) -> Option<usize>
+        ensures { result ≡ option_map length self.now.boundary }
     {
-        self.boundary.is_some()
+        match &self.boundary {
+            Some(boundary) => Some(boundary.len()),
+            None => None,
+        }
     }
 
     /// What a line of this name is to it, whose first delimiter may not have come yet.

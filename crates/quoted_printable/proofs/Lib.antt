@@ -4,6 +4,7 @@ pub mod Encoded
 mod Examples
 pub mod Extended
 pub mod Filling
+pub mod FirstEquals
 pub mod Heads
 mod Known
 pub mod Held

@@ -1,9 +1,12 @@
 use Rattle.std.proofs.Common.{◌∙◌, arith}
+use Rattle.mime_tree.proofs.LengthsMet.{leaves_of}
 use Rattle.mime_tree.proofs.Passing.{read_of, run_passed, run_hit, leaves_passed, ends_quiet}
 use Rattle.mime_tree.proofs.hit.next_hit.Goals as goal
 
-pub returns-then-are_leaves : goal.returns-then-are_leaves
-returns-then-are_leaves c = leaves_passed c.args.preamble c.args.opened.now c.args.text.now c.args.place c.args.end c.requires (c.are_leaves.ensures c.if-are_leaves.true)
+pub returns-then-are_none : goal.returns-then-are_none
+returns-then-are_none c =
+    let leaves = leaves_of c.of-lengths.result c.args.opened.now (c.are_none.ensures c.if-are_none.true) c.of-lengths.ensures in
+    leaves_passed c.args.preamble c.args.opened.now c.args.text.now c.args.place c.args.end c.requires leaves
 
 pub returns-in-Some-part_met : goal.returns-in-Some-part_met
 returns-in-Some-part_met c =

@@ -1,10 +1,15 @@
 use Rattle.std.proofs.Common.{◌≡◌, ◌+◌, ◌==◌, ◌&&◌, ◌∙◌, sym, ap, length}
+use Rattle.mime_tree.proofs.LengthsMet.{outside_met}
 use Rattle.mime_tree.proofs.Meeting.{nothing_met, met_here, met_later, none_before}
 use Rattle.mime_tree.proofs.hit.part_met.Goals as goal
 use Rattle.mime_tree.proofs.hit.part_met.Goals.{then-preamble, else-preamble}
 
 pub returns-in_default : goal.returns-in_default
 returns-in_default c = nothing_met c.args.preamble c.args.opened.now c.args.line.now c.in_default.ensures
+
+pub returns-then-not-allow : goal.returns-then-not-allow
+returns-then-not-allow c =
+    outside_met c.args.lengths c.args.preamble c.args.opened.now c.args.line.now c.in-Some.name.now (c.allow.ensures c.if-not-allow.true) c.in-Some.ensures c.requires
 
 pub returns-in-Some-mark : goal.returns-in-Some-mark
 returns-in-Some-mark c =

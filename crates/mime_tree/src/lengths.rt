@@ -1,0 +1,59 @@
+// The lengths of boundaries, by which most lines that begin as a delimiter does are told from one.
+ghost use Rattle.std.specs.Prelude.{◌≡◌, ◌+◌, ◌<◌, ◌≤◌, ◌⊎◌, false, true};
+ghost use Rattle.mime_tree.specs.Reading.{AreWithin, IsWithin};
+
+use crate::open_part::OpenPart;
+
+/// Between which lengths the boundaries of open parts are.
+#[derive(Clone, Copy)]
+pub(crate) struct BoundaryLengths {
+    least: usize,
+    most: usize,
+}
+
+impl BoundaryLengths {
+    /// Those of these parts. Where none has a boundary the least is above the most.
+    pub(crate) fn of(opened: &[OpenPart]) -> BoundaryLengths
+        ensures { AreWithin result opened.now }
+    {
+        let mut lengths = BoundaryLengths {
+            least: usize::MAX,
+            most: 0,
+        };
+        for part in opened {
+            lengths = lengths.with(part);
+        }
+        lengths
+    }
+
+    // Those of one more part.
+    #[inline]
+    fn with(self, part: &OpenPart) -> BoundaryLengths
+        ensures least { result.least ≤ self.least }
+        ensures most { self.most ≤ result.most }
+        ensures within { IsWithin result part.now.boundary }
+    {
+        match part.boundary_length() {
+            Some(length) => BoundaryLengths {
+                least: self.least.min(length),
+                most: self.most.max(length),
+            },
+            None => self,
+        }
+    }
+
+    /// Whether there is no boundary.
+    pub(crate) fn are_none(self) -> bool
+        ensures { result ≡ true → self.most < self.least }
+    {
+        self.most < self.least
+    }
+
+    /// Whether the name of a delimiter or closing line may have this length: that of a closing line has two dashes more.
+    #[inline]
+    pub(crate) fn allow(self, length: usize) -> bool
+        ensures { result ≡ false → (length < self.least) ⊎ (self.most + 2 < length) }
+    {
+        self.least <= length && length.saturating_sub(2) <= self.most
+    }
+}
