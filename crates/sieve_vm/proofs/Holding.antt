@@ -1,5 +1,5 @@
 -- What a workspace holds, and how texts are joined.
-use Rattle.std.proofs.Common.{◌≡◌, ℕ, ◌+◌, ◌-◌, ◌<◌, ◌≤◌, min, List, [], ◌∷◌, ◌++◌, length, map, reverse, take, get_or, refl, sym, ap, ◌∙◌, inl, inr, take_all, append-nil, arith}
+use Rattle.std.proofs.Common.{◌≡◌, ℕ, ◌+◌, ◌-◌, ◌<◌, ◌≤◌, min, Bool, List, [], ◌∷◌, ◌++◌, Option, Some, None, length, map, reverse, take, get_or, refl, sym, ap, ◌∙◌, inl, inr, take_all, append-nil, arith}
 use Rattle.std.proofs.lemmas.Bool.{cases_lt}
 use Rattle.std.specs.List.{concat}
 use Rattle.std.proofs.lemmas.List.{take_more, take_min, take-append-le, take-take, reverse-append, length-take}
@@ -7,13 +7,18 @@ use Rattle.std.proofs.lemmas.List.Folds.{concat-append}
 use Rattle.std.proofs.Math.Seq.{take-append-add}
 use Rattle.sieve_vm.specs.declared.entry.Entry.{Entry}
 use Rattle.sieve_vm.specs.State.{Value, text}
-use Rattle.sieve_vm.specs.Standing.{Held, value_of, octets_of}
+use Rattle.sieve_vm.specs.Standing.{Held, value_of, octets_of, with_top}
 use Rattle.sieve_vm.proofs.Taking.{octets_in}
 use Rattle.sieve_vm.proofs.Pushed.{same_octets}
 
 -- what is held, part by part
 pub same_parts : (held : Held) (stack : List Value) (variables captures : List (List ℕ)) → held.stack ≡ stack → held.variables ≡ variables → held.captures ≡ captures → held ≡ record { stack = stack; variables = variables; captures = captures }
 same_parts held stack variables captures p q r = rw (← p, ← q, ← r) refl
+
+-- where a text is on top, no truth value stands apart
+pub text_below : (top : Option Bool) (below : List Value) (t : List ℕ) (rest : List Value) → with_top top below ≡ text t ∷ rest → (top ≡ None) × (below ≡ text t ∷ rest)
+text_below None below t rest e = (refl, e)
+text_below (Some b) below t rest e = absurd cc
 
 -- the text on top was the last entry
 pub record LastText (left : List Entry) (entry : Entry) (t : List ℕ) (rest : List Value) : Type 0 where

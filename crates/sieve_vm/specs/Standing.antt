@@ -1,5 +1,5 @@
 -- Private: how the machine's fields stand for a state of a run.
-use Rattle.std.specs.Prelude.{◌≡◌, ◌<◌, ◌+◌, ℕ, true, List, [], map, reverse}
+use Rattle.std.specs.Prelude.{◌≡◌, ◌<◌, ◌+◌, ℕ, Bool, true, List, [], ◌∷◌, Option, Some, None, map, reverse}
 use Rattle.bytecode_format.specs.Actions.{first_occurrences}
 use Rattle.bytecode_format.specs.Code.{Code}
 use Rattle.mail_matching.specs.FirstMatch.{no_captures}
@@ -27,6 +27,11 @@ abbrev pub octets_of : Entry → List ℕ
 octets_of (Truth b) = []
 octets_of (Text octets) = items_of octets
 
+-- the values below a truth value, with it where it stands apart on top of them
+abbrev pub with_top : Option Bool → List Value → List Value
+with_top None below = below
+with_top (Some b) below = truth b ∷ below
+
 -- what the stack, the variables and the captures hold
 pub record Held : Type 0 where
   pub stack : List Value
@@ -36,14 +41,14 @@ pub record Held : Type 0 where
 abbrev pub held_of : Workspace → Held
 held_of work =
     record {
-      stack = map value_of (reverse work.entries.items);
+      stack = with_top work.top (map value_of (reverse work.entries.items));
       variables = map items_of work.variables.items;
       captures = work.captures;
     }
 
 -- a workspace with which nothing was done
 abbrev pub IsNew : Workspace → Type 0
-IsNew work = (work.entries.items ≡ []) × (work.variables.items ≡ []) × (work.captures ≡ no_captures)
+IsNew work = (work.top ≡ None) × (work.entries.items ≡ []) × (work.variables.items ≡ []) × (work.captures ≡ no_captures)
 
 -- what a state holds there
 abbrev pub held_by : State → Held

@@ -2,7 +2,6 @@
 ghost use Rattle.std.specs.Prelude.{◌≡◌};
 ghost use Rattle.sieve_vm.specs.Standing.{once};
 
-use crate::entry::Entry;
 use crate::loops::Loops;
 use crate::numbers::{field_test_in, match_in, scope_in};
 use crate::shared_text::SharedText;
@@ -202,7 +201,7 @@ impl<'p, 's, 'm> Machine<'p, 's, 'm> {
             → Represents mail (record s { stack = truth value ∷ s.stack }) self.new)) }
         ensures loops { self.new.loops ≡ self.old.loops }
     {
-        self.work.push(Entry::Truth(value))?;
+        self.work.push_truth(value)?;
         Ok(once(Flow::On))
     }
 
@@ -213,7 +212,7 @@ impl<'p, 's, 'm> Machine<'p, 's, 'm> {
             × ((mail : Mail) (s : State) → Represents mail s self.old
             → Represents mail (record s { stack = text octets.now ∷ s.stack }) self.new)) }
     {
-        self.work.push(Entry::Text(SharedText::Lent(octets)))?;
+        self.work.push_text(SharedText::Lent(octets))?;
         Ok(once(Flow::On))
     }
 

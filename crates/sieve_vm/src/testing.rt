@@ -3,7 +3,6 @@ ghost use Rattle.std.specs.Prelude.{◌≡◌};
 ghost use Rattle.sieve_vm.specs.Machine.{compares};
 ghost use Rattle.sieve_vm.specs.Standing.{once};
 
-use crate::entry::Entry;
 use crate::machine::{Done, Flow, Machine, once};
 use crate::numbers::{header_counts, header_test, string_counts};
 use bytecode_format::{FieldTest, Instruction, Scope};

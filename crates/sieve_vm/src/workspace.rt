@@ -1,5 +1,5 @@
 // What a run works on: the stack, the variables and the captures.
-ghost use Rattle.std.specs.Prelude.{◌≡◌, ◌<◌, ◌≤◌, ℕ, List, [], ◌∷◌, ◌++◌, Bool, Some, IfOk, OnOk, length, map, replicate, take, slice_get, slice_index_or, slice_set, is_some, option_map, sum_by, slice_range};
+ghost use Rattle.std.specs.Prelude.{◌≡◌, ◌<◌, ◌≤◌, ℕ, List, [], ◌∷◌, ◌++◌, Bool, Some, None, IfOk, OnOk, length, map, replicate, reverse, take, slice_get, slice_index_or, slice_set, is_some, option_map, sum_by, slice_range};
 ghost use Rattle.std.specs.Borrow.{Bor};
 ghost use Rattle.std.specs.List.{concat};
 ghost use Rattle.std.specs.Option.{unwrap_or};
@@ -29,7 +29,9 @@ use std::alloc::{AllocError, Global};
 /// the entry shares it, and so keeps it where the variable or the captures change.
 #[derive(Drop)]
 pub struct Workspace<'p, 'm> {
-    // The top entry is the last one.
+    // The truth value on top of the stack, where it stands apart. The entries are below it.
+    pub top: Option<bool>,
+    // The uppermost is the last one.
     pub entries: Vec<Entry<'p>>,
     pub variables: Vec<SharedText<'p>>,
     // Those of the last match that has set them.
@@ -80,6 +82,7 @@ impl<'p, 'm> Workspace<'p, 'm> {
         ensures { IsNew result }
     {
         Workspace {
+            top: None,
             entries: Vec::new(alloc),
             variables: Vec::new(alloc),
             captures: HeldCaptures::new(alloc),
@@ -103,16 +106,41 @@ impl<'p, 'm> Workspace<'p, 'm> {
         Ok(())
     }
 
-    /// Puts an entry on top of the stack.
+    /// Puts a truth value on top of the stack.
     #[inline(always)]
-    pub fn push(&mut self, entry: Entry<'p>) -> Result<(), AllocError>
+    pub fn push_truth(&mut self, value: bool) -> Result<(), AllocError>
+        ensures { OnOk result (held_of self.new
+            ≡ record (held_of self.old) { stack = truth value ∷ (held_of self.old).stack }) }
+    {
+        self.lower()?;
+        self.top = Some(value);
+        Ok(())
+    }
+
+    /// Puts a text on top of the stack.
+    #[inline(always)]
+    pub fn push_text(&mut self, octets: SharedText<'p>) -> Result<(), AllocError>
         ensures { OnOk result (held_of self.new
             ≡ record (held_of self.old) {
-              stack = value_of entry.entry
+              stack = text (items_of octets.entry)
                   ∷ (held_of self.old).stack;
             }) }
     {
-        Ok(self.entries.push(entry)?)
+        self.lower()?;
+        Ok(self.entries.push(Entry::Text(octets))?)
+    }
+
+    // Puts a truth value that stands apart among the entries.
+    #[inline(always)]
+    fn lower(&mut self) -> Result<(), AllocError>
+        ensures same { OnOk result (held_of self.new ≡ held_of self.old) }
+        ensures none { OnOk result (self.new.top ≡ None) }
+    {
+        if let Some(value) = self.top {
+            self.entries.push(Entry::Truth(value))?;
+            self.top = None;
+        }
+        Ok(())
     }
 
     /// Puts the value of a variable on top of the stack.
@@ -125,7 +153,7 @@ impl<'p, 'm> Workspace<'p, 'm> {
             }) }
     {
         let value = self.variable(number)?;
-        self.push(Entry::Text(value))
+        self.push_text(value)
     }
 
     /// Puts a capture on top of the stack.
@@ -138,7 +166,7 @@ impl<'p, 'm> Workspace<'p, 'm> {
             }) }
     {
         let text = self.captures.share(alloc, number)?;
-        self.push(Entry::Text(text))
+        self.push_text(text)
     }
 
     /// Takes the truth value on top of the stack.
@@ -149,9 +177,25 @@ impl<'p, 'm> Workspace<'p, 'm> {
         ensures { (b : Bool) (rest : List Value) → (held_of self.old).stack ≡ truth b ∷ rest
             → (result ≡ b) × (held_of self.new ≡ record (held_of self.old) { stack = rest }) }
     {
+        match self.top {
+            Some(value) => {
+                self.top = None;
+                value
+            }
+            None => pop_truth(&mut self.entries),
+        }
+    }
+
+    // Takes the text on top of the stack.
+    fn pop_text(&mut self) -> Entry<'p>
+        requires { (t : List ℕ) × ((rest : List Value)
+            × ((held_of self.old).stack ≡ text t ∷ rest)) }
+        ensures { (t : List ℕ) (rest : List Value) → (held_of self.old).stack ≡ text t ∷ rest
+            → (octets_of result ≡ t) × (held_of self.new ≡ record (held_of self.old) { stack = rest }) }
+    {
         match self.entries.pop() {
-            Some(Entry::Truth(value)) => value,
-            _ => unreachable!(),
+            Some(entry) => entry,
+            None => unreachable!(),
         }
     }
 
@@ -163,10 +207,7 @@ impl<'p, 'm> Workspace<'p, 'm> {
             → (held_of self.old).stack ≡ text t ∷ rest
             → (octets ≡ t) × (held_of self.new ≡ record (held_of self.old) { stack = rest })) }
     {
-        match self.entries.pop() {
-            Some(entry) => octets_in(alloc, entry),
-            None => unreachable!(),
-        }
+        octets_in(alloc, self.pop_text())
     }
 
     /// Takes the text on top of the stack, and gives its first octets, modified, to a variable. Answers how
@@ -190,9 +231,7 @@ impl<'p, 'm> Workspace<'p, 'm> {
                   (take max_value (modified modifiers t));
             })) }
     {
-        let Some(entry) = self.entries.pop() else {
-            unreachable!()
-        };
+        let entry = self.pop_text();
         let len = octets_of(&entry).len();
         let value = value_for(alloc, entry, modifiers)?;
         self.assign(variable, value);
@@ -229,7 +268,7 @@ impl<'p, 'm> Workspace<'p, 'm> {
         let len = total_len(&texts);
         let joined = joined(alloc, &texts)?;
         self.drop_texts(number);
-        self.push(Entry::Text(SharedText::new(alloc, joined)?))?;
+        self.push_text(SharedText::new(alloc, joined)?)?;
         Ok(len)
     }
 
@@ -328,6 +367,9 @@ impl<'p, 'm> Workspace<'p, 'm> {
     pub fn top(&self) -> Option<StackValue<'_>>
         ensures { option_map lent.value_of result ≡ top (held_of self.now).stack }
     {
+        if let Some(value) = self.top {
+            return Some(StackValue::Truth(value));
+        }
         match self.entries.as_slice() {
             [.., entry] => Some(lent_of(entry)),
             [] => None,
@@ -354,6 +396,20 @@ impl<'p, 'm> Workspace<'p, 'm> {
             Some(value) => value.share(),
             None => Ok(SharedText::Lent(&[])),
         }
+    }
+}
+
+// Takes the truth value that is the uppermost of the entries.
+fn pop_truth(entries: &mut Vec<Entry<'_>>) -> bool
+    requires { (b : Bool)
+        × ((rest : List Value) × (map value_of (reverse entries.old.items) ≡ truth b ∷ rest)) }
+    ensures { (b : Bool) (rest : List Value)
+        → map value_of (reverse entries.old.items) ≡ truth b ∷ rest
+        → (result ≡ b) × (map value_of (reverse entries.new.items) ≡ rest) }
+{
+    match entries.pop() {
+        Some(Entry::Truth(value)) => value,
+        _ => unreachable!(),
     }
 }
 
