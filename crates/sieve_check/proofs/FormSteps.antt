@@ -7,22 +7,24 @@ use Rattle.sieve_parser.specs.declared.tree.Head.{Head}
 use Rattle.sieve_parser.specs.declared.tree.Invocation.{Invocation}
 use Rattle.sieve_parser.specs.declared.tree.Invocation.TheVariants.{WithTest, WithTests}
 use Rattle.sieve_parser.specs.declared.tree.Command.{Command as Tree}
+use Rattle.sieve_parser.specs.declared.tree.Command.TheVariants as trees
 use Rattle.sieve_parser.proofs.TestSteps.{tree_test, tree_tests}
+use Rattle.sieve_parser.proofs.CommandSteps.{tree_block}
 use Rattle.sieve_check.specs.declared.names.CommandName.{CommandName}
 use Rattle.sieve_check.specs.declared.names.CommandName.TheVariants.{Require}
 use Rattle.sieve_check.specs.declared.sequence.Part.{Part}
 use Rattle.sieve_check.specs.declared.sequence.Sequence.{Sequence}
 use Rattle.sieve_check.specs.declared.surroundings.Capabilities.{Capabilities}
 use Rattle.sieve_check.specs.declared.typed.Test.{Test}
-use Rattle.sieve_check.specs.FormOf.{InnerForms, one, bracketed, PartForm, simple_of, simple_part, block_of, block_part, Forms, put, test_form_of, more_forms_of, part_of, forms_of}
-use Rattle.sieve_check.specs.Forming.{head_block, head_simple, head_test}
+use Rattle.sieve_check.specs.FormOf.{InnerForms, one, bracketed, PartForm, simple_of, simple_part, block_of, block_part, Forms, closed, put, test_form_of, more_forms_of, part_of, forms_of}
+use Rattle.sieve_check.specs.Forming.{commands_formed, head_block, head_simple, head_test}
 use Rattle.sieve_check.specs.Names.{command_named}
-use Rattle.sieve_check.specs.Rules.{after_invocation, invocation_of}
+use Rattle.sieve_check.specs.Rules.{after_invocation, invocation_of, loops_opened}
 use Rattle.sieve_check.specs.Private.{arguments_of}
 use Rattle.sieve_check.specs.Sequences.{part_form, finished_by, Pushed, Unfit}
 use Rattle.sieve_check.specs.Arguments.{reading}
 use Rattle.sieve_check.specs.Signatures.{◌>>=◌, Read, command_signature}
-use Rattle.sieve_check.specs.Surroundings.{Context}
+use Rattle.sieve_check.specs.Surroundings.{Context, inside}
 use Rattle.sieve_check.specs.Typed.{TestForm, TestForms, test, CommandForms}
 use Rattle.sieve_check.specs.TypedView.{test_form}
 use Rattle.sieve_check.proofs.TestLists.{tests_onto, onto-append}
@@ -101,6 +103,18 @@ no_part_with_tests s i h t ts is = ap (simple_part s) (ap invocation_tree is ∙
   inside None b = refl
   inside (Some f) None = refl
   inside (Some f) (Some fs) = no_simple_part s h (bracketed f fs) (λ name read. no_simple_tests s name h.token read f fs)
+
+-- a command with a block that has a form
+pub part_of_block : (s : Context) (tree : Tree) (i : Invocation) (cs : Vec Tree) (around : Context) (body : CommandForms) → tree ≡ trees.Block i cs → Some around ≡ inside (loops_opened (invocation_tree i)) s
+    → commands_formed around (commands_tree cs.items) ≡ Some body → part_of s (command_tree tree) ≡ block_part s (invocation_tree i) body
+part_of_block s tree i cs around body is room formed =
+    ap (part_of s) (ap command_tree is ∙ tree_block i cs)
+    ∙ ap (λ o. o >>= λ around. forms_of around (commands_tree cs.items) >>= λ forms. closed forms >>= λ body. block_part s (invocation_tree i) body) (sym room)
+    ∙ closing (forms_of around (commands_tree cs.items)) formed
+  where
+    closing : (o : Option Forms) → (o >>= closed) ≡ Some body → (o >>= λ forms. closed forms >>= λ body. block_part s (invocation_tree i) body) ≡ block_part s (invocation_tree i) body
+    closing None h = absurd (cc)
+    closing (Some forms) h = ap (λ o. o >>= λ body. block_part s (invocation_tree i) body) h
 
 -- what is added before commands that are still to come
 module _ (s : Context) (list : List Tree) (i : ℕ) (x : Tree) (lt : i < length list) (is : x ≡ get_or list i x) (old : Sequence) where

@@ -5,8 +5,8 @@ use Rattle.sieve_check.specs.Rows.{Row}
 use Rattle.sieve_check.specs.declared.table.Row as rows
 use Rattle.sieve_check.specs.TagRows.{TagRow}
 use Rattle.sieve_check.specs.declared.tag_table.TagRow as tags
-use Rattle.std.specs.Prelude.{List, map, Option, Some, None}
-use Rattle.sieve_parser.specs.Tree.{ArgumentTree}
+use Rattle.std.specs.Prelude.{ℕ, List, map, Option, Some, None}
+use Rattle.sieve_parser.specs.Tree.{ArgumentTree, InvocationTree, invocation}
 use Rattle.sieve_parser.specs.View.{argument_tree}
 use Rattle.sieve_parser.specs.declared.tree.Head.{Head}
 use Rattle.std.specs.Global.{Vec}
@@ -52,3 +52,7 @@ else_form (Some cs) = otherwise (commands_form cs.items)
 -- branches, as the code holds them, then the else
 abbrev pub branch_forms : List Branch → BranchForms → BranchForms
 branch_forms bs last = branches_of (map branch_form bs) last
+
+-- what a command or test is called
+abbrev pub name_of : InvocationTree → List ℕ
+name_of (invocation token name args tests) = name

@@ -4,6 +4,9 @@ ghost use Rattle.sieve_parser.specs.View.{argument_tree, command_tree, commands_
 ghost use Rattle.sieve_check.specs.FormOf.{none, one, act_of, block_part, form_of, leaving_in, most_of, part_of, setting_in, simple_part, taking_in, with_text};
 ghost use Rattle.sieve_check.specs.Forming.{Formed, IsBlockRead, IsSimpleRead, commands_formed, head_block, head_simple};
 ghost use Rattle.sieve_check.specs.Reading.{name_in, read_of};
+ghost use Rattle.sieve_check.specs.Names.{command_named};
+ghost use Rattle.sieve_check.specs.Private.{name_of};
+ghost use Rattle.sieve_check.specs.Rules.{invocation_of};
 ghost use Rattle.sieve_check.specs.Refusing.{context_of};
 ghost use Rattle.sieve_check.specs.Sequences.{part_form};
 ghost use Rattle.sieve_check.specs.TypedView.{commands_form, test_form};
@@ -13,8 +16,8 @@ use crate::names::CommandName;
 use crate::sequence::{Part, Sequence};
 use crate::signature::{Reading, Tags};
 use crate::strings::template;
-use crate::surroundings::{Capabilities, Surroundings};
-use crate::table::{command_named, command_signature};
+use crate::surroundings::{Capabilities, Surroundings, command_in};
+use crate::table::command_signature;
 use crate::test_forms::test;
 use crate::typed::{Act, Branch, Command, Segment, Test};
 use bytecode_format::Modifiers;
@@ -130,12 +133,13 @@ fn act_of(
     }
 }
 
-// The command that this names, with its arguments as they were read.
-fn command_read(head: &Head) -> Option<(CommandName, Reading<'_>)>
+// The command of that name, with its arguments as they were read.
+fn command_read(name: Option<CommandName>, head: &Head) -> Option<(CommandName, Reading<'_>)>
+    requires { name ≡ command_named head.now.name }
     ensures simple { IsSimpleRead head.now result }
     ensures block { IsBlockRead head.now result }
 {
-    let name = command_named(head.name.as_slice())?;
+    let name = name?;
     let reading = command_signature(name).read(&head.arguments).ok()?;
     Some((name, reading))
 }
@@ -144,11 +148,13 @@ fn command_read(head: &Head) -> Option<(CommandName, Reading<'_>)>
 fn plain_part(
     alloc: Global,
     surroundings: &Surroundings<'_>,
+    name: Option<CommandName>,
     head: &Head,
 ) -> Result<Part, FormError>
+    requires { name ≡ command_named head.now.name }
     ensures { Formed part_form (head_simple (context_of surroundings.now) head.now none) result }
 {
-    let Some((name, reading)) = command_read(head) else {
+    let Some((name, reading)) = command_read(name, head) else {
         return Err(FormError::Malformed);
     };
     match name {
@@ -165,12 +171,18 @@ fn plain_part(
 }
 
 // What this adds, with a test and a block of these commands behind it.
-fn branch_part(head: &Head, test: Test, block: Vec<Command>) -> Result<Part, FormError>
+fn branch_part(
+    name: Option<CommandName>,
+    head: &Head,
+    test: Test,
+    block: Vec<Command>,
+) -> Result<Part, FormError>
+    requires { name ≡ command_named head.now.name }
     ensures { Formed part_form
         (head_block head.now (one (test_form test)) (commands_form block.items)) result }
 {
     let at = head.token;
-    match command_read(head) {
+    match command_read(name, head) {
         Some((CommandName::If, _)) => Ok(Part::First(Branch { test, block, at })),
         Some((CommandName::Elsif, _)) => Ok(Part::Next(Branch { test, block, at })),
         _ => Err(FormError::Malformed),
@@ -178,10 +190,15 @@ fn branch_part(head: &Head, test: Test, block: Vec<Command>) -> Result<Part, For
 }
 
 // What this adds, with a block of these commands and no test behind it.
-fn untested_part(head: &Head, block: Vec<Command>) -> Result<Part, FormError>
+fn untested_part(
+    name: Option<CommandName>,
+    head: &Head,
+    block: Vec<Command>,
+) -> Result<Part, FormError>
+    requires { name ≡ command_named head.now.name }
     ensures { Formed part_form (head_block head.now none (commands_form block.items)) result }
 {
-    match command_read(head) {
+    match command_read(name, head) {
         Some((CommandName::Else, _)) => Ok(Part::Last(block)),
         Some((CommandName::ForEveryPart, _)) => Ok(Part::Action(Command::ForEveryPart {
             block,
@@ -195,17 +212,19 @@ fn untested_part(head: &Head, block: Vec<Command>) -> Result<Part, FormError>
 fn block_part(
     alloc: Global,
     surroundings: &Surroundings<'_>,
+    name: Option<CommandName>,
     invocation: &Invocation,
     body: Vec<Command>,
 ) -> Result<Part, FormError>
+    requires { name ≡ command_named (name_of (invocation_tree invocation.now)) }
     ensures { Formed part_form (block_part (context_of surroundings.now)
         (invocation_tree invocation.now) (commands_form body.items)) result }
 {
     match invocation {
-        Invocation::Plain(head) => untested_part(head, body),
+        Invocation::Plain(head) => untested_part(name, head, body),
         Invocation::WithTest(head, guard) => {
             let test = test(alloc, surroundings.required, guard)?;
-            branch_part(head, test, body)
+            branch_part(name, head, test, body)
         }
         Invocation::WithTests(_, _, _) => Err(FormError::Malformed),
     }
@@ -215,13 +234,15 @@ fn block_part(
 fn simple_part(
     alloc: Global,
     surroundings: &Surroundings<'_>,
+    name: Option<CommandName>,
     invocation: &Invocation,
 ) -> Result<Part, FormError>
+    requires { name ≡ command_named (name_of (invocation_tree invocation.now)) }
     ensures { Formed part_form
         (simple_part (context_of surroundings.now) (invocation_tree invocation.now)) result }
 {
     match invocation {
-        Invocation::Plain(head) => plain_part(alloc, surroundings, head),
+        Invocation::Plain(head) => plain_part(alloc, surroundings, name, head),
         Invocation::WithTest(_, _) | Invocation::WithTests(_, _, _) => Err(FormError::Malformed),
     }
 }
@@ -231,19 +252,21 @@ fn simple_part(
 fn part<'t>(
     alloc: Global,
     surroundings: &Surroundings<'t>,
+    name: Option<CommandName>,
     tree: &'t Tree,
 ) -> Result<Part, FormError>
+    requires { name ≡ command_named (name_of (invocation_of (command_tree tree.now))) }
     ensures { Formed part_form
         (part_of (context_of surroundings.now) (command_tree tree.now)) result }
 {
     match tree {
-        Tree::Simple(invocation) => simple_part(alloc, surroundings, invocation),
+        Tree::Simple(invocation) => simple_part(alloc, surroundings, name, invocation),
         Tree::Block(invocation, block) => {
-            let Some(inside) = surroundings.in_block(invocation) else {
+            let Some(inside) = surroundings.in_block(name, invocation) else {
                 return Err(FormError::Malformed);
             };
             let body = commands(alloc, &inside, block)?;
-            block_part(alloc, surroundings, invocation, body)
+            block_part(alloc, surroundings, name, invocation, body)
         }
     }
 }
@@ -261,9 +284,10 @@ fn commands<'t>(
     let mut around = *surroundings;
     let mut sequence = Sequence::new(alloc, trees.len())?;
     'trees: for tree in trees {
-        let part = part(alloc, &around, tree)?;
+        let name = command_in(tree);
+        let part = part(alloc, &around, name, tree)?;
         sequence.push(alloc, part)?;
-        around = around.after(tree);
+        around.pass_one(name, tree);
     }
     Ok(sequence.finish(alloc)?)
 }

@@ -3,19 +3,21 @@ ghost use Rattle.std.specs.Prelude.{◌≡◌, [], ◌∷◌, map, option_map, t
 ghost use Rattle.sieve_parser.specs.View.{argument_tree, command_tree, commands_tree, invocation_tree, more_tests_of};
 ghost use Rattle.sieve_check.specs.Reading.{read_of};
 ghost use Rattle.sieve_check.specs.Causes.{refused_for};
-ghost use Rattle.sieve_check.specs.Private.{arguments_of, cause_view, row_view};
-ghost use Rattle.sieve_check.specs.Rules.{capability_arguments, cause_of, command_visits, commands_visits, ending_cause, ill_formed, is_mime_tag, known_cause, lacking_cause, lacks_by, long_string_cause, looks_inside, max_found, mentions_of, mime_needs, mime_where_given, misplaced, more_visits, names_by, names_mentioned, needs_of, oversized, place_cause, read_cause, reasons_of, row_mentions, strings_of, tests_cause, unknown_as, unknown_cause, visit_of, visits_of, where_required};
-ghost use Rattle.sieve_check.specs.Names.{row_named};
+ghost use Rattle.sieve_check.specs.Private.{arguments_of, cause_view, name_of, row_view};
+ghost use Rattle.sieve_check.specs.Rules.{capability_arguments, cause_of, command_visits, commands_visits, ending_cause, ill_formed, is_mime_tag, known_cause, invocation_of, lacking_cause, lacks_by, long_string_cause, looks_inside, max_found, mentions_of, mime_needs, mime_where_given, misplaced, more_visits, names_by, names_mentioned, needs_of, oversized, place_cause, read_cause, reasons_of, row_mentions, strings_of, tests_cause, unknown_as, unknown_cause, visit_of, visits_of, where_required};
+ghost use Rattle.sieve_check.specs.Names.{command_named, row_named};
 ghost use Rattle.sieve_check.specs.Refusing.{AreNoted, AreVisited, Finds, context_of, mentions_in, refused_in};
 
 use crate::causes::{Cause, ReasonKind};
 use crate::findings::Findings;
 use crate::mentions::Mentions;
-use crate::names::{Capability, Tag};
+use crate::names::{Capability, CommandName, Tag};
 use crate::signature::{Ending, Reading, Signature, Tests};
 use crate::string_flaws::{StringFlaw, has_many_strings};
-use crate::surroundings::{Capabilities, Surroundings, invocation_in, looks_inside};
-use crate::table::{Follows, Place, Row, is_test, row_named};
+use crate::surroundings::{
+    Capabilities, Surroundings, command_in, invocation_in, looks_inside, test_in,
+};
+use crate::table::{Follows, Place, Row, is_test, known_command};
 use crate::tag_table::tag_named;
 use sieve_parser::{Argument, Command, Head, Invocation};
 
@@ -293,22 +295,24 @@ fn refuse_lacks<'t>(
     }
 }
 
-// Looks at a command, which ends so, or a test, apart from its tests and its block. Says whether its tests are looked at.
+// Looks at a command, which ends so, or a test, of which that is known, apart from its tests and its block. Says whether its tests are
+// looked at.
 fn visit<'t>(
     findings: &mut Findings<'t>,
     surroundings: &Surroundings<'_>,
+    known_as: &Option<Row>,
     head: &'t Head,
     tests: Tests,
     ending: Option<Ending>,
 ) -> bool
+    requires { option_map row_view known_as.now ≡ row_named ending head.now.name }
     ensures visited { AreVisited findings.old
         (visit_of ending (context_of surroundings.now) head.now.token head.now.name
         (arguments_of head.now) tests ∷ []) findings.new }
     ensures inside { result ≡ looks_inside (row_named ending head.now.name) }
 {
-    let known_as = row_named(ending, head.name.as_slice());
-    let inside = looks_inside(&known_as);
-    match found(surroundings, &known_as, head, tests, ending) {
+    let inside = looks_inside(known_as);
+    match found(surroundings, known_as, head, tests, ending) {
         Ok(mentions) => {
             if let Err(kind) = mentions.add_to(&mut findings.names) {
                 findings.refuse(head, Cause::plain(kind));
@@ -316,36 +320,53 @@ fn visit<'t>(
         }
         Err(cause) => {
             findings.refuse(head, cause);
-            refuse_lacks(findings, surroundings.required, &known_as, head);
+            refuse_lacks(findings, surroundings.required, known_as, head);
         }
     }
     inside
 }
 
-// Looks at a command and its tests, apart from its block, or at a test and its own tests.
+// Looks at a command of which that is known and its tests, apart from its block, or at a test and its own tests.
 #[cycle(tests)]
 fn invocation<'t>(
     findings: &mut Findings<'t>,
     surroundings: &Surroundings<'_>,
+    known_as: &Option<Row>,
     tree: &'t Invocation,
     ending: Option<Ending>,
 )
+    requires { option_map row_view known_as.now
+        ≡ row_named ending (name_of (invocation_tree tree.now)) }
     ensures { AreVisited findings.old
         (visits_of ending (context_of surroundings.now) (invocation_tree tree.now))
         findings.new }
 {
     match tree {
         Invocation::Plain(head) => {
-            visit(findings, surroundings, head, Tests::Nothing, ending);
+            visit(
+                findings,
+                surroundings,
+                known_as,
+                head,
+                Tests::Nothing,
+                ending,
+            );
         }
         Invocation::WithTest(head, inner) => {
-            if visit(findings, surroundings, head, Tests::One, ending) {
-                invocation(findings, surroundings, inner, None);
+            if visit(findings, surroundings, known_as, head, Tests::One, ending) {
+                invocation(findings, surroundings, &test_in(inner), inner, None);
             }
         }
         Invocation::WithTests(head, first, others) => {
-            if visit(findings, surroundings, head, Tests::Bracketed, ending) {
-                invocation(findings, surroundings, first, None);
+            if visit(
+                findings,
+                surroundings,
+                known_as,
+                head,
+                Tests::Bracketed,
+                ending,
+            ) {
+                invocation(findings, surroundings, &test_in(first), first, None);
                 tests(findings, surroundings, others);
             }
         }
@@ -360,23 +381,44 @@ fn tests<'t>(findings: &mut Findings<'t>, surroundings: &Surroundings<'_>, list:
         findings.new }
 {
     'list: for tree in list {
-        invocation(findings, surroundings, tree, None);
+        invocation(findings, surroundings, &test_in(tree), tree, None);
     }
 }
 
-// Looks at a command and what stands below it. The block of a loop too many isn't looked at.
+// Looks at a command of that name and what stands below it. The block of a loop too many isn't looked at.
 #[cycle(commands)]
-fn command<'t>(findings: &mut Findings<'t>, surroundings: &Surroundings<'t>, tree: &'t Command)
+fn command<'t>(
+    findings: &mut Findings<'t>,
+    surroundings: &Surroundings<'t>,
+    name: Option<CommandName>,
+    tree: &'t Command,
+)
+    requires { name ≡ command_named (name_of (invocation_of (command_tree tree.now))) }
     ensures { AreVisited findings.old
         (command_visits (context_of surroundings.now) (command_tree tree.now)) findings.new }
 {
+    let known_as = known_command(name);
     match tree {
         Command::Simple(first) => {
-            invocation(findings, surroundings, first, Some(Ending::Semicolon));
+            invocation(
+                findings,
+                surroundings,
+                &known_as,
+                first,
+                Some(Ending::Semicolon),
+            );
         }
         Command::Block(first, block) => {
-            invocation(findings, surroundings, first, Some(Ending::Block));
-            if let Some(inside) = surroundings.past(first).in_block_past(first) {
+            invocation(
+                findings,
+                surroundings,
+                &known_as,
+                first,
+                Some(Ending::Block),
+            );
+            let mut past = *surroundings;
+            past.pass(name, first);
+            if let Some(inside) = past.in_block_past(first) {
                 commands(findings, &inside, block);
             }
         }
@@ -391,8 +433,9 @@ fn commands<'t>(findings: &mut Findings<'t>, surroundings: &Surroundings<'t>, tr
 {
     let mut around = *surroundings;
     'trees: for tree in trees {
-        command(findings, &around, tree);
-        around = around.past(invocation_in(tree));
+        let name = command_in(tree);
+        command(findings, &around, name, tree);
+        around.pass(name, invocation_in(tree));
     }
 }
 

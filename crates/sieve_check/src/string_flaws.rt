@@ -79,7 +79,9 @@ impl StringFlaw {
         }
     }
 
-    /// The first string of the arguments with which this is wrong.
+    /// The first string of the arguments with which this is wrong. Inlined, so that each flaw has a search of its own, and lists
+    /// without arguments cost no call.
+    #[inline(always)]
     pub fn first_in(self, arguments: &[Argument]) -> Option<&[u8]>
         ensures { name_in result ≡ find (string_has self)
             (strings_of (map argument_tree arguments.now)) }
@@ -92,7 +94,8 @@ impl StringFlaw {
         None
     }
 
-    /// The first string of the lists with which this is wrong.
+    /// The first string of the lists with which this is wrong. Inlined as [`first_in`](StringFlaw::first_in).
+    #[inline(always)]
     pub fn first_in_lists<'t>(self, lists: Lists<'t>) -> Option<&'t [u8]>
         ensures { name_in result ≡ find (string_has self)
             (strings_of (all_lists lists.entry)) }

@@ -3,14 +3,15 @@ ghost use Rattle.std.specs.Prelude.{◌≡◌, map, option_map};
 ghost use Rattle.sieve_parser.specs.Tree.{TestsTree};
 ghost use Rattle.sieve_parser.specs.View.{argument_tree, command_tree, head_tree, invocation_tree};
 ghost use Rattle.sieve_check.specs.Reading.{loop_in};
-ghost use Rattle.sieve_check.specs.Private.{row_view};
+ghost use Rattle.sieve_check.specs.Names.{command_named, test_known};
+ghost use Rattle.sieve_check.specs.Private.{name_of, row_view};
 ghost use Rattle.sieve_check.specs.Rules.{invocation_of, loop_read, looks_inside, opens};
 ghost use Rattle.sieve_check.specs.Arguments.{reading};
 
 use crate::loops::{LoopName, Loops};
-use crate::names::{Capability, capability_named};
+use crate::names::{Capability, CommandName, capability_named};
 use crate::signature::{Signature, Tests};
-use crate::table::{Follows, Row, command_known};
+use crate::table::{Follows, Row, command_named, command_row, known_command, test_known};
 use octets::Octets;
 use sieve_parser::{Argument, Command, Head, Invocation};
 
@@ -137,6 +138,20 @@ pub fn invocation_in(command: &Command) -> &Invocation
     }
 }
 
+/// The command, where its name is known.
+pub fn command_in(command: &Command) -> Option<CommandName>
+    ensures { result ≡ command_named (name_of (invocation_of (command_tree command.now))) }
+{
+    command_named(head_in(invocation_in(command)).name.as_slice())
+}
+
+/// What is known of a test, where its name is known.
+pub fn test_in(test: &Invocation) -> Option<Row>
+    ensures { option_map row_view result ≡ test_known (name_of (invocation_tree test.now)) }
+{
+    test_known(head_in(test).name.as_slice())
+}
+
 /// Whether the tests are looked at of a command or test of which that is known: where it takes none, what stands there may be meant as
 /// something else.
 pub fn looks_inside(known: &Option<Row>) -> bool
@@ -192,8 +207,9 @@ impl<'t> Surroundings<'t> {
     ghost use Rattle.sieve_parser.specs.Tree.{ArgumentTree, one_test};
     ghost use Rattle.sieve_parser.specs.View.{argument_tree, command_tree, invocation_tree};
     ghost use Rattle.sieve_check.specs.Rules.{after_invocation, invocation_of, loops_by, loops_opened, opened_by, opened_past, past_invocation, past_swallowed, past_tests, strings_of};
-    ghost use Rattle.sieve_check.specs.Private.{arguments_of, row_view};
-    ghost use Rattle.sieve_check.specs.Names.{command_known};
+    ghost use Rattle.sieve_check.specs.Private.{arguments_of, name_of, row_view};
+    ghost use Rattle.sieve_check.specs.Names.{command_named};
+    ghost use Rattle.sieve_check.specs.Rows.{command_row};
     ghost use Rattle.sieve_check.specs.Refusing.{LoopsWithin, context_of, open_loops};
     ghost use Rattle.sieve_check.specs.Surroundings.{at_start, following, inside, opens_many, swallowing};
 
@@ -215,12 +231,12 @@ impl<'t> Surroundings<'t> {
         }
     }
 
-    // The loops around the block of a command that begins so. Nothing where there would be too many.
-    fn loops_within(self, head: &'t Head) -> Option<Loops<'t>>
-        ensures { LoopsWithin (context_of self.entry)
-            (loops_by (command_known head.now.name) (arguments_of head.now)) result }
+    // The loops around the block of a command of that name that begins so. Nothing where there would be too many.
+    fn loops_within(&self, name: Option<CommandName>, head: &'t Head) -> Option<Loops<'t>>
+        ensures { LoopsWithin (context_of self.now)
+            (loops_by (option_map command_row name) (arguments_of head.now)) result }
     {
-        match command_known(head.name.as_slice()) {
+        match known_command(name) {
             Some(row) if row.opens => {
                 let name = loop_name(row.signature, &head.arguments);
                 self.loops.with(name)
@@ -230,160 +246,172 @@ impl<'t> Surroundings<'t> {
     }
 
     // With these loops, those of the first command of a block.
-    fn within(self, loops: Loops<'t>) -> Surroundings<'t>
+    fn within(&self, loops: Loops<'t>) -> Surroundings<'t>
         ensures { context_of result
-            ≡ record (context_of self.entry) {
+            ≡ record (context_of self.now) {
               loops = open_loops loops.entry;
               takes_require = false;
               after_if = false;
             } }
     {
         Surroundings {
+            required: self.required,
             loops,
             takes_require: false,
             after_if: false,
-            ..self
         }
     }
 
     // The loops around the block of a command, or of the last one that it swallowed, if that opens one. Nothing where there would be
     // too many.
-    fn loops_past(self, invocation: &'t Invocation) -> Option<Loops<'t>>
-        ensures { LoopsWithin (context_of self.entry) (opened_past (invocation_tree invocation.now))
+    fn loops_past(&self, invocation: &'t Invocation) -> Option<Loops<'t>>
+        ensures { LoopsWithin (context_of self.now) (opened_past (invocation_tree invocation.now))
             result }
     {
         match invocation {
             Invocation::WithTest(head, test) => {
-                let known = command_known(head.name.as_slice());
+                let name = command_named(head.name.as_slice());
+                let known = known_command(name);
                 if looks_inside(&known) || opens(&known) {
-                    self.loops_within(head)
+                    self.loops_within(name, head)
                 } else {
                     self.loops_past(test)
                 }
             }
-            Invocation::Plain(head) => self.loops_within(head),
-            Invocation::WithTests(head, _, _) => self.loops_within(head),
+            Invocation::Plain(head) => self.loops_within(command_named(head.name.as_slice()), head),
+            Invocation::WithTests(head, _, _) => {
+                self.loops_within(command_named(head.name.as_slice()), head)
+            }
         }
     }
 
-    /// Those of the first command of a block, where they are those behind its command, as [`past`](Surroundings::past) gives them, and
+    /// Those of the first command of a block, where they are those behind its command, as [`pass`](Surroundings::pass) makes them, and
     /// the command may have swallowed others. Nothing where more loops would be open than may be.
-    pub fn in_block_past(self, invocation: &'t Invocation) -> Option<Surroundings<'t>>
+    pub fn in_block_past(&self, invocation: &'t Invocation) -> Option<Surroundings<'t>>
         ensures { option_map context_of result
-            ≡ inside (opened_past (invocation_tree invocation.now)) (context_of self.entry) }
+            ≡ inside (opened_past (invocation_tree invocation.now)) (context_of self.now) }
     {
         let loops = self.loops_past(invocation)?;
         Some(self.within(loops))
     }
 
     /// Those of the first command of the block of a command. Nothing where more loops would be open than may be.
-    pub fn in_block(self, invocation: &'t Invocation) -> Option<Surroundings<'t>>
+    pub fn in_block(
+        &self,
+        name: Option<CommandName>,
+        invocation: &'t Invocation,
+    ) -> Option<Surroundings<'t>>
+        requires { name ≡ command_named (name_of (invocation_tree invocation.now)) }
         ensures { option_map context_of result
-            ≡ inside (loops_opened (invocation_tree invocation.now)) (context_of self.entry) }
+            ≡ inside (loops_opened (invocation_tree invocation.now)) (context_of self.now) }
     {
-        let loops = self.loops_within(head_in(invocation))?;
+        let loops = self.loops_within(name, head_in(invocation))?;
         Some(self.within(loops))
     }
 
     /// Whether the block of a command of which that is known would have more loops around it than there may be.
-    pub fn opens_many(self, row: &Row) -> bool
+    pub fn opens_many(&self, row: &Row) -> bool
         ensures { (args : List ArgumentTree)
-            → result ≡ opens_many (opened_by (row_view row.now) args) (context_of self.entry) }
+            → result ≡ opens_many (opened_by (row_view row.now) args) (context_of self.now) }
     {
         row.opens && self.loops.are_full()
     }
 
-    // Those of the command after one that begins so: where that isn't known, these.
-    fn following(self, head: &Head) -> Surroundings<'t>
-        ensures { context_of result
-            ≡ following (context_of self.entry) (command_known head.now.name)
+    // Goes on behind a command of that name that begins so: where none is known, nothing changes. The loops stay in any case.
+    fn follow(&mut self, name: Option<CommandName>, head: &Head)
+        ensures { context_of self.new
+            ≡ following (context_of self.old) (option_map command_row name)
             (strings_of (arguments_of head.now)) }
     {
-        let Some(row) = command_known(head.name.as_slice()) else {
-            return self;
+        let Some(name) = name else {
+            return;
         };
-        let after = self.within(self.loops);
-        match row.follows {
-            Follows::Requires => Surroundings {
-                required: self.required.requiring(&head.arguments),
-                after_if: false,
-                ..self
-            },
-            Follows::Branches => Surroundings {
-                after_if: true,
-                ..after
-            },
-            Follows::Others => after,
+        match command_row(name).follows {
+            Follows::Requires => {
+                self.required = self.required.requiring(&head.arguments);
+                self.after_if = false;
+            }
+            Follows::Branches => {
+                self.takes_require = false;
+                self.after_if = true;
+            }
+            Follows::Others => {
+                self.takes_require = false;
+                self.after_if = false;
+            }
         }
     }
 
-    // With a command that was read as the test of the one before it.
-    fn swallowing(self, head: &Head) -> Surroundings<'t>
-        ensures { context_of result
-            ≡ swallowing (context_of self.entry) (command_known head.now.name)
+    // With a command of that name that was read as the test of the one before it.
+    fn swallow(&mut self, name: Option<CommandName>, head: &Head)
+        ensures { context_of self.new
+            ≡ swallowing (context_of self.old) (option_map command_row name)
             (strings_of (arguments_of head.now)) }
     {
-        let Some(row) = command_known(head.name.as_slice()) else {
-            return self;
+        let Some(name) = name else {
+            return;
         };
-        match row.follows {
-            Follows::Requires => Surroundings {
-                required: self.required.requiring(&head.arguments),
-                ..self
-            },
-            Follows::Branches => Surroundings {
-                after_if: true,
-                ..self
-            },
-            Follows::Others => self,
+        match command_row(name).follows {
+            Follows::Requires => self.required = self.required.requiring(&head.arguments),
+            Follows::Branches => self.after_if = true,
+            Follows::Others => {}
         }
     }
 
-    // After the test of a command that begins so.
+    // After the test of a command of that name.
     #[cycle(swallowed)]
-    fn past_test(self, head: &Head, test: &Invocation) -> Surroundings<'t>
-        ensures { context_of result
-            ≡ past_tests (context_of self.entry) (command_known head.now.name)
+    fn pass_test(&mut self, name: Option<CommandName>, test: &Invocation)
+        ensures { context_of self.new
+            ≡ past_tests (context_of self.old) (option_map command_row name)
             (one_test (invocation_tree test.now)) }
     {
-        if looks_inside(&command_known(head.name.as_slice())) {
-            self
-        } else {
-            self.past_swallowed(test)
+        if !looks_inside(&known_command(name)) {
+            self.pass_swallowed(test);
         }
     }
 
     // After a command that was read as a test.
     #[cycle(swallowed)]
-    fn past_swallowed(self, test: &Invocation) -> Surroundings<'t>
-        ensures { context_of result
-            ≡ past_swallowed (context_of self.entry) (invocation_tree test.now) }
+    fn pass_swallowed(&mut self, test: &Invocation)
+        ensures { context_of self.new
+            ≡ past_swallowed (context_of self.old) (invocation_tree test.now) }
     {
         match test {
-            Invocation::Plain(head) => self.swallowing(head),
-            Invocation::WithTest(head, inner) => self.swallowing(head).past_test(head, inner),
-            Invocation::WithTests(head, _, _) => self.swallowing(head),
+            Invocation::Plain(head) => self.swallow(command_named(head.name.as_slice()), head),
+            Invocation::WithTest(head, inner) => {
+                let name = command_named(head.name.as_slice());
+                self.swallow(name, head);
+                self.pass_test(name, inner);
+            }
+            Invocation::WithTests(head, _, _) => {
+                self.swallow(command_named(head.name.as_slice()), head);
+            }
         }
     }
 
-    /// Those behind a command that begins so, and behind the commands that it swallowed: where a `;` is forgotten, the next command
+    /// Goes on behind a command of that name, and behind the commands that it swallowed: where a `;` is forgotten, the next command
     /// reads as the test of the one before it.
-    pub fn past(self, invocation: &Invocation) -> Surroundings<'t>
-        ensures { context_of result
-            ≡ past_invocation (context_of self.entry) (invocation_tree invocation.now) }
+    pub fn pass(&mut self, name: Option<CommandName>, invocation: &Invocation)
+        requires { name ≡ command_named (name_of (invocation_tree invocation.now)) }
+        ensures { context_of self.new
+            ≡ past_invocation (context_of self.old) (invocation_tree invocation.now) }
     {
         match invocation {
-            Invocation::Plain(head) => self.following(head),
-            Invocation::WithTest(head, test) => self.following(head).past_test(head, test),
-            Invocation::WithTests(head, _, _) => self.following(head),
+            Invocation::Plain(head) => self.follow(name, head),
+            Invocation::WithTest(head, test) => {
+                self.follow(name, head);
+                self.pass_test(name, test);
+            }
+            Invocation::WithTests(head, _, _) => self.follow(name, head),
         }
     }
 
-    /// Those of the command after this one.
-    pub fn after(self, command: &Command) -> Surroundings<'t>
-        ensures { context_of result
-            ≡ after_invocation (context_of self.entry) (invocation_of (command_tree command.now)) }
+    /// Goes on behind this command of that name, which swallowed none.
+    pub fn pass_one(&mut self, name: Option<CommandName>, command: &Command)
+        requires { name ≡ command_named (name_of (invocation_of (command_tree command.now))) }
+        ensures { context_of self.new
+            ≡ after_invocation (context_of self.old) (invocation_of (command_tree command.now)) }
     {
-        self.following(head_in(invocation_in(command)))
+        self.follow(name, head_in(invocation_in(command)));
     }
 }

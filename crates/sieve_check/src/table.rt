@@ -5,7 +5,7 @@ ghost use Rattle.std.specs.List.{find};
 ghost use Rattle.octets.specs.Ascii.{is_word};
 ghost use Rattle.sieve_check.specs.Private.{row_view};
 ghost use Rattle.sieve_check.specs.Rows.{bare, command_row, command_word, is_test, test_row, test_word};
-ghost use Rattle.sieve_check.specs.Names.{command_known, command_named, row_named, test_known, test_named};
+ghost use Rattle.sieve_check.specs.Names.{command_named, test_known, test_named};
 ghost use Rattle.sieve_check.specs.Signatures.{command_signature, test_signature};
 
 use crate::names::{Capability, CommandName, TestName};
@@ -513,27 +513,16 @@ pub fn is_test(ending: Option<Ending>) -> bool
     ending.is_none()
 }
 
-/// What is known of the command of that name, if one is.
-pub fn command_known(name: &[u8]) -> Option<Row>
-    ensures { option_map row_view result ≡ command_known name.now }
+/// What is known of the command, where that is known.
+pub fn known_command(name: Option<CommandName>) -> Option<Row>
+    ensures { option_map row_view result ≡ option_map command_row name }
 {
-    Some(command_row(command_named(name)?))
+    Some(command_row(name?))
 }
 
-// The same of a test.
-fn test_known(name: &[u8]) -> Option<Row>
+/// What is known of the test of that name, if one is.
+pub fn test_known(name: &[u8]) -> Option<Row>
     ensures { option_map row_view result ≡ test_known name.now }
 {
     Some(test_row(test_named(name)?))
-}
-
-/// What is known of the command or test of that name, by how it ends.
-pub fn row_named(ending: Option<Ending>, name: &[u8]) -> Option<Row>
-    ensures { option_map row_view result ≡ row_named ending name.now }
-{
-    if is_test(ending) {
-        test_known(name)
-    } else {
-        command_known(name)
-    }
 }

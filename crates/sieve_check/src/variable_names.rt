@@ -103,7 +103,8 @@ impl<'t> VariableNames<'t> {
         }
     }
 
-    // Adds the names in the strings of arguments.
+    // Adds the names in the strings of arguments. Inlined, so that lists without arguments cost no call.
+    #[inline(always)]
     fn add_arguments(&mut self, arguments: &'t [Argument]) -> Result<(), ReasonKind>
         ensures { Adds (listed self.old)
             (flat_map names_in (strings_of (map argument_tree arguments.now))) result
@@ -114,7 +115,10 @@ impl<'t> VariableNames<'t> {
         }
         Ok(())
     }
-    /// Adds the names in the strings of lists. Where there would be too many, that is [`ReasonKind::ManyVariables`].
+
+    /// Adds the names in the strings of lists. Where there would be too many, that is [`ReasonKind::ManyVariables`]. Inlined as
+    /// [`add_arguments`](VariableNames::add_arguments).
+    #[inline(always)]
     pub fn add_lists(&mut self, lists: Lists<'t>) -> Result<(), ReasonKind>
         ensures { Adds (listed self.old) (flat_map names_in (strings_of (all_lists lists.entry)))
             result (listed self.new) }

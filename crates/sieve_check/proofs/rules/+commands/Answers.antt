@@ -18,7 +18,7 @@ command-returns-in-Some t c =
     let s = context_of c.args.surroundings.now in
     let i = invocation_tree b.first in
     let past = past_invocation s i in
-    let is_past : option_map context_of c.in_block_past.result ≡ inside (opened_past i) past = c.in_block_past.ensures ∙ ap (inside (opened_past i)) c.past.ensures in
+    let is_past : option_map context_of c.in_block_past.result ≡ inside (opened_past i) past = c.in_block_past.ensures ∙ ap (inside (opened_past i)) c.pass.ensures in
     let within = context_of c.in-Some.inside in
     let body = commands_tree b.block.items in
     both_visited c.args.findings.now c.invocation-in-Block.new.findings c.commands.new.findings (command_visits s (command_tree c.args.tree.now)) (visits_of (Some Block) s i) (commands_visits within body)
@@ -33,7 +33,7 @@ command-returns-in_default t c =
     let s = context_of c.args.surroundings.now in
     let i = invocation_tree b.first in
     let past = past_invocation s i in
-    let is_past : option_map context_of c.in_block_past.result ≡ inside (opened_past i) past = c.in_block_past.ensures ∙ ap (inside (opened_past i)) c.past.ensures in
+    let is_past : option_map context_of c.in_block_past.result ≡ inside (opened_past i) past = c.in_block_past.ensures ∙ ap (inside (opened_past i)) c.pass.ensures in
     let body = commands_tree b.block.items in
     let visits : command_visits s (command_tree c.args.tree.now) ≡ visits_of (Some Block) s i =
     block_visits s c.args.tree.now b.first b.block b.is
@@ -48,7 +48,7 @@ commands-trees-preserved t c =
     let x = command_tree c.tree-item.result in
     let rest = commands_tree (drop (i + 1) c.args.trees.now) in
     let all = commands_visits (context_of c.args.surroundings.now) (commands_tree c.args.trees.now) in
-    subst (λ (around : Context). AreLeft c.command.new.findings (commands_visits around rest) c.args.findings.now all) (sym (c.past-around.ensures ∙ ap (past_invocation s) c.invocation_in.ensures))
+    subst (λ (around : Context). AreLeft c.command.new.findings (commands_visits around rest) c.args.findings.now all) (sym (c.pass.ensures ∙ ap (past_invocation s) c.invocation_in.ensures))
     (fewer_left c.trees.findings c.command.new.findings c.args.findings.now (commands_visits s (commands_tree (drop i c.args.trees.now))) (command_visits s x) (commands_visits (past_invocation s (invocation_of x)) rest) all
     (next_visits s c.args.trees.now i c.tree-item.result c.trees-test.true c.tree-item.is) c.command.ensures c.trees.invariant)
 

@@ -26,7 +26,7 @@ invocation-returns-then-visit t c =
     let inner = visits_of None s (invocation_tree w.inner.value) in
     both_visited c.args.findings.now c.visit-in-WithTest.new.findings c.invocation.new.findings all (own ∷ []) inner
     (where_made all own inner (looks_inside (row_named c.args.ending w.head.name)) (sym c.visit-in-WithTest.ensures.inside ∙ c.if-visit.true) (test_inside c.args.ending s c.args.tree.now w.head w.inner w.is)) c.visit-in-WithTest.ensures.visited
-    (subst (λ (x : Invocation). AreVisited c.visit-in-WithTest.new.findings (visits_of None s (invocation_tree x)) c.invocation.new.findings) c.deref.ensures c.invocation.ensures)
+    (subst (λ (x : Invocation). AreVisited c.visit-in-WithTest.new.findings (visits_of None s (invocation_tree x)) c.invocation.new.findings) c.deref-then-visit.ensures c.invocation.ensures)
 
 pub invocation-returns-else-visit : goal.invocation-returns-else-visit
 invocation-returns-else-visit t c =
@@ -51,8 +51,8 @@ invocation-returns-then-visit-2 t c =
     both_visited c.args.findings.now after c.tests.new.findings all (own ∷ []) (first ++ others)
     (where_made all own (first ++ others) (looks_inside (row_named c.args.ending w.head.name)) (sym c.visit-in-WithTests.ensures.inside ∙ c.if-visit-2.true) (tests_inside c.args.ending s c.args.tree.now w.head w.first w.others w.is)) c.visit-in-WithTests.ensures.visited
     (both_visited after between c.tests.new.findings (first ++ others) first others refl
-    (subst (λ (x : Invocation). AreVisited after (visits_of None s (invocation_tree x)) between) c.deref-then-visit-2.ensures c.invocation-then-visit-2.ensures)
-    (subst (λ (xs : List Invocation). AreVisited between (more_visits s (others_of xs)) c.tests.new.findings) c.deref-then-visit-2-2.ensures.value c.tests.ensures))
+    (subst (λ (x : Invocation). AreVisited after (visits_of None s (invocation_tree x)) between) c.deref-then-visit-2-2.ensures c.invocation-then-visit-2.ensures)
+    (subst (λ (xs : List Invocation). AreVisited between (more_visits s (others_of xs)) c.tests.new.findings) c.deref-then-visit-2-3.ensures.value c.tests.ensures))
 
 pub invocation-returns-else-visit-2 : goal.invocation-returns-else-visit-2
 invocation-returns-else-visit-2 t c =
