@@ -6,7 +6,7 @@ ghost use Rattle.sieve_vm.specs.Moment.{goes_on, turn_at};
 ghost use Rattle.bytecode_trace.specs.Printed.{trace_text};
 ghost use Rattle.bytecode_trace.specs.Private.{line_at};
 
-use crate::line::{begin_step, line_of};
+use crate::line::{begin_step, set_line};
 use bytecode_verifier::Verified;
 use encodings::{Sink, put};
 use mime_decode::Message;
@@ -38,16 +38,18 @@ pub fn trace<O: Sink>(
         (O.output out.old) (O.output out.new)) }
 {
     let mut run = Progress::begin(alloc, verified, message)?;
+    let mut line = Vec::new(alloc);
     'steps: while run.goes_on() {
-        run = tell_step(alloc, run, out)?;
+        run = tell_step(alloc, run, &mut line, out)?;
     }
     Ok(run.into_outcome()?)
 }
 
-// Takes a step, and writes its line.
+// Takes a step, and writes its line, made in the memory of the one before it.
 fn tell_step<'p, 's, 'm, O: Sink>(
     alloc: Global,
     run: Progress<'p, 's, 'm>,
+    line: &mut Vec<u8>,
     out: &mut O,
 ) -> Result<Progress<'p, 's, 'm>, Refusal>
     requires { goes_on (turn_at run) ≡ true }
@@ -61,7 +63,7 @@ fn tell_step<'p, 's, 'm, O: Sink>(
 {
     let begun = begin_step(alloc, &run)?;
     let run = run.advance(alloc)?;
-    let line = line_of(alloc, &begun, &run)?;
-    put(out, &line)?;
+    set_line(line, &begun, &run)?;
+    put(out, line)?;
     Ok(run)
 }

@@ -38,6 +38,7 @@ fn act<'s, 'm, O: Sink>(
     text: Octets,
     at: usize,
     subject: Subject<'_, 'm>,
+    line: &mut Vec<u8>,
     out: &mut O,
 ) -> Result<Flow, TraceError>
     ensures told { (e : Effects) → HasEvaluated e run.old
@@ -56,11 +57,11 @@ fn act<'s, 'm, O: Sink>(
         Some(name) => {
             let flow = run.act(page.alloc, act, text, subject)?;
             let value = run.variables.value(name.as_slice());
-            tell(page, subject, at, Told::Acted(act, value), out)?;
+            tell(page, subject, at, Told::Acted(act, value), line, out)?;
             Ok(flow)
         }
         None => {
-            tell(page, subject, at, Told::Acted(act, text.as_slice()), out)?;
+            tell(page, subject, at, Told::Acted(act, text.as_slice()), line, out)?;
             Ok(run.act(page.alloc, act, text, subject)?)
         }
     }
@@ -75,6 +76,7 @@ fn for_every_part<'s, 'm, O: Sink>(
     block: &'s [Command],
     at: usize,
     subject: Subject<'_, 'm>,
+    line: &mut Vec<u8>,
     out: &mut O,
 ) -> Result<Flow, TraceError>
     requires { AreBoundedCommands (commands_form block.now) }
@@ -97,7 +99,7 @@ fn for_every_part<'s, 'm, O: Sink>(
 {
     let parts = subject.visited();
     'parts: for part in parts.start..parts.end {
-        match turn(run, page, block, at, subject.at(part), out)? {
+        match turn(run, page, block, at, subject.at(part), line, out)? {
             Flow::GoesOn => {}
             Flow::Stopped => return Ok(Flow::Stopped),
             Flow::Leaves(loops) => return Ok(Flow::left(loops)),
@@ -114,6 +116,7 @@ fn turn<'s, 'm, O: Sink>(
     block: &'s [Command],
     at: usize,
     subject: Subject<'_, 'm>,
+    line: &mut Vec<u8>,
     out: &mut O,
 ) -> Result<Flow, TraceError>
     requires { AreBoundedCommands (commands_form block.now) }
@@ -132,8 +135,8 @@ fn turn<'s, 'm, O: Sink>(
         ∷ commands_events subject.entry.message.now subject.entry.part (commands_form block.now) e))
         (O.output out.old) (O.output out.new)) }
 {
-    tell(page, subject, at, Told::Turn, out)?;
-    commands(run, page, block, subject, out)
+    tell(page, subject, at, Told::Turn, line, out)?;
+    commands(run, page, block, subject, line, out)
 }
 
 // Does what a command does.
@@ -143,6 +146,7 @@ fn command<'s, 'm, O: Sink>(
     page: Page<'_>,
     command: &'s Command,
     subject: Subject<'_, 'm>,
+    line: &mut Vec<u8>,
     out: &mut O,
 ) -> Result<Flow, TraceError>
     requires { IsBoundedCommand (command_form command.now) }
@@ -166,19 +170,19 @@ fn command<'s, 'm, O: Sink>(
             at,
         } => {
             let text = run.expanded(page.alloc, string)?;
-            act(run, page, does, text, *at, subject, out)
+            act(run, page, does, text, *at, subject, line, out)
         }
         Command::ForEveryPart { block, at } => {
-            for_every_part(run, page, block, *at, subject, out)
+            for_every_part(run, page, block, *at, subject, line, out)
         }
         Command::If(branches, otherwise) => {
             'branches: for branch in branches {
-                if is_true(run, page, &branch.test, subject, out)? {
-                    return commands(run, page, &branch.block, subject, out);
+                if is_true(run, page, &branch.test, subject, line, out)? {
+                    return commands(run, page, &branch.block, subject, line, out);
                 }
             }
             match otherwise {
-                Some(block) => commands(run, page, block, subject, out),
+                Some(block) => commands(run, page, block, subject, line, out),
                 None => Ok(Flow::GoesOn),
             }
         }
@@ -192,6 +196,7 @@ pub fn commands<'s, 'm, O: Sink>(
     page: Page<'_>,
     commands: &'s [Command],
     subject: Subject<'_, 'm>,
+    line: &mut Vec<u8>,
     out: &mut O,
 ) -> Result<Flow, TraceError>
     requires { AreBoundedCommands (commands_form commands.now) }
@@ -209,7 +214,7 @@ pub fn commands<'s, 'm, O: Sink>(
         e)) (O.output out.old) (O.output out.new)) }
 {
     'commands: for one in commands {
-        match command(run, page, one, subject, out)? {
+        match command(run, page, one, subject, line, out)? {
             Flow::GoesOn => {}
             flow => return Ok(flow),
         }

@@ -9,6 +9,7 @@ ghost use Rattle.sieve_trace.specs.Printed as Printed;
 ghost use Rattle.sieve_trace.specs.Printed.{act_text, comparison_word, escaped, escaped_octet, event_line, event_text, finding_text, kind_word};
 ghost use Rattle.sieve_trace.specs.Printed.{media_of, occurrence_text, part_text, place_text, question_word, quoted, value_text, values_text};
 ghost use Rattle.sieve_trace.specs.Private.{occurrence_of, sheet_of};
+ghost use Rattle.sieve_trace.specs.declared.line.Setting.TheVariants.{Name};
 
 use crate::places::Place;
 use glob_match::MatchType;
@@ -37,11 +38,13 @@ pub enum Setting {
     Name,
 }
 
-/// What lines are printed by: the name of the script and the places of its tokens; and where memory for a line comes from.
+/// What lines are printed by; and where memory comes from.
 #[derive(Clone, Copy)]
 pub struct Page<'a> {
     pub alloc: Global,
-    pub name: &'a str,
+    /// The name of the script, as lines begin with it.
+    pub label: &'a [u8],
+    /// The places of its tokens.
     pub places: &'a [Place],
 }
 
@@ -335,23 +338,32 @@ fn push_place(out: &mut Vec<u8>, place: Option<Place>) -> Result<(), AllocError>
     push_number(out, place.column as u64)
 }
 
-/// The line of an event.
+/// The name of a script, as lines begin with it.
+pub fn label_of(alloc: Global, name: &str) -> Result<Vec<u8>, AllocError>
+    ensures { IfOk result (λ label. label.items ≡ escaped Name name.now) }
+{
+    let mut label = Vec::new(alloc);
+    push_escaped(&mut label, Setting::Name, name.as_bytes())?;
+    Ok(label)
+}
+
+/// Makes a line that of an event. What it held is gone, but for the memory.
 #[tactic(auto, unfolding(crate::specs::Printed::event_line))]
-pub fn event_line(
+pub fn set_line(
+    line: &mut Vec<u8>,
     page: Page<'_>,
     subject: Subject<'_, '_>,
     at: usize,
     what: Told<'_>,
-) -> Result<Vec<u8>, AllocError>
-    ensures { IfOk result (λ line. line.items
+) -> Result<(), AllocError>
+    ensures { OnOk result (line.new.items
         ≡ event_line (sheet_of page.entry subject.entry.message.now)
         (event at subject.entry.part (occurrence_of what.entry))) }
 {
-    let mut out = Vec::new(page.alloc);
-    push_escaped(&mut out, Setting::Name, page.name.as_bytes())?;
-    push_place(&mut out, page.places.get(at).copied())?;
-    out.extend_from_slice(b": ")?;
-    push_event(&mut out, subject, what)?;
-    out.extend_from_slice(b"\n")?;
-    Ok(out)
+    line.clear();
+    line.extend_from_slice(page.label)?;
+    push_place(line, page.places.get(at).copied())?;
+    line.extend_from_slice(b": ")?;
+    push_event(line, subject, what)?;
+    line.extend_from_slice(b"\n")
 }

@@ -26,6 +26,7 @@ pub fn is_true<'s, 'm, O: Sink>(
     page: Page<'_>,
     test: &Test,
     subject: Subject<'_, 'm>,
+    line: &mut Vec<u8>,
     out: &mut O,
 ) -> Result<bool, TraceError>
     requires { IsBoundedTest (test_form test.now) }
@@ -47,24 +48,24 @@ pub fn is_true<'s, 'm, O: Sink>(
             question,
             strings,
             at,
-        } => ask(run, page, *question, strings, *at, subject, out),
+        } => ask(run, page, *question, strings, *at, subject, line, out),
         Test::Not { test, at } => {
-            let value = !is_true(run, page, test, subject, out)?;
-            say(page, subject, *at, Told::Not(value), value, out)
+            let value = !is_true(run, page, test, subject, line, out)?;
+            say(page, subject, *at, Told::Not(value), value, line, out)
         }
         Test::AllOf { first, others, at } => {
-            if !is_true(run, page, first, subject, out)? {
-                return say(page, subject, *at, Told::AllOf(false), false, out);
+            if !is_true(run, page, first, subject, line, out)? {
+                return say(page, subject, *at, Told::AllOf(false), false, line, out);
             }
-            let value = all_true(run, page, others, subject, out)?;
-            say(page, subject, *at, Told::AllOf(value), value, out)
+            let value = all_true(run, page, others, subject, line, out)?;
+            say(page, subject, *at, Told::AllOf(value), value, line, out)
         }
         Test::AnyOf { first, others, at } => {
-            if is_true(run, page, first, subject, out)? {
-                return say(page, subject, *at, Told::AnyOf(true), true, out);
+            if is_true(run, page, first, subject, line, out)? {
+                return say(page, subject, *at, Told::AnyOf(true), true, line, out);
             }
-            let value = any_true(run, page, others, subject, out)?;
-            say(page, subject, *at, Told::AnyOf(value), value, out)
+            let value = any_true(run, page, others, subject, line, out)?;
+            say(page, subject, *at, Told::AnyOf(value), value, line, out)
         }
     }
 }
@@ -76,6 +77,7 @@ fn say<O: Sink>(
     at: usize,
     what: Told<'_>,
     value: bool,
+    line: &mut Vec<u8>,
     out: &mut O,
 ) -> Result<bool, TraceError>
     ensures value { IfOk result (λ told. told ≡ value) }
@@ -86,7 +88,7 @@ fn say<O: Sink>(
         (event_line (sheet_of page.entry subject.entry.message.now)
         (event at subject.entry.part (occurrence_of what.entry))) (O.output out.old) (O.output out.new)) }
 {
-    tell(page, subject, at, what, out)?;
+    tell(page, subject, at, what, line, out)?;
     Ok(value)
 }
 
@@ -97,6 +99,7 @@ fn all_true<'s, 'm, O: Sink>(
     page: Page<'_>,
     list: &[Test],
     subject: Subject<'_, 'm>,
+    line: &mut Vec<u8>,
     out: &mut O,
 ) -> Result<bool, TraceError>
     requires { AreBoundedTests (tests_of (map test_form list.now)) }
@@ -116,7 +119,7 @@ fn all_true<'s, 'm, O: Sink>(
         (O.output out.old) (O.output out.new)) }
 {
     'list: for test in list {
-        if !is_true(run, page, test, subject, out)? {
+        if !is_true(run, page, test, subject, line, out)? {
             return Ok(false);
         }
     }
@@ -130,6 +133,7 @@ fn any_true<'s, 'm, O: Sink>(
     page: Page<'_>,
     list: &[Test],
     subject: Subject<'_, 'm>,
+    line: &mut Vec<u8>,
     out: &mut O,
 ) -> Result<bool, TraceError>
     requires { AreBoundedTests (tests_of (map test_form list.now)) }
@@ -149,7 +153,7 @@ fn any_true<'s, 'm, O: Sink>(
         (O.output out.old) (O.output out.new)) }
 {
     'list: for test in list {
-        if is_true(run, page, test, subject, out)? {
+        if is_true(run, page, test, subject, line, out)? {
             return Ok(true);
         }
     }
@@ -164,6 +168,7 @@ fn ask<'s, 'm, O: Sink>(
     strings: &Strings,
     at: usize,
     subject: Subject<'_, 'm>,
+    line: &mut Vec<u8>,
     out: &mut O,
 ) -> Result<bool, TraceError>
     requires { AreBoundedStrings (row_of question).takes (strings_form strings.now) }
@@ -182,6 +187,6 @@ fn ask<'s, 'm, O: Sink>(
 {
     let (value, found) = run.asks_and_finds(page.alloc, question, strings, subject, MAX_KEPT)?;
     let told = Told::Asked(question, value, found.as_ref());
-    tell(page, subject, at, told, out)?;
+    tell(page, subject, at, told, line, out)?;
     Ok(value)
 }

@@ -10,7 +10,7 @@ ghost use Rattle.sieve_trace.specs.Written.{HasStopped, trace_text};
 
 use crate::commands::commands;
 use crate::error::TraceError;
-use crate::line::Page;
+use crate::line::{Page, label_of};
 use crate::places::Place;
 use bytecode_format::Action;
 use encodings::Sink;
@@ -47,9 +47,10 @@ pub fn trace<O: Sink>(
         (trace_text (sheet name.now places.now message.now) (commands_form checked.now.commands))
         (O.output out.old) (O.output out.new)) }
 {
+    let label = label_of(alloc, name)?;
     let page = Page {
         alloc,
-        name,
+        label: &label,
         places,
     };
     trace_commands(page, checked.commands(), message, out)
@@ -73,6 +74,7 @@ fn trace_commands<O: Sink>(
         (O.output out.old) (O.output out.new)) }
 {
     let mut run = Evaluator::new(page.alloc);
-    let _flow = commands(&mut run, page, list, Subject::of(message), out)?;
+    let mut line = Vec::new(page.alloc);
+    let _flow = commands(&mut run, page, list, Subject::of(message), &mut line, out)?;
     Ok(run.actions.into_final(run.implicit_keep)?)
 }
