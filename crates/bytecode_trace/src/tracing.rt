@@ -14,16 +14,19 @@ use refusals::Refusal;
 use sieve_vm::{Outcome, Progress};
 use std::alloc::Global;
 
-/// Writes the trace of an accepted program on a message, each line as its step was taken, and answers what the run came to.
+/// Writes the trace of an accepted program on a message, each line as its step was taken, and answers what the run came
+/// to.
 ///
-/// A line has the instruction at its place, as a listing has it; behind a stroke what the step charged and the sum so far; and behind
-/// further strokes, where there are such, the number of the current part after the step, and a value. That is the one that the
-/// instruction left on top of the stack; of those that leave none the one that they took from there, or gave a variable. A text is
-/// printed between quotes, the first 80 octets of it. The sum of the last line is what the run charged.
+/// A line has the instruction at its place, as a listing has it; behind a stroke what the step charged and the sum so
+/// far; and behind further strokes, where there are such, the number of the current part after the step, and a value.
+/// That is the one that the instruction left on top of the stack; of those that leave none the one that they took
+/// from there, or gave a variable. A text is printed between quotes: its first 80 octets, and two dots behind them
+/// where there are more. The sum of the last line is what the run charged.
 ///
 /// # Errors
 ///
-/// `Write` where the sink failed, `Memory` where an allocation was refused. Then the beginning of the trace was written.
+/// `Write` where the sink failed, `Memory` where an allocation was refused. Then the beginning of the trace was
+/// written.
 pub fn trace<O: Sink>(
     alloc: Global,
     verified: &Verified,
