@@ -60,11 +60,13 @@ fn act<'s, 'm, O: Sink>(
         Some(name) => {
             let flow = run.act(page.alloc, act, text, scene.subject)?;
             let value = run.variables.value(name.as_slice());
-            tell(page, scene, at, Told::Acted(act, value), line, out)?;
+            let told = Told::Acted(act, value);
+            tell(page, scene, at, told, line, out)?;
             Ok(flow)
         }
         None => {
-            tell(page, scene, at, Told::Acted(act, text.as_slice()), line, out)?;
+            let told = Told::Acted(act, text.as_slice());
+            tell(page, scene, at, told, line, out)?;
             Ok(run.act(page.alloc, act, text, scene.subject)?)
         }
     }

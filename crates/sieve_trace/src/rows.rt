@@ -10,8 +10,7 @@ use std::io::Write;
 use std::test::Fail;
 
 /// A text with two parts below it, of which the second is a PDF.
-const MAIL: &[u8] =
-    b"From: ann@example.org\n\
+const MAIL: &[u8] = b"From: ann@example.org\n\
       Subject: Invoice 12\n\
       X-A: a\n b\n\
       Content-Type: multipart/mixed; boundary=o\n\n\

@@ -186,7 +186,13 @@ fn ask<'s, 'm, O: Sink>(
         (test_events scene.entry.subject.message.now scene.entry.subject.part
         (asks question (strings_form strings.now) at) e)) (O.output out.old) (O.output out.new)) }
 {
-    let (value, found) = run.asks_and_finds(page.alloc, question, strings, scene.subject, MAX_KEPT)?;
+    let (value, found) = run.asks_and_finds(
+        page.alloc,
+        question,
+        strings,
+        scene.subject,
+        MAX_KEPT,
+    )?;
     let told = Told::Asked(question, value, found.as_ref());
     tell(page, scene, at, told, line, out)?;
     Ok(value)
