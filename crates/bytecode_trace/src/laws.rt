@@ -9,7 +9,8 @@ ghost use Rattle.sieve_vm.specs.Runs.{RunEnds};
 ghost use Rattle.sieve_vm.specs.State.{State, start};
 ghost use Rattle.bytecode_trace.specs.Steps.{IsCharged, LeadToEnd, TakenStep, steps_of};
 
-/// The steps of an accepted program's run are those that lead from its start to its end: as many as the run takes, that to the end included.
+/// The steps of an accepted program's run are those that lead from its start to its end: as many as the run takes, that
+/// to the end included.
 pub fn steps_lead_from_the_start_to_the_end()
     ensures lead { (code : Code) (mail : Mail) → IsAccepted code → IsMail mail → (end : State)
         → RunEnds code mail end → LeadToEnd code mail (start code) end (steps_of code mail) }

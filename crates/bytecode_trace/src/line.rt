@@ -152,23 +152,22 @@ fn put_beginning(
     put_part(out, part)
 }
 
-/// The line of a step that was taken.
-pub fn line_of(
-    alloc: Global,
+/// Makes a line that of a step that was taken. What it held is gone, but for the memory.
+pub fn set_line(
+    line: &mut Vec<u8>,
     begun: &Begun,
     run: &Progress<'_, '_, '_>,
-) -> Result<Vec<u8>, AllocError>
-    ensures line { IfOk result (λ line. (code : Code) (before after : State)
+) -> Result<(), AllocError>
+    ensures line { OnOk result ((code : Code) (before after : State)
         → IsBegun code before begun.now → state_at run.now ≡ Some after
-        → line.items ≡ step_line code (record { before = before; after = after })) }
+        → line.new.items ≡ step_line code (record { before = before; after = after })) }
     ensures reached { IsSome (state_at run.now) }
 {
     let sum = run.charged();
     let charge = sum.saturating_sub(begun.charged);
-    let mut out = Vec::new(alloc);
-    put_beginning(&mut out, begun, charge, sum, run.part())?;
-    out.extend_from_slice(&begun.taken)?;
-    put_left(&mut out, run, begun.told, begun.instruction.c as usize)?;
-    out.extend_from_slice(b"\n")?;
-    Ok(out)
+    line.clear();
+    put_beginning(line, begun, charge, sum, run.part())?;
+    line.extend_from_slice(&begun.taken)?;
+    put_left(line, run, begun.told, begun.instruction.c as usize)?;
+    line.extend_from_slice(b"\n")
 }

@@ -6,7 +6,7 @@ ghost use Rattle.sieve_vm.specs.Moment.{goes_on, turn_at};
 ghost use Rattle.bytecode_trace.specs.Printed.{trace_text};
 ghost use Rattle.bytecode_trace.specs.Private.{line_at};
 
-use crate::line::{begin_step, line_of};
+use crate::line::{begin_step, set_line};
 use bytecode_verifier::Verified;
 use encodings::{Sink, put};
 use mime_decode::Message;
@@ -14,16 +14,19 @@ use refusals::Refusal;
 use sieve_vm::{Outcome, Progress};
 use std::alloc::Global;
 
-/// Writes the trace of an accepted program on a message, each line as its step was taken, and answers what the run came to.
+/// Writes the trace of an accepted program on a message, each line as its step was taken, and answers what the run came
+/// to.
 ///
-/// A line has the instruction at its place, as a listing has it; behind a stroke what the step charged and the sum so far; and behind
-/// further strokes, where there are such, the number of the current part after the step, and a value. That is the one that the
-/// instruction left on top of the stack; of those that leave none the one that they took from there, or gave a variable. A text is
-/// printed between quotes, the first 80 octets of it. The sum of the last line is what the run charged.
+/// A line has the instruction at its place, as a listing has it; behind a stroke what the step charged and the sum so
+/// far; and behind further strokes, where there are such, the number of the current part after the step, and a value.
+/// That is the one that the instruction left on top of the stack; of those that leave none the one that they took
+/// from there, or gave a variable. A text is printed between quotes: its first 80 octets, and two dots behind them
+/// where there are more. The sum of the last line is what the run charged.
 ///
 /// # Errors
 ///
-/// `Write` where the sink failed, `Memory` where an allocation was refused. Then the beginning of the trace was written.
+/// `Write` where the sink failed, `Memory` where an allocation was refused. Then the beginning of the trace was
+/// written.
 pub fn trace<O: Sink>(
     alloc: Global,
     verified: &Verified,
@@ -38,16 +41,18 @@ pub fn trace<O: Sink>(
         (O.output out.old) (O.output out.new)) }
 {
     let mut run = Progress::begin(alloc, verified, message)?;
+    let mut line = Vec::new(alloc);
     'steps: while run.goes_on() {
-        run = tell_step(alloc, run, out)?;
+        run = tell_step(alloc, run, &mut line, out)?;
     }
     Ok(run.into_outcome()?)
 }
 
-// Takes a step, and writes its line.
+// Takes a step, and writes its line, made in the memory of the one before it.
 fn tell_step<'p, 's, 'm, O: Sink>(
     alloc: Global,
     run: Progress<'p, 's, 'm>,
+    line: &mut Vec<u8>,
     out: &mut O,
 ) -> Result<Progress<'p, 's, 'm>, Refusal>
     requires { goes_on (turn_at run) ≡ true }
@@ -61,7 +66,7 @@ fn tell_step<'p, 's, 'm, O: Sink>(
 {
     let begun = begin_step(alloc, &run)?;
     let run = run.advance(alloc)?;
-    let line = line_of(alloc, &begun, &run)?;
-    put(out, &line)?;
+    set_line(line, &begun, &run)?;
+    put(out, line)?;
     Ok(run)
 }

@@ -13,7 +13,7 @@ use Rattle.sieve_trace.specs.Printed.{Sheet, comparison_word, escaped, event_lin
 use Rattle.sieve_trace.specs.Private.{occurrence_of}
 use Rattle.sieve_trace.specs.Written.{HasStopped}
 use Rattle.sieve_trace.specs.declared.error.TraceError.{TraceError}
-use Rattle.sieve_trace.specs.declared.line.Setting.TheVariants.{Name, Quotes}
+use Rattle.sieve_trace.specs.declared.line.Setting.TheVariants.{Quotes}
 use Rattle.sieve_trace.specs.declared.line.Told.{Told}
 use Rattle.sieve_trace.specs.declared.line.Told.TheVariants.{Asked, Not, AllOf, AnyOf, Acted, Turn}
 use Rattle.sieve_trace.proofs.SoFar.{stopped_one, told_one}
@@ -60,7 +60,7 @@ same_line : (page : Sheet) (at : ℕ) (part : Option ℕ) (question : Question) 
     → event_line page (event at part (asked question value (option_map (shortened kept) finding))) ≡ event_line page (event at part (asked question value finding))
 unfolding event_line
 same_line page at part question value finding =
-    ap (λ t. escaped Name page.name ++ place_text (slice_get page.places at) ++ codes ": " ++ t ++ 10 ∷ [])
+    ap (λ t. page.label ++ place_text (slice_get page.places at) ++ codes ": " ++ t ++ 10 ∷ [])
     (same_event page part question value finding)
 
 -- it has the line of what was kept

@@ -129,19 +129,19 @@ unfoldable pub place_text : Option Place → List ℕ
 place_text None = []
 place_text (Some place) = codes ":" ++ decimal place.line ++ codes ":" ++ decimal place.column
 
--- what lines are printed by: the name of the script, the places of its tokens, and the message
+-- what lines are printed by: the name of the script as it is printed, the places of its tokens, and the message
 pub record Sheet : Type 0 where
-  pub name : List ℕ
+  pub label : List ℕ
   pub places : List Place
   pub mail : Mail
 
 abbrev pub sheet : List ℕ → List Place → Mail → Sheet
-sheet name places mail = record { name = name; places = places; mail = mail }
+sheet name places mail = record { label = escaped Name name; places = places; mail = mail }
 
 -- the line of an event
 unfoldable pub event_line : Sheet → Event → List ℕ
 event_line page e =
-    escaped Name page.name ++ place_text (slice_get page.places e.at) ++ codes ": "
+    page.label ++ place_text (slice_get page.places e.at) ++ codes ": "
     ++ event_text page.mail e.part e.what ++ 10 ∷ []
 
 -- the lines of events

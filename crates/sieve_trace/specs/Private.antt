@@ -13,7 +13,7 @@ use Rattle.sieve_meaning.specs.Traced.{Event, Occurrence, negated, all_held, any
 use Rattle.sieve_trace.specs.declared.line.Told.{Told}
 use Rattle.sieve_trace.specs.declared.line.Told.TheVariants as code
 use Rattle.sieve_trace.specs.declared.line.Page.{Page}
-use Rattle.sieve_trace.specs.Printed.{Sheet, sheet}
+use Rattle.sieve_trace.specs.Printed.{Sheet}
 
 -- what the code tells, as the events have it
 abbrev pub occurrence_of : Told → Occurrence
@@ -26,7 +26,7 @@ occurrence_of code.Turn = turned
 
 -- what the code prints by
 abbrev pub sheet_of : Page → Mail → Sheet
-sheet_of page mail = sheet page.name.now page.places.now mail
+sheet_of page mail = record { label = page.label.now; places = page.places.now; mail = mail }
 
 -- what is done in a turn of a loop with this block, and what is told of it
 abbrev pub turn_does : Mail → CommandForms → ℕ → Effects → Ending

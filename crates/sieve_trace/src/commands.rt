@@ -6,13 +6,15 @@ ghost use Rattle.sieve_check.specs.Bounded.{AreBoundedCommands, IsBoundedCommand
 ghost use Rattle.sieve_check.specs.TypedView.{command_form, commands_form};
 ghost use Rattle.sieve_meaning.specs.Evaluation.{HasEvaluated};
 ghost use Rattle.sieve_meaning.specs.Meaning.{Effects, act_does, command_does, commands_do, turns};
-ghost use Rattle.sieve_meaning.specs.Traced.{act_event, variable_of, command_events, commands_events, event, turned, turns_events};
+ghost use Rattle.sieve_meaning.specs.Traced.{act_event, command_events, commands_events, event};
+ghost use Rattle.sieve_meaning.specs.Traced.{turned, turns_events, variable_of};
 ghost use Rattle.sieve_trace.specs.Printed.{event_line, told};
 ghost use Rattle.sieve_trace.specs.Private.{AreTold, sheet_of, turn_does, turn_events};
 ghost use Rattle.sieve_trace.specs.Written.{HasStopped};
 
 use crate::error::TraceError;
-use crate::line::{Page, Told};
+use crate::line::{Page, Told, part_of};
+use crate::scene::Scene;
 use crate::telling::tell;
 use crate::tests_told::is_true;
 use encodings::Sink;
@@ -30,74 +32,80 @@ fn variable_of(act: &Act) -> Option<&Octets>
     }
 }
 
-// Does what an action does with its string, expanded. Of one that sets a variable the value is told that this has then.
+// Does what an action does with its string, expanded. Of one that sets a variable the value is told that this has
+// then.
 fn act<'s, 'm, O: Sink>(
     run: &mut Evaluator<'s, 'm>,
     page: Page<'_>,
     act: &'s Act,
     text: Octets,
     at: usize,
-    subject: Subject<'_, 'm>,
+    scene: Scene<'_, 'm>,
+    line: &mut Vec<u8>,
     out: &mut O,
 ) -> Result<Flow, TraceError>
     ensures told { (e : Effects) → HasEvaluated e run.old
         → IfOk result (λ flow. AreTold
-        (act_does subject.entry.message.now subject.entry.part act.now text e) flow run.new
-        (event_line (sheet_of page.entry subject.entry.message.now)
-        (act_event subject.entry.message.now subject.entry.part act.now text at e))
+        (act_does scene.entry.subject.message.now scene.entry.subject.part act.now text e) flow run.new
+        (event_line (sheet_of page.entry scene.entry.subject.message.now)
+        (act_event scene.entry.subject.message.now scene.entry.subject.part act.now text at e))
         (O.output out.old) (O.output out.new)) }
     ensures stopped { (e : Effects) → HasEvaluated e run.old
         → IfErr result (λ why. HasStopped why
-        (event_line (sheet_of page.entry subject.entry.message.now)
-        (act_event subject.entry.message.now subject.entry.part act.now text at e))
+        (event_line (sheet_of page.entry scene.entry.subject.message.now)
+        (act_event scene.entry.subject.message.now scene.entry.subject.part act.now text at e))
         (O.output out.old) (O.output out.new)) }
 {
     match variable_of(act) {
         Some(name) => {
-            let flow = run.act(page.alloc, act, text, subject)?;
+            let flow = run.act(page.alloc, act, text, scene.subject)?;
             let value = run.variables.value(name.as_slice());
-            tell(page, subject, at, Told::Acted(act, value), out)?;
+            let told = Told::Acted(act, value);
+            tell(page, scene, at, told, line, out)?;
             Ok(flow)
         }
         None => {
-            tell(page, subject, at, Told::Acted(act, text.as_slice()), out)?;
-            Ok(run.act(page.alloc, act, text, subject)?)
+            let told = Told::Acted(act, text.as_slice());
+            tell(page, scene, at, told, line, out)?;
+            Ok(run.act(page.alloc, act, text, scene.subject)?)
         }
     }
 }
 
-// Does what the commands do, on each part that a loop visits, up to a turn that stops the script or leaves the loop. Each turn
-// is told before what is done in it.
+// Does what the commands do, on each part that a loop visits, up to a turn that stops the script or leaves the loop.
+// Each turn is told before what is done in it.
 #[cycle(commands)]
 fn for_every_part<'s, 'm, O: Sink>(
     run: &mut Evaluator<'s, 'm>,
     page: Page<'_>,
     block: &'s [Command],
     at: usize,
-    subject: Subject<'_, 'm>,
+    scene: Scene<'_, 'm>,
+    line: &mut Vec<u8>,
     out: &mut O,
 ) -> Result<Flow, TraceError>
     requires { AreBoundedCommands (commands_form block.now) }
     ensures told { (e : Effects) → HasEvaluated e run.old
         → IfOk result (λ flow. AreTold
-        (turns (turn_does subject.entry.message.now (commands_form block.now)) (visited subject.entry.part subject.entry.message.now) e)
+        (turns (turn_does scene.entry.subject.message.now (commands_form block.now))
+        (visited scene.entry.subject.part scene.entry.subject.message.now) e)
         flow run.new
-        (told (sheet_of page.entry subject.entry.message.now)
-        (turns_events at (turn_does subject.entry.message.now (commands_form block.now))
-        (turn_events subject.entry.message.now (commands_form block.now))
-        (visited subject.entry.part subject.entry.message.now) e))
+        (told (sheet_of page.entry scene.entry.subject.message.now)
+        (turns_events at (turn_does scene.entry.subject.message.now (commands_form block.now))
+        (turn_events scene.entry.subject.message.now (commands_form block.now))
+        (visited scene.entry.subject.part scene.entry.subject.message.now) e))
         (O.output out.old) (O.output out.new)) }
     ensures stopped { (e : Effects) → HasEvaluated e run.old
         → IfErr result (λ why. HasStopped why
-        (told (sheet_of page.entry subject.entry.message.now)
-        (turns_events at (turn_does subject.entry.message.now (commands_form block.now))
-        (turn_events subject.entry.message.now (commands_form block.now))
-        (visited subject.entry.part subject.entry.message.now) e))
+        (told (sheet_of page.entry scene.entry.subject.message.now)
+        (turns_events at (turn_does scene.entry.subject.message.now (commands_form block.now))
+        (turn_events scene.entry.subject.message.now (commands_form block.now))
+        (visited scene.entry.subject.part scene.entry.subject.message.now) e))
         (O.output out.old) (O.output out.new)) }
 {
-    let parts = subject.visited();
+    let parts = scene.subject.visited();
     'parts: for part in parts.start..parts.end {
-        match turn(run, page, block, at, subject.at(part), out)? {
+        match turn(run, page, block, at, scene.subject.at(part), line, out)? {
             Flow::GoesOn => {}
             Flow::Stopped => return Ok(Flow::Stopped),
             Flow::Leaves(loops) => return Ok(Flow::left(loops)),
@@ -114,6 +122,7 @@ fn turn<'s, 'm, O: Sink>(
     block: &'s [Command],
     at: usize,
     subject: Subject<'_, 'm>,
+    line: &mut Vec<u8>,
     out: &mut O,
 ) -> Result<Flow, TraceError>
     requires { AreBoundedCommands (commands_form block.now) }
@@ -132,8 +141,13 @@ fn turn<'s, 'm, O: Sink>(
         ∷ commands_events subject.entry.message.now subject.entry.part (commands_form block.now) e))
         (O.output out.old) (O.output out.new)) }
 {
-    tell(page, subject, at, Told::Turn, out)?;
-    commands(run, page, block, subject, out)
+    let part = part_of(page.alloc, subject)?;
+    let scene = Scene {
+        subject,
+        part: &part,
+    };
+    tell(page, scene, at, Told::Turn, line, out)?;
+    commands(run, page, block, scene, line, out)
 }
 
 // Does what a command does.
@@ -142,21 +156,22 @@ fn command<'s, 'm, O: Sink>(
     run: &mut Evaluator<'s, 'm>,
     page: Page<'_>,
     command: &'s Command,
-    subject: Subject<'_, 'm>,
+    scene: Scene<'_, 'm>,
+    line: &mut Vec<u8>,
     out: &mut O,
 ) -> Result<Flow, TraceError>
     requires { IsBoundedCommand (command_form command.now) }
     ensures told { (e : Effects) → HasEvaluated e run.old
         → IfOk result (λ flow. AreTold
-        (command_does subject.entry.message.now subject.entry.part (command_form command.now) e)
+        (command_does scene.entry.subject.message.now scene.entry.subject.part (command_form command.now) e)
         flow run.new
-        (told (sheet_of page.entry subject.entry.message.now)
-        (command_events subject.entry.message.now subject.entry.part (command_form command.now) e))
+        (told (sheet_of page.entry scene.entry.subject.message.now)
+        (command_events scene.entry.subject.message.now scene.entry.subject.part (command_form command.now) e))
         (O.output out.old) (O.output out.new)) }
     ensures stopped { (e : Effects) → HasEvaluated e run.old
         → IfErr result (λ why. HasStopped why
-        (told (sheet_of page.entry subject.entry.message.now)
-        (command_events subject.entry.message.now subject.entry.part (command_form command.now) e))
+        (told (sheet_of page.entry scene.entry.subject.message.now)
+        (command_events scene.entry.subject.message.now scene.entry.subject.part (command_form command.now) e))
         (O.output out.old) (O.output out.new)) }
 {
     match command {
@@ -166,19 +181,19 @@ fn command<'s, 'm, O: Sink>(
             at,
         } => {
             let text = run.expanded(page.alloc, string)?;
-            act(run, page, does, text, *at, subject, out)
+            act(run, page, does, text, *at, scene, line, out)
         }
         Command::ForEveryPart { block, at } => {
-            for_every_part(run, page, block, *at, subject, out)
+            for_every_part(run, page, block, *at, scene, line, out)
         }
         Command::If(branches, otherwise) => {
             'branches: for branch in branches {
-                if is_true(run, page, &branch.test, subject, out)? {
-                    return commands(run, page, &branch.block, subject, out);
+                if is_true(run, page, &branch.test, scene, line, out)? {
+                    return commands(run, page, &branch.block, scene, line, out);
                 }
             }
             match otherwise {
-                Some(block) => commands(run, page, block, subject, out),
+                Some(block) => commands(run, page, block, scene, line, out),
                 None => Ok(Flow::GoesOn),
             }
         }
@@ -191,25 +206,26 @@ pub fn commands<'s, 'm, O: Sink>(
     run: &mut Evaluator<'s, 'm>,
     page: Page<'_>,
     commands: &'s [Command],
-    subject: Subject<'_, 'm>,
+    scene: Scene<'_, 'm>,
+    line: &mut Vec<u8>,
     out: &mut O,
 ) -> Result<Flow, TraceError>
     requires { AreBoundedCommands (commands_form commands.now) }
     ensures told { (e : Effects) → HasEvaluated e run.old
         → IfOk result (λ flow. AreTold
-        (commands_do subject.entry.message.now subject.entry.part (commands_form commands.now) e)
+        (commands_do scene.entry.subject.message.now scene.entry.subject.part (commands_form commands.now) e)
         flow run.new
-        (told (sheet_of page.entry subject.entry.message.now)
-        (commands_events subject.entry.message.now subject.entry.part (commands_form commands.now)
+        (told (sheet_of page.entry scene.entry.subject.message.now)
+        (commands_events scene.entry.subject.message.now scene.entry.subject.part (commands_form commands.now)
         e)) (O.output out.old) (O.output out.new)) }
     ensures stopped { (e : Effects) → HasEvaluated e run.old
         → IfErr result (λ why. HasStopped why
-        (told (sheet_of page.entry subject.entry.message.now)
-        (commands_events subject.entry.message.now subject.entry.part (commands_form commands.now)
+        (told (sheet_of page.entry scene.entry.subject.message.now)
+        (commands_events scene.entry.subject.message.now scene.entry.subject.part (commands_form commands.now)
         e)) (O.output out.old) (O.output out.new)) }
 {
     'commands: for one in commands {
-        match command(run, page, one, subject, out)? {
+        match command(run, page, one, scene, line, out)? {
             Flow::GoesOn => {}
             flow => return Ok(flow),
         }

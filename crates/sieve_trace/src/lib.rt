@@ -5,8 +5,9 @@
 //! answers are the script's meaning, so by the law of sieve_meaning they are those that the events tell of. A test of
 //! other tests, as `not`, has a line of its own after theirs: so the last line before a block says why it was reached.
 //!
-//! No event is held in memory; each line goes out in one call where the sink takes it whole. [`token_places`] gives the line
-//! and the column of each token, by which the lines begin as those of an explanation of a fault do.
+//! No event is held in memory; each line goes out in one call where the sink takes it whole, and all are made in the
+//! memory of one. [`token_places`] gives the line and the column of each token, by which the lines begin as those of an
+//! explanation of a fault do.
 #![tactic(auto)]
 
 mod commands;
@@ -15,6 +16,7 @@ mod line;
 mod places;
 #[cfg(test)]
 mod rows;
+mod scene;
 mod telling;
 mod tests_told;
 mod tracing;

@@ -1,16 +1,20 @@
 // The line of an event.
-ghost use Rattle.std.specs.Prelude.{◌≡◌, ◌<◌, ◌++◌, IfOk, OnOk, codes, false, length, option_map, slice_get};
+ghost use Rattle.std.specs.Prelude.{◌≡◌, ◌<◌, ◌++◌, IfOk, IfSome, OnOk, codes, false, length};
+ghost use Rattle.std.specs.Prelude.{option_map, slice_get};
 ghost use Rattle.std.specs.Borrow.{Bor};
 ghost use Rattle.std.specs.Fmt.{decimal, digit_glyph};
 ghost use Rattle.mail_matching.specs.declared.finding.Finding.{Finding};
 ghost use Rattle.mime_decode.specs.Mail.{Mail};
 ghost use Rattle.sieve_meaning.specs.Traced.{event};
 ghost use Rattle.sieve_trace.specs.Printed as Printed;
-ghost use Rattle.sieve_trace.specs.Printed.{act_text, comparison_word, escaped, escaped_octet, event_line, event_text, finding_text, kind_word};
-ghost use Rattle.sieve_trace.specs.Printed.{media_of, occurrence_text, part_text, place_text, question_word, quoted, value_text, values_text};
+ghost use Rattle.sieve_trace.specs.Printed.{act_text, comparison_word, escaped, escaped_octet, event_line};
+ghost use Rattle.sieve_trace.specs.Printed.{event_text, finding_text, kind_word, media_of, occurrence_text};
+ghost use Rattle.sieve_trace.specs.Printed.{part_text, place_text, question_word, quoted, value_text, values_text};
 ghost use Rattle.sieve_trace.specs.Private.{occurrence_of, sheet_of};
+ghost use Rattle.sieve_trace.specs.declared.line.Setting.TheVariants.{Name};
 
 use crate::places::Place;
+use crate::scene::Scene;
 use glob_match::MatchType;
 use itoa::Buffer;
 use mail_matching::Finding;
@@ -37,11 +41,13 @@ pub enum Setting {
     Name,
 }
 
-/// What lines are printed by: the name of the script and the places of its tokens; and where memory for a line comes from.
+/// What lines are printed by; and where memory comes from.
 #[derive(Clone, Copy)]
 pub struct Page<'a> {
     pub alloc: Global,
-    pub name: &'a str,
+    /// The name of the script, as lines begin with it.
+    pub label: &'a [u8],
+    /// The places of its tokens.
     pub places: &'a [Place],
 }
 
@@ -302,21 +308,34 @@ fn push_part(out: &mut Vec<u8>, message: &Message<'_>, number: usize) -> Result<
     Ok(())
 }
 
+/// The current part by its number and media type, if there is one.
+pub fn part_of(alloc: Global, subject: Subject<'_, '_>) -> Result<Vec<u8>, AllocError>
+    ensures { IfOk result (λ part. IfSome subject.entry.part
+        (λ number. part.items ≡ part_text subject.entry.message.now number)) }
+{
+    let mut part = Vec::new(alloc);
+    if let Some(number) = subject.part {
+        push_part(&mut part, subject.message, number)?;
+    }
+    Ok(part)
+}
+
 // Appends where it came, and what it was.
 #[tactic(auto, unfolding(crate::specs::Printed::event_text))]
-fn push_event(out: &mut Vec<u8>, subject: Subject<'_, '_>, what: Told<'_>) -> Result<(), AllocError>
+fn push_event(out: &mut Vec<u8>, scene: Scene<'_, '_>, what: Told<'_>) -> Result<(), AllocError>
     ensures { OnOk result (out.new.items ≡ out.old.items
-        ++ event_text subject.entry.message.now subject.entry.part (occurrence_of what.entry)) }
+        ++ event_text scene.entry.subject.message.now scene.entry.subject.part
+        (occurrence_of what.entry)) }
 {
-    let Some(number) = subject.part else {
+    if scene.subject.part.is_none() {
         return push_occurrence(out, what);
-    };
+    }
     if let Told::Turn = what {
         push_occurrence(out, what)?;
         out.extend_from_slice(b" ")?;
-        return push_part(out, subject.message, number);
+        return out.extend_from_slice(scene.part);
     }
-    push_part(out, subject.message, number)?;
+    out.extend_from_slice(scene.part)?;
     out.extend_from_slice(b" ")?;
     push_occurrence(out, what)
 }
@@ -335,23 +354,32 @@ fn push_place(out: &mut Vec<u8>, place: Option<Place>) -> Result<(), AllocError>
     push_number(out, place.column as u64)
 }
 
-/// The line of an event.
+/// The name of a script, as lines begin with it.
+pub fn label_of(alloc: Global, name: &str) -> Result<Vec<u8>, AllocError>
+    ensures { IfOk result (λ label. label.items ≡ escaped Name name.now) }
+{
+    let mut label = Vec::new(alloc);
+    push_escaped(&mut label, Setting::Name, name.as_bytes())?;
+    Ok(label)
+}
+
+/// Makes a line that of an event. What it held is gone, but for the memory.
 #[tactic(auto, unfolding(crate::specs::Printed::event_line))]
-pub fn event_line(
+pub fn set_line(
+    line: &mut Vec<u8>,
     page: Page<'_>,
-    subject: Subject<'_, '_>,
+    scene: Scene<'_, '_>,
     at: usize,
     what: Told<'_>,
-) -> Result<Vec<u8>, AllocError>
-    ensures { IfOk result (λ line. line.items
-        ≡ event_line (sheet_of page.entry subject.entry.message.now)
-        (event at subject.entry.part (occurrence_of what.entry))) }
+) -> Result<(), AllocError>
+    ensures { OnOk result (line.new.items
+        ≡ event_line (sheet_of page.entry scene.entry.subject.message.now)
+        (event at scene.entry.subject.part (occurrence_of what.entry))) }
 {
-    let mut out = Vec::new(page.alloc);
-    push_escaped(&mut out, Setting::Name, page.name.as_bytes())?;
-    push_place(&mut out, page.places.get(at).copied())?;
-    out.extend_from_slice(b": ")?;
-    push_event(&mut out, subject, what)?;
-    out.extend_from_slice(b"\n")?;
-    Ok(out)
+    line.clear();
+    line.extend_from_slice(page.label)?;
+    push_place(line, page.places.get(at).copied())?;
+    line.extend_from_slice(b": ")?;
+    push_event(line, scene, what)?;
+    line.extend_from_slice(b"\n")
 }

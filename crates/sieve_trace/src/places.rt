@@ -1,5 +1,6 @@
 // Where the tokens of a script stand.
-ghost use Rattle.std.specs.Prelude.{◌≡◌, ◌≤◌, ◌<◌, ◌+◌, ◌^◌, List, IfOk, IfErr, length, min, if◌then◌else◌};
+ghost use Rattle.std.specs.Prelude.{◌≡◌, ◌≤◌, ◌<◌, ◌+◌, ◌^◌, List, IfOk, IfErr, length, min};
+ghost use Rattle.std.specs.Prelude.{if◌then◌else◌};
 ghost use Rattle.octets.specs.Limits.{max_script};
 ghost use Rattle.sieve_explain.specs.Places.{is_line_feed};
 ghost use Rattle.sieve_lexer.specs.Tokens.{AreTokens, IsLexicalRefusal};

@@ -10,8 +10,16 @@ use std::io::Write;
 use std::test::Fail;
 
 /// A text with two parts below it, of which the second is a PDF.
-const MAIL: &[u8] =
-    b"From: ann@example.org\nSubject: Invoice 12\nX-A: a\n b\nContent-Type: multipart/mixed; boundary=o\n\n--o\n\nhello\n--o\nContent-Type: application/pdf\n\nx\n--o--\n";
+const MAIL: &[u8] = b"From: ann@example.org\n\
+      Subject: Invoice 12\n\
+      X-A: a\n b\n\
+      Content-Type: multipart/mixed; boundary=o\n\n\
+      --o\n\n\
+      hello\n\
+      --o\n\
+      Content-Type: application/pdf\n\n\
+      x\n\
+      --o--\n";
 
 /// The trace of a script on a mail, where it is written to its end.
 fn traced(alloc: Global, script: &[u8], mail: &[u8]) -> Result<Vec<u8>, Fail> {
@@ -28,7 +36,10 @@ const ROWS: [(&[u8], &[u8]); 21] = [
     (b"", b""),
     (b"keep;", b"f.sieve:1:1: keep\n"),
     (
-        b"require \"fileinto\";\nif header :contains \"subject\" \"nvoi\" {\n  fileinto \"in\\\"voices\";\n} else {\n  keep;\n}\n",
+        b"require \"fileinto\";\n\
+          if header :contains \"subject\" \"nvoi\" {\n  fileinto \"in\\\"voices\";\n\
+          } else {\n  keep;\n\
+          }\n",
         b"f.sieve:2:4: header yes \"Invoice 12\" contains \"nvoi\"\nf.sieve:3:3: fileinto \"in\\22voices\"\n",
     ),
     (
@@ -69,39 +80,92 @@ const ROWS: [(&[u8], &[u8]); 21] = [
     ),
     (
         b"if anyof (size :over 1M, exists \"x-a\", false) { discard; stop; }\nkeep;",
-        b"f.sieve:1:11: size no\nf.sieve:1:26: exists yes\nf.sieve:1:4: anyof yes\nf.sieve:1:49: discard\nf.sieve:1:58: stop\n",
+        b"f.sieve:1:11: size no\n\
+          f.sieve:1:26: exists yes\n\
+          f.sieve:1:4: anyof yes\n\
+          f.sieve:1:49: discard\n\
+          f.sieve:1:58: stop\n",
     ),
     (
         b"if allof (true, not true, true) { stop; } elsif not false { keep; }",
-        b"f.sieve:1:11: true yes\nf.sieve:1:21: true yes\nf.sieve:1:17: not no\nf.sieve:1:4: allof no\nf.sieve:1:53: false no\nf.sieve:1:49: not yes\nf.sieve:1:61: keep\n",
+        b"f.sieve:1:11: true yes\n\
+          f.sieve:1:21: true yes\n\
+          f.sieve:1:17: not no\n\
+          f.sieve:1:4: allof no\n\
+          f.sieve:1:53: false no\n\
+          f.sieve:1:49: not yes\n\
+          f.sieve:1:61: keep\n",
     ),
     (
-        b"require \"variables\";\nset :upper \"A\" \"b\";\nif string :matches \"${a}c\" \"B?\" { set \"d\" \"${1}${a}\"; }",
-        b"f.sieve:2:1: set \"a\" \"B\"\nf.sieve:3:4: string yes \"Bc\" matches \"B?\"\nf.sieve:3:35: set \"d\" \"cB\"\n",
+        b"require \"variables\";\n\
+          set :upper \"A\" \"b\";\n\
+          if string :matches \"${a}c\" \"B?\" { set \"d\" \"${1}${a}\"; }",
+        b"f.sieve:2:1: set \"a\" \"B\"\n\
+          f.sieve:3:4: string yes \"Bc\" matches \"B?\"\n\
+          f.sieve:3:35: set \"d\" \"cB\"\n",
     ),
     (
-        b"require [\"variables\", \"fileinto\"];\nset \"a\" \"Lists\";\nif string :contains [\"a\", \"bc\", \"cb\"] [\"x\", \"b\"] { fileinto \"${a}/b\"; }\nif string [\"\", \"a\", \"b\"] \"c\" { stop; }",
-        b"f.sieve:2:1: set \"a\" \"Lists\"\nf.sieve:3:4: string yes \"bc\" contains \"b\"\nf.sieve:3:52: fileinto \"Lists/b\"\nf.sieve:4:4: string no, 3 values\n",
+        b"require [\"variables\", \"fileinto\"];\n\
+          set \"a\" \"Lists\";\n\
+          if string :contains [\"a\", \"bc\", \"cb\"] [\"x\", \"b\"] { fileinto \"${a}/b\"; }\n\
+          if string [\"\", \"a\", \"b\"] \"c\" { stop; }",
+        b"f.sieve:2:1: set \"a\" \"Lists\"\n\
+          f.sieve:3:4: string yes \"bc\" contains \"b\"\n\
+          f.sieve:3:52: fileinto \"Lists/b\"\n\
+          f.sieve:4:4: string no, 3 values\n",
     ),
     (
         b"require \"foreverypart\";\nforeverypart { keep; }",
-        b"f.sieve:2:1: foreverypart part 0 multipart/mixed\nf.sieve:2:16: part 0 multipart/mixed keep\nf.sieve:2:1: foreverypart part 1 text/plain\nf.sieve:2:16: part 1 text/plain keep\nf.sieve:2:1: foreverypart part 2 application/pdf\nf.sieve:2:16: part 2 application/pdf keep\n",
+        b"f.sieve:2:1: foreverypart part 0 multipart/mixed\n\
+          f.sieve:2:16: part 0 multipart/mixed keep\n\
+          f.sieve:2:1: foreverypart part 1 text/plain\n\
+          f.sieve:2:16: part 1 text/plain keep\n\
+          f.sieve:2:1: foreverypart part 2 application/pdf\n\
+          f.sieve:2:16: part 2 application/pdf keep\n",
     ),
     (
         b"require \"foreverypart\";\nforeverypart :name \"a\" { foreverypart { break :name \"a\"; } }",
-        b"f.sieve:2:1: foreverypart part 0 multipart/mixed\nf.sieve:2:26: foreverypart part 1 text/plain\nf.sieve:2:41: part 1 text/plain break 2\n",
+        b"f.sieve:2:1: foreverypart part 0 multipart/mixed\n\
+          f.sieve:2:26: foreverypart part 1 text/plain\n\
+          f.sieve:2:41: part 1 text/plain break 2\n",
     ),
     (
         b"require \"foreverypart\";\nforeverypart { foreverypart { break; } break; }\nkeep;",
-        b"f.sieve:2:1: foreverypart part 0 multipart/mixed\nf.sieve:2:16: foreverypart part 1 text/plain\nf.sieve:2:31: part 1 text/plain break 1\nf.sieve:2:40: part 0 multipart/mixed break 1\nf.sieve:3:1: keep\n",
+        b"f.sieve:2:1: foreverypart part 0 multipart/mixed\n\
+          f.sieve:2:16: foreverypart part 1 text/plain\n\
+          f.sieve:2:31: part 1 text/plain break 1\n\
+          f.sieve:2:40: part 0 multipart/mixed break 1\n\
+          f.sieve:3:1: keep\n",
     ),
     (
-        b"require [\"foreverypart\", \"vnd.depot\"];\nforeverypart { foreverypart {\nif partbody :contains [\"y\", \"EL\"] { store \"S\"; }\nif partdigest [\"a\", \"2d711642b726b04401627ca9fbac32f5c8530fb1903cc4db02258717921a4881\"] { keep; }\n} break; }",
-        b"f.sieve:2:1: foreverypart part 0 multipart/mixed\nf.sieve:2:16: foreverypart part 1 text/plain\nf.sieve:3:4: part 1 text/plain partbody yes \"hello\" contains \"EL\"\nf.sieve:3:37: part 1 text/plain store \"S\"\nf.sieve:4:4: part 1 text/plain partdigest no, 1 value\nf.sieve:2:16: foreverypart part 2 application/pdf\nf.sieve:3:4: part 2 application/pdf partbody no, 1 value\nf.sieve:4:4: part 2 application/pdf partdigest yes \"2d711642b726b04401627ca9fbac32f5c8530fb1903cc4db02258717921a4881\" is \"2d711642b726b04401627ca9fbac32f5c8530fb1903cc4db02258717921a4881\"\nf.sieve:4:91: part 2 application/pdf keep\nf.sieve:5:3: part 0 multipart/mixed break 1\n",
+        b"require [\"foreverypart\", \"vnd.depot\"];\n\
+          foreverypart { foreverypart {\n\
+          if partbody :contains [\"y\", \"EL\"] { store \"S\"; }\n\
+          if partdigest [\"a\", \"2d711642b726b04401627ca9fbac32f5c8530fb1903cc4db02258717921a4881\"] { keep; }\n\
+          } break; }",
+        b"f.sieve:2:1: foreverypart part 0 multipart/mixed\n\
+          f.sieve:2:16: foreverypart part 1 text/plain\n\
+          f.sieve:3:4: part 1 text/plain partbody yes \"hello\" contains \"EL\"\n\
+          f.sieve:3:37: part 1 text/plain store \"S\"\n\
+          f.sieve:4:4: part 1 text/plain partdigest no, 1 value\n\
+          f.sieve:2:16: foreverypart part 2 application/pdf\n\
+          f.sieve:3:4: part 2 application/pdf partbody no, 1 value\n\
+          f.sieve:4:4: part 2 application/pdf partdigest yes \
+          \"2d711642b726b04401627ca9fbac32f5c8530fb1903cc4db02258717921a4881\" \
+          is \"2d711642b726b04401627ca9fbac32f5c8530fb1903cc4db02258717921a4881\"\n\
+          f.sieve:4:91: part 2 application/pdf keep\n\
+          f.sieve:5:3: part 0 multipart/mixed break 1\n",
     ),
     (
-        b"require [\"foreverypart\", \"vnd.depot\", \"variables\"];\nforeverypart { foreverypart { if partsize :over 3 { take :first 4 \"v\"; } } break; }",
-        b"f.sieve:2:1: foreverypart part 0 multipart/mixed\nf.sieve:2:16: foreverypart part 1 text/plain\nf.sieve:2:34: part 1 text/plain partsize yes\nf.sieve:2:53: part 1 text/plain take \"v\" \"hell\"\nf.sieve:2:16: foreverypart part 2 application/pdf\nf.sieve:2:34: part 2 application/pdf partsize no\nf.sieve:2:76: part 0 multipart/mixed break 1\n",
+        b"require [\"foreverypart\", \"vnd.depot\", \"variables\"];\n\
+          foreverypart { foreverypart { if partsize :over 3 { take :first 4 \"v\"; } } break; }",
+        b"f.sieve:2:1: foreverypart part 0 multipart/mixed\n\
+          f.sieve:2:16: foreverypart part 1 text/plain\n\
+          f.sieve:2:34: part 1 text/plain partsize yes\n\
+          f.sieve:2:53: part 1 text/plain take \"v\" \"hell\"\n\
+          f.sieve:2:16: foreverypart part 2 application/pdf\n\
+          f.sieve:2:34: part 2 application/pdf partsize no\n\
+          f.sieve:2:76: part 0 multipart/mixed break 1\n",
     ),
 ];
 

@@ -7,24 +7,25 @@ ghost use Rattle.sieve_trace.specs.Private.{occurrence_of, sheet_of};
 ghost use Rattle.sieve_trace.specs.Written.{HasStopped};
 
 use crate::error::TraceError;
-use crate::line::{Page, Told, event_line};
+use crate::line::{Page, Told, set_line};
+use crate::scene::Scene;
 use encodings::{Sink, put};
-use sieve_meaning::Subject;
 
-/// Writes the line of an event.
+/// Writes the line of an event. It is made in the memory of the one before it.
 pub fn tell<O: Sink>(
     page: Page<'_>,
-    subject: Subject<'_, '_>,
+    scene: Scene<'_, '_>,
     at: usize,
     what: Told<'_>,
+    line: &mut Vec<u8>,
     out: &mut O,
 ) -> Result<(), TraceError>
-    ensures ok { OnOk result (HasTaken (event_line (sheet_of page.entry subject.entry.message.now)
-        (event at subject.entry.part (occurrence_of what.entry))) (O.output out.old) (O.output out.new)) }
+    ensures ok { OnOk result (HasTaken (event_line (sheet_of page.entry scene.entry.subject.message.now)
+        (event at scene.entry.subject.part (occurrence_of what.entry))) (O.output out.old) (O.output out.new)) }
     ensures err { IfErr result (λ e. HasStopped e
-        (event_line (sheet_of page.entry subject.entry.message.now)
-        (event at subject.entry.part (occurrence_of what.entry))) (O.output out.old) (O.output out.new)) }
+        (event_line (sheet_of page.entry scene.entry.subject.message.now)
+        (event at scene.entry.subject.part (occurrence_of what.entry))) (O.output out.old) (O.output out.new)) }
 {
-    let line = event_line(page, subject, at, what)?;
-    Ok(put(out, &line)?)
+    set_line(line, page, scene, at, what)?;
+    Ok(put(out, line)?)
 }

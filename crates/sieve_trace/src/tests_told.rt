@@ -14,10 +14,11 @@ ghost use Rattle.sieve_trace.specs.Written.{HasStopped};
 
 use crate::error::TraceError;
 use crate::line::{MAX_KEPT, Page, Told};
+use crate::scene::Scene;
 use crate::telling::tell;
 use encodings::Sink;
 use sieve_check::{Question, Strings, Test};
-use sieve_meaning::{Evaluator, Subject};
+use sieve_meaning::Evaluator;
 
 /// Whether the test is true of the message. It is told after the tests that it is made of.
 #[cycle(tests)]
@@ -25,21 +26,22 @@ pub fn is_true<'s, 'm, O: Sink>(
     run: &mut Evaluator<'s, 'm>,
     page: Page<'_>,
     test: &Test,
-    subject: Subject<'_, 'm>,
+    scene: Scene<'_, 'm>,
+    line: &mut Vec<u8>,
     out: &mut O,
 ) -> Result<bool, TraceError>
     requires { IsBoundedTest (test_form test.now) }
     ensures told { (e : Effects) → HasEvaluated e run.old
         → IfOk result (λ value. IsTold
-        (test_does subject.entry.message.now subject.entry.part (test_form test.now) e) value
+        (test_does scene.entry.subject.message.now scene.entry.subject.part (test_form test.now) e) value
         run.new
-        (told (sheet_of page.entry subject.entry.message.now)
-        (test_events subject.entry.message.now subject.entry.part (test_form test.now) e))
+        (told (sheet_of page.entry scene.entry.subject.message.now)
+        (test_events scene.entry.subject.message.now scene.entry.subject.part (test_form test.now) e))
         (O.output out.old) (O.output out.new)) }
     ensures stopped { (e : Effects) → HasEvaluated e run.old
         → IfErr result (λ why. HasStopped why
-        (told (sheet_of page.entry subject.entry.message.now)
-        (test_events subject.entry.message.now subject.entry.part (test_form test.now) e))
+        (told (sheet_of page.entry scene.entry.subject.message.now)
+        (test_events scene.entry.subject.message.now scene.entry.subject.part (test_form test.now) e))
         (O.output out.old) (O.output out.new)) }
 {
     match test {
@@ -47,24 +49,24 @@ pub fn is_true<'s, 'm, O: Sink>(
             question,
             strings,
             at,
-        } => ask(run, page, *question, strings, *at, subject, out),
+        } => ask(run, page, *question, strings, *at, scene, line, out),
         Test::Not { test, at } => {
-            let value = !is_true(run, page, test, subject, out)?;
-            say(page, subject, *at, Told::Not(value), value, out)
+            let value = !is_true(run, page, test, scene, line, out)?;
+            say(page, scene, *at, Told::Not(value), value, line, out)
         }
         Test::AllOf { first, others, at } => {
-            if !is_true(run, page, first, subject, out)? {
-                return say(page, subject, *at, Told::AllOf(false), false, out);
+            if !is_true(run, page, first, scene, line, out)? {
+                return say(page, scene, *at, Told::AllOf(false), false, line, out);
             }
-            let value = all_true(run, page, others, subject, out)?;
-            say(page, subject, *at, Told::AllOf(value), value, out)
+            let value = all_true(run, page, others, scene, line, out)?;
+            say(page, scene, *at, Told::AllOf(value), value, line, out)
         }
         Test::AnyOf { first, others, at } => {
-            if is_true(run, page, first, subject, out)? {
-                return say(page, subject, *at, Told::AnyOf(true), true, out);
+            if is_true(run, page, first, scene, line, out)? {
+                return say(page, scene, *at, Told::AnyOf(true), true, line, out);
             }
-            let value = any_true(run, page, others, subject, out)?;
-            say(page, subject, *at, Told::AnyOf(value), value, out)
+            let value = any_true(run, page, others, scene, line, out)?;
+            say(page, scene, *at, Told::AnyOf(value), value, line, out)
         }
     }
 }
@@ -72,21 +74,22 @@ pub fn is_true<'s, 'm, O: Sink>(
 // Tells what came of a test of other tests, and answers its value.
 fn say<O: Sink>(
     page: Page<'_>,
-    subject: Subject<'_, '_>,
+    scene: Scene<'_, '_>,
     at: usize,
     what: Told<'_>,
     value: bool,
+    line: &mut Vec<u8>,
     out: &mut O,
 ) -> Result<bool, TraceError>
     ensures value { IfOk result (λ told. told ≡ value) }
     ensures told { IfOk result (λ told. HasTaken
-        (event_line (sheet_of page.entry subject.entry.message.now)
-        (event at subject.entry.part (occurrence_of what.entry))) (O.output out.old) (O.output out.new)) }
+        (event_line (sheet_of page.entry scene.entry.subject.message.now)
+        (event at scene.entry.subject.part (occurrence_of what.entry))) (O.output out.old) (O.output out.new)) }
     ensures stopped { IfErr result (λ why. HasStopped why
-        (event_line (sheet_of page.entry subject.entry.message.now)
-        (event at subject.entry.part (occurrence_of what.entry))) (O.output out.old) (O.output out.new)) }
+        (event_line (sheet_of page.entry scene.entry.subject.message.now)
+        (event at scene.entry.subject.part (occurrence_of what.entry))) (O.output out.old) (O.output out.new)) }
 {
-    tell(page, subject, at, what, out)?;
+    tell(page, scene, at, what, line, out)?;
     Ok(value)
 }
 
@@ -96,27 +99,28 @@ fn all_true<'s, 'm, O: Sink>(
     run: &mut Evaluator<'s, 'm>,
     page: Page<'_>,
     list: &[Test],
-    subject: Subject<'_, 'm>,
+    scene: Scene<'_, 'm>,
+    line: &mut Vec<u8>,
     out: &mut O,
 ) -> Result<bool, TraceError>
     requires { AreBoundedTests (tests_of (map test_form list.now)) }
     ensures told { (e : Effects) → HasEvaluated e run.old
         → IfOk result (λ value. IsTold
-        (all_do subject.entry.message.now subject.entry.part
+        (all_do scene.entry.subject.message.now scene.entry.subject.part
         (tests_of (map test_form list.now)) e) value run.new
-        (told (sheet_of page.entry subject.entry.message.now)
-        (all_events subject.entry.message.now subject.entry.part
+        (told (sheet_of page.entry scene.entry.subject.message.now)
+        (all_events scene.entry.subject.message.now scene.entry.subject.part
         (tests_of (map test_form list.now)) e))
         (O.output out.old) (O.output out.new)) }
     ensures stopped { (e : Effects) → HasEvaluated e run.old
         → IfErr result (λ why. HasStopped why
-        (told (sheet_of page.entry subject.entry.message.now)
-        (all_events subject.entry.message.now subject.entry.part
+        (told (sheet_of page.entry scene.entry.subject.message.now)
+        (all_events scene.entry.subject.message.now scene.entry.subject.part
         (tests_of (map test_form list.now)) e))
         (O.output out.old) (O.output out.new)) }
 {
     'list: for test in list {
-        if !is_true(run, page, test, subject, out)? {
+        if !is_true(run, page, test, scene, line, out)? {
             return Ok(false);
         }
     }
@@ -129,27 +133,28 @@ fn any_true<'s, 'm, O: Sink>(
     run: &mut Evaluator<'s, 'm>,
     page: Page<'_>,
     list: &[Test],
-    subject: Subject<'_, 'm>,
+    scene: Scene<'_, 'm>,
+    line: &mut Vec<u8>,
     out: &mut O,
 ) -> Result<bool, TraceError>
     requires { AreBoundedTests (tests_of (map test_form list.now)) }
     ensures told { (e : Effects) → HasEvaluated e run.old
         → IfOk result (λ value. IsTold
-        (any_do subject.entry.message.now subject.entry.part
+        (any_do scene.entry.subject.message.now scene.entry.subject.part
         (tests_of (map test_form list.now)) e) value run.new
-        (told (sheet_of page.entry subject.entry.message.now)
-        (any_events subject.entry.message.now subject.entry.part
+        (told (sheet_of page.entry scene.entry.subject.message.now)
+        (any_events scene.entry.subject.message.now scene.entry.subject.part
         (tests_of (map test_form list.now)) e))
         (O.output out.old) (O.output out.new)) }
     ensures stopped { (e : Effects) → HasEvaluated e run.old
         → IfErr result (λ why. HasStopped why
-        (told (sheet_of page.entry subject.entry.message.now)
-        (any_events subject.entry.message.now subject.entry.part
+        (told (sheet_of page.entry scene.entry.subject.message.now)
+        (any_events scene.entry.subject.message.now scene.entry.subject.part
         (tests_of (map test_form list.now)) e))
         (O.output out.old) (O.output out.new)) }
 {
     'list: for test in list {
-        if is_true(run, page, test, subject, out)? {
+        if is_true(run, page, test, scene, line, out)? {
             return Ok(true);
         }
     }
@@ -163,25 +168,32 @@ fn ask<'s, 'm, O: Sink>(
     question: Question,
     strings: &Strings,
     at: usize,
-    subject: Subject<'_, 'm>,
+    scene: Scene<'_, 'm>,
+    line: &mut Vec<u8>,
     out: &mut O,
 ) -> Result<bool, TraceError>
     requires { AreBoundedStrings (row_of question).takes (strings_form strings.now) }
     ensures told { (e : Effects) → HasEvaluated e run.old
         → IfOk result (λ value. IsTold
-        (test_does subject.entry.message.now subject.entry.part
+        (test_does scene.entry.subject.message.now scene.entry.subject.part
         (asks question (strings_form strings.now) at) e) value run.new
-        (told (sheet_of page.entry subject.entry.message.now)
-        (test_events subject.entry.message.now subject.entry.part
+        (told (sheet_of page.entry scene.entry.subject.message.now)
+        (test_events scene.entry.subject.message.now scene.entry.subject.part
         (asks question (strings_form strings.now) at) e)) (O.output out.old) (O.output out.new)) }
     ensures stopped { (e : Effects) → HasEvaluated e run.old
         → IfErr result (λ why. HasStopped why
-        (told (sheet_of page.entry subject.entry.message.now)
-        (test_events subject.entry.message.now subject.entry.part
+        (told (sheet_of page.entry scene.entry.subject.message.now)
+        (test_events scene.entry.subject.message.now scene.entry.subject.part
         (asks question (strings_form strings.now) at) e)) (O.output out.old) (O.output out.new)) }
 {
-    let (value, found) = run.asks_and_finds(page.alloc, question, strings, subject, MAX_KEPT)?;
+    let (value, found) = run.asks_and_finds(
+        page.alloc,
+        question,
+        strings,
+        scene.subject,
+        MAX_KEPT,
+    )?;
     let told = Told::Asked(question, value, found.as_ref());
-    tell(page, subject, at, told, out)?;
+    tell(page, scene, at, told, line, out)?;
     Ok(value)
 }

@@ -10,22 +10,26 @@ ghost use Rattle.sieve_trace.specs.Written.{HasStopped, trace_text};
 
 use crate::commands::commands;
 use crate::error::TraceError;
-use crate::line::Page;
+use crate::line::{Page, label_of};
 use crate::places::Place;
+use crate::scene::Scene;
 use bytecode_format::Action;
 use encodings::Sink;
 use mime_decode::Message;
 use sieve_check::{Checked, Command};
-use sieve_meaning::{Evaluator, Subject};
+use sieve_meaning::Evaluator;
 use std::alloc::Global;
 
-/// Writes the trace of a script on a message, each event as it comes, and answers the script's final actions: exactly those of
-/// its meaning.
+/// Writes the trace of a script on a message, each event as it comes, and answers the script's final actions: exactly
+/// those of its meaning.
 ///
-/// A line begins with the name, as far as it can be printed, and the line and the column of the token at which the test or the
-/// command begins, by the places of the script's tokens ([`token_places`](crate::token_places)). In a loop the part follows, by its number
-/// and media type. Then comes the word of the test or command and what came of it: `yes` or `no`, the folder after expansion, the
-/// value of a variable that was set, how many loops are left. A text is printed between quotes, the first 80 octets of it.
+/// A line begins with the name, as far as it can be printed, and the line and the column of the token at which the
+/// test or the command begins, by the places of the script's tokens ([`token_places`](crate::token_places)). In a
+/// loop the part follows, by its number and media type. Then comes the word of the test or command, and what came of
+/// it: of a test `yes` or `no`, and of one that compares values with keys also what it found, which is the first
+/// value and key that match with the word of the comparison between them, or how many values were looked at where
+/// none matches; of an action the folder after expansion, the value that a variable has then, or how many loops are
+/// left. A text is printed between quotes: its first 80 octets, and two dots behind them where there are more.
 ///
 /// # Errors
 ///
@@ -47,9 +51,10 @@ pub fn trace<O: Sink>(
         (trace_text (sheet name.now places.now message.now) (commands_form checked.now.commands))
         (O.output out.old) (O.output out.new)) }
 {
+    let label = label_of(alloc, name)?;
     let page = Page {
         alloc,
-        name,
+        label: &label,
         places,
     };
     trace_commands(page, checked.commands(), message, out)
@@ -73,6 +78,7 @@ fn trace_commands<O: Sink>(
         (O.output out.old) (O.output out.new)) }
 {
     let mut run = Evaluator::new(page.alloc);
-    let _flow = commands(&mut run, page, list, Subject::of(message), out)?;
+    let mut line = Vec::new(page.alloc);
+    let _flow = commands(&mut run, page, list, Scene::of(message), &mut line, out)?;
     Ok(run.actions.into_final(run.implicit_keep)?)
 }

@@ -26,8 +26,8 @@ pub command-branches-preserved : goal.command-branches-preserved
 command-branches-preserved g t c = (
   branches_bounded c.deref-branch-items.result.now c.branches.branch-index c.branch-item.result (else_form c.in-If.otherwise) c.branches-test.true c.branch-item.is c.branches.invariant.0,
   λ e stands.
-      let mail = c.args.subject.message.now in
-      let part = c.args.subject.part in
+      let mail = c.args.scene.subject.message.now in
+      let part = c.args.scene.subject.part in
       let page = sheet_of c.args.page mail in
       let o0 = g.O.Sink.output c.args.out.now in
       let bs = c.deref-branch-items.result.now in
@@ -46,8 +46,8 @@ command-is_true-requires g t c = branch_bounded c.deref-branch-items.result.now 
 
 pub command-returns-in_err-is_true-in-If-clause-stopped : goal.command-returns-in_err-is_true-in-If-clause-stopped
 command-returns-in_err-is_true-in-If-clause-stopped g t c = λ e stands.
-    let mail = c.args.subject.message.now in
-    let part = c.args.subject.part in
+    let mail = c.args.scene.subject.message.now in
+    let part = c.args.scene.subject.part in
     let page = sheet_of c.args.page mail in
     let o0 = g.O.Sink.output c.args.out.now in
     let bs = c.deref-branch-items.result.now in
@@ -65,8 +65,8 @@ command-returns-in_err-is_true-in-If-clause-stopped g t c = λ e stands.
 
 pub command-returns-then-branch-clause-told : goal.command-returns-then-branch-clause-told
 command-returns-then-branch-clause-told g t c = λ e stands.
-    let mail = c.args.subject.message.now in
-    let part = c.args.subject.part in
+    let mail = c.args.scene.subject.message.now in
+    let part = c.args.scene.subject.part in
     let page = sheet_of c.args.page mail in
     let o0 = g.O.Sink.output c.args.out.now in
     let bs = c.deref-branch-items.result.now in
@@ -84,8 +84,8 @@ command-returns-then-branch-clause-told g t c = λ e stands.
 
 pub command-returns-then-branch-clause-stopped : goal.command-returns-then-branch-clause-stopped
 command-returns-then-branch-clause-stopped g t c = λ e stands.
-    let mail = c.args.subject.message.now in
-    let part = c.args.subject.part in
+    let mail = c.args.scene.subject.message.now in
+    let part = c.args.scene.subject.part in
     let page = sheet_of c.args.page mail in
     let o0 = g.O.Sink.output c.args.out.now in
     let bs = c.deref-branch-items.result.now in
@@ -108,8 +108,8 @@ command-returns-in_err-text-in-Does-clause-stopped g t c = λ e stands.
 
 pub command-returns-in_ok-text-in-Does-clause-told : goal.command-returns-in_ok-text-in-Does-clause-told
 command-returns-in_ok-text-in-Does-clause-told g t c = λ e stands.
-    let mail = c.args.subject.message.now in
-    let part = c.args.subject.part in
+    let mail = c.args.scene.subject.message.now in
+    let part = c.args.scene.subject.part in
     let page = sheet_of c.args.page mail in
     let o0 = g.O.Sink.output c.args.out.now in
     let what = c.in-Does.does in
@@ -122,8 +122,8 @@ command-returns-in_ok-text-in-Does-clause-told g t c = λ e stands.
 
 pub command-returns-in_ok-text-in-Does-clause-stopped : goal.command-returns-in_ok-text-in-Does-clause-stopped
 command-returns-in_ok-text-in-Does-clause-stopped g t c = λ e stands.
-    let mail = c.args.subject.message.now in
-    let part = c.args.subject.part in
+    let mail = c.args.scene.subject.message.now in
+    let part = c.args.scene.subject.part in
     let page = sheet_of c.args.page mail in
     let o0 = g.O.Sink.output c.args.out.now in
     let what = c.in-Does.does in
@@ -136,8 +136,8 @@ command-returns-in_ok-text-in-Does-clause-stopped g t c = λ e stands.
 
 pub command-returns-in-ForEveryPart-clause-told : goal.command-returns-in-ForEveryPart-clause-told
 command-returns-in-ForEveryPart-clause-told g t c = λ e stands.
-    let mail = c.args.subject.message.now in
-    let part = c.args.subject.part in
+    let mail = c.args.scene.subject.message.now in
+    let part = c.args.scene.subject.part in
     let page = sheet_of c.args.page mail in
     let o0 = g.O.Sink.output c.args.out.now in
     let at = c.in-ForEveryPart.at in
@@ -146,8 +146,8 @@ command-returns-in-ForEveryPart-clause-told g t c = λ e stands.
 
 pub command-returns-in-ForEveryPart-clause-stopped : goal.command-returns-in-ForEveryPart-clause-stopped
 command-returns-in-ForEveryPart-clause-stopped g t c = λ e stands.
-    let mail = c.args.subject.message.now in
-    let part = c.args.subject.part in
+    let mail = c.args.scene.subject.message.now in
+    let part = c.args.scene.subject.part in
     let page = sheet_of c.args.page mail in
     let o0 = g.O.Sink.output c.args.out.now in
     let at = c.in-ForEveryPart.at in
@@ -158,8 +158,8 @@ pub commands-commands-preserved : goal.commands-commands-preserved
 commands-commands-preserved g t c = (
   commands_bounded c.args.commands.now c.commands.one-index c.one-item.result c.commands-test.true c.one-item.is c.commands.invariant.0,
   λ e stands.
-      let mail = c.args.subject.message.now in
-      let part = c.args.subject.part in
+      let mail = c.args.scene.subject.message.now in
+      let part = c.args.scene.subject.part in
       let page = sheet_of c.args.page mail in
       let o0 = g.O.Sink.output c.args.out.now in
       let cs = c.args.commands.now in
@@ -172,8 +172,8 @@ commands-commands-preserved g t c = (
 
 pub commands-returns-in_err-flow-clause-stopped : goal.commands-returns-in_err-flow-clause-stopped
 commands-returns-in_err-flow-clause-stopped g t c = λ e stands.
-    let mail = c.args.subject.message.now in
-    let part = c.args.subject.part in
+    let mail = c.args.scene.subject.message.now in
+    let part = c.args.scene.subject.part in
     let page = sheet_of c.args.page mail in
     let o0 = g.O.Sink.output c.args.out.now in
     let cs = c.args.commands.now in
@@ -185,6 +185,11 @@ commands-returns-in_err-flow-clause-stopped g t c = λ e stands.
     (goes_stopped (λ xs x. commands_do mail part xs x) (λ xs x. commands_events mail part xs x) page whole (command one rest) e c.commands.run _ _ _ _ before (command_events mail part one before.effects) _ refl
     (c.in_err-flow.ensures.stopped before.effects before.stands))
 
+pub turn-returns-in_err-part-clause-stopped : goal.turn-returns-in_err-part-clause-stopped
+turn-returns-in_err-part-clause-stopped g t c = λ e stands.
+    let p = err_from_is_err_and c.from_residual.result c.from_residual.ensures.1 in
+    rw (p.1, p.2) (refused_first _ _)
+
 pub turn-returns-in_err-tell-clause-stopped : goal.turn-returns-in_err-tell-clause-stopped
 turn-returns-in_err-tell-clause-stopped g t c = λ e stands.
     let mail = c.args.subject.message.now in
@@ -192,7 +197,7 @@ turn-returns-in_err-tell-clause-stopped g t c = λ e stands.
     let page = sheet_of c.args.page mail in
     let o0 = g.O.Sink.output c.args.out.now in
     let ev = event c.args.at part turned in
-    passed_on c.from_residual.result _ _ c.from_residual.ensures.1 (told_stopped _ _ _ page (ev ∷ []) (commands_events mail part (commands_form c.args.block.now) e) (stopped_one _ _ _ page ev c.in_err-tell.ensures.err))
+    passed_on c.from_residual-in_err-tell.result _ _ c.from_residual-in_err-tell.ensures.1 (told_stopped _ _ _ page (ev ∷ []) (commands_events mail part (commands_form c.args.block.now) e) (stopped_one _ _ _ page ev c.in_err-tell.ensures.err))
 
 pub turn-returns-clause-stopped : goal.turn-returns-clause-stopped
 turn-returns-clause-stopped g t c = λ e stands.
@@ -207,8 +212,8 @@ pub for_every_part-parts-preserved : goal.for_every_part-parts-preserved
 for_every_part-parts-preserved g t c = (
   c.parts.invariant.0,
   λ e stands.
-      let mail = c.args.subject.message.now in
-      let part = c.args.subject.part in
+      let mail = c.args.scene.subject.message.now in
+      let part = c.args.scene.subject.part in
       let page = sheet_of c.args.page mail in
       let o0 = g.O.Sink.output c.args.out.now in
       let block = commands_form c.args.block.now in
@@ -221,8 +226,8 @@ for_every_part-parts-preserved g t c = (
 
 pub for_every_part-returns-in-Stopped-clause-told : goal.for_every_part-returns-in-Stopped-clause-told
 for_every_part-returns-in-Stopped-clause-told g t c = λ e stands.
-    let mail = c.args.subject.message.now in
-    let part = c.args.subject.part in
+    let mail = c.args.scene.subject.message.now in
+    let part = c.args.scene.subject.part in
     let page = sheet_of c.args.page mail in
     let o0 = g.O.Sink.output c.args.out.now in
     let block = commands_form c.args.block.now in
@@ -234,8 +239,8 @@ for_every_part-returns-in-Stopped-clause-told g t c = λ e stands.
 
 pub for_every_part-returns-in-Leaves-clause-told : goal.for_every_part-returns-in-Leaves-clause-told
 for_every_part-returns-in-Leaves-clause-told g t c = λ e stands.
-    let mail = c.args.subject.message.now in
-    let part = c.args.subject.part in
+    let mail = c.args.scene.subject.message.now in
+    let part = c.args.scene.subject.part in
     let page = sheet_of c.args.page mail in
     let o0 = g.O.Sink.output c.args.out.now in
     let block = commands_form c.args.block.now in
@@ -247,8 +252,8 @@ for_every_part-returns-in-Leaves-clause-told g t c = λ e stands.
 
 pub for_every_part-returns-in_err-turn-clause-stopped : goal.for_every_part-returns-in_err-turn-clause-stopped
 for_every_part-returns-in_err-turn-clause-stopped g t c = λ e stands.
-    let mail = c.args.subject.message.now in
-    let part = c.args.subject.part in
+    let mail = c.args.scene.subject.message.now in
+    let part = c.args.scene.subject.part in
     let page = sheet_of c.args.page mail in
     let o0 = g.O.Sink.output c.args.out.now in
     let block = commands_form c.args.block.now in
@@ -264,8 +269,8 @@ pub for_every_part-parts-init : goal.for_every_part-parts-init
 for_every_part-parts-init g t c = (
   c.visited-parts.ensures.within,
   λ e stands.
-      let mail = c.args.subject.message.now in
-      let part = c.args.subject.part in
+      let mail = c.args.scene.subject.message.now in
+      let part = c.args.scene.subject.part in
       let page = sheet_of c.args.page mail in
       let o0 = g.O.Sink.output c.args.out.now in
       let block = commands_form c.args.block.now in
@@ -279,8 +284,8 @@ pub command-branches-init : goal.command-branches-init
 command-branches-init g t c =
     let last = else_form c.in-If.otherwise in
     let bs = c.deref-branch-items.result.now in
-    let mail = c.args.subject.message.now in
-    let part = c.args.subject.part in
+    let mail = c.args.scene.subject.message.now in
+    let part = c.args.scene.subject.part in
     let page = sheet_of c.args.page mail in
     let whole = branch_forms bs last in
     let form : command_form c.args.command.now ≡ choice whole = ap command_form c.in-If.is ∙ form_if c.in-If.branches c.in-If.otherwise ∙ ap (λ xs. choice (branch_forms xs last)) (sym c.deref-branch-items.ensures.value) in (
@@ -290,8 +295,8 @@ command-branches-init g t c =
 
 pub command-returns-in-Some-clause-told : goal.command-returns-in-Some-clause-told
 command-returns-in-Some-clause-told g t c = λ e stands.
-    let mail = c.args.subject.message.now in
-    let part = c.args.subject.part in
+    let mail = c.args.scene.subject.message.now in
+    let part = c.args.scene.subject.part in
     let page = sheet_of c.args.page mail in
     let o0 = g.O.Sink.output c.args.out.now in
     let bs = c.deref-branch-items.result.now in
@@ -305,8 +310,8 @@ command-returns-in-Some-clause-told g t c = λ e stands.
 
 pub command-returns-in-Some-clause-stopped : goal.command-returns-in-Some-clause-stopped
 command-returns-in-Some-clause-stopped g t c = λ e stands.
-    let mail = c.args.subject.message.now in
-    let part = c.args.subject.part in
+    let mail = c.args.scene.subject.message.now in
+    let part = c.args.scene.subject.part in
     let page = sheet_of c.args.page mail in
     let o0 = g.O.Sink.output c.args.out.now in
     let bs = c.deref-branch-items.result.now in
@@ -320,8 +325,8 @@ command-returns-in-Some-clause-stopped g t c = λ e stands.
 
 pub command-returns-in-None-clause-told : goal.command-returns-in-None-clause-told
 command-returns-in-None-clause-told g t c = λ e stands.
-    let mail = c.args.subject.message.now in
-    let part = c.args.subject.part in
+    let mail = c.args.scene.subject.message.now in
+    let part = c.args.scene.subject.part in
     let page = sheet_of c.args.page mail in
     let o0 = g.O.Sink.output c.args.out.now in
     let bs = c.deref-branch-items.result.now in
@@ -344,8 +349,8 @@ commands-command-requires g t c =
 
 pub commands-returns-in_default-clause-told : goal.commands-returns-in_default-clause-told
 commands-returns-in_default-clause-told g t c = λ e stands.
-    let mail = c.args.subject.message.now in
-    let part = c.args.subject.part in
+    let mail = c.args.scene.subject.message.now in
+    let part = c.args.scene.subject.part in
     let page = sheet_of c.args.page mail in
     let o0 = g.O.Sink.output c.args.out.now in
     let cs = c.args.commands.now in

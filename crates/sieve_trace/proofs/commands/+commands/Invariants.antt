@@ -13,19 +13,19 @@ use Rattle.sieve_trace.proofs.commands.+commands.Given as goal
 abbrev pub invariant-command-branches : goal.invariant-command-branches
 invariant-command-branches g l =
     AreBoundedBranches (branch_forms (drop l.branch-index l.branch-items) (else_form l.otherwise))
-    × ((e : Effects) → HasEvaluated e l.initial.run → ChoiceRemains l.subject.message.now l.subject.part (sheet_of l.page l.subject.message.now) (branch_forms l.branch-items (else_form l.otherwise)) e
+    × ((e : Effects) → HasEvaluated e l.initial.run → ChoiceRemains l.scene.subject.message.now l.scene.subject.part (sheet_of l.page l.scene.subject.message.now) (branch_forms l.branch-items (else_form l.otherwise)) e
     (branch_forms (drop l.branch-index l.branch-items) (else_form l.otherwise)) l.run (g.O.Sink.output l.initial.out) (g.O.Sink.output l.out))
 
 abbrev pub invariant-commands-commands : goal.invariant-commands-commands
 invariant-commands-commands g l =
     AreBoundedCommands (commands_form (drop l.one-index l.commands))
-    × ((e : Effects) → HasEvaluated e l.initial.run → CommandsRemain l.subject.message.now l.subject.part (sheet_of l.page l.subject.message.now) (commands_form l.commands) e
+    × ((e : Effects) → HasEvaluated e l.initial.run → CommandsRemain l.scene.subject.message.now l.scene.subject.part (sheet_of l.page l.scene.subject.message.now) (commands_form l.commands) e
     (commands_form (drop l.one-index l.commands)) l.run (g.O.Sink.output l.initial.out) (g.O.Sink.output l.out))
 
 abbrev pub invariant-for_every_part-parts : goal.invariant-for_every_part-parts
 invariant-for_every_part-parts g l =
-    (l.part-end ≤ length l.subject.message.now.parts)
-    × ((e : Effects) → HasEvaluated e l.initial.run → TurnsRemain l.at l.subject.message.now (commands_form l.block) (sheet_of l.page l.subject.message.now) (visited l.subject.part l.subject.message.now) e
+    (l.part-end ≤ length l.scene.subject.message.now.parts)
+    × ((e : Effects) → HasEvaluated e l.initial.run → TurnsRemain l.at l.scene.subject.message.now (commands_form l.block) (sheet_of l.page l.scene.subject.message.now) (visited l.scene.subject.part l.scene.subject.message.now) e
     (numbers_from l.part (l.part-end - l.part)) l.run (g.O.Sink.output l.initial.out) (g.O.Sink.output l.out))
 
 -- the octets that the commands are written with at least, and which of the calls comes first

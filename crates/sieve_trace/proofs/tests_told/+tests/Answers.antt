@@ -18,8 +18,8 @@ pub all_true-list-preserved : goal.all_true-list-preserved
 all_true-list-preserved g t c = (
   tests_bounded c.args.list.now c.list.test-index c.test-item.result c.list-test.true c.test-item.is c.list.invariant.0,
   λ e stands.
-      let mail = c.args.subject.message.now in
-      let part = c.args.subject.part in
+      let mail = c.args.scene.subject.message.now in
+      let part = c.args.scene.subject.part in
       let page = sheet_of c.args.page mail in
       let ts = c.args.list.now in
       let whole = tests_of (map test_form ts) in
@@ -30,8 +30,8 @@ all_true-list-preserved g t c = (
 
 pub all_true-returns-in_err-is_true-clause-stopped : goal.all_true-returns-in_err-is_true-clause-stopped
 all_true-returns-in_err-is_true-clause-stopped g t c = λ e stands.
-    let mail = c.args.subject.message.now in
-    let part = c.args.subject.part in
+    let mail = c.args.scene.subject.message.now in
+    let part = c.args.scene.subject.part in
     let page = sheet_of c.args.page mail in
     let ts = c.args.list.now in
     let whole = tests_of (map test_form ts) in
@@ -46,8 +46,8 @@ pub any_true-list-preserved : goal.any_true-list-preserved
 any_true-list-preserved g t c = (
   tests_bounded c.args.list.now c.list.test-index c.test-item.result c.list-test.true c.test-item.is c.list.invariant.0,
   λ e stands.
-      let mail = c.args.subject.message.now in
-      let part = c.args.subject.part in
+      let mail = c.args.scene.subject.message.now in
+      let part = c.args.scene.subject.part in
       let page = sheet_of c.args.page mail in
       let ts = c.args.list.now in
       let whole = tests_of (map test_form ts) in
@@ -58,8 +58,8 @@ any_true-list-preserved g t c = (
 
 pub any_true-returns-in_err-is_true-clause-stopped : goal.any_true-returns-in_err-is_true-clause-stopped
 any_true-returns-in_err-is_true-clause-stopped g t c = λ e stands.
-    let mail = c.args.subject.message.now in
-    let part = c.args.subject.part in
+    let mail = c.args.scene.subject.message.now in
+    let part = c.args.scene.subject.part in
     let page = sheet_of c.args.page mail in
     let ts = c.args.list.now in
     let whole = tests_of (map test_form ts) in
@@ -72,8 +72,8 @@ any_true-returns-in_err-is_true-clause-stopped g t c = λ e stands.
 
 pub is_true-returns-then-not-branch-clause-told : goal.is_true-returns-then-not-branch-clause-told
 is_true-returns-then-not-branch-clause-told g t c = λ e stands.
-    let mail = c.args.subject.message.now in
-    let part = c.args.subject.part in
+    let mail = c.args.scene.subject.message.now in
+    let part = c.args.scene.subject.part in
     let page = sheet_of c.args.page mail in
     let first = test_form c.deref-in-AllOf.result.now in
     let rest = tests_of (map test_form c.in-AllOf.others.items) in
@@ -92,8 +92,8 @@ is_true-returns-then-not-branch-clause-told g t c = λ e stands.
 
 pub is_true-returns-then-not-branch-clause-stopped : goal.is_true-returns-then-not-branch-clause-stopped
 is_true-returns-then-not-branch-clause-stopped g t c = λ e stands.
-    let mail = c.args.subject.message.now in
-    let part = c.args.subject.part in
+    let mail = c.args.scene.subject.message.now in
+    let part = c.args.scene.subject.part in
     let page = sheet_of c.args.page mail in
     let first = test_form c.deref-in-AllOf.result.now in
     let rest = tests_of (map test_form c.in-AllOf.others.items) in
@@ -111,8 +111,8 @@ is_true-returns-then-not-branch-clause-stopped g t c = λ e stands.
 
 pub is_true-returns-in_ok-value-in-AllOf-clause-told : goal.is_true-returns-in_ok-value-in-AllOf-clause-told
 is_true-returns-in_ok-value-in-AllOf-clause-told g t c = λ e stands.
-    let mail = c.args.subject.message.now in
-    let part = c.args.subject.part in
+    let mail = c.args.scene.subject.message.now in
+    let part = c.args.scene.subject.part in
     let page = sheet_of c.args.page mail in
     let first = test_form c.deref-in-AllOf.result.now in
     let rest = tests_of (map test_form c.deref-in-AllOf-2.result.now) in
@@ -131,8 +131,8 @@ is_true-returns-in_ok-value-in-AllOf-clause-told g t c = λ e stands.
 
 pub is_true-returns-in_ok-value-in-AllOf-clause-stopped : goal.is_true-returns-in_ok-value-in-AllOf-clause-stopped
 is_true-returns-in_ok-value-in-AllOf-clause-stopped g t c = λ e stands.
-    let mail = c.args.subject.message.now in
-    let part = c.args.subject.part in
+    let mail = c.args.scene.subject.message.now in
+    let part = c.args.scene.subject.part in
     let page = sheet_of c.args.page mail in
     let first = test_form c.deref-in-AllOf.result.now in
     let rest = tests_of (map test_form c.deref-in-AllOf-2.result.now) in
@@ -150,8 +150,8 @@ is_true-returns-in_ok-value-in-AllOf-clause-stopped g t c = λ e stands.
 
 pub is_true-returns-in_err-value-in-AllOf-clause-stopped : goal.is_true-returns-in_err-value-in-AllOf-clause-stopped
 is_true-returns-in_err-value-in-AllOf-clause-stopped g t c = λ e stands.
-    let mail = c.args.subject.message.now in
-    let part = c.args.subject.part in
+    let mail = c.args.scene.subject.message.now in
+    let part = c.args.scene.subject.part in
     let page = sheet_of c.args.page mail in
     let first = test_form c.deref-in-AllOf.result.now in
     let rest = tests_of (map test_form c.deref-in-AllOf-2.result.now) in
@@ -168,8 +168,8 @@ is_true-returns-in_err-value-in-AllOf-clause-stopped g t c = λ e stands.
 
 pub is_true-returns-then-branch-clause-told : goal.is_true-returns-then-branch-clause-told
 is_true-returns-then-branch-clause-told g t c = λ e stands.
-    let mail = c.args.subject.message.now in
-    let part = c.args.subject.part in
+    let mail = c.args.scene.subject.message.now in
+    let part = c.args.scene.subject.part in
     let page = sheet_of c.args.page mail in
     let first = test_form c.deref-in-AnyOf.result.now in
     let rest = tests_of (map test_form c.in-AnyOf.others.items) in
@@ -188,8 +188,8 @@ is_true-returns-then-branch-clause-told g t c = λ e stands.
 
 pub is_true-returns-then-branch-clause-stopped : goal.is_true-returns-then-branch-clause-stopped
 is_true-returns-then-branch-clause-stopped g t c = λ e stands.
-    let mail = c.args.subject.message.now in
-    let part = c.args.subject.part in
+    let mail = c.args.scene.subject.message.now in
+    let part = c.args.scene.subject.part in
     let page = sheet_of c.args.page mail in
     let first = test_form c.deref-in-AnyOf.result.now in
     let rest = tests_of (map test_form c.in-AnyOf.others.items) in
@@ -207,8 +207,8 @@ is_true-returns-then-branch-clause-stopped g t c = λ e stands.
 
 pub is_true-returns-in_ok-value-in-AnyOf-clause-told : goal.is_true-returns-in_ok-value-in-AnyOf-clause-told
 is_true-returns-in_ok-value-in-AnyOf-clause-told g t c = λ e stands.
-    let mail = c.args.subject.message.now in
-    let part = c.args.subject.part in
+    let mail = c.args.scene.subject.message.now in
+    let part = c.args.scene.subject.part in
     let page = sheet_of c.args.page mail in
     let first = test_form c.deref-in-AnyOf.result.now in
     let rest = tests_of (map test_form c.deref-in-AnyOf-2.result.now) in
@@ -227,8 +227,8 @@ is_true-returns-in_ok-value-in-AnyOf-clause-told g t c = λ e stands.
 
 pub is_true-returns-in_ok-value-in-AnyOf-clause-stopped : goal.is_true-returns-in_ok-value-in-AnyOf-clause-stopped
 is_true-returns-in_ok-value-in-AnyOf-clause-stopped g t c = λ e stands.
-    let mail = c.args.subject.message.now in
-    let part = c.args.subject.part in
+    let mail = c.args.scene.subject.message.now in
+    let part = c.args.scene.subject.part in
     let page = sheet_of c.args.page mail in
     let first = test_form c.deref-in-AnyOf.result.now in
     let rest = tests_of (map test_form c.deref-in-AnyOf-2.result.now) in
@@ -246,8 +246,8 @@ is_true-returns-in_ok-value-in-AnyOf-clause-stopped g t c = λ e stands.
 
 pub is_true-returns-in_err-value-in-AnyOf-clause-stopped : goal.is_true-returns-in_err-value-in-AnyOf-clause-stopped
 is_true-returns-in_err-value-in-AnyOf-clause-stopped g t c = λ e stands.
-    let mail = c.args.subject.message.now in
-    let part = c.args.subject.part in
+    let mail = c.args.scene.subject.message.now in
+    let part = c.args.scene.subject.part in
     let page = sheet_of c.args.page mail in
     let first = test_form c.deref-in-AnyOf.result.now in
     let rest = tests_of (map test_form c.deref-in-AnyOf-2.result.now) in
@@ -264,8 +264,8 @@ is_true-returns-in_err-value-in-AnyOf-clause-stopped g t c = λ e stands.
 
 pub is_true-returns-in_ok-value-in-Not-clause-stopped : goal.is_true-returns-in_ok-value-in-Not-clause-stopped
 is_true-returns-in_ok-value-in-Not-clause-stopped g t c = λ e stands.
-    let mail = c.args.subject.message.now in
-    let part = c.args.subject.part in
+    let mail = c.args.scene.subject.message.now in
+    let part = c.args.scene.subject.part in
     let page = sheet_of c.args.page mail in
     let inner = test_form c.deref.result.now in
     let at = c.in-Not.at in

@@ -10,8 +10,8 @@ use Rattle.sieve_trace.proofs.tests_told.ask.Goals as goal
 
 pub returns-in_err-tell-clause-stopped : goal.returns-in_err-tell-clause-stopped
 returns-in_err-tell-clause-stopped g c = λ e stands.
-    let mail = c.args.subject.message.now in
-    let part = c.args.subject.part in
+    let mail = c.args.scene.subject.message.now in
+    let part = c.args.scene.subject.part in
     let strings = strings_form c.args.strings.now in
     let whole = found mail part c.args.question (texts_of e strings) in
     let truth = (test_does mail part (asks c.args.question strings c.args.at) e).value in
@@ -21,8 +21,8 @@ returns-in_err-tell-clause-stopped g c = λ e stands.
 
 pub returns-clause-told : goal.returns-clause-told
 returns-clause-told g c = λ e stands.
-    let mail = c.args.subject.message.now in
-    let part = c.args.subject.part in
+    let mail = c.args.scene.subject.message.now in
+    let part = c.args.scene.subject.part in
     let strings = strings_form c.args.strings.now in
     let whole = found mail part c.args.question (texts_of e strings) in
     let truth = (test_does mail part (asks c.args.question strings c.args.at) e).value in

@@ -2,7 +2,7 @@ use Rattle.std.proofs.Common.{◌≡◌, ◌∙◌, [], ◌∷◌, ◌++◌, Som
 use Rattle.sieve_vm.specs.State.{State}
 use Rattle.bytecode_trace.specs.Private.{beginning, told_after}
 use Rattle.bytecode_trace.proofs.Lines.{line_text}
-use Rattle.bytecode_trace.proofs.line.line_of.Goals as goal
+use Rattle.bytecode_trace.proofs.line.set_line.Goals as goal
 
 pub returns-clause-line : goal.returns-clause-line
 returns-clause-line c = λ code before after is e.
