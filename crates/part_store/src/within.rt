@@ -31,8 +31,8 @@ pub fn begin<S: Alter>(conn: &mut Connection<S>) -> Transaction<'_, S>
     conn.transaction()
 }
 
-/// Does nothing. Says what holds of every connection, which a proof knows only where it is asked: what an open one shows lists its
-/// tables, and is what is committed where it is in no transaction.
+/// Does nothing. Says what holds of every connection, which a proof knows only where it is asked: what an open one
+/// shows lists its tables, and is what is committed where it is in no transaction.
 pub(crate) fn know_connection<S: Alter>(conn: &Connection<S>)
     ensures settled { conn.now.in_transaction ≡ false → IsTrue (state S.Store conn.now).is_open
         → (state S.Store conn.now).now ≡ (state S.Store conn.now).committed }
