@@ -1,7 +1,7 @@
 // Deliveries, alone and several at once.
 ghost use Rattle.std.specs.Prelude.{◌≡◌, ◌<◌, length, map, IfErr, IsTrue, OnOk};
-ghost use Rattle.sqlite.specs.Held.{state};
-ghost use Rattle.part_store.specs.Calls.{Always, CommitsNothing, IfDone, IfRefused, MayCommit, OnDone, OnRefused, StaysShut, WasOpen};
+ghost use Rattle.part_store.specs.Access.{InTransaction};
+ghost use Rattle.part_store.specs.Calls.{Always, CommitsNothing, IfDone, IfRefused, MayCommit, OnDone, OnRefused, StaysShut};
 ghost use Rattle.part_store.specs.Inside.{KeepsStored, KeepsTables, StaysInside};
 ghost use Rattle.part_store.specs.Standing.{Spares, listed};
 ghost use Rattle.depot_actions.specs.Causes.{IsCause, IsFault, IsSound, MayRefuse};
@@ -155,11 +155,8 @@ fn deliver_within<S: Alter>(
     ensures same_reference { tx.new.conn.ghost_name ≡ tx.old.conn.ghost_name }
     ensures done { IfDone S.Store tx.old.conn.now tx.new.conn.now result
         (λ rows. Reaches (Deliver user.now message.now) (Listed (map listed rows.items))) }
-    ensures open { OnDone S.Store tx.old.conn.now tx.new.conn.now result WasOpen }
     ensures inside { OnDone S.Store tx.old.conn.now tx.new.conn.now result StaysInside }
     ensures schema { OnDone S.Store tx.old.conn.now tx.new.conn.now result KeepsTables }
-    ensures shut { Always S.Store tx.old.conn.now tx.new.conn.now StaysShut }
-    ensures kept { Always S.Store tx.old.conn.now tx.new.conn.now KeepsStored }
     ensures sound { OnOk result (IsNamed (Deliver user.now message.now)
         × IsSound (Deliver user.now message.now)) }
     ensures which { IfErr result (MayRefuse (Deliver user.now message.now)) }
@@ -167,7 +164,7 @@ fn deliver_within<S: Alter>(
         (IsCause (Deliver user.now message.now)) }
     ensures cause { IfRefused S.Store tx.old.conn.now tx.new.conn.now result
         (IfInside (IsFault (Deliver user.now message.now))) }
-    ensures survives { CommitsNothing S.Store tx.old.conn.now tx.new.conn.now }
+    ensures within { InTransaction S.Store tx.old.conn.now tx.new.conn.now result }
 {
     if !is_user_name(user) {
         return Err(Refusal::UserName);

@@ -2,6 +2,7 @@
 ghost use Rattle.std.specs.Prelude.{◌≡◌, ◌<◌, ◌⊎◌, [], ◌∷◌, All, IfErr, IfOk, length, map, option_map};
 ghost use Rattle.bytecode_format.specs.declared.action.Action.TheVariants.{Keep};
 ghost use Rattle.sieve_vm.specs.Stores.{NamesPart};
+ghost use Rattle.part_store.specs.Access.{InTransaction};
 ghost use Rattle.part_store.specs.Entries.{Entries};
 ghost use Rattle.part_store.specs.Sharing.{SharesContents, first_of};
 ghost use Rattle.part_store.specs.Standing.{Stands, draft_of, listed};
@@ -11,8 +12,8 @@ ghost use Rattle.part_store.specs.Refusals.{LackRoom};
 ghost use Rattle.depot_actions.specs.DepotState.{AreActions};
 ghost use Rattle.depot_actions.specs.Drafts.{drafts_of};
 ghost use Rattle.depot_actions.specs.Filing.{Adds, IfInside, IsUnfiled, MayUnfile};
-ghost use Rattle.part_store.specs.Calls.{Always, CommitsNothing, IfDone, IfRefused, OnDone, StaysShut, WasOpen};
-ghost use Rattle.part_store.specs.Inside.{IsInside, KeepsStored, KeepsTables};
+ghost use Rattle.part_store.specs.Calls.{IfDone, IfRefused, OnDone};
+ghost use Rattle.part_store.specs.Inside.{IsInside, KeepsTables};
 
 use crate::checked_program::CheckedProgram;
 use crate::contents::shared_contents;
@@ -86,17 +87,14 @@ pub(crate) fn file_all<S: Alter>(
     ensures added { IfDone S.Store tx.old.conn.now tx.new.conn.now result
         (λ rows old new. (before : Entries) → Stands old.now before
         → Adds user.now (drafts_of message.entry actions.now) (map listed rows.items) new before) }
-    ensures open { OnDone S.Store tx.old.conn.now tx.new.conn.now result WasOpen }
     ensures inside { OnDone S.Store tx.old.conn.now tx.new.conn.now result IsInside }
     ensures schema { OnDone S.Store tx.old.conn.now tx.new.conn.now result KeepsTables }
-    ensures shut { Always S.Store tx.old.conn.now tx.new.conn.now StaysShut }
-    ensures kept { Always S.Store tx.old.conn.now tx.new.conn.now KeepsStored }
     ensures which { IfErr result MayUnfile }
     ensures refused { IfRefused S.Store tx.old.conn.now tx.new.conn.now result
         (λ old _ e. IsUnfiled e user.now (drafts_of message.entry actions.now) old) }
     ensures cause { IfRefused S.Store tx.old.conn.now tx.new.conn.now result
         (IfInside (IsStoreFault (LackRoom user.now (drafts_of message.entry actions.now)))) }
-    ensures survives { CommitsNothing S.Store tx.old.conn.now tx.new.conn.now }
+    ensures within { InTransaction S.Store tx.old.conn.now tx.new.conn.now result }
 {
     let kept = kept_parts(alloc, &message, actions)?;
     let mut shared = shared_contents(alloc, &message, actions)?;
@@ -119,17 +117,14 @@ fn add_all<S: Alter>(
     ensures added { IfDone S.Store tx.old.conn.now tx.new.conn.now result
         (λ rows old new. (before : Entries) → Stands old.now before
         → Adds user.now (map draft_of entries.now) (map listed rows.items) new before) }
-    ensures open { OnDone S.Store tx.old.conn.now tx.new.conn.now result WasOpen }
     ensures inside { OnDone S.Store tx.old.conn.now tx.new.conn.now result IsInside }
     ensures schema { OnDone S.Store tx.old.conn.now tx.new.conn.now result KeepsTables }
-    ensures shut { Always S.Store tx.old.conn.now tx.new.conn.now StaysShut }
-    ensures kept { Always S.Store tx.old.conn.now tx.new.conn.now KeepsStored }
     ensures which { IfErr result MayUnfile }
     ensures refused { IfRefused S.Store tx.old.conn.now tx.new.conn.now result
         (λ old _ e. IsUnfiled e user.now (map draft_of entries.now) old) }
     ensures cause { IfRefused S.Store tx.old.conn.now tx.new.conn.now result
         (IfInside (IsStoreFault (LackRoom user.now (map draft_of entries.now)))) }
-    ensures survives { CommitsNothing S.Store tx.old.conn.now tx.new.conn.now }
+    ensures within { InTransaction S.Store tx.old.conn.now tx.new.conn.now result }
 {
     let mut rows = unnumbered_rows(alloc, entries)?;
     let first = add_within(tx, user, entries, shared).map_err(refused)?;

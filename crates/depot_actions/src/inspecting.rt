@@ -2,6 +2,7 @@
 ghost use Rattle.std.specs.Prelude.{◌≡◌, ◌⊎◌, ◌^◌, ◌≤◌, IfErr, IfOk, IsTrue, map, option_map, string_bytes};
 ghost use Rattle.std.specs.List.{sum_by};
 ghost use Rattle.sqlite.specs.Held.{state};
+ghost use Rattle.part_store.specs.Access.{ReadsStore};
 ghost use Rattle.part_store.specs.Tables.{contents_tree, users_tree};
 ghost use Rattle.part_store.specs.Entries.{Entries, Listing, entries_of, listing_of};
 ghost use Rattle.part_store.specs.Standing.{Spares, Stands, listed};
@@ -12,7 +13,7 @@ ghost use Rattle.refusals.specs.declared.refusal.Refusal.TheVariants.{Memory, Da
 ghost use Rattle.part_store.specs.Refusals.{AreNamed};
 ghost use Rattle.depot_actions.specs.Causes.{IsStoreFault, IsUncounted};
 ghost use Rattle.depot_actions.specs.Overviews.{AreSummaries, IsJudged, IsOverview, IsStateOf, Summarises};
-ghost use Rattle.part_store.specs.Calls.{Always, CommitsNothing, IfDone, IfRefused, OnDone, Tells, WasOpen};
+ghost use Rattle.part_store.specs.Calls.{Always, CommitsNothing, IfDone, IfRefused, Tells};
 
 use crate::overview::{Overview, ProgramState, UserOverview};
 use crate::refusing::refused;
@@ -50,12 +51,10 @@ fn rows_of<S: Alter>(store: &mut PartStore<S>) -> Result<Vec<UserRow>, Refusal>
     ensures told { IfDone S.Store store.old store.new result (λ rows old _. (before : Entries)
         → Stands old.now before → AreUsersOf (old.now.trees users_tree) before
         (map line_of rows.items)) }
-    ensures open { OnDone S.Store store.old store.new result WasOpen }
-    ensures spared { Always S.Store store.old store.new Spares }
+    ensures reads { ReadsStore S.Store store.old store.new result }
     ensures refused { IfErr result (λ e. (e ≡ Memory) ⊎ (e ≡ Database)) }
     ensures cause { Always S.Store store.old store.new (λ old new. AreNamed old.now.trees
         → IfErr result (IsStoreFault IsUncounted old new)) }
-    ensures survives { CommitsNothing S.Store store.old store.new }
 {
     store.users().map_err(refused)
 }
@@ -64,11 +63,9 @@ fn rows_of<S: Alter>(store: &mut PartStore<S>) -> Result<Vec<UserRow>, Refusal>
 fn total_of<S: Alter>(store: &mut PartStore<S>) -> Result<ContentTotal, Refusal>
     ensures told { IfDone S.Store store.old store.new result (λ total old _. (before : Entries)
         → Stands old.now before → IsTotalOf (old.now.trees contents_tree) total) }
-    ensures open { OnDone S.Store store.old store.new result WasOpen }
-    ensures spared { Always S.Store store.old store.new Spares }
+    ensures reads { ReadsStore S.Store store.old store.new result }
     ensures refused { IfErr result (λ e. (e ≡ Memory) ⊎ (e ≡ Database)) }
     ensures cause { IfRefused S.Store store.old store.new result (IsStoreFault IsUncounted) }
-    ensures survives { CommitsNothing S.Store store.old store.new }
 {
     store.contents().map_err(refused)
 }
@@ -102,11 +99,9 @@ fn summary<S: Alter>(
 ) -> Result<UserOverview, Refusal>
     ensures told { Tells S.Store store.old store.new result (λ before x. Summarises
         (line_of row.now) (map listing_of (entries_of (string_bytes row.now.user) before)) x) }
-    ensures open { OnDone S.Store store.old store.new result WasOpen }
-    ensures spared { Always S.Store store.old store.new Spares }
+    ensures reads { ReadsStore S.Store store.old store.new result }
     ensures refused { IfErr result (λ e. (e ≡ Memory) ⊎ (e ≡ Database)) }
     ensures cause { IfRefused S.Store store.old store.new result (IsStoreFault IsUncounted) }
-    ensures survives { CommitsNothing S.Store store.old store.new }
 {
     let entries = entries_in(store, row.user.as_str())?;
     summary_of(alloc, row, &entries)
@@ -116,11 +111,9 @@ fn summary<S: Alter>(
 fn entries_in<S: Alter>(store: &mut PartStore<S>, user: &str) -> Result<Vec<EntryRow>, Refusal>
     ensures told { Tells S.Store store.old store.new result (λ before rows. map listed rows.items
         ≡ map listing_of (entries_of user.now before)) }
-    ensures open { OnDone S.Store store.old store.new result WasOpen }
-    ensures spared { Always S.Store store.old store.new Spares }
+    ensures reads { ReadsStore S.Store store.old store.new result }
     ensures refused { IfErr result (λ e. (e ≡ Memory) ⊎ (e ≡ Database)) }
     ensures cause { IfRefused S.Store store.old store.new result (IsStoreFault IsUncounted) }
-    ensures survives { CommitsNothing S.Store store.old store.new }
 {
     store.entries_of(user).map_err(refused)
 }

@@ -46,3 +46,5 @@ mod Inserting
 mod Fitting
 mod Room
 mod NoRoom
+mod RefusedAdding
+mod Queries

@@ -6,6 +6,7 @@ pub mod Refusals
 pub mod Sharing
 pub mod Calls
 pub mod Inside
+pub mod Access
 pub mod Looking
 pub mod Opening
 pub mod Crashes
@@ -20,3 +21,4 @@ pub mod Noting
 pub mod Additions
 pub mod Connections
 pub mod Blaming
+pub mod Asking

@@ -1,6 +1,7 @@
 //! How entries are added: their numbers are claimed, and then each is filed.
 ghost use Rattle.std.specs.Prelude.{◌≡◌, ◌⊎◌, ◌+◌, ◌<◌, ◌≤◌, true, false, IsTrue, length, map};
 ghost use Rattle.octets.specs.Limits.{max_entry_number};
+ghost use Rattle.part_store.specs.Access.{InTransaction};
 ghost use Rattle.part_store.specs.Standing.{Stands, draft_of};
 ghost use Rattle.part_store.specs.Blaming.{AsRefusal, AsRefusalInside};
 ghost use Rattle.part_store.specs.Inside.{Stays, IsInside, KeepsStored, KeepsTables, StaysInside};
@@ -11,7 +12,7 @@ ghost use Rattle.part_store.specs.declared.error.StoreError.TheVariants.{Databas
 ghost use Rattle.part_store.specs.Additions.{Adds, CanFile, Claims, Enters, FilesAll, IsFrom};
 ghost use Rattle.part_store.specs.Filing.{Collides};
 ghost use Rattle.part_store.specs.Sharing.{SharesContents, first_of};
-ghost use Rattle.part_store.specs.Calls.{Always, CommitsNothing, IfDone, IfRefused, OnDone, StaysShut, WasOpen};
+ghost use Rattle.part_store.specs.Calls.{Always, CommitsNothing, IfDone, IfRefused, OnDone};
 
 use crate::entry::NewEntry;
 use crate::filing::file_entry;
@@ -42,15 +43,12 @@ pub(crate) fn put_entries<S: Alter>(
     ensures same_reference { tx.new.conn.ghost_name ≡ tx.old.conn.ghost_name }
     ensures adds { IfDone S.Store tx.old.conn.now tx.new.conn.now result
         (λ answer old new. Adds user.now (map draft_of entries.now) old new answer) }
-    ensures open { OnDone S.Store tx.old.conn.now tx.new.conn.now result WasOpen }
-    ensures shut { Always S.Store tx.old.conn.now tx.new.conn.now StaysShut }
     ensures inside { IfDone S.Store tx.old.conn.now tx.new.conn.now result
         (λ adding _ new. IsFrom adding → IsTrue new.in_transaction) }
     ensures schema { OnDone S.Store tx.old.conn.now tx.new.conn.now result KeepsTables }
-    ensures kept { Always S.Store tx.old.conn.now tx.new.conn.now KeepsStored }
     ensures cause { IfRefused S.Store tx.old.conn.now tx.new.conn.now result
         (AsRefusalInside (BlamesEntries user.now (map draft_of entries.now))) }
-    ensures survives { CommitsNothing S.Store tx.old.conn.now tx.new.conn.now }
+    ensures within { InTransaction S.Store tx.old.conn.now tx.new.conn.now result }
 {
     let (last, is_known) = last_of(tx, user)?;
     if entries.len() > (u32::MAX - last) as usize {
@@ -109,13 +107,10 @@ fn last_of<S: Alter>(tx: &mut Transaction<'_, S>, user: &str) -> Result<(u32, bo
     ensures told { IfDone S.Store tx.old.conn.now tx.new.conn.now result
         (λ found old _. (before : _) → Stands old.now before
         → (found.0 ≡ before.lasts user.now) × TellsOfRow user.now old.now.trees found.1) }
-    ensures open { OnDone S.Store tx.old.conn.now tx.new.conn.now result WasOpen }
-    ensures shut { Always S.Store tx.old.conn.now tx.new.conn.now StaysShut }
     ensures same { OnDone S.Store tx.old.conn.now tx.new.conn.now result Stays }
-    ensures kept { Always S.Store tx.old.conn.now tx.new.conn.now KeepsStored }
     ensures inside { OnDone S.Store tx.old.conn.now tx.new.conn.now result StaysInside }
     ensures cause { IfRefused S.Store tx.old.conn.now tx.new.conn.now result (AsRefusal Blames) }
-    ensures survives { CommitsNothing S.Store tx.old.conn.now tx.new.conn.now }
+    ensures within { InTransaction S.Store tx.old.conn.now tx.new.conn.now result }
 {
     match users::find_last(tx, user)? {
         Some(row) => Ok((row.get(0)?, true)),

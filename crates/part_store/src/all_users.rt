@@ -1,5 +1,6 @@
 //! All users that a store knows.
 ghost use Rattle.std.specs.Prelude.{◌≡◌, ◌⊎◌, ◌∷◌, [], map, IfOk, IfErr};
+ghost use Rattle.part_store.specs.Access.{InTransaction};
 ghost use Rattle.part_store.specs.Changes.{columns};
 ghost use Rattle.part_store.specs.Tables.{users_tree};
 ghost use Rattle.part_store.specs.Standing.{Stands};
@@ -8,8 +9,7 @@ ghost use Rattle.part_store.specs.Readings.{answer_of, ShowsUser};
 ghost use Rattle.std.specs.List.{AllByRecursion};
 ghost use Rattle.part_store.specs.Refusals.{refusal_of, BlamesNamed};
 ghost use Rattle.part_store.specs.declared.error.StoreError.TheVariants.{Memory, Database};
-ghost use Rattle.part_store.specs.Calls.{Always, CommitsNothing, IfDone, IfRefused, OnDone, StaysShut, WasOpen};
-ghost use Rattle.part_store.specs.Inside.{KeepsStored};
+ghost use Rattle.part_store.specs.Calls.{IfDone, IfRefused};
 
 use crate::error::StoreError;
 use crate::user_row::UserRow;
@@ -22,12 +22,9 @@ pub(crate) fn list_users<S: Alter>(tx: &mut Transaction<'_, S>) -> Result<Vec<Us
     ensures told { IfDone S.Store tx.old.conn.now tx.new.conn.now result
         (λ users old _. (before : _) → Stands old.now before
         → AreUsersOf (old.now.trees users_tree) before (map line_of users.items)) }
-    ensures open { OnDone S.Store tx.old.conn.now tx.new.conn.now result WasOpen }
-    ensures shut { Always S.Store tx.old.conn.now tx.new.conn.now StaysShut }
-    ensures kept { Always S.Store tx.old.conn.now tx.new.conn.now KeepsStored }
     ensures refused { IfErr result (λ e. (e ≡ Memory) ⊎ (e ≡ Database)) }
     ensures cause { IfRefused S.Store tx.old.conn.now tx.new.conn.now result BlamesNamed }
-    ensures survives { CommitsNothing S.Store tx.old.conn.now tx.new.conn.now }
+    ensures within { InTransaction S.Store tx.old.conn.now tx.new.conn.now result }
 {
     let rows = users::list(tx)?;
     users_in(&rows)

@@ -6,8 +6,9 @@ ghost use Rattle.sqlite.specs.State.{KeepsCommit};
 ghost use Rattle.part_store.specs.Changes.{Steps, Reads, IsFound, IsAdded, IsListed, every, columns, length_at, sized, IsTidied, IsTableIn};
 ghost use Rattle.part_store.specs.Tables.{contents_tree, equals, contents_table, store_schema};
 ghost use Rattle.part_store.specs.Refusals.{content_values};
-ghost use Rattle.part_store.specs.Causes.{AddFaults, Faults, HasNoContent, WriteFaults, still_named};
-ghost use Rattle.part_store.specs.Calls.{Always, CommitsNothing, IfDone, IfRefused, OnDone, OnRefused, WasOpen};
+ghost use Rattle.part_store.specs.Causes.{AddFaults, HasNoContent, WriteFaults, still_named};
+ghost use Rattle.part_store.specs.Asking.{AsksTables};
+ghost use Rattle.part_store.specs.Calls.{Always, CommitsNothing, IfDone, IfRefused, OnDone, OnRefused};
 ghost use Rattle.part_store.specs.Inside.{IsInside};
 
 use crate::users::first_of;
@@ -22,9 +23,7 @@ pub(crate) fn find<S: Alter>(
     ensures step { IfDone S.Store tx.old.conn.now tx.new.conn.now result
         (λ found. Steps (Reads
         (λ db. IsFound contents_tree (equals 1 (Blob digest.now)) (columns (2 ∷ [])) db found))) }
-    ensures kept { OnRefused S.Store tx.old.conn.now tx.new.conn.now result KeepsCommit }
-    ensures fault { IfRefused S.Store tx.old.conn.now tx.new.conn.now result Faults }
-    ensures survives { CommitsNothing S.Store tx.old.conn.now tx.new.conn.now }
+    ensures asks { AsksTables S.Store tx.old.conn.now tx.new.conn.now result }
 {
     let rows = tx.query_all(
         "SELECT octets FROM contents WHERE digest = ?1",
@@ -42,9 +41,7 @@ pub(crate) fn size<S: Alter>(
     ensures step { IfDone S.Store tx.old.conn.now tx.new.conn.now result
         (λ found. Steps (Reads
         (λ db. IsFound contents_tree (equals 1 (Blob digest.now)) (length_at 2) db found))) }
-    ensures kept { OnRefused S.Store tx.old.conn.now tx.new.conn.now result KeepsCommit }
-    ensures fault { IfRefused S.Store tx.old.conn.now tx.new.conn.now result Faults }
-    ensures survives { CommitsNothing S.Store tx.old.conn.now tx.new.conn.now }
+    ensures asks { AsksTables S.Store tx.old.conn.now tx.new.conn.now result }
 {
     let rows = tx.query_all(
         "SELECT length(octets) FROM contents WHERE digest = ?1",
@@ -58,10 +55,7 @@ pub(crate) fn list<S: Alter>(tx: &mut Transaction<'_, S>) -> Result<Vec<Row>, Er
     ensures same_reference { tx.new.conn.ghost_name ≡ tx.old.conn.ghost_name }
     ensures step { IfDone S.Store tx.old.conn.now tx.new.conn.now result
         (λ found. Steps (Reads (IsListed contents_tree every sized found.items))) }
-    ensures open { OnDone S.Store tx.old.conn.now tx.new.conn.now result WasOpen }
-    ensures kept { OnRefused S.Store tx.old.conn.now tx.new.conn.now result KeepsCommit }
-    ensures fault { IfRefused S.Store tx.old.conn.now tx.new.conn.now result Faults }
-    ensures survives { CommitsNothing S.Store tx.old.conn.now tx.new.conn.now }
+    ensures asks { AsksTables S.Store tx.old.conn.now tx.new.conn.now result }
 {
     tx.query_all(
         "SELECT digest, length(octets) FROM contents ORDER BY digest",

@@ -4,8 +4,9 @@ ghost use Rattle.sqlite_value.specs.declared.value.Value.TheVariants.{Int, Text,
 ghost use Rattle.sqlite.specs.State.{KeepsCommit};
 ghost use Rattle.part_store.specs.Changes.{Steps, Reads, IsFound, IsListed, IsAdded, IsTaken, is_entry, columns, IsTableIn};
 ghost use Rattle.part_store.specs.Tables.{entries_tree, equals, entries_table};
-ghost use Rattle.part_store.specs.Causes.{AddFaults, Faults, HasSome, IsFree, WriteFaults};
-ghost use Rattle.part_store.specs.Calls.{Always, CommitsNothing, IfDone, IfRefused, OnDone, OnRefused, WasOpen};
+ghost use Rattle.part_store.specs.Causes.{AddFaults, HasSome, IsFree, WriteFaults};
+ghost use Rattle.part_store.specs.Asking.{AsksTables};
+ghost use Rattle.part_store.specs.Calls.{Always, CommitsNothing, IfDone, IfRefused, OnDone, OnRefused};
 ghost use Rattle.part_store.specs.Inside.{IsInside};
 
 use crate::users::first_of;
@@ -18,10 +19,7 @@ pub(crate) fn list<S: Alter>(tx: &mut Transaction<'_, S>, user: &str) -> Result<
         (λ found. Steps (Reads
         (IsListed entries_tree (equals 1 (Text user.now))
         (columns (2 ∷ 4 ∷ 3 ∷ 5 ∷ 6 ∷ 7 ∷ [])) found.items))) }
-    ensures open { OnDone S.Store tx.old.conn.now tx.new.conn.now result WasOpen }
-    ensures kept { OnRefused S.Store tx.old.conn.now tx.new.conn.now result KeepsCommit }
-    ensures fault { IfRefused S.Store tx.old.conn.now tx.new.conn.now result Faults }
-    ensures survives { CommitsNothing S.Store tx.old.conn.now tx.new.conn.now }
+    ensures asks { AsksTables S.Store tx.old.conn.now tx.new.conn.now result }
 {
     tx.query_all(
         "SELECT number, kind, folder, name, media, digest FROM entries WHERE user = ?1 ORDER BY number",
@@ -39,10 +37,7 @@ pub(crate) fn find<S: Alter>(
     ensures step { IfDone S.Store tx.old.conn.now tx.new.conn.now result
         (λ found. Steps (Reads
         (λ db. IsFound entries_tree (is_entry user.now number) (columns (7 ∷ [])) db found))) }
-    ensures open { OnDone S.Store tx.old.conn.now tx.new.conn.now result WasOpen }
-    ensures kept { OnRefused S.Store tx.old.conn.now tx.new.conn.now result KeepsCommit }
-    ensures fault { IfRefused S.Store tx.old.conn.now tx.new.conn.now result Faults }
-    ensures survives { CommitsNothing S.Store tx.old.conn.now tx.new.conn.now }
+    ensures asks { AsksTables S.Store tx.old.conn.now tx.new.conn.now result }
 {
     let rows = tx.query_all(
         "SELECT digest FROM entries WHERE user = ?1 AND number = ?2",

@@ -17,6 +17,7 @@ ghost use Rattle.part_store.specs.Standing.{MayMake, Stands, StandsFor};
 ghost use Rattle.part_store.specs.Tables.{store_schema};
 
 use crate::store::PartStore;
+use crate::within::know_connection;
 use sqlite::{Alter, Connection, FileStore};
 use sqlite_disk::Disk;
 
@@ -29,8 +30,7 @@ pub fn open_stores_list_their_tables<S: Alter>(store: PartStore<S>) -> Connectio
         → StandsFor (state S.Store store).now.trees e → Stands (state S.Store store).now e }
 {
     let conn = store.release();
-    // What holds of every connection is known where it is asked.
-    let _live = conn.schema();
+    know_connection(&conn);
     conn
 }
 

@@ -2,6 +2,7 @@
 ghost use Rattle.std.specs.Prelude.{◌≡◌, ◌⊎◌, ◌≤◌, ℕ, pos, List, length, map, IfOk, IfErr};
 ghost use Rattle.sqlite_value.specs.declared.value.Value.TheVariants.{Int};
 ghost use Rattle.sqlite_value.specs.Order.{column};
+ghost use Rattle.part_store.specs.Access.{InTransaction};
 ghost use Rattle.part_store.specs.Tables.{contents_tree};
 ghost use Rattle.part_store.specs.Entries.{entries_of, listing_of};
 ghost use Rattle.part_store.specs.Standing.{HasContent, Stands, kind_number, listed};
@@ -11,7 +12,7 @@ ghost use Rattle.part_store.specs.declared.entry.Kind.{Kind};
 ghost use Rattle.octets.specs.Limits.{max_entry_number};
 ghost use Rattle.part_store.specs.Refusals.{refusal_of, Blames};
 ghost use Rattle.part_store.specs.declared.error.StoreError.TheVariants.{Memory, Database};
-ghost use Rattle.part_store.specs.Calls.{Always, CommitsNothing, IfDone, IfRefused, OnDone, StaysShut, Tells, WasOpen};
+ghost use Rattle.part_store.specs.Calls.{Always, CommitsNothing, IfDone, IfRefused, OnDone, Tells};
 
 use crate::entry::{EntryRow, Kind};
 use crate::error::StoreError;
@@ -115,12 +116,9 @@ pub(crate) fn list_all<S: Alter>(
     ensures same_reference { tx.new.conn.ghost_name ≡ tx.old.conn.ghost_name }
     ensures told { Tells S.Store tx.old.conn.now tx.new.conn.now result
         (λ before rows. map listed rows.items ≡ map listing_of (entries_of user.now before)) }
-    ensures open { OnDone S.Store tx.old.conn.now tx.new.conn.now result WasOpen }
-    ensures shut { Always S.Store tx.old.conn.now tx.new.conn.now StaysShut }
-    ensures kept { Always S.Store tx.old.conn.now tx.new.conn.now KeepsStored }
     ensures refused { IfErr result (λ e. (e ≡ Memory) ⊎ (e ≡ Database)) }
     ensures cause { IfRefused S.Store tx.old.conn.now tx.new.conn.now result Blames }
-    ensures survives { CommitsNothing S.Store tx.old.conn.now tx.new.conn.now }
+    ensures within { InTransaction S.Store tx.old.conn.now tx.new.conn.now result }
 {
     let rows = entries::list(tx, user)?;
     let mut listed = Vec::new(*rows.allocator());

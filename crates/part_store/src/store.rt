@@ -4,9 +4,10 @@ ghost use Rattle.sqlite.specs.Held.{state};
 ghost use Rattle.sqlite.specs.State.{HasCleanDisk, KeepsCommit};
 ghost use Rattle.part_store.specs.Tables.{no_schema, store_schema, contents_tree, users_tree};
 ghost use Rattle.part_store.specs.Entries.{AreProgramsOf, entries_of, listing_of, no_entries, with_entries, with_program, with_programs, without_entry};
+ghost use Rattle.part_store.specs.Access.{AddsEntries, InTransaction, IsFailure, IsFailureOrAbsence, IsFailureOrObstacle, IsRefusedAs, MayMakeOpen, ReadsStore, WritesStore};
 ghost use Rattle.part_store.specs.Blaming.{AsRefusal, AsRefusalInside};
 ghost use Rattle.part_store.specs.Inside.{Brings, Stays, IsInside, KeepsStored, StaysInside};
-ghost use Rattle.part_store.specs.Standing.{IsStored, Makes, MayMake, Spares, Stands, HasContent, IsEntryAt, HasNone, draft_of, listed, pair_of};
+ghost use Rattle.part_store.specs.Standing.{IsStored, Makes, MayMake, Stands, HasContent, IsEntryAt, HasNone, draft_of, listed, pair_of};
 ghost use Rattle.part_store.specs.Readings.{NamesDigest};
 ghost use Rattle.part_store.specs.Refusals.{refusal_of, Blames, BlamesEntries, BlamesNamed, BlamesOr, BlamesPrograms, BlamesRow};
 ghost use Rattle.part_store.specs.declared.error.StoreError.TheVariants.{Memory, NoSuchEntry, NumberFull, Collision, Database};
@@ -16,13 +17,12 @@ ghost use Rattle.part_store.specs.Totals.{IsTotalOf, octets_of};
 ghost use Rattle.part_store.specs.UserLines.{AreUsersOf, line_of};
 ghost use Rattle.sqlite.specs.Files.{file_state, IsClosed, IsOpened};
 ghost use Rattle.sqlite.specs.WalReads.{AreClean};
-ghost use Rattle.part_store.specs.Filing.{Collides, HasRoom};
 ghost use Rattle.sqlite.specs.Steps.{over_memory};
 ghost use Rattle.part_store.specs.Opening.{HasOtherTables, HoldsNoTables, HoldsStore, IsAt, IsBare, IsEmptied, IsKept, IsReady, IsReadyFrom, KeepsStore, MakesEmpty, TellsWhy};
 ghost use Rattle.part_store.specs.Connections.{OpensOrTells};
 ghost use Rattle.sqlite.specs.WalFiles.{image_at};
 ghost use Rattle.part_store.specs.Sharing.{SharesContents, first_of};
-ghost use Rattle.part_store.specs.Calls.{Always, CommitsNothing, DoneWhere, IfDone, IfRefused, MayCommit, OnDone, OnRefused, RefusedWhere, Settles, StaysShut, Tells, WasOpen};
+ghost use Rattle.part_store.specs.Calls.{Always, CommitsNothing, DoneWhere, IfDone, IfRefused, MayCommit, OnDone, OnRefused, RefusedWhere, Tells, WasOpen};
 
 mod connections;
 
@@ -137,13 +137,10 @@ fn digest_of<S: Alter>(
         (λ found old _. (before : _) → Stands old.now before
         → MatchOption found (HasNone before user.now number)
         (λ digest. NamesDigest old.now.trees user.now number digest.items)) }
-    ensures open { OnDone S.Store tx.old.conn.now tx.new.conn.now result WasOpen }
-    ensures shut { Always S.Store tx.old.conn.now tx.new.conn.now StaysShut }
     ensures same { OnDone S.Store tx.old.conn.now tx.new.conn.now result Stays }
     ensures inside { OnDone S.Store tx.old.conn.now tx.new.conn.now result StaysInside }
-    ensures kept { Always S.Store tx.old.conn.now tx.new.conn.now KeepsStored }
     ensures cause { IfRefused S.Store tx.old.conn.now tx.new.conn.now result (AsRefusal Blames) }
-    ensures survives { CommitsNothing S.Store tx.old.conn.now tx.new.conn.now }
+    ensures within { InTransaction S.Store tx.old.conn.now tx.new.conn.now result }
 {
     match entries::find(tx, user, number)? {
         Some(row) => Ok(Some(row.get(0)?)),
@@ -180,11 +177,8 @@ fn read_bytes<S: Alter>(
         (λ before found.
         MatchOption found (HasNone before user.now number)
         (λ octets. (x : _) × IsEntryAt before user.now number x × (octets.items ≡ x.octets))) }
-    ensures open { OnDone S.Store tx.old.conn.now tx.new.conn.now result WasOpen }
-    ensures shut { Always S.Store tx.old.conn.now tx.new.conn.now StaysShut }
-    ensures kept { Always S.Store tx.old.conn.now tx.new.conn.now KeepsStored }
     ensures cause { IfRefused S.Store tx.old.conn.now tx.new.conn.now result (AsRefusal Blames) }
-    ensures survives { CommitsNothing S.Store tx.old.conn.now tx.new.conn.now }
+    ensures within { InTransaction S.Store tx.old.conn.now tx.new.conn.now result }
 {
     let Some(digest) = digest_of(tx, user, number)? else {
         return Ok(None);
@@ -203,14 +197,11 @@ fn take_entry<S: Alter>(tx: &mut Transaction<'_, S>, user: &str, number: u32) ->
     ensures none { IfDone S.Store tx.old.conn.now tx.new.conn.now result
         (λ done old _. done ≡ false → (before : _) → Stands old.now before
         → HasNone before user.now number) }
-    ensures open { OnDone S.Store tx.old.conn.now tx.new.conn.now result WasOpen }
     ensures inside { IfDone S.Store tx.old.conn.now tx.new.conn.now result
         (λ done old new. done ≡ true → old.now.schema ≡ store_schema → IsTrue new.in_transaction) }
-    ensures shut { Always S.Store tx.old.conn.now tx.new.conn.now StaysShut }
-    ensures kept { Always S.Store tx.old.conn.now tx.new.conn.now KeepsStored }
     ensures cause { IfRefused S.Store tx.old.conn.now tx.new.conn.now result
         (AsRefusalInside Blames) }
-    ensures survives { CommitsNothing S.Store tx.old.conn.now tx.new.conn.now }
+    ensures within { InTransaction S.Store tx.old.conn.now tx.new.conn.now result }
 {
     let Some(digest) = digest_of(tx, user, number)? else {
         return Ok(false);
@@ -282,15 +273,11 @@ impl<S: Alter> PartStore<S> {
     /// Stores the user's program in place of the one before. Refuses `Memory`, and `Database` also where the user's row has no room.
     /// A store that a failure has shut commits nothing.
     pub fn set_program(&mut self, user: &str, program: &[u8]) -> Result<(), StoreError>
-        ensures made { OnDone S.Store self.old self.new result
-            (Makes (with_program user.now program.now)) }
-        ensures spared { OnRefused S.Store self.old self.new result Spares }
-        ensures refused { IfErr result (λ e. (e ≡ Memory) ⊎ (e ≡ Database)) }
-        ensures cause { IfRefused S.Store self.old self.new result
+        ensures writes { WritesStore S.Store self.old self.new result
+            (with_program user.now program.now)
+            (MayMakeOpen (with_program user.now program.now)) }
+        ensures refused { IsRefusedAs S.Store self.old self.new result IsFailure
             (BlamesRow user.now (with_program user.now program.now)) }
-        ensures survives { MayCommit S.Store self.old self.new
-            (λ old trees. IsTrue old.is_open
-            × MayMake (with_program user.now program.now) old trees) }
     {
         let mut tx = begin(&mut self.conn);
         put_program(&mut tx, user, program)?;
@@ -302,12 +289,8 @@ impl<S: Alter> PartStore<S> {
     pub fn program_of(&mut self, user: &str) -> Result<Option<Vec<u8>>, StoreError>
         ensures told { Tells S.Store self.old self.new result
             (λ before found. option_map (λ v. v.items) found ≡ before.programs user.now) }
-        ensures open { OnDone S.Store self.old self.new result WasOpen }
-        ensures spared { Always S.Store self.old self.new Spares }
-        ensures settled { Always S.Store self.old self.new Settles }
-        ensures refused { IfErr result (λ e. (e ≡ Memory) ⊎ (e ≡ Database)) }
-        ensures cause { IfRefused S.Store self.old self.new result Blames }
-        ensures survives { CommitsNothing S.Store self.old self.new }
+        ensures reads { ReadsStore S.Store self.old self.new result }
+        ensures refused { IsRefusedAs S.Store self.old self.new result IsFailure Blames }
     {
         let mut tx = begin(&mut self.conn);
         Ok(read_program(&mut tx, user)?)
@@ -318,12 +301,8 @@ impl<S: Alter> PartStore<S> {
     pub fn programs(&mut self) -> Result<Vec<(String, Vec<u8>)>, StoreError>
         ensures told { Tells S.Store self.old self.new result
             (λ before programs. AreProgramsOf before (map pair_of programs.items)) }
-        ensures open { OnDone S.Store self.old self.new result WasOpen }
-        ensures spared { Always S.Store self.old self.new Spares }
-        ensures settled { Always S.Store self.old self.new Settles }
-        ensures refused { IfErr result (λ e. (e ≡ Memory) ⊎ (e ≡ Database)) }
-        ensures cause { IfRefused S.Store self.old self.new result BlamesNamed }
-        ensures survives { CommitsNothing S.Store self.old self.new }
+        ensures reads { ReadsStore S.Store self.old self.new result }
+        ensures refused { IsRefusedAs S.Store self.old self.new result IsFailure BlamesNamed }
     {
         let mut tx = begin(&mut self.conn);
         list_programs(&mut tx)
@@ -335,12 +314,8 @@ impl<S: Alter> PartStore<S> {
         ensures told { IfDone S.Store self.old self.new result
             (λ users old _. (before : _) → Stands old.now before
             → AreUsersOf (old.now.trees users_tree) before (map line_of users.items)) }
-        ensures open { OnDone S.Store self.old self.new result WasOpen }
-        ensures spared { Always S.Store self.old self.new Spares }
-        ensures settled { Always S.Store self.old self.new Settles }
-        ensures refused { IfErr result (λ e. (e ≡ Memory) ⊎ (e ≡ Database)) }
-        ensures cause { IfRefused S.Store self.old self.new result BlamesNamed }
-        ensures survives { CommitsNothing S.Store self.old self.new }
+        ensures reads { ReadsStore S.Store self.old self.new result }
+        ensures refused { IsRefusedAs S.Store self.old self.new result IsFailure BlamesNamed }
     {
         let mut tx = begin(&mut self.conn);
         list_users(&mut tx)
@@ -352,13 +327,9 @@ impl<S: Alter> PartStore<S> {
         ensures told { IfDone S.Store self.old self.new result
             (λ total old _. (before : _) → Stands old.now before
             → IsTotalOf (old.now.trees contents_tree) total) }
-        ensures open { OnDone S.Store self.old self.new result WasOpen }
-        ensures spared { Always S.Store self.old self.new Spares }
-        ensures settled { Always S.Store self.old self.new Settles }
-        ensures refused { IfErr result (λ e. (e ≡ Memory) ⊎ (e ≡ Database)) }
-        ensures cause { IfRefused S.Store self.old self.new result
+        ensures reads { ReadsStore S.Store self.old self.new result }
+        ensures refused { IsRefusedAs S.Store self.old self.new result IsFailure
             (BlamesOr (λ _ db. 2 ^ 64 ≤ octets_of (db contents_tree))) }
-        ensures survives { CommitsNothing S.Store self.old self.new }
     {
         let mut tx = begin(&mut self.conn);
         count_contents(&mut tx)
@@ -367,15 +338,12 @@ impl<S: Alter> PartStore<S> {
     /// Replaces the programs of the listed users, and passes over those that have none. Where a user is listed twice the later
     /// program counts. No last number changes. Refuses `Memory`, and `Database` also where a user's row has no room.
     pub fn replace_programs(&mut self, programs: &[(String, Vec<u8>)]) -> Result<(), StoreError>
-        ensures made { OnDone S.Store self.old self.new result
-            (Makes (with_programs (map pair_of programs.now))) }
-        ensures spared { OnRefused S.Store self.old self.new result Spares }
-        ensures refused { IfErr result (λ e. (e ≡ Memory) ⊎ (e ≡ Database)) }
-        ensures cause { IfRefused S.Store self.old self.new result
-            (BlamesPrograms (map pair_of programs.now)) }
-        ensures survives { MayCommit S.Store self.old self.new
+        ensures writes { WritesStore S.Store self.old self.new result
+            (with_programs (map pair_of programs.now))
             (λ old trees. (0 < length programs.now → IsTrue old.is_open)
             × MayMake (with_programs (map pair_of programs.now)) old trees) }
+        ensures refused { IsRefusedAs S.Store self.old self.new result IsFailure
+            (BlamesPrograms (map pair_of programs.now)) }
     {
         let mut tx = begin(&mut self.conn);
         replace_all(&mut tx, programs)?;
@@ -391,33 +359,12 @@ impl<S: Alter> PartStore<S> {
     /// A store that a failure has shut stays shut, adds nothing, and refuses `Memory` or `Database`.
     pub fn add_entries(&mut self, user: &str, entries: &[NewEntry<'_>]) -> Result<u32, StoreError>
         requires { 0 < length entries.now }
-        ensures made { OnDone S.Store self.old self.new result
-            (Makes (with_entries user.now (map draft_of entries.now))) }
-        ensures first { Tells S.Store self.old self.new result
-            (λ before first. first ≡ before.lasts user.now + 1) }
-        ensures room { DoneWhere S.Store self.old self.new result
-            (λ before. HasRoom before user.now (length entries.now)) }
-        ensures apart { OnDone S.Store self.old self.new result
-            (λ old _. (before : _) → Stands old.now before
-            → Collides old.now.trees (map draft_of entries.now) → ⊥) }
-        ensures full { RefusedWhere S.Store self.old self.new result NumberFull
-            (λ before. HasRoom before user.now (length entries.now) → ⊥) }
-        ensures collision { IfRefused S.Store self.old self.new result
-            (λ old _ e. e ≡ Collision → (before : _) → Stands old.now before
-            → HasRoom before user.now (length entries.now)
-            × Collides old.now.trees (map draft_of entries.now)) }
-        ensures open { OnDone S.Store self.old self.new result WasOpen }
-        ensures begun { IfRefused S.Store self.old self.new result
-            (λ old _ e. (e ≡ NumberFull) ⊎ (e ≡ Collision) → IsTrue old.is_open) }
-        ensures shut { Always S.Store self.old self.new StaysShut }
-        ensures spared { OnRefused S.Store self.old self.new result Spares }
-        ensures refused { IfErr result
-            (λ e. (e ≡ Memory) ⊎ ((e ≡ NumberFull) ⊎ ((e ≡ Collision) ⊎ (e ≡ Database)))) }
-        ensures cause { IfRefused S.Store self.old self.new result
+        ensures adds { AddsEntries S.Store self.old self.new result user.now entries.now }
+        ensures writes { WritesStore S.Store self.old self.new result
+            (with_entries user.now (map draft_of entries.now))
+            (MayMakeOpen (with_entries user.now (map draft_of entries.now))) }
+        ensures refused { IsRefusedAs S.Store self.old self.new result IsFailureOrObstacle
             (BlamesEntries user.now (map draft_of entries.now)) }
-        ensures survives { MayCommit S.Store self.old self.new
-            (λ old trees. IsTrue old.is_open
-            × MayMake (with_entries user.now (map draft_of entries.now)) old trees) }
     {
         self.add_sharing_entries(user, entries, &mut [])
     }
@@ -433,33 +380,12 @@ impl<S: Alter> PartStore<S> {
     ) -> Result<u32, StoreError>
         requires some { 0 < length entries.now }
         requires shared { SharesContents (map draft_of entries.now) (map first_of shared.old) }
-        ensures made { OnDone S.Store self.old self.new result
-            (Makes (with_entries user.now (map draft_of entries.now))) }
-        ensures first { Tells S.Store self.old self.new result
-            (λ before first. first ≡ before.lasts user.now + 1) }
-        ensures room { DoneWhere S.Store self.old self.new result
-            (λ before. HasRoom before user.now (length entries.now)) }
-        ensures apart { OnDone S.Store self.old self.new result
-            (λ old _. (before : _) → Stands old.now before
-            → Collides old.now.trees (map draft_of entries.now) → ⊥) }
-        ensures full { RefusedWhere S.Store self.old self.new result NumberFull
-            (λ before. HasRoom before user.now (length entries.now) → ⊥) }
-        ensures collision { IfRefused S.Store self.old self.new result
-            (λ old _ e. e ≡ Collision → (before : _) → Stands old.now before
-            → HasRoom before user.now (length entries.now)
-            × Collides old.now.trees (map draft_of entries.now)) }
-        ensures open { OnDone S.Store self.old self.new result WasOpen }
-        ensures begun { IfRefused S.Store self.old self.new result
-            (λ old _ e. (e ≡ NumberFull) ⊎ (e ≡ Collision) → IsTrue old.is_open) }
-        ensures shut { Always S.Store self.old self.new StaysShut }
-        ensures spared { OnRefused S.Store self.old self.new result Spares }
-        ensures refused { IfErr result
-            (λ e. (e ≡ Memory) ⊎ ((e ≡ NumberFull) ⊎ ((e ≡ Collision) ⊎ (e ≡ Database)))) }
-        ensures cause { IfRefused S.Store self.old self.new result
+        ensures adds { AddsEntries S.Store self.old self.new result user.now entries.now }
+        ensures writes { WritesStore S.Store self.old self.new result
+            (with_entries user.now (map draft_of entries.now))
+            (MayMakeOpen (with_entries user.now (map draft_of entries.now))) }
+        ensures refused { IsRefusedAs S.Store self.old self.new result IsFailureOrObstacle
             (BlamesEntries user.now (map draft_of entries.now)) }
-        ensures survives { MayCommit S.Store self.old self.new
-            (λ old trees. IsTrue old.is_open
-            × MayMake (with_entries user.now (map draft_of entries.now)) old trees) }
     {
         let mut tx = begin(&mut self.conn);
         let first = add_within(&mut tx, user, entries, shared)?;
@@ -471,12 +397,8 @@ impl<S: Alter> PartStore<S> {
     pub fn entries_of(&mut self, user: &str) -> Result<Vec<EntryRow>, StoreError>
         ensures told { Tells S.Store self.old self.new result
             (λ before rows. map listed rows.items ≡ map listing_of (entries_of user.now before)) }
-        ensures open { OnDone S.Store self.old self.new result WasOpen }
-        ensures spared { Always S.Store self.old self.new Spares }
-        ensures settled { Always S.Store self.old self.new Settles }
-        ensures refused { IfErr result (λ e. (e ≡ Memory) ⊎ (e ≡ Database)) }
-        ensures cause { IfRefused S.Store self.old self.new result Blames }
-        ensures survives { CommitsNothing S.Store self.old self.new }
+        ensures reads { ReadsStore S.Store self.old self.new result }
+        ensures refused { IsRefusedAs S.Store self.old self.new result IsFailure Blames }
     {
         let mut tx = begin(&mut self.conn);
         list_all(&mut tx, user)
@@ -488,16 +410,12 @@ impl<S: Alter> PartStore<S> {
         ensures told { Tells S.Store self.old self.new result
             (λ before octets. (x : _) × IsEntryAt before user.now number x
             × (octets.items ≡ x.octets)) }
-        ensures open { OnDone S.Store self.old self.new result WasOpen }
         ensures absent { RefusedWhere S.Store self.old self.new result NoSuchEntry
             (λ before. HasNone before user.now number) }
         ensures begun { IfRefused S.Store self.old self.new result
             (λ old _ e. e ≡ NoSuchEntry → IsTrue old.is_open) }
-        ensures spared { Always S.Store self.old self.new Spares }
-        ensures settled { Always S.Store self.old self.new Settles }
-        ensures refused { IfErr result (λ e. (e ≡ Memory) ⊎ ((e ≡ NoSuchEntry) ⊎ (e ≡ Database))) }
-        ensures cause { IfRefused S.Store self.old self.new result Blames }
-        ensures survives { CommitsNothing S.Store self.old self.new }
+        ensures reads { ReadsStore S.Store self.old self.new result }
+        ensures refused { IsRefusedAs S.Store self.old self.new result IsFailureOrAbsence Blames }
     {
         let mut tx = begin(&mut self.conn);
         match read_bytes(&mut tx, user, number)? {
@@ -510,21 +428,18 @@ impl<S: Alter> PartStore<S> {
     /// number isn't given again. Refuses `Memory`, `NoSuchEntry` exactly where he has none, and
     /// `Database`. A store that a failure has shut refuses `Memory` or `Database`, and commits nothing.
     pub fn remove_entry(&mut self, user: &str, number: u32) -> Result<(), StoreError>
-        ensures made { OnDone S.Store self.old self.new result
-            (Makes (without_entry user.now number)) }
         ensures there { DoneWhere S.Store self.old self.new result
             (λ before. (x : _) × IsEntryAt before user.now number x) }
         ensures absent { RefusedWhere S.Store self.old self.new result NoSuchEntry
             (λ before. HasNone before user.now number) }
         ensures begun { IfRefused S.Store self.old self.new result
             (λ old _ e. e ≡ NoSuchEntry → IsTrue old.is_open) }
-        ensures spared { OnRefused S.Store self.old self.new result Spares }
-        ensures refused { IfErr result (λ e. (e ≡ Memory) ⊎ ((e ≡ NoSuchEntry) ⊎ (e ≡ Database))) }
-        ensures cause { IfRefused S.Store self.old self.new result Blames }
-        ensures survives { MayCommit S.Store self.old self.new
+        ensures writes { WritesStore S.Store self.old self.new result
+            (without_entry user.now number)
             (λ old trees. IsTrue old.is_open × ((before : _) → Stands old.now before
             → ((x : _) × IsEntryAt before user.now number x)
             × IsStored trees (without_entry user.now number before))) }
+        ensures refused { IsRefusedAs S.Store self.old self.new result IsFailureOrAbsence Blames }
     {
         let mut tx = begin(&mut self.conn);
         if !take_entry(&mut tx, user, number)? {

@@ -1,5 +1,6 @@
 //! The users' programs.
 ghost use Rattle.std.specs.Prelude.{◌≡◌, ◌⊎◌, ◌∷◌, ◌<◌, [], length, map, IsTrue, option_map, IfOk, IfErr};
+ghost use Rattle.part_store.specs.Access.{InTransaction};
 ghost use Rattle.part_store.specs.Changes.{columns};
 ghost use Rattle.part_store.specs.Tables.{users_tree, store_schema};
 ghost use Rattle.part_store.specs.Entries.{AreProgramsOf, with_program, with_programs};
@@ -11,7 +12,7 @@ ghost use Rattle.std.specs.List.{AllByRecursion};
 ghost use Rattle.part_store.specs.Refusals.{refusal_of, Blames, BlamesNamed, BlamesPrograms, BlamesRow};
 ghost use Rattle.part_store.specs.Causes.{RisesFrom};
 ghost use Rattle.part_store.specs.declared.error.StoreError.TheVariants.{Memory, Database};
-ghost use Rattle.part_store.specs.Calls.{Always, CommitsNothing, IfRefused, OnDone, StaysShut, Tells, WasOpen};
+ghost use Rattle.part_store.specs.Calls.{Always, CommitsNothing, IfRefused, OnDone, StaysShut, Tells};
 
 use crate::error::StoreError;
 use crate::users;
@@ -37,17 +38,14 @@ pub(crate) fn put_program<S: Alter>(
     ensures same_reference { tx.new.conn.ghost_name ≡ tx.old.conn.ghost_name }
     ensures step { OnDone S.Store tx.old.conn.now tx.new.conn.now result
         (Brings (with_program user.now program.now)) }
-    ensures open { OnDone S.Store tx.old.conn.now tx.new.conn.now result WasOpen }
     ensures inside { OnDone S.Store tx.old.conn.now tx.new.conn.now result IsInside }
     ensures schema { OnDone S.Store tx.old.conn.now tx.new.conn.now result KeepsTables }
-    ensures shut { Always S.Store tx.old.conn.now tx.new.conn.now StaysShut }
-    ensures kept { Always S.Store tx.old.conn.now tx.new.conn.now KeepsStored }
     ensures cause { IfRefused S.Store tx.old.conn.now tx.new.conn.now result
         (AsRefusalInside (BlamesRow user.now (with_program user.now program.now))) }
     ensures rowids { OnDone S.Store tx.old.conn.now tx.new.conn.now result
         (λ old new. (before : _) → Stands old.now before
         → RisesFrom 1 (old.now.trees users_tree) (new.now.trees users_tree)) }
-    ensures survives { CommitsNothing S.Store tx.old.conn.now tx.new.conn.now }
+    ensures within { InTransaction S.Store tx.old.conn.now tx.new.conn.now result }
 {
     let found = users::find(tx, user)?;
     let last = last_in(&found)?;
@@ -64,15 +62,12 @@ pub(crate) fn read_program<S: Alter>(
     ensures same_reference { tx.new.conn.ghost_name ≡ tx.old.conn.ghost_name }
     ensures told { Tells S.Store tx.old.conn.now tx.new.conn.now result
         (λ before found. option_map (λ v. v.items) found ≡ before.programs user.now) }
-    ensures open { OnDone S.Store tx.old.conn.now tx.new.conn.now result WasOpen }
     ensures same { OnDone S.Store tx.old.conn.now tx.new.conn.now result Stays }
     ensures still { OnDone S.Store tx.old.conn.now tx.new.conn.now result
         (λ old new. old.now.schema ≡ store_schema → IsTrue new.is_open) }
     ensures inside { OnDone S.Store tx.old.conn.now tx.new.conn.now result StaysInside }
-    ensures shut { Always S.Store tx.old.conn.now tx.new.conn.now StaysShut }
-    ensures kept { Always S.Store tx.old.conn.now tx.new.conn.now KeepsStored }
     ensures cause { IfRefused S.Store tx.old.conn.now tx.new.conn.now result (AsRefusal Blames) }
-    ensures survives { CommitsNothing S.Store tx.old.conn.now tx.new.conn.now }
+    ensures within { InTransaction S.Store tx.old.conn.now tx.new.conn.now result }
 {
     match users::find(tx, user)? {
         Some(row) => row.get(1),
@@ -87,12 +82,9 @@ pub(crate) fn list_programs<S: Alter>(
     ensures same_reference { tx.new.conn.ghost_name ≡ tx.old.conn.ghost_name }
     ensures told { Tells S.Store tx.old.conn.now tx.new.conn.now result
         (λ before programs. AreProgramsOf before (map pair_of programs.items)) }
-    ensures open { OnDone S.Store tx.old.conn.now tx.new.conn.now result WasOpen }
-    ensures shut { Always S.Store tx.old.conn.now tx.new.conn.now StaysShut }
-    ensures kept { Always S.Store tx.old.conn.now tx.new.conn.now KeepsStored }
     ensures refused { IfErr result (λ e. (e ≡ Memory) ⊎ (e ≡ Database)) }
     ensures cause { IfRefused S.Store tx.old.conn.now tx.new.conn.now result BlamesNamed }
-    ensures survives { CommitsNothing S.Store tx.old.conn.now tx.new.conn.now }
+    ensures within { InTransaction S.Store tx.old.conn.now tx.new.conn.now result }
 {
     let rows = users::list_programs(tx)?;
     programs_in(&rows)
@@ -122,17 +114,14 @@ fn replace_program<S: Alter>(
     ensures same_reference { tx.new.conn.ghost_name ≡ tx.old.conn.ghost_name }
     ensures step { OnDone S.Store tx.old.conn.now tx.new.conn.now result
         (Brings (with_programs ((user.now, program.now) ∷ []))) }
-    ensures open { OnDone S.Store tx.old.conn.now tx.new.conn.now result WasOpen }
     ensures inside { OnDone S.Store tx.old.conn.now tx.new.conn.now result StaysInside }
     ensures schema { OnDone S.Store tx.old.conn.now tx.new.conn.now result KeepsTables }
-    ensures shut { Always S.Store tx.old.conn.now tx.new.conn.now StaysShut }
-    ensures kept { Always S.Store tx.old.conn.now tx.new.conn.now KeepsStored }
     ensures rowids { OnDone S.Store tx.old.conn.now tx.new.conn.now result
         (λ old new. (before : _) → Stands old.now before
         → RisesFrom 1 (old.now.trees users_tree) (new.now.trees users_tree)) }
     ensures cause { IfRefused S.Store tx.old.conn.now tx.new.conn.now result
         (AsRefusalInside (BlamesPrograms ((user.now, program.now) ∷ []))) }
-    ensures survives { CommitsNothing S.Store tx.old.conn.now tx.new.conn.now }
+    ensures within { InTransaction S.Store tx.old.conn.now tx.new.conn.now result }
 {
     let Some(_before) = read_program(tx, user)? else {
         return Ok(());

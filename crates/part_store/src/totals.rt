@@ -2,14 +2,14 @@
 ghost use Rattle.std.specs.Prelude.{◌≡◌, ◌⊎◌, ◌+◌, ◌^◌, ◌≤◌, length, IfOk, IfErr};
 ghost use Rattle.std.specs.List.{AllByRecursion, sum_by};
 ghost use Rattle.sqlite_value.specs.Order.{column};
+ghost use Rattle.part_store.specs.Access.{InTransaction};
 ghost use Rattle.part_store.specs.Tables.{contents_tree};
 ghost use Rattle.part_store.specs.Standing.{Stands};
 ghost use Rattle.part_store.specs.Totals.{IsTotalOf, octets_of};
 ghost use Rattle.part_store.specs.Readings.{number_of, ShowsSize};
 ghost use Rattle.part_store.specs.Refusals.{BlamesOr};
 ghost use Rattle.part_store.specs.declared.error.StoreError.TheVariants.{Memory, Database};
-ghost use Rattle.part_store.specs.Calls.{Always, CommitsNothing, IfDone, IfRefused, OnDone, StaysShut, WasOpen};
-ghost use Rattle.part_store.specs.Inside.{KeepsStored};
+ghost use Rattle.part_store.specs.Calls.{IfDone, IfRefused};
 
 use crate::contents;
 use crate::error::StoreError;
@@ -32,13 +32,10 @@ pub(crate) fn count_contents<S: Alter>(
     ensures told { IfDone S.Store tx.old.conn.now tx.new.conn.now result
         (λ total old _. (before : _) → Stands old.now before
         → IsTotalOf (old.now.trees contents_tree) total) }
-    ensures open { OnDone S.Store tx.old.conn.now tx.new.conn.now result WasOpen }
-    ensures shut { Always S.Store tx.old.conn.now tx.new.conn.now StaysShut }
-    ensures kept { Always S.Store tx.old.conn.now tx.new.conn.now KeepsStored }
     ensures refused { IfErr result (λ e. (e ≡ Memory) ⊎ (e ≡ Database)) }
     ensures cause { IfRefused S.Store tx.old.conn.now tx.new.conn.now result
         (BlamesOr (λ _ db. 2 ^ 64 ≤ octets_of (db contents_tree))) }
-    ensures survives { CommitsNothing S.Store tx.old.conn.now tx.new.conn.now }
+    ensures within { InTransaction S.Store tx.old.conn.now tx.new.conn.now result }
 {
     let rows = contents::list(tx)?;
     total_of(&rows)

@@ -5,9 +5,10 @@ ghost use Rattle.sqlite.specs.State.{KeepsCommit};
 ghost use Rattle.sqlite.specs.Values.{or_null};
 ghost use Rattle.part_store.specs.Changes.{Steps, Reads, IsFound, IsListed, IsAdded, IsOnlyRow, IsRenewed, IsTableIn, IsTaken, columns, every, has_program, user_row};
 ghost use Rattle.part_store.specs.Tables.{users_tree, equals, users_table};
-ghost use Rattle.part_store.specs.Causes.{AddFaults, Faults, HasNoRow, PutFaults, WriteFaults};
+ghost use Rattle.part_store.specs.Causes.{AddFaults, HasNoRow, PutFaults, WriteFaults};
 ghost use Rattle.part_store.specs.Refusals.{user_values};
-ghost use Rattle.part_store.specs.Calls.{Always, CommitsNothing, IfDone, IfRefused, OnDone, OnRefused, WasOpen};
+ghost use Rattle.part_store.specs.Asking.{AsksTables};
+ghost use Rattle.part_store.specs.Calls.{Always, CommitsNothing, IfDone, IfRefused, OnDone};
 ghost use Rattle.part_store.specs.Inside.{IsInside};
 
 use sqlite::{Alter, Error, Row, Transaction, params};
@@ -25,10 +26,7 @@ pub(crate) fn find<S: Alter>(tx: &mut Transaction<'_, S>, user: &str) -> Result<
     ensures step { IfDone S.Store tx.old.conn.now tx.new.conn.now result
         (λ found. Steps (Reads
         (λ db. IsFound users_tree (equals 1 (Text user.now)) (columns (2 ∷ 3 ∷ [])) db found))) }
-    ensures open { OnDone S.Store tx.old.conn.now tx.new.conn.now result WasOpen }
-    ensures kept { OnRefused S.Store tx.old.conn.now tx.new.conn.now result KeepsCommit }
-    ensures fault { IfRefused S.Store tx.old.conn.now tx.new.conn.now result Faults }
-    ensures survives { CommitsNothing S.Store tx.old.conn.now tx.new.conn.now }
+    ensures asks { AsksTables S.Store tx.old.conn.now tx.new.conn.now result }
 {
     let rows = tx.query_all(
         "SELECT last, program FROM users WHERE user = ?1",
@@ -46,10 +44,7 @@ pub(crate) fn find_last<S: Alter>(
     ensures step { IfDone S.Store tx.old.conn.now tx.new.conn.now result
         (λ found. Steps (Reads
         (λ db. IsFound users_tree (equals 1 (Text user.now)) (columns (2 ∷ [])) db found))) }
-    ensures open { OnDone S.Store tx.old.conn.now tx.new.conn.now result WasOpen }
-    ensures kept { OnRefused S.Store tx.old.conn.now tx.new.conn.now result KeepsCommit }
-    ensures fault { IfRefused S.Store tx.old.conn.now tx.new.conn.now result Faults }
-    ensures survives { CommitsNothing S.Store tx.old.conn.now tx.new.conn.now }
+    ensures asks { AsksTables S.Store tx.old.conn.now tx.new.conn.now result }
 {
     let rows = tx.query_all("SELECT last FROM users WHERE user = ?1", params![user])?;
     Ok(first_of(rows))
@@ -61,10 +56,7 @@ pub(crate) fn list_programs<S: Alter>(tx: &mut Transaction<'_, S>) -> Result<Vec
     ensures step { IfDone S.Store tx.old.conn.now tx.new.conn.now result
         (λ found. Steps (Reads
         (IsListed users_tree has_program (columns (1 ∷ 3 ∷ [])) found.items))) }
-    ensures open { OnDone S.Store tx.old.conn.now tx.new.conn.now result WasOpen }
-    ensures kept { OnRefused S.Store tx.old.conn.now tx.new.conn.now result KeepsCommit }
-    ensures fault { IfRefused S.Store tx.old.conn.now tx.new.conn.now result Faults }
-    ensures survives { CommitsNothing S.Store tx.old.conn.now tx.new.conn.now }
+    ensures asks { AsksTables S.Store tx.old.conn.now tx.new.conn.now result }
 {
     tx.query_all(
         "SELECT user, program FROM users WHERE program IS NOT NULL ORDER BY user",
@@ -78,10 +70,7 @@ pub(crate) fn list<S: Alter>(tx: &mut Transaction<'_, S>) -> Result<Vec<Row>, Er
     ensures step { IfDone S.Store tx.old.conn.now tx.new.conn.now result
         (λ found. Steps (Reads
         (IsListed users_tree every (columns (1 ∷ 2 ∷ 3 ∷ [])) found.items))) }
-    ensures open { OnDone S.Store tx.old.conn.now tx.new.conn.now result WasOpen }
-    ensures kept { OnRefused S.Store tx.old.conn.now tx.new.conn.now result KeepsCommit }
-    ensures fault { IfRefused S.Store tx.old.conn.now tx.new.conn.now result Faults }
-    ensures survives { CommitsNothing S.Store tx.old.conn.now tx.new.conn.now }
+    ensures asks { AsksTables S.Store tx.old.conn.now tx.new.conn.now result }
 {
     tx.query_all("SELECT user, last, program FROM users ORDER BY user", &[])
 }

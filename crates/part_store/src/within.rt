@@ -1,13 +1,14 @@
 //! Calls within a transaction, which are committed together.
-ghost use Rattle.std.specs.Prelude.{◌≡◌, ◌⊎◌, ◌+◌, ◌<◌, true, false, length, map, IsTrue, IfErr, option_map};
+ghost use Rattle.std.specs.Prelude.{◌≡◌, ◌<◌, true, false, length, map, IsTrue, option_map};
 ghost use Rattle.sqlite.specs.Held.{state};
-ghost use Rattle.part_store.specs.Calls.{Always, CommitsNothing, DoneWhere, IfRefused, OnDone, RefusedWhere, StaysShut, Tells, WasOpen};
+ghost use Rattle.sqlite.specs.State.{IsLive};
+ghost use Rattle.part_store.specs.Access.{AddsEntries, InTransaction, IsFailure, IsFailureOrObstacle, IsRefusedAs};
+ghost use Rattle.part_store.specs.Calls.{OnDone, Tells};
 ghost use Rattle.part_store.specs.Entries.{with_entries};
-ghost use Rattle.part_store.specs.Filing.{Collides, HasRoom};
-ghost use Rattle.part_store.specs.Inside.{Brings, IfInside, IsInside, KeepsStored, KeepsTables, Stays, StaysInside};
+ghost use Rattle.part_store.specs.Inside.{Brings, IfInside, IsInside, KeepsTables, Stays, StaysInside};
 ghost use Rattle.part_store.specs.Refusals.{Blames, BlamesEntries};
 ghost use Rattle.part_store.specs.Sharing.{SharesContents, first_of};
-ghost use Rattle.part_store.specs.Standing.{Stands, draft_of};
+ghost use Rattle.part_store.specs.Standing.{draft_of};
 ghost use Rattle.part_store.specs.declared.error.StoreError.TheVariants.{Memory, NumberFull, Collision, Database};
 
 use crate::adding::{Adding, put_entries};
@@ -26,9 +27,19 @@ pub fn begin<S: Alter>(conn: &mut Connection<S>) -> Transaction<'_, S>
     ensures settled { IsTrue (state S.Store conn.old).is_open
         → (state S.Store conn.old).now ≡ (state S.Store conn.old).committed }
 {
-    // What holds of every connection is known where it is asked.
-    let _settled = conn.is_autocommit();
+    know_connection(conn);
     conn.transaction()
+}
+
+/// Does nothing. Says what holds of every connection, which a proof knows only where it is asked: what an open one
+/// shows lists its tables, and is what is committed where it is in no transaction.
+pub(crate) fn know_connection<S: Alter>(conn: &Connection<S>)
+    ensures settled { conn.now.in_transaction ≡ false → IsTrue (state S.Store conn.now).is_open
+        → (state S.Store conn.now).now ≡ (state S.Store conn.now).committed }
+    ensures live { IsLive (state S.Store conn.now) }
+{
+    let _is_settled = conn.is_autocommit();
+    let _schema = conn.schema();
 }
 
 /// The user's program, or none where he has none. Refuses `Memory` and `Database`.
@@ -39,14 +50,10 @@ pub fn program_within<S: Alter>(
     ensures same_reference { tx.new.conn.ghost_name ≡ tx.old.conn.ghost_name }
     ensures told { Tells S.Store tx.old.conn.now tx.new.conn.now result
         (λ before found. option_map (λ v. v.items) found ≡ before.programs user.now) }
-    ensures open { OnDone S.Store tx.old.conn.now tx.new.conn.now result WasOpen }
     ensures same { OnDone S.Store tx.old.conn.now tx.new.conn.now result Stays }
     ensures inside { OnDone S.Store tx.old.conn.now tx.new.conn.now result StaysInside }
-    ensures shut { Always S.Store tx.old.conn.now tx.new.conn.now StaysShut }
-    ensures kept { Always S.Store tx.old.conn.now tx.new.conn.now KeepsStored }
-    ensures refused { IfErr result (λ e. (e ≡ Memory) ⊎ (e ≡ Database)) }
-    ensures cause { IfRefused S.Store tx.old.conn.now tx.new.conn.now result Blames }
-    ensures survives { CommitsNothing S.Store tx.old.conn.now tx.new.conn.now }
+    ensures refused { IsRefusedAs S.Store tx.old.conn.now tx.new.conn.now result IsFailure Blames }
+    ensures within { InTransaction S.Store tx.old.conn.now tx.new.conn.now result }
 {
     Ok(read_program(tx, user)?)
 }
@@ -64,31 +71,12 @@ pub fn add_within<S: Alter>(
     ensures same_reference { tx.new.conn.ghost_name ≡ tx.old.conn.ghost_name }
     ensures made { OnDone S.Store tx.old.conn.now tx.new.conn.now result
         (Brings (with_entries user.now (map draft_of entries.now))) }
-    ensures first { Tells S.Store tx.old.conn.now tx.new.conn.now result
-        (λ before first. first ≡ before.lasts user.now + 1) }
-    ensures room { DoneWhere S.Store tx.old.conn.now tx.new.conn.now result
-        (λ before. HasRoom before user.now (length entries.now)) }
-    ensures apart { OnDone S.Store tx.old.conn.now tx.new.conn.now result
-        (λ old _. (before : _) → Stands old.now before
-        → Collides old.now.trees (map draft_of entries.now) → ⊥) }
-    ensures full { RefusedWhere S.Store tx.old.conn.now tx.new.conn.now result NumberFull
-        (λ before. HasRoom before user.now (length entries.now) → ⊥) }
-    ensures collision { IfRefused S.Store tx.old.conn.now tx.new.conn.now result
-        (λ old _ e. e ≡ Collision → (before : _) → Stands old.now before
-        → HasRoom before user.now (length entries.now)
-        × Collides old.now.trees (map draft_of entries.now)) }
-    ensures open { OnDone S.Store tx.old.conn.now tx.new.conn.now result WasOpen }
-    ensures begun { IfRefused S.Store tx.old.conn.now tx.new.conn.now result
-        (λ old _ e. (e ≡ NumberFull) ⊎ (e ≡ Collision) → IsTrue old.is_open) }
+    ensures adds { AddsEntries S.Store tx.old.conn.now tx.new.conn.now result user.now entries.now }
     ensures inside { OnDone S.Store tx.old.conn.now tx.new.conn.now result IsInside }
     ensures schema { OnDone S.Store tx.old.conn.now tx.new.conn.now result KeepsTables }
-    ensures shut { Always S.Store tx.old.conn.now tx.new.conn.now StaysShut }
-    ensures kept { Always S.Store tx.old.conn.now tx.new.conn.now KeepsStored }
-    ensures refused { IfErr result
-        (λ e. (e ≡ Memory) ⊎ ((e ≡ NumberFull) ⊎ ((e ≡ Collision) ⊎ (e ≡ Database)))) }
-    ensures cause { IfRefused S.Store tx.old.conn.now tx.new.conn.now result
+    ensures refused { IsRefusedAs S.Store tx.old.conn.now tx.new.conn.now result IsFailureOrObstacle
         (IfInside (BlamesEntries user.now (map draft_of entries.now))) }
-    ensures survives { CommitsNothing S.Store tx.old.conn.now tx.new.conn.now }
+    ensures within { InTransaction S.Store tx.old.conn.now tx.new.conn.now result }
 {
     match put_entries(tx, user, entries, shared)? {
         Adding::From(first) => Ok(first),

@@ -14,6 +14,7 @@ ghost use Rattle.part_store.specs.declared.looking.Unopened.TheVariants.{OtherTa
 use crate::error::StoreError;
 use crate::looking::Unopened;
 use crate::store::{PartStore, ready_tables};
+use crate::within::know_connection;
 use sqlite::{Alter, Connection};
 
 /// The store on a connection, with its tables made where it had none. A connection that gets no
@@ -56,8 +57,6 @@ pub(crate) fn known_connection<S: Alter>(store: PartStore<S>) -> Connection<S>
     ensures live { IsLive (state S.Store store) }
 {
     let conn = store.release();
-    // What holds of every connection is known where it is asked.
-    let _settled = conn.is_autocommit();
-    let _live = conn.schema();
+    know_connection(&conn);
     conn
 }

@@ -31,7 +31,7 @@ returns-clause-done g c clean =
     let early : HasCleanDisk mid = omega (arith, clean, c.commit.ensures.survives.clean) in
     elim c.match-commit.branch [
       | in-Ok w ↦ subst (λ h. IfOk c.match-commit.result (λ rows. Does command (Listed (map listed rows.items)) (state g.S.Store h) new)) c.store.view_is
-          (rw w.result-is (done_alone g.S.Store c.store.inside.conn command reply mid new (subst (λ h. IsTrue (state g.S.Store h).is_open) begun (c.in_ok-rows.ensures.open early))
+          (rw w.result-is (done_alone g.S.Store c.store.inside.conn command reply mid new (subst (λ h. IsTrue (state g.S.Store h).is_open) begun (c.in_ok-rows.ensures.within.was_open early))
           (subst (λ h. Reaches command reply (state g.S.Store h) mid) begun (c.in_ok-rows.ensures.done early)) (w.in-Ok.ensures.ok clean).1))
       | in-Err w ↦ search rules
     ]
@@ -46,7 +46,7 @@ returns-clause-cause g c clean =
     elim c.match-commit.branch [
       | in-Ok w ↦ search rules
       | in-Err w ↦ subst (λ h. IfErr c.match-commit.result (IsFault command (state g.S.Store h) new)) c.store.view_is
-          (rw w.result-is (commit_fault g.S.Store c.store.inside.conn command w.refused.result mid new (subst (λ h. Survives (state g.S.Store h) mid (λ _. ⊥)) begun c.deliver_within.ensures.survives)
+          (rw w.result-is (commit_fault g.S.Store c.store.inside.conn command w.refused.result mid new (subst (λ h. Survives (state g.S.Store h) mid (λ _. ⊥)) begun c.deliver_within.ensures.within.survives)
           c.commit.ensures.survives clean (subst (λ h. StaysInside (state g.S.Store h) mid) begun (c.in_ok-rows.ensures.inside early))
           (commit_failed mid new w.in-Err.error w.from.result w.refused.result w.from.ensures w.refused.ensures (w.in-Err.ensures.err clean))))
     ]
@@ -59,6 +59,6 @@ returns-clause-survives g c =
     let reply = Listed (map listed c.in_ok-rows.rows.items) in
     let begun = c.begin-tx.ensures.begun in
     subst (λ h. Survives (state g.S.Store h) new (λ trees. MayLeave command (state g.S.Store h) trees)) c.store.view_is
-    (left_by_commit g.S.Store c.store.inside.conn mid new (MayLeave command (state g.S.Store c.store.inside.conn)) (subst (λ h. Survives (state g.S.Store h) mid (λ _. ⊥)) begun c.deliver_within.ensures.survives)
-    (λ clean. left_alone g.S.Store c.store.inside.conn command reply mid (subst (λ h. IsTrue (state g.S.Store h).is_open) begun (c.in_ok-rows.ensures.open clean))
+    (left_by_commit g.S.Store c.store.inside.conn mid new (MayLeave command (state g.S.Store c.store.inside.conn)) (subst (λ h. Survives (state g.S.Store h) mid (λ _. ⊥)) begun c.deliver_within.ensures.within.survives)
+    (λ clean. left_alone g.S.Store c.store.inside.conn command reply mid (subst (λ h. IsTrue (state g.S.Store h).is_open) begun (c.in_ok-rows.ensures.within.was_open clean))
     (subst (λ h. Reaches command reply (state g.S.Store h) mid) begun (c.in_ok-rows.ensures.done clean))) c.commit.ensures.survives)

@@ -26,7 +26,7 @@ returns-in-Err-clause-refused g c clean inside =
     let index = c.loop-delivery.delivery-index in
     let lt = c.loop-delivery-test.true in
     next_refused (map command_of (take index ds)) (map reply_of c.loop-delivery.replies.items) (state g.S.Store c.args.tx.now.conn.now) (state g.S.Store c.loop-delivery.tx.conn.now) (state g.S.Store c.deliver_within.new.tx.conn.now)
-    c.loop-delivery.invariant.so_far c.deliver_within.ensures.survives (map command_of ds) (map command_of (drop (index + 1) ds)) (command_of (get_or ds index nothing)) c.len-place.result c.in-Err.refusal
+    c.loop-delivery.invariant.so_far c.deliver_within.ensures.within.survives (map command_of ds) (map command_of (drop (index + 1) ds)) (command_of (get_or ds index nothing)) c.len-place.result c.in-Err.refusal
     (deliveries_split ds index nothing lt) (c.len-place.ensures ∙ c.loop-delivery.invariant.number ∙ sym (deliveries_number ds index lt)) clean (c.in-Err.ensures.refused clean) (c.in-Err.ensures.cause clean) inside
 
 pub returns-in_default-clause-which : goal.returns-in_default-clause-which
@@ -48,7 +48,7 @@ returns-in_default-clause-refused g c clean inside =
     let new = state g.S.Store c.deliver_within.new.tx.conn.now in
     let command = command_of (get_or ds index nothing) in
     next_refused (map command_of (take index ds)) (map reply_of c.loop-delivery.replies.items) (state g.S.Store c.args.tx.now.conn.now) mid new
-    c.loop-delivery.invariant.so_far c.deliver_within.ensures.survives (map command_of ds) (map command_of (drop (index + 1) ds)) command c.len-place.result Memory
+    c.loop-delivery.invariant.so_far c.deliver_within.ensures.within.survives (map command_of ds) (map command_of (drop (index + 1) ds)) command c.len-place.result Memory
     (deliveries_split ds index nothing lt) (c.len-place.ensures ∙ c.loop-delivery.invariant.number ∙ sym (deliveries_number ds index lt)) clean tt (λ _. no_fault command mid new) inside
 
 pub loop-delivery-preserved : goal.loop-delivery-preserved
@@ -67,6 +67,6 @@ loop-delivery-preserved g c =
       number = omega (arith, c.in-Ok-push.ensures.len, c.loop-delivery.invariant.number);
       so_far = subst (λ commands. Delivering commands (map reply_of c.push.new.self.items) old new) (deliveries_more ds index nothing lt)
           (subst (λ more. Delivering (before ++ command_of (get_or ds index nothing) ∷ []) more old new) (sym (replies_more c.loop-delivery.replies.items c.push.new.self.items c.in-Ok.rows pushed))
-          (one_more before replies old mid new c.loop-delivery.invariant.so_far c.deliver_within.ensures.survives (command_of (get_or ds index nothing)) (reply_of c.in-Ok.rows)
-          c.in-Ok.ensures.done c.in-Ok.ensures.open c.in-Ok.ensures.inside c.in-Ok.ensures.schema c.deliver_within.ensures.shut c.deliver_within.ensures.kept));
+          (one_more before replies old mid new c.loop-delivery.invariant.so_far c.deliver_within.ensures.within.survives (command_of (get_or ds index nothing)) (reply_of c.in-Ok.rows)
+          c.in-Ok.ensures.done c.in-Ok.ensures.within.was_open c.in-Ok.ensures.inside c.in-Ok.ensures.schema c.deliver_within.ensures.within.shut c.deliver_within.ensures.within.kept));
     }

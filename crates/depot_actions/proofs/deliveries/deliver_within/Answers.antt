@@ -43,7 +43,7 @@ returns-clause-done g c clean =
     let actions = c.deref.result.now in
     let named : IsTrue (is_user_name user) = search rules in
     let some = some_actions (length actions) _ c.is_empty.result c.is_empty.ensures c.if-is_empty.false c.deref.ensures.len in
-    let early : HasCleanDisk mid = omega (arith, c.file_all.ensures.survives.clean) in
+    let early : HasCleanDisk mid = omega (arith, c.file_all.ensures.within.survives.clean) in
     let are = rw (c.in_ok-mail.ensures.read.1, ← c.deref.ensures.value) at c.in_ok-actions.ensures.actions in
     let found = ok_before c.program_within.result c.map_err.result _ c.in_ok-program.program c.map_err.ensures.cases c.map_err.ensures.variant c.in_ok-program.was in
     let told = IfOk-at_ok _ found (c.program_within.ensures.told early) in
@@ -61,21 +61,21 @@ returns-clause-refused g c clean =
     let message = c.args.message.now in
     let actions = c.deref.result.now in
     let named : IsTrue (is_user_name user) = search rules in
-    let early : HasCleanDisk mid = omega (arith, c.file_all.ensures.survives.clean) in
+    let early : HasCleanDisk mid = omega (arith, c.file_all.ensures.within.survives.clean) in
     let are = rw (c.in_ok-mail.ensures.read.1, ← c.deref.ensures.value) at c.in_ok-actions.ensures.actions in
     let found = ok_before c.program_within.result c.map_err.result _ c.in_ok-program.program c.map_err.ensures.cases c.map_err.ensures.variant c.in_ok-program.was in
     let told = IfOk-at_ok _ found (c.program_within.ensures.told early) in
     let stays = subst (λ r. OnOk r (Stays old mid)) found (c.program_within.ensures.same early) in
     let unfiled = rw c.in_ok-mail.ensures.read.1 at (c.file_all.ensures.refused clean) in
     IfErr-weaker c.file_all.result _ _ (λ e h.
-    unfiled_cause old mid new user message (option_map (λ v. v.items) c.in_ok-program.program) actions named c.in_ok-mail.ensures.read.0 are told stays (c.program_within.ensures.shut early) e h) unfiled
+    unfiled_cause old mid new user message (option_map (λ v. v.items) c.in_ok-program.program) actions named c.in_ok-mail.ensures.read.0 are told stays (c.program_within.ensures.within.shut early) e h) unfiled
 
 pub returns-in_err-program-clause-cause : goal.returns-in_err-program-clause-cause
 returns-in_err-program-clause-cause g c clean =
     let old = state g.S.Store c.args.tx.now.conn.now in
     let new = state g.S.Store c.program_within.new.tx.conn.now in
     let command = Deliver c.args.user.now c.args.message.now in
-    let fault = failure_told (IsHindered command) old new c.program_within.result c.map_err.result c.map_err.ensures.cases (c.program_within.ensures.cause clean) in
+    let fault = failure_told (IsHindered command) old new c.program_within.result c.map_err.result c.map_err.ensures.cases (c.program_within.ensures.refused.cause clean) in
     IfErr-weaker c.from_residual-in_err-program.result _ _ (λ e h inside. h)
     (passed_on c.from_residual-in_err-program.result _ (IsFault command old new) c.from_residual-in_err-program.ensures.1 (of_refusal c.map_err.result _ _ c.in_err-program.was fault))
 
@@ -94,7 +94,7 @@ returns-clause-cause g c clean =
     let message = c.args.message.now in
     let actions = c.deref.result.now in
     let named : IsTrue (is_user_name user) = search rules in
-    let early : HasCleanDisk mid = omega (arith, clean, c.file_all.ensures.survives.clean) in
+    let early : HasCleanDisk mid = omega (arith, clean, c.file_all.ensures.within.survives.clean) in
     let are = rw (c.in_ok-mail.ensures.read.1, ← c.deref.ensures.value) at c.in_ok-actions.ensures.actions in
     let found = ok_before c.program_within.result c.map_err.result _ c.in_ok-program.program c.map_err.ensures.cases c.map_err.ensures.variant c.in_ok-program.was in
     let told = IfOk-at_ok _ found (c.program_within.ensures.told early) in
@@ -103,4 +103,4 @@ returns-clause-cause g c clean =
     let fault = rw c.in_ok-mail.ensures.read.1 at (c.file_all.ensures.cause clean) in
     IfErr-weaker c.file_all.result _ _ (λ e h inside is before stands.
     delivery_fault old mid new user message (option_map (λ v. v.items) c.in_ok-program.program) actions named c.in_ok-mail.ensures.read.0 are told stays e
-    c.program_within.ensures.survives c.file_all.ensures.survives clean (h (still stands.schema inside)) is before stands) fault
+    c.program_within.ensures.within.survives c.file_all.ensures.within.survives clean (h (still stands.schema inside)) is before stands) fault

@@ -13,4 +13,4 @@ returns-in_err-first-clause-cause g c clean =
     let lack = LackRoom c.args.user.now (map draft_of c.args.entries.now) in
     passed_on c.from_residual-in_err-first.result _ _ c.from_residual-in_err-first.ensures.1
     (λ inside. of_refusal c.map_err.result _ _ c.in_err-first.was (fault_told lack old new c.add_within.result c.map_err.result c.map_err.ensures.cases
-    (IfErr-weaker c.add_within.result _ _ (λ e h. h inside) (c.add_within.ensures.cause clean))))
+    (IfErr-weaker c.add_within.result _ _ (λ e h. h inside) (c.add_within.ensures.refused.cause clean))))

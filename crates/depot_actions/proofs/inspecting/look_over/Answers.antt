@@ -14,7 +14,7 @@ returns-in_err-users-clause-cause g c clean named =
     let new = state g.S.Store c.summaries.new.store in
     let early : HasCleanDisk mid = omega (arith, clean, c.summaries.ensures.survives.clean) in
     passed_on c.from_residual-in_err-users.result _ _ c.from_residual-in_err-users.ensures.1
-    (later_fault IsUncounted old mid new _ (c.rows_of.ensures.spared early) c.rows_of.ensures.survives c.summaries.ensures.survives clean (c.in_err-users.ensures.cause clean))
+    (later_fault IsUncounted old mid new _ (c.rows_of.ensures.reads.spared early) c.rows_of.ensures.reads.survives c.summaries.ensures.survives clean (c.in_err-users.ensures.cause clean))
 
 pub returns-in_err-contents-clause-cause : goal.returns-in_err-contents-clause-cause
 returns-in_err-contents-clause-cause g c clean named =
@@ -22,9 +22,9 @@ returns-in_err-contents-clause-cause g c clean named =
     let one = state g.S.Store c.rows_of.new.store in
     let mid = state g.S.Store c.summaries.new.store in
     let new = state g.S.Store c.total_of.new.store in
-    let late : HasCleanDisk mid = omega (arith, clean, c.total_of.ensures.survives.clean) in
+    let late : HasCleanDisk mid = omega (arith, clean, c.total_of.ensures.reads.survives.clean) in
     let early : HasCleanDisk one = omega (arith, late, c.summaries.ensures.survives.clean) in
-    let both = survived_then old one mid c.rows_of.ensures.survives c.summaries.ensures.survives in
-    let spares = spared_twice old one mid c.rows_of.ensures.survives.counts c.summaries.ensures.survives.counts (c.rows_of.ensures.spared early) (c.summaries.ensures.spared late) in
+    let both = survived_then old one mid c.rows_of.ensures.reads.survives c.summaries.ensures.survives in
+    let spares = spared_twice old one mid c.rows_of.ensures.reads.survives.counts c.summaries.ensures.survives.counts (c.rows_of.ensures.reads.spared early) (c.summaries.ensures.spared late) in
     passed_on c.from_residual-in_err-contents.result _ _ c.from_residual-in_err-contents.ensures.1
-    (later_fault IsUncounted old mid new _ spares both c.total_of.ensures.survives clean (c.in_err-contents.ensures.cause clean))
+    (later_fault IsUncounted old mid new _ spares both c.total_of.ensures.reads.survives clean (c.in_err-contents.ensures.cause clean))

@@ -8,4 +8,4 @@ pub returns-clause-cause : goal.returns-clause-cause
 returns-clause-cause g c clean named =
     let old = state g.S.Store c.args.store.now in
     let new = state g.S.Store c.users.new.self in
-    failure_told IsUncounted old new c.users.result c.map_err.result c.map_err.ensures.cases (IfErr-weaker c.users.result _ _ (λ e h is before stands. h is before stands named) (c.users.ensures.cause clean))
+    failure_told IsUncounted old new c.users.result c.map_err.result c.map_err.ensures.cases (IfErr-weaker c.users.result _ _ (λ e h is before stands. h is before stands named) (c.users.ensures.refused.cause clean))

@@ -12,7 +12,7 @@ loop-row-preserved g c =
     let mid = state g.S.Store c.loop-row.store in
     let new = state g.S.Store c.summary.new.store in
     one_looked c.args.rows.now c.loop-row.row-index c.row-item.result c.loop-row.users.items c.push.new.self.items c.in_ok-user.user old mid new c.loop-row-test.true c.row-item.is c.in_ok-push.ensures.items
-    c.loop-row.invariant c.summary.ensures.survives c.summary.ensures.spared c.in_ok-user.ensures.open c.in_ok-user.ensures.told
+    c.loop-row.invariant c.summary.ensures.reads.survives c.summary.ensures.reads.spared c.in_ok-user.ensures.reads.was_open c.in_ok-user.ensures.told
 
 pub returns-clause-told : goal.returns-clause-told
 returns-clause-told g c clean before stands =
@@ -23,6 +23,6 @@ returns-in_err-user-clause-cause g c clean =
     let old = state g.S.Store c.args.store.now in
     let mid = state g.S.Store c.loop-row.store in
     let new = state g.S.Store c.summary.new.store in
-    let early : HasCleanDisk mid = omega (arith, clean, c.summary.ensures.survives.clean) in
+    let early : HasCleanDisk mid = omega (arith, clean, c.summary.ensures.reads.survives.clean) in
     passed_on c.from_residual.result _ _ c.from_residual.ensures.1
-    (later_fault IsUncounted old mid new _ (c.loop-row.invariant.spared early) c.loop-row.invariant.survives c.summary.ensures.survives clean (c.in_err-user.ensures.cause clean))
+    (later_fault IsUncounted old mid new _ (c.loop-row.invariant.spared early) c.loop-row.invariant.survives c.summary.ensures.reads.survives clean (c.in_err-user.ensures.cause clean))

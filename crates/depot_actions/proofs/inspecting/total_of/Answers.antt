@@ -12,4 +12,4 @@ returns-clause-cause g c clean =
     let old = state g.S.Store c.args.store.now in
     let new = state g.S.Store c.contents.new.self in
     IfErr-weaker c.map_err.result _ _ (λ e. weaker_fault (λ _ db. 2 ^ 64 ≤ octets_of (db contents_tree)) IsUncounted old new e (λ before stands more. inl more))
-    (fault_told (λ _ db. 2 ^ 64 ≤ octets_of (db contents_tree)) old new c.contents.result c.map_err.result c.map_err.ensures.cases (c.contents.ensures.cause clean))
+    (fault_told (λ _ db. 2 ^ 64 ≤ octets_of (db contents_tree)) old new c.contents.result c.map_err.result c.map_err.ensures.cases (c.contents.ensures.refused.cause clean))

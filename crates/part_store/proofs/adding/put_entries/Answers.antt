@@ -20,7 +20,7 @@ returns-then-branch-clause-adds g c clean before stands =
     let still = c.in_ok-last.ensures.same early in
     let done : c.in_ok-claim_and_file.field-0 ≡ true = search rules in
     let enters = c.in_ok-claim_and_file.ensures.filed clean done before (stands_still old mid before still stands) told.0 (subst (λ t. TellsOfRow c.args.user.now t c.in_ok-last.is_known) (sym (still stands.schema).1) told.1) in
-    let kept = c.last_of.ensures.kept early stands.schema in (
+    let kept = c.last_of.ensures.within.kept early stands.schema in (
       omega (arith, told.0, c.if-entries-last.false, length-map entries draft_of),
       omega (arith, told.0),
       λ h. enters.apart (collides_after old mid (map draft_of entries) (still stands.schema).1 h),
@@ -58,7 +58,7 @@ returns-in_err-claim_and_file-clause-cause g c clean =
     let drafts = map draft_of c.args.entries.now in
     let still = c.in_ok-last.ensures.same early in
     passed c.from_residual-in_err-claim_and_file.result _ _ c.from_residual-in_err-claim_and_file.ensures.1 (λ inside.
-    entries_after old mid new user drafts _ c.last_of.ensures.survives c.claim_and_file.ensures.survives clean still
+    entries_after old mid new user drafts _ c.last_of.ensures.within.survives c.claim_and_file.ensures.survives clean still
     (λ before stands. omega (arith, (c.in_ok-last.ensures.told early before stands).0, c.if-entries-last.false, length-map c.args.entries.now draft_of)) (λ before stands.
     c.in_err-claim_and_file.ensures.cause clean (c.in_ok-last.ensures.inside early stands.schema inside) (λ other there.
     let told = c.in_ok-last.ensures.told early other (stood old mid before other still stands there) in

@@ -1,23 +1,24 @@
+use Rattle.std.proofs.Common.{[], ◌∷◌, pos}
+use Rattle.sqlite_value.specs.declared.value.Value.TheVariants.{Int, Text}
 use Rattle.sqlite.specs.Held.{state}
-use Rattle.part_store.proofs.Runs.{passed, query_keeps, on_err, shown_open}
-use Rattle.part_store.proofs.EntryRows.{entry_found}
+use Rattle.part_store.specs.Statements.{find_entry_text}
 use Rattle.part_store.proofs.Asked.{find_entry_faults}
+use Rattle.part_store.proofs.EntryRows.{entry_found}
+use Rattle.part_store.proofs.Queries.{answered, refused}
 use Rattle.part_store.proofs.entries.find.Goals as goal
-
-pub returns-in_err-rows-clause-kept : goal.returns-in_err-rows-clause-kept
-returns-in_err-rows-clause-kept g c clean = on_err c.from_residual.result _ (query_keeps _ _ _ _ _ (c.in_err-rows.ensures.err clean))
 
 pub returns-clause-step : goal.returns-clause-step
 returns-clause-step g c clean =
     let shown = rw (c.params-to_sql.ensures, c.params-to_sql-2.ensures) at (c.in_ok-rows.ensures.ok clean) in
     rw c.first_of.ensures (entry_found (state g.S.Store c.args.tx.now.conn.now) (state g.S.Store c.query_all.new.self.conn.now) c.args.user.now c.args.number _ shown)
 
-pub returns-clause-open : goal.returns-clause-open
-returns-clause-open g c clean =
-    let shown = c.in_ok-rows.ensures.ok clean in
-    shown_open _ _ (state g.S.Store c.args.tx.now.conn.now) (state g.S.Store c.query_all.new.self.conn.now) _ shown
+pub returns-clause-asks : goal.returns-clause-asks
+returns-clause-asks g c =
+    answered g.S.Store c.args.tx.now.conn.now c.query_all.new.self.conn.now find_entry_text (Text c.args.user.now ∷ Int (pos c.args.number) ∷ []) c.query_all.ensures.survives _ c.in_ok-rows.rows.items (rw (c.params-to_sql.ensures, c.params-to_sql-2.ensures) at c.in_ok-rows.ensures.ok)
 
-pub returns-in_err-rows-clause-fault : goal.returns-in_err-rows-clause-fault
-returns-in_err-rows-clause-fault g c clean =
-    let failed = rw (c.params-to_sql.ensures, c.params-to_sql-2.ensures) at (c.in_err-rows.ensures.err clean) in
-    passed c.from_residual.result _ _ c.from_residual.ensures.1 (find_entry_faults (state g.S.Store c.args.tx.now.conn.now) (state g.S.Store c.query_all.new.self.conn.now) c.args.user.now c.args.number _ failed)
+pub returns-in_err-rows-clause-asks : goal.returns-in_err-rows-clause-asks
+returns-in_err-rows-clause-asks g c =
+    let old = c.args.tx.now.conn.now in
+    let new = c.query_all.new.self.conn.now in
+    refused g.S.Store old new find_entry_text (Text c.args.user.now ∷ Int (pos c.args.number) ∷ []) c.query_all.ensures.survives (find_entry_faults (state g.S.Store old) (state g.S.Store new) c.args.user.now c.args.number) c.from_residual.result c.in_err-rows.field-0.0 c.from_residual.ensures.1
+    (rw (c.params-to_sql.ensures, c.params-to_sql-2.ensures) at c.in_err-rows.ensures.err)

@@ -38,5 +38,5 @@ returns-in_err-entry-clause-cause g c clean =
     let first : HasCleanDisk one = omega (arith, early, c.loop-row.invariant.so_far.survives.clean) in
     let reads = rw (sym c.deref-row-items.ensures.value) at (c.in_ok-rows.ensures.step first) in
     passed c.from_residual-in_err-entry.result _ _ c.from_residual-in_err-entry.ensures.1
-    (listing_blamed old one mid new c.args.user.now rows c.loop-row.row-index c.row-item.result c.loop-row.listed.items _ reads c.list.ensures.survives c.loop-row-test.true c.row-item.is
+    (listing_blamed old one mid new c.args.user.now rows c.loop-row.row-index c.row-item.result c.loop-row.listed.items _ reads c.list.ensures.asks.survives c.loop-row-test.true c.row-item.is
     c.loop-row.invariant.so_far c.read_row.ensures.survives clean (c.in_err-entry.ensures.cause clean))

@@ -33,4 +33,4 @@ returns-in_err-content_of-clause-cause g c clean =
     passed c.from_residual-in_err-content_of.result _ _ c.from_residual-in_err-content_of.ensures.1 (λ is before stands.
     let x = entry_there old.now.trees before c.args.user.now c.args.number digest stands.tables (told before stands) in
     let there = subst (λ (t : Trees). HasContent (t contents_tree) digest x.0.octets) (sym (stays stands.schema).1) x.2 in
-    later_failed old mid new c.digest_of.ensures.survives c.content_of.ensures.survives clean (cause x.0.octets there is before (stands_still old mid before stays stands)))
+    later_failed old mid new c.digest_of.ensures.within.survives c.content_of.ensures.survives clean (cause x.0.octets there is before (stands_still old mid before stays stands)))

@@ -21,7 +21,7 @@ returns-clause-step g c clean =
 
 pub returns-in_err-found-clause-cause : goal.returns-in_err-found-clause-cause
 returns-in_err-found-clause-cause g c clean =
-    passed c.from_residual.result _ _ c.from_residual.ensures.1 (λ _ is before stands. inl (c.in_err-found.ensures.fault clean is stands.schema))
+    passed c.from_residual.result _ _ c.from_residual.ensures.1 (λ _ is before stands. inl (c.in_err-found.ensures.asks.fault clean is stands.schema))
 
 pub returns-in_err-last-clause-cause : goal.returns-in_err-last-clause-cause
 returns-in_err-last-clause-cause g c clean =
@@ -37,7 +37,7 @@ returns-in_err-remove-clause-cause g c clean =
     let new = state g.S.Store c.remove.new.tx.conn.now in
     let early : HasCleanDisk one = omega (arith, clean, c.remove.ensures.survives.clean) in
     passed c.from_residual-in_err-remove.result _ _ c.from_residual-in_err-remove.ensures.1 (λ inside is before stands.
-    inl (later_failed old one new c.find.ensures.survives c.remove.ensures.survives clean
+    inl (later_failed old one new c.find.ensures.asks.survives c.remove.ensures.survives clean
     (c.in_err-remove.ensures.fault clean is (writable_then _ old one (c.in_ok-found.ensures.step early) (stands_writable old before inside stands)))))
 
 pub returns-in_err-add-clause-cause : goal.returns-in_err-add-clause-cause
@@ -50,7 +50,7 @@ returns-in_err-add-clause-cause g c clean =
     let early : HasCleanDisk one = omega (arith, late, c.remove.ensures.survives.clean) in
     passed c.from_residual-in_err-add.result _ _ c.from_residual-in_err-add.ensures.1
     (program_unplaced old one two new c.args.user.now c.args.program.now c.in_ok-last.last c.in_ok-found.found _ (c.in_ok-found.ensures.step early) c.in_ok-last.ensures.last (c.in_ok-remove.ensures.step late)
-    c.find.ensures.survives c.remove.ensures.survives c.add.ensures.survives clean (c.in_err-add.ensures.fault clean))
+    c.find.ensures.asks.survives c.remove.ensures.survives c.add.ensures.survives clean (c.in_err-add.ensures.fault clean))
 
 pub returns-clause-rowids : goal.returns-clause-rowids
 returns-clause-rowids g c clean =

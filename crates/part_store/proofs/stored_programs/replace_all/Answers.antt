@@ -18,7 +18,7 @@ loop-user-preserved g c =
     record {
       same_reference = c.replace_program.ensures.same_reference ∙ c.loop-user.invariant.same_reference;
       so_far = subst (λ pairs. Replacing pairs old new) whole (replaced_more (map pair_of (take place programs)) (user, program) old mid new c.loop-user.invariant.so_far
-          c.replace_program.ensures.survives c.in_ok-replace_program.ensures.step c.in_ok-replace_program.ensures.inside c.in_ok-replace_program.ensures.schema c.in_ok-replace_program.ensures.open c.replace_program.ensures.shut c.replace_program.ensures.kept c.in_ok-replace_program.ensures.rowids);
+          c.replace_program.ensures.within.survives c.in_ok-replace_program.ensures.step c.in_ok-replace_program.ensures.inside c.in_ok-replace_program.ensures.schema c.in_ok-replace_program.ensures.within.was_open c.replace_program.ensures.within.shut c.replace_program.ensures.within.kept c.in_ok-replace_program.ensures.rowids);
     }
 
 pub returns-in_err-replace_program-clause-cause : goal.returns-in_err-replace_program-clause-cause
@@ -32,5 +32,5 @@ returns-in_err-replace_program-clause-cause g c clean =
     let program = c.deref-in-loop-user.result.now in
     let whole = pairs_split programs place c.loop-user-item.result user program c.loop-user-test.true c.loop-user-item.is c.deref.ensures c.deref-in-loop-user.ensures.value in
     passed c.from_residual.result _ _ c.from_residual.ensures.1
-    (pairs_refused (map pair_of (take place programs)) (map pair_of (drop (place + 1) programs)) (map pair_of programs) (user, program) old mid new _ whole c.loop-user.invariant.so_far c.replace_program.ensures.survives
+    (pairs_refused (map pair_of (take place programs)) (map pair_of (drop (place + 1) programs)) (map pair_of programs) (user, program) old mid new _ whole c.loop-user.invariant.so_far c.replace_program.ensures.within.survives
     clean (c.in_err-replace_program.ensures.cause clean))

@@ -16,16 +16,16 @@ returns-in_default-clause-step g c clean =
     let old = state g.S.Store c.args.tx.now.conn.now in
     let new = state g.S.Store c.read_program.new.tx.conn.now in
     let told = rw c.in_default.is at (c.in_ok-_before.ensures.told clean) in
-    passed_over old new c.args.user.now c.args.program.now told (c.in_ok-_before.ensures.same clean) (c.read_program.ensures.kept clean) (c.in_ok-_before.ensures.still clean)
+    passed_over old new c.args.user.now c.args.program.now told (c.in_ok-_before.ensures.same clean) (c.read_program.ensures.within.kept clean) (c.in_ok-_before.ensures.still clean)
 
 pub returns-clause-step : goal.returns-clause-step
 returns-clause-step g c clean =
     let old = state g.S.Store c.args.tx.now.conn.now in
     let mid = state g.S.Store c.read_program.new.tx.conn.now in
     let new = state g.S.Store c.put_program.new.tx.conn.now in
-    let early : HasCleanDisk mid = omega (arith, c.put_program.ensures.survives.clean) in
+    let early : HasCleanDisk mid = omega (arith, c.put_program.ensures.within.survives.clean) in
     let told = rw c.in-Some.is at (c.in_ok-_before.ensures.told early) in
-    on_ok_weaker c.put_program.result (replaced_one old mid new c.args.user.now c.args.program.now _ told (c.in_ok-_before.ensures.same early) (c.read_program.ensures.kept early) (c.in_ok-_before.ensures.still early))
+    on_ok_weaker c.put_program.result (replaced_one old mid new c.args.user.now c.args.program.now _ told (c.in_ok-_before.ensures.same early) (c.read_program.ensures.within.kept early) (c.in_ok-_before.ensures.still early))
     (c.put_program.ensures.step clean)
 
 pub returns-clause-cause : goal.returns-clause-cause
@@ -33,9 +33,9 @@ returns-clause-cause g c clean =
     let old = state g.S.Store c.args.tx.now.conn.now in
     let mid = state g.S.Store c.read_program.new.tx.conn.now in
     let new = state g.S.Store c.put_program.new.tx.conn.now in
-    let early : HasCleanDisk mid = omega (arith, clean, c.put_program.ensures.survives.clean) in
+    let early : HasCleanDisk mid = omega (arith, clean, c.put_program.ensures.within.survives.clean) in
     err_then c.put_program.result _ _ (λ e cause.
-    one_refused old mid new c.args.user.now c.args.program.now e (c.in_ok-_before.ensures.same early) c.read_program.ensures.survives c.put_program.ensures.survives clean (c.in_ok-_before.ensures.inside early) cause)
+    one_refused old mid new c.args.user.now c.args.program.now e (c.in_ok-_before.ensures.same early) c.read_program.ensures.within.survives c.put_program.ensures.within.survives clean (c.in_ok-_before.ensures.inside early) cause)
     (c.put_program.ensures.cause clean)
 
 pub returns-in_err-_before-clause-cause : goal.returns-in_err-_before-clause-cause
@@ -47,7 +47,7 @@ returns-clause-rowids g c clean =
     let old = state g.S.Store c.args.tx.now.conn.now in
     let mid = state g.S.Store c.read_program.new.tx.conn.now in
     let new = state g.S.Store c.put_program.new.tx.conn.now in
-    let early : HasCleanDisk mid = omega (arith, c.put_program.ensures.survives.clean) in
+    let early : HasCleanDisk mid = omega (arith, c.put_program.ensures.within.survives.clean) in
     let stays = c.in_ok-_before.ensures.same early in
     on_ok_weaker c.put_program.result (λ rises before stands. subst (λ (t : Trees). RisesFrom 1 (t users_tree) (new.now.trees users_tree)) (stays stands.schema).1 (rises before (stands_still old mid before stays stands)))
     (c.put_program.ensures.rowids clean)

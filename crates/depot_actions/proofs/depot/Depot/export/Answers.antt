@@ -14,6 +14,6 @@ returns-in_err-octets-clause-cause g c clean =
     let old = state g.S.Store c.self.inside.store in
     let new = state g.S.Store c.bytes_of.new.self in
     let command = Export c.args.user.now c.args.number c.args.encoding in
-    let fault = failure_told (IsHindered command) old new c.bytes_of.result c.map_err.result c.map_err.ensures.cases (c.bytes_of.ensures.cause clean) in
+    let fault = failure_told (IsHindered command) old new c.bytes_of.result c.map_err.result c.map_err.ensures.cases (c.bytes_of.ensures.refused.cause clean) in
     subst (λ h. IfErr c.from_residual.result (IsFault command (state g.S.Store h) new)) c.self.view_is
     (passed_on c.from_residual.result _ _ c.from_residual.ensures.1 (of_refusal c.map_err.result _ _ c.in_err-octets.was fault))

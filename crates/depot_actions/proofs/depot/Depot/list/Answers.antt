@@ -15,4 +15,4 @@ returns-clause-cause g c clean =
     let new = state g.S.Store c.entries_of.new.self in
     let command = ListAll c.args.user.now in
     subst (λ h. IfErr c.map_err.result (IsFault command (state g.S.Store h) new)) c.self.view_is
-    (failure_told (IsHindered command) old new c.entries_of.result c.map_err.result c.map_err.ensures.cases (c.entries_of.ensures.cause clean))
+    (failure_told (IsHindered command) old new c.entries_of.result c.map_err.result c.map_err.ensures.cases (c.entries_of.ensures.refused.cause clean))

@@ -15,7 +15,7 @@ returns-clause-survives g c =
     let user = c.args.user.now in
     let named : IsTrue (is_user_name user) = search rules in
     subst (λ h. Survives (state g.S.Store h) new (MayLeave (Remove user c.args.number) (state g.S.Store h))) c.self.view_is
-    (survives_more old new _ _ (λ trees left. removal_left old new user named c.args.number trees left) c.remove_entry.ensures.survives)
+    (survives_more old new _ _ (λ trees left. removal_left old new user named c.args.number trees left) c.remove_entry.ensures.writes.survives)
 
 pub returns-then-not-is_user_name-clause-spared : goal.returns-then-not-is_user_name-clause-spared
 returns-then-not-is_user_name-clause-spared g c clean = spares_self (state g.S.Store c.args.self.now)
@@ -26,4 +26,4 @@ returns-clause-cause g c clean =
     let new = state g.S.Store c.remove_entry.new.self in
     let command = Remove c.args.user.now c.args.number in
     subst (λ h. IfErr c.map_err.result (IsFault command (state g.S.Store h) new)) c.self.view_is
-    (failure_told (IsHindered command) old new c.remove_entry.result c.map_err.result c.map_err.ensures.cases (c.remove_entry.ensures.cause clean))
+    (failure_told (IsHindered command) old new c.remove_entry.result c.map_err.result c.map_err.ensures.cases (c.remove_entry.ensures.refused.cause clean))

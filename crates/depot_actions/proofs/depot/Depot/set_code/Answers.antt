@@ -19,4 +19,4 @@ returns-clause-cause g c clean =
     let new = state g.S.Store c.set_program.new.self in
     let command = SetCode c.args.user.now c.args.program.now in
     subst (λ h. IfErr c.map_err.result (IsFault command (state g.S.Store h) new)) c.self.view_is
-    (fault_told (IsHindered command) old new c.set_program.result c.map_err.result c.map_err.ensures.cases (c.set_program.ensures.cause clean))
+    (fault_told (IsHindered command) old new c.set_program.result c.map_err.result c.map_err.ensures.cases (c.set_program.ensures.refused.cause clean))

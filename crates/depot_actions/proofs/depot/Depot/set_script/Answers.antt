@@ -23,7 +23,7 @@ returns-clause-done g c clean =
     let found = c.in_ok-octets.ensures.compiled in
     subst (λ h. OnOk c.map_err.result (Does (SetScript user script) Done (state g.S.Store h) new)) c.self.view_is
     (ok_as c.set_program.result c.map_err.result _ c.map_err.ensures.variant
-    (on_ok_weaker c.set_program.result (script_done old new user named script c.deref.result.now found.0 found.1 (c.deref.ensures.value ∙ found.2)) (c.set_program.ensures.made clean)))
+    (on_ok_weaker c.set_program.result (script_done old new user named script c.deref.result.now found.0 found.1 (c.deref.ensures.value ∙ found.2)) (c.set_program.ensures.writes.made clean)))
 
 pub returns-clause-survives : goal.returns-clause-survives
 returns-clause-survives g c =
@@ -35,7 +35,7 @@ returns-clause-survives g c =
     let found = c.in_ok-octets.ensures.compiled in
     subst (λ h. Survives (state g.S.Store h) new (MayLeave (SetScript user script) (state g.S.Store h))) c.self.view_is
     (survives_more old new _ _ (λ trees left. script_left old new user named script c.deref.result.now found.0 found.1 (c.deref.ensures.value ∙ found.2) trees left)
-    c.set_program.ensures.survives)
+    c.set_program.ensures.writes.survives)
 
 pub returns-then-not-is_user_name-clause-spared : goal.returns-then-not-is_user_name-clause-spared
 returns-then-not-is_user_name-clause-spared g c clean = spares_self (state g.S.Store c.args.self.now)
@@ -55,4 +55,4 @@ returns-clause-cause g c clean =
     (IfErr-weaker c.map_err.result _ _ (λ e.
     weaker_fault (λ before. HasNoUserRoom user (with_program user c.deref.result.now before)) (IsHindered command) old new e (λ before stands none.
     (found.0, found.1, subst (λ o. HasNoUserRoom user (with_program user o before) old.now.trees) octets none)))
-    (fault_told (λ before. HasNoUserRoom user (with_program user c.deref.result.now before)) old new c.set_program.result c.map_err.result c.map_err.ensures.cases (c.set_program.ensures.cause clean)))
+    (fault_told (λ before. HasNoUserRoom user (with_program user c.deref.result.now before)) old new c.set_program.result c.map_err.result c.map_err.ensures.cases (c.set_program.ensures.refused.cause clean)))

@@ -1,4 +1,4 @@
-use Rattle.std.proofs.Common.{IfErr, IsTrue, arith, map, subst}
+use Rattle.std.proofs.Common.{IfErr, IsTrue, arith, map, rules, subst}
 use Rattle.sqlite.specs.Held.{state}
 use Rattle.sqlite.specs.State.{HasCleanDisk}
 use Rattle.part_store.specs.Refusals.{refusal_of, BlamesPrograms, HaveNoUserRoom}
@@ -7,12 +7,15 @@ use Rattle.part_store.proofs.Failing.{dropped}
 use Rattle.part_store.proofs.Runs.{passed}
 use Rattle.part_store.proofs.store.PartStore.replace_programs.Goals as goal
 
-pub returns-in_err-replace_all-clause-cause : goal.returns-in_err-replace_all-clause-cause
-returns-in_err-replace_all-clause-cause g c clean =
-    let mid = state g.S.Store c.replace_all.new.tx.conn.now in
-    let new = state g.S.Store c.drop-tx.new.self.0 in
-    let pairs = map pair_of c.args.programs.now in
-    let early : HasCleanDisk mid = omega (arith, clean, c.drop-tx.ensures.survives.clean) in
-    let cause = subst (λ h. IsTrue (state g.S.Store h).in_transaction → BlamesPrograms pairs (state g.S.Store h) mid (refusal_of c.in_err-replace_all.field-0.0)) c.begin-tx.ensures.begun (c.in_err-replace_all.ensures.cause early) in
-    subst (λ h. IfErr c.from_residual.result (BlamesPrograms pairs (state g.S.Store h) new)) c.self.view_is
-    (passed c.from_residual.result _ _ c.from_residual.ensures.1 (dropped g.S.Store c.self.inside.conn mid new (HaveNoUserRoom pairs) (refusal_of c.in_err-replace_all.field-0.0) c.drop-tx.ensures.survives cause))
+pub returns-in_err-replace_all-clause-refused : goal.returns-in_err-replace_all-clause-refused
+returns-in_err-replace_all-clause-refused g c = record {
+  which = search rules;
+  cause = λ clean.
+      let mid = state g.S.Store c.replace_all.new.tx.conn.now in
+      let new = state g.S.Store c.drop-tx.new.self.0 in
+      let pairs = map pair_of c.args.programs.now in
+      let early : HasCleanDisk mid = omega (arith, clean, c.drop-tx.ensures.survives.clean) in
+      let cause = subst (λ h. IsTrue (state g.S.Store h).in_transaction → BlamesPrograms pairs (state g.S.Store h) mid (refusal_of c.in_err-replace_all.field-0.0)) c.begin-tx.ensures.begun (c.in_err-replace_all.ensures.cause early) in
+      subst (λ h. IfErr c.from_residual.result (BlamesPrograms pairs (state g.S.Store h) new)) c.self.view_is
+      (passed c.from_residual.result _ _ c.from_residual.ensures.1 (dropped g.S.Store c.self.inside.conn mid new (HaveNoUserRoom pairs) (refusal_of c.in_err-replace_all.field-0.0) c.drop-tx.ensures.survives cause));
+}
