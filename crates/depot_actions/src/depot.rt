@@ -1,10 +1,10 @@
 //! The depot and its calls.
-ghost use Rattle.std.specs.Prelude.{◌≡◌, ◌≢◌, ◌⊎◌, IsTrue, List, ℕ, map, option_map, IfOk, IfErr, OnOk, true, false};
+ghost use Rattle.std.specs.Prelude.{◌≡◌, ◌≢◌, ◌⊎◌, IsTrue, List, ℕ, map, option_map, IfOk, IfErr, None, OnOk, true, false};
 ghost use Rattle.sqlite.specs.Held.{state};
 ghost use Rattle.sqlite.specs.State.{HasCleanDisk};
 ghost use Rattle.sqlite.specs.Steps.{over_memory};
 ghost use Rattle.part_store.specs.Entries.{Entries, no_entries};
-ghost use Rattle.part_store.specs.Opening.{HoldsNoTables, HoldsStore, IsAt, IsReady, IsReadyFrom, TellsWhy};
+ghost use Rattle.part_store.specs.Opening.{HoldsNoTables, HoldsStore, IsAt, IsFoundIn, IsReady, IsReadyFrom, TellsWhy};
 ghost use Rattle.sqlite.specs.WalFiles.{image_at};
 ghost use Rattle.part_store.specs.Refusals.{AreNamed};
 ghost use Rattle.part_store.specs.Standing.{Spares, Stands, listed};
@@ -371,6 +371,7 @@ impl<B: Start> Depot<FileStore<FileFrom<B>>> {
         ensures empty { IfOk result (λ d. HasCleanDisk (file_state d)
             → HoldsNoTables (image_at B.Start) → IsAt no_entries (file_state d)) }
         ensures settled { IfOk result (λ d. (file_state d).in_transaction ≡ false) }
+        ensures unlimited { IfOk result (λ d. (file_state d).step_limit ≡ None) }
         ensures refused { IfErr result (λ e. (e ≡ Memory) ⊎ (e ≡ Database)) }
     {
         match PartStore::open_from(rt, path, start) {
@@ -390,10 +391,12 @@ impl<B: Start> Depot<FileStore<FileFrom<B>>> {
         start: B,
     ) -> Result<Depot<FileStore<FileFrom<B>>>, Unopened>
         ensures opened { IfOk result (λ d. HasCleanDisk (file_state d) → IsOpened d) }
+        ensures finds { IfOk result (IsFoundIn (image_at B.Start)) }
         ensures found { IfOk result (λ d. HasCleanDisk (file_state d)
             → (held : Entries) → HoldsStore (image_at B.Start) held → IsAt held (file_state d)) }
         ensures tables { IfOk result (λ d. are_tables (file_state d).now.schema.tables ≡ true) }
         ensures settled { IfOk result (λ d. (file_state d).in_transaction ≡ false) }
+        ensures unlimited { IfOk result (λ d. (file_state d).step_limit ≡ None) }
         ensures cause { TellsWhy (image_at B.Start) result }
     {
         match PartStore::look_from(rt, path, start) {

@@ -206,6 +206,12 @@ pub same_ok : {A E : Type 0} (result : Result A E) (x : A) (P : A → Type 0) �
 same_ok (Ok s) x P same holds = subst P (sym same) holds
 same_ok (Err e) x P same holds = tt
 
+-- a store that was made on what the open found has the limit of that, which is none
+pub unlimited : {D : Type 0} {g : Ghosts D} (found : Held (FileStore D g)) (result : Result (Held (FileStore D g)) StoreError) → (file_state found).step_limit ≡ None
+    → IfOk result (λ s. Survives (file_state found) (file_state s) (MakesEmpty (file_state found))) → IfOk result (λ s. (file_state s).step_limit ≡ None)
+unlimited found (Ok s) none survives = survives.limit ∙ none
+unlimited found (Err e) none survives = tt
+
 pub ready_of : {D : Type 0} {g : Ghosts D} (image : Image) (result : Result (Held (FileStore D g)) StoreError) → IfOk result (IsReadyFrom image) → IfOk result IsReady
 ready_of image (Ok s) from = from.ready
 ready_of image (Err e) from = tt

@@ -1,5 +1,5 @@
 //! The store and its calls.
-ghost use Rattle.std.specs.Prelude.{◌≡◌, ◌≢◌, ◌⊎◌, ◌↔◌, ◌+◌, ◌^◌, ◌<◌, ◌≤◌, length, map, true, false, IsTrue, option_map, MatchOption, Err, IfOk, IfErr, IsErrAnd, OnOk, OnErr};
+ghost use Rattle.std.specs.Prelude.{◌≡◌, ◌≢◌, ◌⊎◌, ◌↔◌, ◌+◌, ◌^◌, ◌<◌, ◌≤◌, length, map, true, false, IsTrue, option_map, MatchOption, Err, IfOk, IfErr, IsErrAnd, None, OnOk, OnErr};
 ghost use Rattle.sqlite.specs.Held.{state};
 ghost use Rattle.sqlite.specs.State.{HasCleanDisk, KeepsCommit};
 ghost use Rattle.part_store.specs.Tables.{no_schema, store_schema, contents_tree, users_tree};
@@ -16,9 +16,10 @@ ghost use Rattle.part_store.specs.Looking.{are_tables};
 ghost use Rattle.part_store.specs.Totals.{IsTotalOf, octets_of};
 ghost use Rattle.part_store.specs.UserLines.{AreUsersOf, line_of};
 ghost use Rattle.sqlite.specs.Files.{file_state, IsClosed, IsOpened};
+ghost use Rattle.sqlite.specs.FileStore.{files as files_of};
 ghost use Rattle.sqlite.specs.WalReads.{AreClean};
 ghost use Rattle.sqlite.specs.Steps.{over_memory};
-ghost use Rattle.part_store.specs.Opening.{HasOtherTables, HoldsNoTables, HoldsStore, IsAt, IsBare, IsEmptied, IsKept, IsReady, IsReadyFrom, KeepsStore, MakesEmpty, TellsWhy};
+ghost use Rattle.part_store.specs.Opening.{HasOtherTables, HoldsNoTables, HoldsStore, IsAt, IsBare, IsEmptied, IsFoundIn, IsKept, IsReady, IsReadyFrom, KeepsStore, MakesEmpty, TellsWhy};
 ghost use Rattle.part_store.specs.Connections.{OpensOrTells};
 ghost use Rattle.sqlite.specs.WalFiles.{image_at};
 ghost use Rattle.part_store.specs.Sharing.{SharesContents, first_of};
@@ -468,13 +469,16 @@ impl PartStore<MemStore> {
 
 impl<D: Disk + Drop> PartStore<FileStore<D>> {
     /// Closes the store: its log is copied into its file, and both are given back. They hold what the store stands for, also after
-    /// a crash, and that is what `open_from` finds in them. Refuses `Memory` and `Database`; then, and where a crash ends it, the files
-    /// are left with a store of the same state.
+    /// a crash, and that is what `open_from` finds in them. No fault that the store counted was forgotten when they were given
+    /// back (`given`). Refuses `Memory` and `Database`; then, and where a crash ends it, the files are left with a store of the
+    /// same state.
     pub fn close_files(self) -> Result<Files<D>, (StoreError, FileStore<D>)>
         ensures holds { IfOk result (λ files. AreClean D.Disk files.log files.db
             → (held : _) → Stands (file_state self).now held → KeepsStore D.Disk files held) }
         ensures open { IfOk result (λ files. AreClean D.Disk files.log files.db
             → IsTrue (file_state self).is_open) }
+        ensures given { IfOk result (λ files. (last : _)
+            × (files_of last ≡ (files.log, files.db)) × IsClosed self last) }
         ensures closed { IfErr result (λ e. IsClosed self e.1) }
         ensures survives { IfErr result
             (λ e. IsTrue (file_state self).is_open → (held : _) → Stands (file_state self).now held
@@ -497,6 +501,7 @@ fn connect<B: Start>(
 ) -> Result<Connection<FileStore<FileFrom<B>>>, Error>
     ensures opened { IfOk result (λ c. HasCleanDisk (file_state c) → IsOpened c) }
     ensures fresh { IfOk result (λ c. (file_state c).in_transaction ≡ false) }
+    ensures unlimited { IfOk result (λ c. (file_state c).step_limit ≡ None) }
     ensures found { OpensOrTells (image_at B.Start) result }
 {
     match Connection::open_from(rt, path, false, start) {
@@ -507,7 +512,8 @@ fn connect<B: Start>(
 
 impl<B: Start> PartStore<FileStore<FileFrom<B>>> {
     /// The store in the file at a path, where `B` stands for what the file and its log held. A file that isn't there, is empty or
-    /// has no tables becomes the empty store. Refuses `Memory`, and `Database` where the file can't be opened or is no database.
+    /// has no tables becomes the empty store. Its statements may take any number of steps. Refuses `Memory`, and `Database` where the
+    /// file can't be opened or is no database.
     ///
     /// No clause ties `B` to the path: that the file there is opened, and no other, is seen in the body. Nor does one say why it is
     /// refused, since what the system refuses has no cause in a clause; a connection that has tables isn't refused (`adopt`).
@@ -522,14 +528,15 @@ impl<B: Start> PartStore<FileStore<FileFrom<B>>> {
         ensures empty { IfOk result (λ s. HasCleanDisk (file_state s)
             → HoldsNoTables (image_at B.Start) → IsAt no_entries (file_state s)) }
         ensures settled { IfOk result (λ s. (file_state s).in_transaction ≡ false) }
+        ensures unlimited { IfOk result (λ s. (file_state s).step_limit ≡ None) }
         ensures refused { IfErr result (λ e. (e ≡ Memory) ⊎ (e ≡ Database)) }
     {
         let conn = connect(rt, path, start)?;
         made_store(conn)
     }
 
-    /// The same as `look`, where `B` stands for what the file and its log held. No clause ties `B`
-    /// to the path. It is refused `OtherTables` only where the file was opened and its tables are
+    /// The same as `look`, where `B` stands for what the file and its log held, and what was found is
+    /// what they did. No clause ties `B` to the path. It is refused `OtherTables` only where the file was opened and its tables are
     /// others, and `Damaged` and `Disk` only where the database's open told so of files that it had;
     /// why it is refused otherwise no clause says.
     pub fn look_from(
@@ -538,10 +545,12 @@ impl<B: Start> PartStore<FileStore<FileFrom<B>>> {
         start: B,
     ) -> Result<PartStore<FileStore<FileFrom<B>>>, Unopened>
         ensures opened { IfOk result (λ s. HasCleanDisk (file_state s) → IsOpened s) }
+        ensures finds { IfOk result (IsFoundIn (image_at B.Start)) }
         ensures found { IfOk result (λ s. HasCleanDisk (file_state s)
             → (held : _) → HoldsStore (image_at B.Start) held → IsAt held (file_state s)) }
         ensures tables { IfOk result (λ s. are_tables (file_state s).now.schema.tables ≡ true) }
         ensures settled { IfOk result (λ s. (file_state s).in_transaction ≡ false) }
+        ensures unlimited { IfOk result (λ s. (file_state s).step_limit ≡ None) }
         ensures cause { TellsWhy (image_at B.Start) result }
     {
         let found = connect(rt, path, start)?;

@@ -23,6 +23,11 @@ returns-in-Ok-clause-holds g c clean held =
 pub returns-in-Ok-clause-open : goal.returns-in-Ok-clause-open
 returns-in-Ok-clause-open g c clean = subst (λ h. IsTrue (file_state h).is_open) c.known_connection-conn.ensures.same (c.in-Ok.ensures.copied clean).was_open
 
+pub returns-in-Ok-clause-given : goal.returns-in-Ok-clause-given
+returns-in-Ok-clause-given g c =
+    let ok = c.in-Ok.ensures.ok in
+    (ok.0, ok.1, subst (λ h. IsClosed h ok.0) c.known_connection-conn.ensures.same ok.2)
+
 pub returns-in-Err-clause-closed : goal.returns-in-Err-clause-closed
 returns-in-Err-clause-closed g c = subst (λ h. IsClosed h c.in-Err.store) c.known_connection-conn.ensures.same c.in-Err.ensures.err.0
 
