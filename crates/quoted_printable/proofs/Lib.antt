@@ -4,7 +4,6 @@ pub mod Encoded
 mod Examples
 pub mod Extended
 pub mod Filling
-pub mod FirstEquals
 pub mod Heads
 mod Known
 pub mod Held

@@ -1,7 +1,7 @@
 -- Private: how octets are kept, and what a text begins with.
-use Rattle.std.specs.Prelude.{ℕ, ◌+◌, ◌<◌, ◌≤◌, ◌≡◌, ◌≢◌, Bool, false, List, [], ◌∷◌, ◌++◌, length, slice_index, take}
+use Rattle.std.specs.Prelude.{ℕ, ◌+◌, ◌<◌, ◌≤◌, ◌≡◌, Bool, false, List, [], ◌∷◌, ◌++◌, length, take}
 use Rattle.octets.specs.Escapes.{is_hex}
-use Rattle.quoted_printable.specs.QuotedPrintable.{decoding_of, equals, unescaped}
+use Rattle.quoted_printable.specs.QuotedPrintable.{decoding_of, unescaped}
 use Rattle.quoted_printable.specs.Pieces.{begins, follows}
 
 -- the last of an octet and those after it
@@ -32,11 +32,6 @@ abbrev pub has_digit : List ℕ → Bool
 has_digit [] = false
 has_digit (first ∷ []) = false
 has_digit (first ∷ digit ∷ rest) = is_hex digit
-
--- The first `=` of a text stands at this place, or there is none, and the place isn't one of the text.
-pub record IsFirstEquals (text : List ℕ) (place : ℕ) : Type 0 where
-  pub none : (i : ℕ) → i < place → i < length text → slice_index text i ≢ equals
-  pub here : place < length text → slice_index text place ≡ equals
 
 -- A text begins with octets that stand for this one, whatever comes after it, and this is left after them.
 pub record Decodes (text : List ℕ) (octet : ℕ) (rest : List ℕ) : Type 0 where

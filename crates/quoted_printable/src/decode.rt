@@ -1,7 +1,7 @@
 // Texts read.
-ghost use Rattle.std.specs.Prelude.{◌≡◌, ◌∷◌, ◌++◌, ◌-◌, ◌<◌, ◌≤◌, ◌⊎◌, IfOk, IfSome, OnOk, IsTrue, drop, length, slice_index, take};
+ghost use Rattle.std.specs.Prelude.{◌≡◌, ◌∷◌, ◌++◌, ◌<◌, ◌≤◌, IfOk, IfSome, OnOk, IsTrue, length, slice_index, take};
 ghost use Rattle.text_lines.specs.Lines.{text_line};
-ghost use Rattle.quoted_printable.specs.Private.{AreFor, Extends, Decodes, IsFirstEquals};
+ghost use Rattle.quoted_printable.specs.Private.{AreFor, Extends, Decodes};
 ghost use Rattle.quoted_printable.specs.QuotedPrintable.{decoded_line, decoding_of, ends_in_equals, unescaped};
 
 use memchr::memchr;
@@ -38,52 +38,15 @@ pub(crate) fn append_decoding(text: &[u8], out: &mut Vec<u8>) -> Result<(), Allo
     ensures more { Extends out.old.items out.new.items }
 {
     let mut lines = Lines::new(text);
-    // lines of prose have none: it is looked for once over many of them
-    let mut equals = first_equals(text);
     'lines: while let Some(line) = lines.next() {
-        let content = &text[line.start..line.end];
-        let line_break = &text[line.end..line.stop];
-        append_line(content, equals - line.start, line_break, out)?;
-        equals = equals_from(text, line.stop, equals);
+        append_line(&text[line.start..line.end], &text[line.end..line.stop], out)?;
     }
     Ok(())
 }
 
-// Where the first `=` of a text stands, or the text ends.
+// Appends what a line stands for.
 #[inline]
-fn first_equals(text: &[u8]) -> usize
-    ensures first { IsFirstEquals text.now result }
-    ensures within { result ≤ length text.now }
-{
-    match memchr(EQUALS, text) {
-        Some(place) => place,
-        None => text.len(),
-    }
-}
-
-// Where the first `=` from a place on stands, or the text ends: at the place that is known if that isn't before it.
-#[inline]
-fn equals_from(text: &[u8], place: usize, known: usize) -> usize
-    requires { place ≤ length text.now }
-    ensures ahead { place ≤ result }
-    ensures first { (result ≡ known) ⊎ IsFirstEquals (drop place text.now) (result - place) }
-{
-    if place <= known {
-        known
-    } else {
-        place + first_equals(&text[place..])
-    }
-}
-
-// Appends what a line stands for, whose first `=` stands at this place, or which has none.
-#[inline]
-fn append_line(
-    content: &[u8],
-    equals: usize,
-    line_break: &[u8],
-    out: &mut Vec<u8>,
-) -> Result<(), AllocError>
-    requires { IsFirstEquals content.now equals }
+fn append_line(content: &[u8], line_break: &[u8], out: &mut Vec<u8>) -> Result<(), AllocError>
     ensures decoded { OnOk result (out.new.items ≡ out.old.items
         ++ decoded_line record { content = content.now; break = line_break.now }) }
     ensures more { Extends out.old.items out.new.items }
@@ -94,9 +57,9 @@ fn append_line(
     let kept = trim_trailing_blanks(content);
     if ends_in_equals(kept) {
         let (before, _) = kept.split_at(kept.len() - 1);
-        return append_unescaped(before, equals, out);
+        return append_unescaped(before, out);
     }
-    append_unescaped(kept, equals, out)?;
+    append_unescaped(kept, out)?;
     out.extend_from_slice(line_break)
 }
 
@@ -110,23 +73,20 @@ fn ends_in_equals(text: &[u8]) -> bool
     text.len() > 0 && text[text.len() - 1] == EQUALS
 }
 
-// Appends octets whose escapes are decoded. Their first `=` stands at this place, or they have none.
+// Appends octets whose escapes are decoded.
 #[inline]
-fn append_unescaped(text: &[u8], equals: usize, out: &mut Vec<u8>) -> Result<(), AllocError>
-    requires { IsFirstEquals text.now equals }
+fn append_unescaped(text: &[u8], out: &mut Vec<u8>) -> Result<(), AllocError>
     ensures decoded { OnOk result (out.new.items ≡ out.old.items ++ unescaped text.now) }
     ensures more { Extends out.old.items out.new.items }
 {
     let mut rest = text;
-    let mut place = equals;
-    'escapes: while place < rest.len() {
+    'escapes: while let Some(place) = memchr(EQUALS, rest) {
         let (before, escape) = rest.split_at(place);
         out.extend_from_slice(before)?;
         // where escapes are many, the next is near
         let (octets, n, after) = first_octets(append_escape(escape, out)?);
         out.extend_from_slice(&octets[..n])?;
         rest = after;
-        place = first_equals(rest);
     }
     out.extend_from_slice(rest)
 }

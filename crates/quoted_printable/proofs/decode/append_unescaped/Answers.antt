@@ -1,4 +1,5 @@
 use Rattle.std.proofs.Common.{◌++◌, ◌<◌, ◌≢◌, ℕ, length, take, drop, get_or, sym, ap, ◌∙◌, arith}
+use Rattle.std.proofs.lemmas.Bool.{eq-eqb}
 use Rattle.std.proofs.lemmas.List.{append_assoc}
 use Rattle.quoted_printable.specs.QuotedPrintable.{unescaped}
 use Rattle.quoted_printable.proofs.Decoded.{ok_then, unescaped-past, unescaped-none}
@@ -9,9 +10,10 @@ pub escapes-preserved : goal.escapes-preserved
 escapes-preserved c =
     let rest = c.escapes.rest.now in
     let out = c.escapes.out.items in
-    let place = c.escapes.place in
-    let within : place < length rest = c.escapes-test.true in
-    let none : (k : ℕ) → k < place → get_or rest k 0 ≢ 61 = λ k lt. c.escapes.invariant.first.none k lt (omega (arith, lt, within)) in
+    let place = c.in-Some.place in
+    let first = c.in-Some.ensures in
+    let none : (k : ℕ) → k < place → get_or rest k 0 ≢ 61 = λ k lt e. first.0.before k (omega arith) lt (eq-eqb _ _ e) in
+    let within : place < length rest = first.0.high in
     let appended = c.in_ok-extend_from_slice.ensures.items ∙ ap (λ l. out ++ l) c.split_at.ensures.front in
     let known = c.first_octets-n.ensures.octets in
     let left = c.first_octets-n.result.2.now in
@@ -26,7 +28,6 @@ escapes-preserved c =
           ∙ append_assoc out (take place rest) (unescaped (drop place rest))
           ∙ ap (λ l. out ++ l) (sym (unescaped-past place rest (omega arith) none))
           ∙ c.escapes.invariant.done;
-      first = c.first_equals-place.ensures.first;
       more = extends_then _ _ _ c.escapes.invariant.more
           (extends_then _ _ _ (extends_more _ _ _ c.in_ok-extend_from_slice.ensures.items)
           (extends_then _ _ _ c.append_escape.ensures.more (extends_more _ _ _ c.in_ok-extend_from_slice-2.ensures.items)));
@@ -36,7 +37,7 @@ pub returns-clause-decoded : goal.returns-clause-decoded
 returns-clause-decoded c =
     let rest = c.escapes.rest.now in
     let out = c.escapes.out.items in
-    let none : (k : ℕ) → k < length rest → get_or rest k 0 ≢ 61 = λ k lt. c.escapes.invariant.first.none k (omega (arith, lt, c.escapes-test.false)) lt in
+    let none : (k : ℕ) → k < length rest → get_or rest k 0 ≢ 61 = λ k lt e. c.in_default.ensures k (omega arith) lt (eq-eqb _ _ e) in
     ok_then c.extend_from_slice-2.result c.extend_from_slice-2.new.self.items out rest c.extend_from_slice-2.ensures.items (λ e.
     e ∙ ap (λ l. out ++ l) (sym (unescaped-none rest none)) ∙ c.escapes.invariant.done)
 
@@ -48,4 +49,4 @@ pub returns-in_err-extend_from_slice-2-clause-more : goal.returns-in_err-extend_
 returns-in_err-extend_from_slice-2-clause-more c =
     extends_then _ _ _ c.escapes.invariant.more
     (extends_then _ _ _ (extends_more _ _ _ c.in_ok-extend_from_slice.ensures.items)
-    (extends_then _ _ _ c.append_escape.ensures.more (extends_if _ _ _ _ c.extend_from_slice-in-escapes.ensures.items)))
+    (extends_then _ _ _ c.append_escape.ensures.more (extends_if _ _ _ _ c.extend_from_slice-in-Some.ensures.items)))
