@@ -1,5 +1,5 @@
 -- The line of a step, from what is known before it and after it.
-use Rattle.std.proofs.Common.{◌≡◌, ℕ, ◌-◌, List, [], ◌∷◌, ◌++◌, Option, option_map, refl, sym, ap, ◌∙◌, append_assoc, append-nil}
+use Rattle.std.proofs.Common.{◌≡◌, OnOk, Result, Ok, Err, is_ok, if◌then◌else◌, ℕ, ◌-◌, List, [], ◌∷◌, ◌++◌, Option, option_map, refl, sym, ap, ◌∙◌, append_assoc, append-nil}
 use Rattle.std.specs.Option.{option_map_or}
 use Rattle.bytecode_format.specs.Code.{Code}
 use Rattle.bytecode_format.specs.Operations.{operation_of}
@@ -38,3 +38,8 @@ line_text code before after b charged part is charge_is part_is =
 -- a text that grows by one more
 pub grows : (out a b x y : List ℕ) → x ≡ out ++ a → y ≡ x ++ b → y ≡ out ++ (a ++ b)
 grows out a b x y first later = later ∙ ap (λ xs. xs ++ b) first ∙ append_assoc out a b
+
+-- what a call leaves that appends, or changes nothing
+pub appended : {T E : Type 0} (r : Result T E) (new old all : List ℕ) → new ≡ (if is_ok r then all else old) → OnOk r (new ≡ all)
+appended (Ok x) new old all is = is
+appended (Err e) new old all is = tt

@@ -1,5 +1,5 @@
 -- The first octets of what a test finds are enough for its line.
-use Rattle.std.proofs.Common.{◌≡◌, ℕ, Bool, true, false, List, [], ◌∷◌, ◌++◌, slice_get, nat_le, length, take, Option, None, Some, option_map, refl, sym, ◌∙◌, ap, subst, inl, inr, arith, codes, if◌then◌else◌}
+use Rattle.std.proofs.Common.{◌≡◌, IfSome, OnOk, Result, Ok, Err, is_ok, is_some, ℕ, Bool, true, false, List, [], ◌∷◌, ◌++◌, slice_get, nat_le, length, take, Option, None, Some, option_map, refl, sym, ◌∙◌, ap, subst, inl, inr, arith, codes, if◌then◌else◌}
 use Rattle.std.proofs.lemmas.Bool.{cases_Bool, leb-false, leb-true}
 use Rattle.std.proofs.lemmas.List.{length-take, take-take, take_all}
 use Rattle.encodings.specs.Device.{HasTaken, Output}
@@ -8,7 +8,7 @@ use Rattle.mail_matching.specs.declared.finding.Finding.{Finding}
 use Rattle.mail_matching.specs.declared.finding.Finding.TheVariants.{Pair, NoneOf}
 use Rattle.mime_decode.specs.Mail.{Mail}
 use Rattle.sieve_check.specs.declared.typed.Question.{Question}
-use Rattle.sieve_meaning.specs.Traced.{Occurrence, asked, event}
+use Rattle.sieve_meaning.specs.Traced.{Occurrence, asked, event, turned}
 use Rattle.sieve_trace.specs.Printed.{Sheet, comparison_word, escaped, event_line, event_text, finding_text, max_shown, occurrence_text, part_text, place_text, question_word, quoted, told, value_text}
 use Rattle.sieve_trace.specs.Private.{occurrence_of}
 use Rattle.sieve_trace.specs.Written.{HasStopped}
@@ -83,12 +83,36 @@ shown_stopped s0 s1 why page at part question value truth some whole so is h =
 
 -- ---- what is told in a turn of a loop
 
-pub behind_its_part : (mail : Mail) (number : ℕ) (what : Told) → (what ≡ Turn → ⊥)
-    → event_text mail (Some number) (occurrence_of what) ≡ part_text mail number ++ codes " " ++ occurrence_text (occurrence_of what)
+behind_part : (mail : Mail) (number : ℕ) (what : Told) → (what ≡ Turn → ⊥)
+    → part_text mail number ++ codes " " ++ occurrence_text (occurrence_of what) ≡ event_text mail (Some number) (occurrence_of what)
 unfolding event_text
-behind_its_part mail number (Asked question value finding) other = refl
-behind_its_part mail number (Not value) other = refl
-behind_its_part mail number (AllOf value) other = refl
-behind_its_part mail number (AnyOf value) other = refl
-behind_its_part mail number (Acted act text) other = refl
-behind_its_part mail number Turn other = absurd (other refl)
+behind_part mail number (Asked question value finding) other = refl
+behind_part mail number (Not value) other = refl
+behind_part mail number (AllOf value) other = refl
+behind_part mail number (AnyOf value) other = refl
+behind_part mail number (Acted act text) other = refl
+behind_part mail number Turn other = absurd (other refl)
+
+-- what isn't a turn itself comes behind the part
+pub behind_its_part : (mail : Mail) (part : Option ℕ) (text : List ℕ) (what : Told) → IfSome part (λ number. text ≡ part_text mail number) → is_some part ≡ true → (what ≡ Turn → ⊥)
+    → text ++ codes " " ++ occurrence_text (occurrence_of what) ≡ event_text mail part (occurrence_of what)
+behind_its_part mail None text what is some other = absurd (let e : false ≡ true = some in cc)
+behind_its_part mail (Some number) text what is some other =
+    ap (λ t. t ++ codes " " ++ occurrence_text (occurrence_of what)) is ∙ behind_part mail number what other
+
+turned_before : (mail : Mail) (part : Option ℕ) (text : List ℕ) → IfSome part (λ number. text ≡ part_text mail number) → is_some part ≡ true
+    → occurrence_text turned ++ codes " " ++ text ≡ event_text mail part turned
+unfolding event_text
+turned_before mail None text is some = absurd (let e : false ≡ true = some in cc)
+turned_before mail (Some number) text is some = ap (λ t. occurrence_text turned ++ codes " " ++ t) is
+
+-- a turn itself comes before it
+pub before_its_part : (mail : Mail) (part : Option ℕ) (text : List ℕ) (what : Told) → IfSome part (λ number. text ≡ part_text mail number) → is_some part ≡ true → what ≡ Turn
+    → occurrence_text (occurrence_of what) ++ codes " " ++ text ≡ event_text mail part (occurrence_of what)
+before_its_part mail part text what is some so =
+    subst (λ w. occurrence_text (occurrence_of w) ++ codes " " ++ text ≡ event_text mail part (occurrence_of w)) (sym so) (turned_before mail part text is some)
+
+-- what a call leaves that appends, or changes nothing
+pub appended : {T E : Type 0} (r : Result T E) (new old all : List ℕ) → new ≡ (if is_ok r then all else old) → OnOk r (new ≡ all)
+appended (Ok x) new old all is = is
+appended (Err e) new old all is = tt
