@@ -8,7 +8,7 @@ use Rattle.mail_matching.specs.declared.finding.Finding.{Finding}
 use Rattle.mail_matching.specs.declared.finding.Finding.TheVariants.{Pair, NoneOf}
 use Rattle.mime_decode.specs.Mail.{Mail}
 use Rattle.sieve_check.specs.declared.typed.Question.{Question}
-use Rattle.sieve_meaning.specs.Traced.{Occurrence, asked, event, turned}
+use Rattle.sieve_meaning.specs.Traced.{asked, event, turned}
 use Rattle.sieve_trace.specs.Printed.{Sheet, comparison_word, escaped, event_line, event_text, finding_text, max_shown, occurrence_text, part_text, place_text, question_word, quoted, told, value_text}
 use Rattle.sieve_trace.specs.Private.{occurrence_of}
 use Rattle.sieve_trace.specs.Written.{HasStopped}
