@@ -1,5 +1,5 @@
 -- An errand from the open of its files to their close.
-use Rattle.std.proofs.Common.{◌≡◌, ◌⊎◌, inl, inr, IsTrue, Option, Some, None, Result, Ok, Err, refl, sym, subst, arith}
+use Rattle.std.proofs.Common.{◌≡◌, ◌⊎◌, ◌≤◌, inl, inr, IsTrue, Option, Some, None, Result, Ok, Err, refl, sym, arith}
 use Rattle.sqlite_disk.specs.declared.Disk.{Ghosts}
 use Rattle.sqlite_disk.specs.declared.Files.{Files}
 use Rattle.sqlite_trees.specs.Tree.{Trees}
@@ -9,28 +9,28 @@ use Rattle.sqlite.specs.Held.{Held}
 use Rattle.sqlite.specs.Recovery.{Image}
 use Rattle.sqlite.specs.State.{HasCleanDisk, Survives}
 use Rattle.part_store.specs.Entries.{Entries}
-use Rattle.part_store.specs.Opening.{HoldsState, IsAt}
+use Rattle.part_store.specs.Opening.{HoldsState, IsAt, IsReadyFrom}
 use Rattle.part_store.specs.Standing.{IsStored}
 use Rattle.refusals.specs.declared.refusal.Refusal.{Refusal}
-use Rattle.depot_actions.specs.DepotState.{Accepts, Reply}
 use Rattle.depot_cli.specs.Carrying.{HasCarried, OutlastsCarrying}
 use Rattle.depot_cli.specs.Tasks.{HasPerformed, MayAdd, desk}
-use Rattle.depot.specs.Ending.{IsToldAs}
+use Rattle.depot.specs.Ending.{HasCounted, IsToldAs}
 use Rattle.depot.specs.Private.{IsFound, IsLeftOf, IsShut}
 use Rattle.depot.specs.Errands.{Answer, HasEnded, IsAnswered, IsKept}
-use Rattle.depot.proofs.Ended.{Came, at_state, ends, left_by, left_open, still_at}
+use Rattle.depot.proofs.Ended.{Came, at_state, ends, left_by, left_open, refused_by, still_at}
 
 -- what a command came to, and the depot at that
-record Did {D : Type 0} (g : Ghosts D) (it : Answer) (before : Entries) (new : Held (FileStore D g)) : Type 0 where
+record Did {D : Type 0} {g : Ghosts D} (it : Answer) (image : Image) (left : Result (Files D) (FileStore D g)) (before : Entries) (new : Held (FileStore D g)) : Type 0 where
   after : Entries
-  answered : IsAnswered g it before after
+  answered : IsAnswered it image left before after
   shows : IsTrue (file_state new).is_open → IsAt after (file_state new)
   closes : IsTrue (file_state new).is_open ⊎ (after ≡ before)
 
 module _ {D : Type 0} (g : Ghosts D) where
-  did : (old new : Held (FileStore D g)) (it : Answer) (before : Entries) → IsAt before (file_state old) → HasCleanDisk (file_state new)
-      → HasPerformed it.command it.status (desk (file_state old) it.out it.err) (desk (file_state new) it.out_after it.err_after) → Did g it before new
-  did old new it before at clean (inl (status, (reply, done, taken, quiet))) =
+  did : (old new : Held (FileStore D g)) (it : Answer) (image : Image) (left : Result (Files D) (FileStore D g)) (before : Entries) → IsReadyFrom image old → (file_state old).step_limit ≡ None
+      → (file_state old).faults ≤ (file_state new).faults → HasCounted (file_state new).faults left → IsAt before (file_state old) → HasCleanDisk (file_state new)
+      → HasPerformed it.command it.status (desk (file_state old) it.out it.err) (desk (file_state new) it.out_after it.err_after) → Did it image left before new
+  did old new it image left before ready unlimited counts counted at clean (inl (status, (reply, done, taken, quiet))) =
       let one = (done clean).1 before at.0 in
       record {
         after = one.0;
@@ -38,7 +38,7 @@ module _ {D : Type 0} (g : Ghosts D) where
         shows = λ is_open. let both = one.2.stands is_open in (both.0, both.1, is_open);
         closes = elim one.2.closes [ inl is_open ↦ inl is_open | inr same ↦ inr same.0 ];
       }
-  did old new it before at clean (inr (status, inl (reply, done, broken, told))) =
+  did old new it image left before ready unlimited counts counted at clean (inr (status, inl (reply, done, broken, told))) =
       let one = (done clean).1 before at.0 in
       record {
         after = one.0;
@@ -46,7 +46,7 @@ module _ {D : Type 0} (g : Ghosts D) where
         shows = λ is_open. let both = one.2.stands is_open in (both.0, both.1, is_open);
         closes = elim one.2.closes [ inl is_open ↦ inl is_open | inr same ↦ inr same.0 ];
       }
-  did old new it before at clean (inr (status, inr (inl (exports, reply, done, begun, told)))) =
+  did old new it image left before ready unlimited counts counted at clean (inr (status, inr (inl (exports, reply, done, begun, told)))) =
       let one = (done clean).1 before at.0 in
       record {
         after = one.0;
@@ -54,21 +54,22 @@ module _ {D : Type 0} (g : Ghosts D) where
         shows = λ is_open. let both = one.2.stands is_open in (both.0, both.1, is_open);
         closes = elim one.2.closes [ inl is_open ↦ inl is_open | inr same ↦ inr same.0 ];
       }
-  did old new it before at clean (inr (status, inr (inr (refusal, wrote, refused, told, same)))) =
+  did old new it image left before ready unlimited counts counted at clean (inr (status, inr (inr (refusal, wrote, refused, told, same)))) =
       let all = refused.1 clean in
+      let why = refused_by g left image old new it.command refusal before ready at unlimited counts counted refused.0 all.0 all.1 in
       record {
         after = before;
-        answered = inr (refusal, (record { may = refused.0; depot = old; shows = λ is_open. at; cause = all.0; left = new; fault = all.1 }, at.2), wrote, refl, (status, told, same));
+        answered = inr (refusal, why, wrote, refl, (status, told, same));
         shows = still_at g old new before (λ is_open. at) all.2;
         closes = inr refl;
       }
 
-  module _ (old new : Held (FileStore D g)) (stays : (file : D) → g.may_leave file (g.seen file)) (it : Answer) (before : Entries)
-      (at : IsAt before (file_state old)) (clean : HasCleanDisk (file_state new))
+  module _ (old new : Held (FileStore D g)) (stays : (file : D) → g.may_leave file (g.seen file)) (it : Answer) (image : Image) (left_of : Result (Files D) (FileStore D g)) (before : Entries)
+      (found : IsFound image (Ok old)) (counted : HasCounted (file_state new).faults left_of) (at : IsAt before (file_state old)) (clean : HasCleanDisk (file_state new))
       (performed : HasPerformed it.command it.status (desk (file_state old) it.out it.err) (desk (file_state new) it.out_after it.err_after))
       (survives : Survives (file_state old) (file_state new) (MayAdd it.command (file_state old))) where
-    made : Did g it before new
-    made = did old new it before at clean performed
+    made : Did it image left_of before new
+    made = did old new it image left_of before found.0 found.1 survives.counts counted at clean performed
 
     abbrev Left : Trees → Type 0
     Left trees = (held : Entries) × IsStored trees held × IsKept it.command before made.after held
@@ -88,7 +89,7 @@ module _ {D : Type 0} (g : Ghosts D) where
       | inr same ↦ left_shut trees same may
     ]
 
-    came : Came g (IsAnswered g it) (λ before after answered held. IsKept it.command before after held) before new
+    came : Came g (IsAnswered it image left_of) (λ before after answered held. IsKept it.command before after held) before new
     came = record { after = made.after; answered = made.answered; shows = λ is_open. (made.shows is_open).0; left = left }
 
   -- an errand was carried to what opening gave, which was closed then
@@ -97,9 +98,9 @@ module _ {D : Type 0} (g : Ghosts D) where
       → HasCarried file_state it.command it.status opened mid it.out it.err it.out_after it.err_after → OutlastsCarrying file_state it.command opened mid
       → IsShut mid left → HasEnded it image left
   ended (Ok old) (Ok new) left stays it image found carried survives shut =
-      ends g (IsAnswered g it) (λ before after answered held. IsKept it.command before after held) Refusal _ (HoldsState image) new left shut (λ clean before stood.
+      ends g (IsAnswered it image) (λ left before after answered held. IsKept it.command before after held) Refusal _ (HoldsState image) new left shut (λ left counted clean before stood.
       let early : HasCleanDisk (file_state old) = omega (arith, clean, survives.clean) in
-      came old new stays it before (at_state image old found early before stood) clean carried survives)
+      came old new stays it image left before found counted (at_state image old found early before stood) clean carried survives)
   ended (Ok old) (Err refusal) left stays it image found carried survives shut = absurd carried
   ended (Err refusal) (Ok new) left stays it image found carried survives shut = absurd carried
   ended (Err refusal) (Err same) None stays it image found carried survives shut = (refusal, found, (carried.1, carried.2, carried.3))

@@ -1,57 +1,69 @@
 -- A look from the open of the files to their close.
-use Rattle.std.proofs.Common.{◌≡◌, ◌⊎◌, inl, inr, IsTrue, Option, Some, None, Result, Ok, Err, refl, arith}
+use Rattle.std.proofs.Common.{◌≡◌, inl, inr, IsTrue, Option, Some, None, Result, Ok, Err, refl, arith}
 use Rattle.sqlite_disk.specs.declared.Disk.{Ghosts}
 use Rattle.sqlite_disk.specs.declared.Files.{Files}
-use Rattle.sqlite_trees.specs.View.{IsClean}
 use Rattle.sqlite.specs.declared.FileStore.{FileStore}
 use Rattle.sqlite.specs.Files.{file_state}
 use Rattle.sqlite.specs.Held.{Held}
 use Rattle.sqlite.specs.Recovery.{Image}
 use Rattle.sqlite.specs.State.{HasCleanDisk, Survives}
 use Rattle.part_store.specs.Entries.{Entries}
-use Rattle.part_store.specs.Opening.{HoldsStore, IsAt}
+use Rattle.part_store.specs.Opening.{HoldsStore, IsAt, IsFoundIn}
 use Rattle.part_store.specs.declared.looking.Unopened.{Unopened}
 use Rattle.depot_cli.specs.Carrying.{HasReported, HasToldWhy, OutlastsReporting}
 use Rattle.depot_cli.specs.Inspecting.{HasInspected}
 use Rattle.depot_cli.specs.NoDepots.{no_depot_of}
 use Rattle.depot_cli.specs.Tasks.{desk}
 use Rattle.depot.specs.Private.{IsLeftOf, IsSeen, IsShut}
-use Rattle.depot.specs.Looks.{HasEnded, IsAnswered, Look}
+use Rattle.depot.specs.Ending.{HasCounted}
+use Rattle.depot.specs.Looks.{HasEnded, IsAnswered, IsUntold, Look}
 use Rattle.depot.proofs.Ended.{Came, ends, still_at, unchanged}
 
 module _ {D : Type 0} (g : Ghosts D) where
   -- what a look came to, and the depot after it
-  record Done (it : Look) (before : Entries) (new : Held (FileStore D g)) : Type 0 where
-    answered : IsAnswered g it before before
+  record Done (image : Image) (left : Result (Files D) (FileStore D g)) (it : Look) (before : Entries) (new : Held (FileStore D g)) : Type 0 where
+    answered : IsAnswered image left it before before
     shows : IsTrue (file_state new).is_open → IsAt before (file_state new)
 
-  done : (old new : Held (FileStore D g)) (it : Look) (before : Entries) → IsAt before (file_state old) → HasCleanDisk (file_state new)
-      → HasInspected it.log it.status (desk (file_state old) it.out it.err) (desk (file_state new) it.out_after it.err_after) → Done it before new
-  done old new it before at clean (inl (status, (x, seen, taken, quiet))) =
+  done : (image : Image) (left : Result (Files D) (FileStore D g)) (old new : Held (FileStore D g)) (it : Look) (before : Entries) → IsFoundIn image old → (file_state old).step_limit ≡ None
+      → HasCounted (file_state new).faults left → IsAt before (file_state old) → HasCleanDisk (file_state new)
+      → HasInspected it.log it.status (desk (file_state old) it.out it.err) (desk (file_state new) it.out_after it.err_after) → Done image left it before new
+  done image left old new it before finds unlimited counted at clean (inl (status, (x, seen, taken, quiet))) =
       let all = seen clean in
       record {
-        answered = (refl, inl (x, (old, at, all.1 before at.0), inl (status, taken, quiet)));
+        answered = (refl, inl (x, (old, finds, at, all.1 before at.0), inl (status, taken, quiet)));
         shows = still_at g old new before (λ is_open. at) all.2;
       }
-  done old new it before at clean (inr (status, inl (x, seen, broken, told))) =
+  done image left old new it before finds unlimited counted at clean (inr (status, inl (x, seen, broken, told))) =
       let all = seen clean in
       record {
-        answered = (refl, inl (x, (old, at, all.1 before at.0), inr (status, broken, told)));
+        answered = (refl, inl (x, (old, finds, at, all.1 before at.0), inr (status, broken, told)));
         shows = still_at g old new before (λ is_open. at) all.2;
       }
-  done old new it before at clean (inr (status, inr (refusal, which, cause, told, same))) =
+  done image left old new it before finds unlimited counted at clean (inr (status, inr (refusal, which, cause, told, same))) =
       let all = cause clean in
+      let why : IsUntold image left before refusal = record {
+        which = which;
+        depot = old;
+        found = finds;
+        at = at;
+        unlimited = unlimited;
+        after = new;
+        fault = all.0;
+        counted = counted;
+      } in
       record {
-        answered = (refl, inr (refusal, record { which = which; depot = old; at = at; left = new; fault = all.0 }, status, told, same));
+        answered = (refl, inr (refusal, why, status, told, same));
         shows = still_at g old new before (λ is_open. at) all.1;
       }
 
-  came : (old new : Held (FileStore D g)) → ((file : D) → g.may_leave file (g.seen file)) → (it : Look) (before : Entries) → IsAt before (file_state old) → HasCleanDisk (file_state new)
+  came : (image : Image) (left : Result (Files D) (FileStore D g)) (old new : Held (FileStore D g)) → ((file : D) → g.may_leave file (g.seen file)) → (it : Look) (before : Entries) → IsSeen image (Ok old)
+      → HasCounted (file_state new).faults left → IsAt before (file_state old) → HasCleanDisk (file_state new)
       → HasInspected it.log it.status (desk (file_state old) it.out it.err) (desk (file_state new) it.out_after it.err_after)
-      → Survives (file_state old) (file_state new) (λ _. ⊥) → Came g (IsAnswered g it) (λ before after answered held. held ≡ before) before new
-  came old new stays it before at clean inspected survives =
-      let one = done old new it before at clean inspected in
-      unchanged g old new stays (IsAnswered g it) before one.answered at clean one.shows survives
+      → Survives (file_state old) (file_state new) (λ _. ⊥) → Came g (IsAnswered image left it) (λ before after answered held. held ≡ before) before new
+  came image left old new stays it before found counted at clean inspected survives =
+      let one = done image left old new it before found.0 found.1 counted at clean inspected in
+      unchanged g old new stays (IsAnswered image left it) before one.answered at clean one.shows survives
 
   -- what opening gave was inspected, and closed then
   pub ended : (opened mid : Result (Held (FileStore D g)) Unopened) (left : Option (Result (Files D) (FileStore D g))) → ((file : D) → g.may_leave file (g.seen file))
@@ -59,9 +71,9 @@ module _ {D : Type 0} (g : Ghosts D) where
       → HasReported file_state it.log it.status opened mid it.out it.err it.out_after it.err_after → OutlastsReporting file_state opened mid
       → IsShut mid left → HasEnded it image left
   ended (Ok old) (Ok new) left stays it image found reported survives shut =
-      ends g (IsAnswered g it) (λ before after answered held. held ≡ before) Unopened _ (HoldsStore image) new left shut (λ clean before stood.
+      ends g (λ left. IsAnswered image left it) (λ left before after answered held. held ≡ before) Unopened _ (HoldsStore image) new left shut (λ left counted clean before stood.
       let early : HasCleanDisk (file_state old) = omega (arith, clean, survives.clean) in
-      came old new stays it before (found early before stood) clean reported survives)
+      came image left old new stays it before found counted (found.2 early before stood) clean reported survives)
   ended (Ok old) (Err why) left stays it image found reported survives shut = absurd reported
   ended (Err why) (Ok new) left stays it image found reported survives shut = absurd reported
   ended (Err why) (Err same) None stays it image found reported survives shut = (why, found, reported.1, reported.2)

@@ -1,10 +1,12 @@
 -- What a turn of a batch does to a depot, by the state that the depot stands for.
-use Rattle.std.proofs.Common.{◌≡◌, ◌⊎◌, inl, inr, IsTrue, ℕ, List, map, refl, sym, subst}
+use Rattle.std.proofs.Common.{◌≡◌, ◌⊎◌, ◌<◌, ◌≤◌, inl, inr, IsTrue, ℕ, List, map, None, Result, refl, sym, subst, ◌∙◌, arith}
 use Rattle.sqlite_disk.specs.declared.Disk.{Ghosts}
+use Rattle.sqlite_disk.specs.declared.Files.{Files}
+use Rattle.sqlite_trees.specs.Tree.{Trees}
 use Rattle.sqlite.specs.declared.FileStore.{FileStore}
 use Rattle.sqlite.specs.Files.{file_state, over_files}
 use Rattle.sqlite.specs.Held.{Held}
-use Rattle.sqlite.specs.State.{HasCleanDisk}
+use Rattle.sqlite.specs.State.{HasCleanDisk, Survives}
 use Rattle.part_store.specs.Entries.{Entries}
 use Rattle.part_store.specs.Opening.{IsAt}
 use Rattle.part_store.specs.Standing.{Stands}
@@ -22,13 +24,32 @@ use Rattle.depot_batch.specs.declared.asked.Asked.TheVariants.{Reply as ToReply,
 use Rattle.depot_batch.specs.declared.outcome.Outcome.{Outcome}
 use Rattle.depot_batch.specs.declared.outcome.Outcome.TheVariants.{Done, Refused, Wrong}
 use Rattle.depot.specs.Batches.{AreAnsweredBy, AreWithdrawn, HasCome, IsAnsweredBy, IsDeclined, Ledger, ledger}
-use Rattle.depot.specs.Ending.{IsRefusal}
+use Rattle.depot.specs.Ending.{HasCounted, IsRefusal}
 use Rattle.depot.proofs.Ended.{still_at}
 
 module _ {D : Type 0} (g : Ghosts D) where
   -- a depot shows this state, as long as it is open
   abbrev pub Shows : Entries → Held (FileStore D g) → Type 0
   Shows state depot = IsTrue (file_state depot).is_open → IsAt state (file_state depot)
+
+  -- Where a depot stands between turns: it shows the state as long as it is open, only a fault that it
+  -- counts has shut it, and it has no limit of steps.
+  pub record Works (state : Entries) (depot : Held (FileStore D g)) : Type 0 where
+    pub shows : Shows state depot
+    pub shut : IsTrue (file_state depot).is_open ⊎ (0 < (file_state depot).faults)
+    pub unlimited : (file_state depot).step_limit ≡ None
+
+  -- so it stands after a call, too
+  pub still_works : {P : Trees → Type 0} (old new : Held (FileStore D g)) (before after : Entries) → Works before old → Shows after new → HasCleanDisk (file_state new)
+      → Survives (file_state old) (file_state new) P → Works after new
+  still_works old new before after works shows clean survives = record {
+    shows = shows;
+    shut = elim works.shut [
+      | inl is_open ↦ elim (survives.closes clean is_open) [ inl still ↦ inl still | inr more ↦ let one : 0 < (file_state new).faults = omega (arith, more) in inr one ]
+      | inr some ↦ inr (omega (arith, some, survives.counts))
+    ];
+    unlimited = survives.limit ∙ works.unlimited;
+  }
 
   -- ---- what a line does
 
@@ -51,15 +72,28 @@ module _ {D : Type 0} (g : Ghosts D) where
         closes = elim one.2.closes [ inl is_open ↦ inl is_open | inr same ↦ inr same.0 ];
       }
 
-  refusal_of : (old new : Held (FileStore D g)) (command : Command) (refusal : Refusal) (before : Entries) → Shows before old → HasCleanDisk (file_state new)
-      → HasRefused command refusal (file_state old) (file_state new) → IsRefusal g command before refusal
-  refusal_of old new command refusal before shows clean refused =
-      let all = refused.1 clean in record { may = refused.0; depot = old; shows = shows; cause = all.0; left = new; fault = all.1 }
+  refusal_of : (left : Result (Files D) (FileStore D g)) (old new : Held (FileStore D g)) (command : Command) (refusal : Refusal) (before : Entries) → Works before old → HasCleanDisk (file_state new)
+      → (file_state old).faults ≤ (file_state new).faults → HasCounted (file_state new).faults left
+      → HasRefused command refusal (file_state old) (file_state new) → IsRefusal left command before refusal
+  refusal_of left old new command refusal before works clean counts counted refused =
+      let all = refused.1 clean in
+      record {
+        may = refused.0;
+        depot = old;
+        shows = works.shows;
+        shut = works.shut;
+        unlimited = works.unlimited;
+        cause = all.0;
+        after = new;
+        fault = all.1;
+        counts = counts;
+        counted = counted;
+      }
 
   -- what came of a line, and the depot at the state after it
-  record Step (name line : Text) (outcome : Outcome) (text : List ℕ) (before : Entries) (old new : Office (FileStore D g)) : Type 0 where
+  record Step (left : Result (Files D) (FileStore D g)) (name line : Text) (outcome : Outcome) (text : List ℕ) (before : Entries) (old new : Office (FileStore D g)) : Type 0 where
     after : Entries
-    come : HasCome g name line outcome text (ledger before old.host old.out) (ledger after new.host new.out)
+    come : HasCome left name line outcome text (ledger before old.host old.out) (ledger after new.host new.out)
     shows : Shows after new.depot
     closes : IsTrue (file_state new.depot).is_open ⊎ (after ≡ before)
 
@@ -67,8 +101,12 @@ module _ {D : Type 0} (g : Ghosts D) where
   stays_at : (old new : Held (FileStore D g)) (before : Entries) → Shows before old → new ≡ old → Shows before new
   stays_at old new before shows same = subst (λ (d : Held (FileStore D g)). Shows before d) (sym same) shows
 
-  module _ (name line : Text) (text : List ℕ) (before : Entries) (old new : Office (FileStore D g)) (shows : Shows before old.depot) (clean : HasCleanDisk (file_state new.depot)) where
-    step_done : (asked : Asked) → IsAsked line asked → batch.IsDone over_files name asked text old.depot new.depot old.host new.host → Step name line Done text before old new
+  module _ (left : Result (Files D) (FileStore D g)) (name line : Text) (text : List ℕ) (before : Entries) (old new : Office (FileStore D g)) (works : Works before old.depot) (clean : HasCleanDisk (file_state new.depot))
+      (counts : (file_state old.depot).faults ≤ (file_state new.depot).faults) (counted : HasCounted (file_state new.depot).faults left) where
+    shows : Shows before old.depot
+    shows = works.shows
+
+    step_done : (asked : Asked) → IsAsked line asked → batch.IsDone over_files name asked text old.depot new.depot old.host new.host → Step left name line Done text before old new
     step_done (ToReply request) is done =
         let answered = done.2 in
         let one = did (λ state after. Accepts state (request_command request done.0) answered.0 after) old.depot new.depot before shows (answered.1 clean) in
@@ -80,7 +118,7 @@ module _ {D : Type 0} (g : Ghosts D) where
 
     -- what is asked was refused
     record Declined (asked : Asked) (refusal : Refusal) : Type 0 where
-      why : IsDeclined g name asked refusal (ledger before old.host old.out) (ledger before new.host new.out)
+      why : IsDeclined left name asked refusal (ledger before old.host old.out) (ledger before new.host new.out)
       shows_still : Shows before new.depot
 
     declined : (asked : Asked) (refusal : Refusal) → batch.IsRefused over_files name asked refusal old.depot new.depot old.host new.host → Declined asked refusal
@@ -89,19 +127,19 @@ module _ {D : Type 0} (g : Ghosts D) where
       | inr asked ↦
           let all = asked.2.1 clean in
           record {
-            why = inr (asked.0, asked.1, refusal_of old.depot new.depot (request_command request asked.0) refusal before shows clean asked.2);
+            why = inr (asked.0, asked.1, refusal_of left old.depot new.depot (request_command request asked.0) refusal before works clean counts counted asked.2);
             shows_still = still_at g old.depot new.depot before shows all.2;
           }
     ]
     declined (IntoFile export) refusal refused = elim refused.0 [
       | inl unmade ↦ record { why = inl unmade; shows_still = still_at g old.depot new.depot before shows (refused.1 clean) }
       | inr asked ↦ record {
-        why = inr (asked.0, asked.1, refusal_of old.depot new.depot (Exports export.user.now export.number export.encoding) refusal before shows clean asked.2);
+        why = inr (asked.0, asked.1, refusal_of left old.depot new.depot (Exports export.user.now export.number export.encoding) refusal before works clean counts counted asked.2);
         shows_still = still_at g old.depot new.depot before shows (refused.1 clean);
       }
     ]
 
-    step : (outcome : Outcome) → batch.HasCome over_files name line outcome text old new → Step name line outcome text before old new
+    step : (outcome : Outcome) → batch.HasCome over_files name line outcome text old new → Step left name line outcome text before old new
     step Done come = step_done come.0 come.1 come.2
     step (Refused refusal) come = elim come.1 [
       | inl idle ↦
@@ -124,16 +162,16 @@ module _ {D : Type 0} (g : Ghosts D) where
     pub shows : Shows after new.depot
     pub closes : IsTrue (file_state new.depot).is_open ⊎ (after ≡ before)
 
-  module _ (WrittenAs : List ℕ → Output → Output → Type 0) (before : Entries) (old new : Office (FileStore D g)) (shows : Shows before old.depot) (clean : HasCleanDisk (file_state new.depot)) where
-    pub alone : (name line : Text) (outcome : Outcome) → batch.IsAnsweredBy over_files WrittenAs name line outcome old new
-        → Turned (IsAnsweredBy WrittenAs g name line outcome) before old new
-    alone name line outcome it =
-        let one = step name line it.text before old new shows clean outcome it.come in
+  module _ (WrittenAs : List ℕ → Output → Output → Type 0) (before : Entries) (old new : Office (FileStore D g)) (works : Works before old.depot) (clean : HasCleanDisk (file_state new.depot)) where
+    pub alone : (left : Result (Files D) (FileStore D g)) → HasCounted (file_state new.depot).faults left → (name line : Text) (outcome : Outcome)
+        → batch.IsAnsweredBy over_files WrittenAs name line outcome old new → Turned (IsAnsweredBy WrittenAs left name line outcome) before old new
+    alone left counted name line outcome it =
+        let one = step left name line it.text before old new works clean it.outlasts.counts counted outcome it.come in
         record { after = one.after; happens = (it.text, one.come, it.written); shows = one.shows; closes = one.closes }
 
     pub together : (lines : List (List ℕ)) → batch.AreAnsweredBy over_files WrittenAs lines old new → Turned (AreAnsweredBy WrittenAs lines) before old new
     together lines it =
-        let one = did (λ state after. AcceptsAll state it.commands (map Listed it.filed) after) old.depot new.depot before shows (it.done clean) in
+        let one = did (λ state after. AcceptsAll state it.commands (map Listed it.filed) after) old.depot new.depot before works.shows (it.done clean) in
         record {
           after = one.after;
           happens = record { few = it.few; commands = it.commands; files = it.files; filed = it.filed; accepted = one.accepted; written = it.written };
@@ -141,11 +179,11 @@ module _ {D : Type 0} (g : Ghosts D) where
           closes = one.closes;
         }
 
-  pub withdrawn : (before : Entries) (old new : Office (FileStore D g)) → Shows before old.depot → HasCleanDisk (file_state new.depot) → (lines : List (List ℕ))
+  pub withdrawn : (before : Entries) (old new : Office (FileStore D g)) → Works before old.depot → HasCleanDisk (file_state new.depot) → (lines : List (List ℕ))
       → batch.AreWithdrawn over_files lines old new → Turned (AreWithdrawn lines) before old new
-  withdrawn before old new shows clean lines it = record {
+  withdrawn before old new works clean lines it = record {
     after = before;
     happens = record { some = it.some; few = it.few; files = it.files; held = refl; out = it.out };
-    shows = still_at g old.depot new.depot before shows (it.spared clean);
+    shows = still_at g old.depot new.depot before works.shows (it.spared clean);
     closes = inr refl;
   }

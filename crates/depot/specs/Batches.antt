@@ -23,10 +23,9 @@ use Rattle.depot_cli.specs.Requests.{request_command}
 use Rattle.depot_batch.specs.Asked.{Text}
 use Rattle.depot_batch.specs.Batch.{AreDeliveries, AreLookedUp, IsAsked, IsWrong, closing, exported_text, filed_text, most_together}
 use Rattle.depot_batch.specs.Sentences.{wrong_line}
-use Rattle.depot_batch.specs.Turns.{Alone, HasServedBy, Together, Turn, Withdrawn}
+use Rattle.depot_batch.specs.Turns.{Alone, AreTakenBy, HasServedBy, Together, Turn, Withdrawn}
 use Rattle.depot_batch.specs.declared.asked.Asked.{Asked}
 use Rattle.depot_batch.specs.declared.asked.Asked.TheVariants.{Reply as ToReply, Export as IntoFile}
-use Rattle.depot_batch.specs.declared.asked.Export.{Export}
 use Rattle.depot_batch.specs.declared.fault.LineFault.{LineFault}
 use Rattle.depot_batch.specs.declared.outcome.Outcome.{Outcome}
 use Rattle.depot_batch.specs.declared.outcome.Outcome.TheVariants.{Done, Refused, Wrong}
@@ -55,17 +54,18 @@ IsDone name (IntoFile export) text old new =
     × Accepts old.held (Exports export.user.now export.number export.encoding) (Written octets) new.held
     × (text ≡ exported_text export.number)
 
-module _ {D : Type 0} (g : Ghosts D) where
+-- of a depot of whose files this is left
+module _ {D : Type 0} {g : Ghosts D} (left : Result (Files D) (FileStore D g)) where
   -- what is asked was refused: its file was not read or not made, or the depot refuses it
   abbrev pub IsDeclined : Text → Asked → Refusal → Ledger → Ledger → Type 0
   IsDeclined name (ToReply request) refusal old new =
       HasNotReadFile refusal (file_of request) old.host new.host
       ⊎ ((octets : List ℕ) × HasReadFile (file_of request) octets old.host new.host
-      × IsRefusal g (request_command request octets) old.held refusal)
+      × IsRefusal left (request_command request octets) old.held refusal)
   IsDeclined name (IntoFile export) refusal old new =
       HasNotMade refusal export.file.now name old.host new.host
       ⊎ ((refusal ≢ Write) × (new.host ≡ with_call (makes export.file.now name) old.host)
-      × IsRefusal g (Exports export.user.now export.number export.encoding) old.held refusal)
+      × IsRefusal left (Exports export.user.now export.number export.encoding) old.held refusal)
 
   -- what came of a line, and the text of its answer; where it isn't done the state stays
   abbrev pub HasCome : Text → List ℕ → Outcome → List ℕ → Ledger → Ledger → Type 0
@@ -83,8 +83,8 @@ module _ {D : Type 0} (g : Ghosts D) where
 -- Answers were written so: whole, or up to where the sink broke.
 module _ (WrittenAs : List ℕ → Output → Output → Type 0) where
   -- a line was answered alone, by its text and what ends that
-  abbrev pub IsAnsweredBy : {D : Type 0} → Ghosts D → Text → List ℕ → Outcome → Ledger → Ledger → Type 0
-  IsAnsweredBy g name line outcome old new = (text : List ℕ) × HasCome g name line outcome text old new
+  abbrev pub IsAnsweredBy : {D : Type 0} {g : Ghosts D} → Result (Files D) (FileStore D g) → Text → List ℕ → Outcome → Ledger → Ledger → Type 0
+  IsAnsweredBy left name line outcome old new = (text : List ℕ) × HasCome left name line outcome text old new
       × WrittenAs (text ++ closing outcome) old.out new.out
 
   -- Lines were done together, and answered: each asks for a delivery, the files were read in turn,
@@ -105,44 +105,56 @@ pub record AreWithdrawn (lines : List (List ℕ)) (old new : Ledger) : Type 0 wh
   pub held : new.held ≡ old.held
   pub out : new.out ≡ old.out
 
-module _ {D : Type 0} (g : Ghosts D) where
+module _ {D : Type 0} {g : Ghosts D} (left : Result (Files D) (FileStore D g)) where
   -- what happens in a turn
   abbrev pub Happens : Text → Turn → Ledger → Ledger → Type 0
-  Happens name (Alone line outcome) old new = IsAnsweredBy HasTaken g name line outcome old new
+  Happens name (Alone line outcome) old new = IsAnsweredBy HasTaken left name line outcome old new
   Happens name (Together lines) old new = AreAnsweredBy HasTaken lines old new
   Happens name (Withdrawn lines) old new = AreWithdrawn lines old new
 
   -- the sink broke while its answers were written
   abbrev pub Breaks : Text → Turn → Ledger → Ledger → Type 0
-  Breaks name (Alone line outcome) old new = IsAnsweredBy HasBroken g name line outcome old new
+  Breaks name (Alone line outcome) old new = IsAnsweredBy HasBroken left name line outcome old new
   Breaks name (Together lines) old new = AreAnsweredBy HasBroken lines old new
   Breaks name (Withdrawn lines) old new = ⊥
 
 -- ---- what a crash may find
 
--- a line makes this of the state, with octets that were read of its file
-abbrev pub Makes : List ℕ → Entries → Entries → Type 0
-Makes line before after =
+-- a line makes this of the state, with the octets that were read of its file
+abbrev pub Makes : List ℕ → HostState → HostState → Entries → Entries → Type 0
+Makes line host host2 before after =
     (request : Request) × IsAsked line (ToReply request)
-    × (octets : List ℕ) × (host : HostState) × (host2 : HostState) × HasReadFile (file_of request) octets host host2
+    × (octets : List ℕ) × HasReadFile (file_of request) octets host host2
     × (reply : Reply) × Accepts before (request_command request octets) reply after
 
--- lines that were to be done together make this of it, all of them
-abbrev pub MakeTogether : List (List ℕ) → Entries → Entries → Type 0
-MakeTogether lines before after =
-    (commands : List Command) × (host : HostState) × (host2 : HostState) × AreDeliveries lines commands host host2
+-- lines that were to be done together make this of it, all of them, with those of their files
+abbrev pub MakeTogether : List (List ℕ) → HostState → HostState → Entries → Entries → Type 0
+MakeTogether lines host host2 before after =
+    (commands : List Command) × AreDeliveries lines commands host host2
     × (replies : List Reply) × AcceptsAll before commands replies after
 
 -- a turn does, whole
-abbrev pub MakesIn : Turn → Entries → Entries → Type 0
-MakesIn (Alone line outcome) before after = Makes line before after
-MakesIn (Together lines) before after = MakeTogether lines before after
-MakesIn (Withdrawn lines) before after = MakeTogether lines before after
+abbrev pub MakesIn : Turn → HostState → HostState → Entries → Entries → Type 0
+MakesIn (Alone line outcome) host host2 before after = Makes line host host2 before after
+MakesIn (Together lines) host host2 before after = MakeTogether lines host host2 before after
+MakesIn (Withdrawn lines) host host2 before after = MakeTogether lines host host2 before after
 
--- one of the turns does
-abbrev pub OneMakes : List Turn → Entries → Entries → Type 0
-OneMakes [] before after = ⊥
-OneMakes (turn ∷ turns) before after = MakesIn turn before after ⊎ OneMakes turns before after
+-- a turn, in which the host and the state were these, does, and the state stayed
+abbrev pub MakesOf : Entries → Entries → Turn → Ledger → Ledger → Type 0
+MakesOf state held turn old new = (old.held ≡ state) × MakesIn turn old.host new.host state held
+
+-- one of the turns that were taken is so
+abbrev pub OneIs :
+    {T : Type 0} → (Turn → T → T → Type 0) → (Happens : Turn → T → T → Type 0) → (turns : List Turn) (input rest : Supply) (old new : T)
+    → AreTakenBy Happens turns input rest old new → Type 0
+OneIs Is Happens [] input rest old new taken = ⊥
+OneIs Is Happens (turn ∷ turns) input rest old new taken =
+    Is turn old taken.1 ⊎ OneIs Is Happens turns taken.0 rest taken.1 new taken.5
+
+-- the last turn is, if there was one
+abbrev pub LastIs : {T : Type 0} → (Turn → T → T → Type 0) → List Turn → T → T → Type 0
+LastIs Is [] old new = ⊥
+LastIs Is (turn ∷ turns) old new = Is turn old new
 
 -- ---- from the open to the close
 
@@ -161,16 +173,21 @@ batch_of name status input input_after old new =
     record { name = name; status = status; input = input; input_after = input_after; old = old; new = new }
 
 -- the turns brought the state from the one before to the one after, as their lines were answered
-abbrev pub IsServed : {D : Type 0} → Ghosts D → Batch → Entries → Entries → Type 0
-IsServed g it before after =
-    HasServedBy (Happens g it.name) (Breaks g it.name) it.status it.input it.input_after
+abbrev pub IsServed : {D : Type 0} {g : Ghosts D} → Batch → Result (Files D) (FileStore D g) → Entries → Entries → Type 0
+IsServed it left before after =
+    HasServedBy (Happens left it.name) (Breaks left it.name) it.status it.input it.input_after
     (ledger before it.old.host it.old.out) (ledger after it.new.host it.new.out) it.old.err it.new.err
 
 -- Files whose close failed or was cut off stand for the state that was answered; or for what one of the
--- turns, whole, makes of that, at which a failure shut the depot, so that nothing changed any more.
-abbrev pub IsKept : {D : Type 0} (g : Ghosts D) (it : Batch) (before after : Entries) → IsServed g it before after
-    → Entries → Type 0
-IsKept g it before after served held = (held ≡ after) ⊎ OneMakes (served.turns ++ served.last) after held
+-- turns, whole, makes of that, with the files as they were read in it. At that turn a failure shut the
+-- depot, so that nothing changed any more.
+abbrev pub IsKept : {D : Type 0} {g : Ghosts D} (it : Batch) (left : Result (Files D) (FileStore D g)) (before after : Entries)
+    → IsServed it left before after → Entries → Type 0
+IsKept it left before after served held =
+    (held ≡ after)
+    ⊎ (OneIs (MakesOf after held) (Happens left it.name) served.turns it.input served.rest
+    (ledger before it.old.host it.old.out) served.mid served.taken
+    ⊎ LastIs (MakesOf after held) served.last served.mid (ledger after it.new.host it.new.out))
 
 -- no depot was opened: that was told, and nothing was read or done
 abbrev pub IsNotBegun : Batch → Type 0
@@ -179,4 +196,4 @@ IsNotBegun it = IsUnopened it.status it.old.out it.old.err it.new.out it.new.err
 
 -- a batch ended, by what is left of files that held the image
 abbrev pub HasEnded : {D : Type 0} {g : Ghosts D} → Batch → Image → Option (Result (Files D) (FileStore D g)) → Type 0
-HasEnded {D} {g} it image left = EndsSo g (IsServed g it) (IsKept g it) (IsNotBegun it) (HoldsState image) left
+HasEnded {D} {g} it image left = EndsSo g (IsServed it) (IsKept it) (IsNotBegun it) (HoldsState image) left

@@ -1,5 +1,5 @@
 -- What is left of the two files of a depot that was opened, asked for something and closed.
-use Rattle.std.specs.Prelude.{◌≡◌, ◌⊎◌, ℕ, IsTrue, Option, None, Some, Result, Ok, Err}
+use Rattle.std.specs.Prelude.{◌≡◌, ◌⊎◌, ◌<◌, ◌≤◌, ℕ, IsTrue, Option, None, Some, Result, Ok, Err}
 use Rattle.sqlite_disk.specs.declared.Disk.{Ghosts}
 use Rattle.sqlite_disk.specs.declared.Files.{Files}
 use Rattle.sqlite_trees.specs.View.{IsClean}
@@ -10,7 +10,7 @@ use Rattle.sqlite.specs.Held.{Held}
 use Rattle.sqlite.specs.Recovery.{Image}
 use Rattle.sqlite.specs.WalReads.{AreClean}
 use Rattle.part_store.specs.Entries.{Entries}
-use Rattle.part_store.specs.Opening.{HoldsState, IsAt, KeepsStore}
+use Rattle.part_store.specs.Opening.{HoldsState, IsAt, IsReadyFrom, KeepsStore}
 use Rattle.refusals.specs.declared.refusal.Refusal.{Refusal}
 use Rattle.refusals.specs.declared.refusal.Refusal.TheVariants.{Memory, Database}
 use Rattle.encodings.specs.Device.{Output}
@@ -21,23 +21,33 @@ use Rattle.depot_cli.specs.Tasks.{HasFault}
 
 -- ---- what is left
 
--- Something was asked of a depot. By the state before it and the one after it is said how that was
--- answered, and which other state a close that failed, or that was cut off, may keep.
-module _ {D : Type 0} (g : Ghosts D) (Answered : Entries → Entries → Type 0) (Kept : (old new : Entries) → Answered old new → Entries → Type 0) where
+-- As many failed calls of the two files, and limits of the format that were met, had been counted when
+-- they were let go of: by the store that had them, or has them still.
+abbrev pub HasCounted : {D : Type 0} {g : Ghosts D} → ℕ → Result (Files D) (FileStore D g) → Type 0
+HasCounted {D} {g} faults (Ok files) =
+    (last : FileStore D g) × (store.files last ≡ (files.log, files.db)) × (faults ≤ store.faults last)
+HasCounted faults (Err last) = faults ≤ store.faults last
+
+-- Something was asked of a depot. By what is left of its files, by the state before it and the one after
+-- it is said how that was answered, and which other state a close that failed, or that was cut off, may
+-- keep.
+module _ {D : Type 0} (g : Ghosts D) (Answered : Result (Files D) (FileStore D g) → Entries → Entries → Type 0)
+    (Kept : (left : Result (Files D) (FileStore D g)) (old new : Entries) → Answered left old new → Entries → Type 0) where
   -- the files were closed, and hold the state after it, as they read now and after a crash
   abbrev pub HasClosed : Files D → Entries → Type 0
-  HasClosed files before = (after : Entries) × Answered before after × KeepsStore g files after
+  HasClosed files before = (after : Entries) × Answered (Ok files) before after × KeepsStore g files after
 
   -- files that read so stand for a state that a close may keep
-  abbrev pub HoldsKept : (before after : Entries) → Answered before after → Image → Type 0
-  HoldsKept before after answered image = (held : Entries) × HoldsState image held × Kept before after answered held
+  abbrev pub HoldsKept : (last : FileStore D g) (before after : Entries) → Answered (Err last) before after → Image → Type 0
+  HoldsKept last before after answered image =
+      (held : Entries) × HoldsState image held × Kept (Err last) before after answered held
 
   -- their close failed or was cut off, and whatever a crash leaves of them stands for such a state
   abbrev pub HasNotClosed : FileStore D g → Entries → Type 0
   HasNotClosed last before =
-      (after : Entries) × (answered : Answered before after)
+      (after : Entries) × (answered : Answered (Err last) before after)
       × (IsTrue (store.view last).is_numbered → (image : Image) → (store.state last).may_leave image
-      → ∥ HoldsKept before after answered image ∥₁)
+      → ∥ HoldsKept last before after answered image ∥₁)
 
   -- By what is left of files that stood for such a state. Where that is nothing, no depot was opened,
   -- and that was told.
@@ -60,17 +70,24 @@ abbrev pub IsUnopened : ℕ → Output → Output → Output → Output → Type
 IsUnopened status out err out_after err_after =
     (refusal : Refusal) × ((refusal ≡ Memory) ⊎ (refusal ≡ Database)) × IsToldAs refusal status out err out_after err_after
 
--- A depot that shows this state, as long as it is open, refuses the command so. The command may get the
--- refusal, which has its cause in the depot; `Database` has one in how the call left it, too.
-pub record IsRefusal {D : Type 0} (g : Ghosts D) (command : Command) (before : Entries) (refusal : Refusal) : Type 0 where
-  pub may : MayRefuse command refusal
-  pub depot : Held (FileStore D g)
-  pub shows : IsTrue (file_state depot).is_open → IsAt before (file_state depot)
-  pub cause : HasCause refusal command (file_state depot)
-  pub left : Held (FileStore D g)
-  pub fault : HasFault command refusal (file_state depot) (file_state left)
+module _ {D : Type 0} {g : Ghosts D} (left : Result (Files D) (FileStore D g)) where
+  -- A depot that shows this state, as long as it is open, refuses the command so. The command may get the
+  -- refusal, which has its cause in the depot; `Database` has one in how the call left it, too. A depot
+  -- that isn't open had counted a fault, none has a limit of steps, and each fault that is counted after
+  -- the call was counted by what is left of the files.
+  pub record IsRefusal (command : Command) (before : Entries) (refusal : Refusal) : Type 0 where
+    pub may : MayRefuse command refusal
+    pub depot : Held (FileStore D g)
+    pub shows : IsTrue (file_state depot).is_open → IsAt before (file_state depot)
+    pub shut : IsTrue (file_state depot).is_open ⊎ (0 < (file_state depot).faults)
+    pub unlimited : (file_state depot).step_limit ≡ None
+    pub cause : HasCause refusal command (file_state depot)
+    pub after : Held (FileStore D g)
+    pub fault : HasFault command refusal (file_state depot) (file_state after)
+    pub counts : (file_state depot).faults ≤ (file_state after).faults
+    pub counted : HasCounted (file_state after).faults left
 
--- so does one that is open
-abbrev pub IsRefusedBy : {D : Type 0} → Ghosts D → Command → Entries → Refusal → Type 0
-IsRefusedBy g command before refusal =
-    (why : IsRefusal g command before refusal) × IsTrue (file_state why.depot).is_open
+  -- so does one that is open, and that was found in files that held the image
+  abbrev pub IsRefusedBy : Image → Command → Entries → Refusal → Type 0
+  IsRefusedBy image command before refusal =
+      (why : IsRefusal command before refusal) × IsTrue (file_state why.depot).is_open × IsReadyFrom image why.depot

@@ -41,11 +41,12 @@ IsBrokenOff it reply = (it.status ≡ 1)
     ⊎ (IsExport it.command × HasBegun (reply_text it.command reply) it.out it.out_after × HasTold Memory it.err it.err_after))
 
 -- The command came from the state before to the one after: the depot accepts it with a reply, which was
--- printed, or broke off; or refuses it, an export not as `Write`, which was told, and the state stays.
-abbrev pub IsAnswered : {D : Type 0} → Ghosts D → Answer → Entries → Entries → Type 0
-IsAnswered g it before after =
+-- printed, or broke off; or the depot that was found in files that held the image refuses it, an export
+-- not as `Write`, which was told, and the state stays.
+abbrev pub IsAnswered : {D : Type 0} {g : Ghosts D} → Answer → Image → Result (Files D) (FileStore D g) → Entries → Entries → Type 0
+IsAnswered it image left before after =
     ((reply : Reply) × Accepts before it.command reply after × (IsPrinted it reply ⊎ IsBrokenOff it reply))
-    ⊎ ((refusal : Refusal) × IsRefusedBy g it.command before refusal × (IsExport it.command → refusal ≢ Write)
+    ⊎ ((refusal : Refusal) × IsRefusedBy left image it.command before refusal × (IsExport it.command → refusal ≢ Write)
     × (after ≡ before) × IsToldAs refusal it.status it.out it.err it.out_after it.err_after)
 
 -- Files whose close failed or was cut off stand for the state that was answered. Where the command
@@ -57,5 +58,5 @@ IsKept command before after held =
 -- an errand ended, by what is left of files that held the image
 abbrev pub HasEnded : {D : Type 0} {g : Ghosts D} → Answer → Image → Option (Result (Files D) (FileStore D g)) → Type 0
 HasEnded {D} {g} it image left =
-    EndsSo g (IsAnswered g it) (λ before after answered held. IsKept it.command before after held)
+    EndsSo g (IsAnswered it image) (λ left before after answered held. IsKept it.command before after held)
     (IsUnopened it.status it.out it.err it.out_after it.err_after) (HoldsState image) left

@@ -45,13 +45,14 @@ HasSaved it state =
     (program : List ℕ) × Tells it state (Some program)
     × HasMade it.saving.out.now it.saving.name.now program it.old.host it.new.host × IsPrinted it program
 
-module _ {D : Type 0} (g : Ghosts D) where
+-- of files that held the image, of which this is left
+module _ {D : Type 0} {g : Ghosts D} (image : Image) (left : Result (Files D) (FileStore D g)) where
   -- No file was made: the user has no program, the depot refuses to tell it, or the file of the program
   -- could not be made.
   abbrev pub IsUnsaved : Save → Entries → Refusal → Type 0
   IsUnsaved it state refusal =
       ((refusal ≡ NoSuchEntry) × Tells it state None × (it.new.host ≡ it.old.host))
-      ⊎ ((IsRefusedBy g (ProgramOf it.saving.user.now) state refusal × (it.new.host ≡ it.old.host))
+      ⊎ ((IsRefusedBy left image (ProgramOf it.saving.user.now) state refusal × (it.new.host ≡ it.old.host))
       ⊎ ((program : List ℕ) × Tells it state (Some program)
       × HasNotMade refusal it.saving.out.now it.saving.name.now it.old.host it.new.host))
 
@@ -69,6 +70,6 @@ module _ {D : Type 0} (g : Ghosts D) where
 -- the same state
 abbrev pub HasEnded : {D : Type 0} {g : Ghosts D} → Save → Image → Option (Result (Files D) (FileStore D g)) → Type 0
 HasEnded {D} {g} it image left =
-    EndsSo g (IsAnswered g it) (λ before after answered held. held ≡ before)
+    EndsSo g (λ left. IsAnswered image left it) (λ left before after answered held. held ≡ before)
     (IsUnopened it.status it.old.out it.old.err it.new.out it.new.err × (it.new.host ≡ it.old.host))
     (HoldsState image) left
