@@ -10,5 +10,6 @@ mod Readying
 mod Grouping
 mod Closing
 mod Refusing
+mod Rest
 mod ClosingAnswers
 mod Exporting

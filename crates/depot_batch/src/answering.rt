@@ -4,6 +4,7 @@ ghost use Rattle.sqlite.specs.Held.{state};
 ghost use Rattle.sqlite.specs.State.{Survives};
 ghost use Rattle.encodings.specs.Device.{HasBroken, HasTaken};
 ghost use Rattle.depot_jobs.specs.Host.{with_faults};
+ghost use Rattle.depot_cli.specs.Requests.{command_of, request_command};
 ghost use Rattle.depot_cli.specs.Tasks.{text_in as reply_text};
 ghost use Rattle.depot_batch.specs.Answers.{text_in};
 ghost use Rattle.depot_batch.specs.Asked.{Asks, Text};
@@ -12,7 +13,7 @@ ghost use Rattle.depot_batch.specs.Batch.{HasExported, HasNotExported, HasNotRep
 use crate::asked::{Asked, Export};
 use depot_actions::Depot;
 use depot_cli::{Reply, put_reply, reply_to};
-use depot_jobs::{Host, Piece, Request, put_pieces, read_file_of};
+use depot_jobs::{Host, Piece, Request, Task, put_pieces, read_file_of};
 use encodings::{DeviceFailed, Sink};
 use refusals::Refusal;
 use sqlite::Alter;
@@ -82,11 +83,18 @@ fn reply<S: Alter, H: Host>(
 {
     match read_file_of(alloc, request, host) {
         Ok(octets) => {
-            let task = request.with_octets(octets);
+            let task = task_of(request, octets);
             reply_to(alloc, &task, depot)
         }
         Err(refusal) => Err(refusal),
     }
+}
+
+// The task of a request, with the octets of its file: it asks of the depot what the request does.
+fn task_of<'a>(request: Request<'a>, octets: Vec<u8>) -> Task<'a>
+    ensures { command_of result ≡ request_command request.entry octets.items }
+{
+    request.with_octets(octets)
 }
 
 // Makes the text of an entry a file, whole or not at all.

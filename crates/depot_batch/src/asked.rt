@@ -1,5 +1,5 @@
 // What a line asks for.
-ghost use Rattle.std.specs.Prelude.{◌≡◌, ◌∷◌, [], ℕ, MatchOption, IfErr, IfOk, codes, map};
+ghost use Rattle.std.specs.Prelude.{◌≡◌, ◌∷◌, [], ℕ, MatchOption, IfErr, IfOk, map};
 ghost use Rattle.depot_batch.specs.Asked.{Asks, AskNothing, IsEntryNumber, name_of};
 ghost use Rattle.depot_batch.specs.declared.fault.Form.{Form};
 
@@ -39,12 +39,23 @@ pub fn asked_by<'a>(words: &[&'a str]) -> Result<Asked<'a>, LineFault>
     ensures asks { IfOk result (Asks (map (λ w. w.now) words.now)) }
     ensures nothing { IfErr result (AskNothing (map (λ w. w.now) words.now)) }
 {
-    let [name, rest @ ..] = words else {
-        return Err(LineFault::NoCommand);
-    };
-    match form_of(name) {
-        Some(form) => asked_in(form, rest),
+    match split(words) {
+        Some((name, rest)) => match form_of(name) {
+            Some(form) => asked_in(form, rest),
+            None => Err(LineFault::NoCommand),
+        },
         None => Err(LineFault::NoCommand),
+    }
+}
+
+// The first word, and those after it.
+fn split<'w, 'a>(words: &'w [&'a str]) -> Option<(&'a str, &'w [&'a str])>
+    ensures { MatchOption result (map (λ w. w.now) words.entry.now ≡ [])
+        (λ x. map (λ w. w.now) words.entry.now ≡ x.0.now ∷ map (λ w. w.now) x.1.now) }
+{
+    match words {
+        [first, rest @ ..] => Some((first, rest)),
+        [] => None,
     }
 }
 
@@ -75,42 +86,25 @@ fn asked_in<'a>(form: Form, rest: &[&'a str]) -> Result<Asked<'a>, LineFault>
         (Form::Code, [user, program]) => Ok(Asked::Reply(Request::Code { user, program })),
         (Form::Deliver, [user, message]) => Ok(Asked::Reply(Request::Deliver { user, message })),
         (Form::List, [user]) => Ok(Asked::Reply(Request::List { user })),
-        (Form::Export, [user, digits, name, file]) => export_of(user, digits, name, file),
-        (Form::Remove, [user, digits]) => removal_of(user, digits),
+        (Form::Export, [user, digits, name, file]) => {
+            match (number_of(digits), Encoding::named(name)) {
+                (Some(number), Some(encoding)) => Ok(Asked::Export(Export {
+                    user,
+                    number,
+                    encoding,
+                    file,
+                })),
+                (None, _) => Err(LineFault::Number),
+                (_, None) => Err(LineFault::Encoding),
+            }
+        }
+        (Form::Remove, [user, digits]) => match number_of(digits) {
+            Some(number) => Ok(Asked::Reply(Request::Remove { user, number })),
+            None => Err(LineFault::Number),
+        },
         (Form::Migrate, []) => Ok(Asked::Reply(Request::Migrate)),
         _ => Err(LineFault::Form(form)),
     }
-}
-
-// What the words after `export` ask for.
-fn export_of<'a>(
-    user: &'a str,
-    digits: &str,
-    name: &str,
-    file: &'a str,
-) -> Result<Asked<'a>, LineFault>
-    ensures asks { IfOk result
-        (Asks (codes "export" ∷ user.now ∷ digits.now ∷ name.now ∷ file.now ∷ [])) }
-    ensures nothing { IfErr result
-        (AskNothing (codes "export" ∷ user.now ∷ digits.now ∷ name.now ∷ file.now ∷ [])) }
-{
-    let number = number_of(digits).ok_or(LineFault::Number)?;
-    let encoding = Encoding::named(name).ok_or(LineFault::Encoding)?;
-    Ok(Asked::Export(Export {
-        user,
-        number,
-        encoding,
-        file,
-    }))
-}
-
-// What the words after `remove` ask for.
-fn removal_of<'a>(user: &'a str, digits: &str) -> Result<Asked<'a>, LineFault>
-    ensures asks { IfOk result (Asks (codes "remove" ∷ user.now ∷ digits.now ∷ [])) }
-    ensures nothing { IfErr result (AskNothing (codes "remove" ∷ user.now ∷ digits.now ∷ [])) }
-{
-    let number = number_of(digits).ok_or(LineFault::Number)?;
-    Ok(Asked::Reply(Request::Remove { user, number }))
 }
 
 // The number of an entry.

@@ -4,5 +4,5 @@ use Rattle.depot_batch.proofs.answering.reply.Goals as goal
 
 pub returns-in-Ok-clause-refused : goal.returns-in-Ok-clause-refused
 returns-in-Ok-clause-refused g c =
-    let refused = refused_reply g.S.Store c.reply_to.result c.args.request c.in-Ok.octets.items _ c.args.depot.now c.reply_to.new.depot _ _ c.of-task.ensures c.in-Ok.ensures.read c.reply_to.ensures.refused in
+    let refused = refused_reply g.S.Store c.reply_to.result c.args.request c.in-Ok.octets.items _ c.args.depot.now c.reply_to.new.depot _ _ c.task_of-task.ensures c.in-Ok.ensures.read c.reply_to.ensures.refused in
     elim c.match-task.branch [ in-Script-1 w ↦ refused | in-Code-1 w ↦ refused | in-Deliver-1 w ↦ refused | in-List-1 w ↦ refused ]

@@ -1,0 +1,36 @@
+use Rattle.std.proofs.Common.{◌∷◌, ◌∙◌, [], ℕ, Option, MatchOption, ap, arith, slice_index_or, subst, sym}
+use Rattle.depot_batch.specs.Asked.{IsEntryNumber, name_of}
+use Rattle.depot_batch.proofs.Rest.{three, two}
+use Rattle.depot_batch.proofs.asked.asked_in.Goals as goal
+
+pub returns-in_default-None-clause-nothing : goal.returns-in_default-None-clause-nothing
+returns-in_default-None-clause-nothing c = (
+  name_of c.args.form,
+  _,
+  _,
+  _,
+  _,
+  ap (λ t. name_of c.args.form ∷ t) (three c.args.rest.now (record { ref_ptr = (0, 0); now = [] }) (omega (arith, c.in-Export-len4.len_at_least))),
+  sym c.named.ensures ∙ c.in_default-None.is-1,
+)
+
+pub returns-in-None-default-clause-nothing : goal.returns-in-None-default-clause-nothing
+returns-in-None-default-clause-nothing c =
+    let digits = (slice_index_or c.args.rest.now 1 (record { ref_ptr = (0, 0); now = [] })).now in (
+      name_of c.args.form,
+      _,
+      _,
+      _,
+      ap (λ t. name_of c.args.form ∷ t) (two c.args.rest.now (record { ref_ptr = (0, 0); now = [] }) (omega (arith, c.in-Export-len4.len_at_least))),
+      subst (λ (o : Option ℕ). MatchOption o ((number : ℕ) → IsEntryNumber digits number → ⊥) (IsEntryNumber digits)) c.in-None-default.is-0 c.number_of.ensures,
+    )
+
+pub returns-in-None-clause-nothing : goal.returns-in-None-clause-nothing
+returns-in-None-clause-nothing c = (
+  name_of c.args.form,
+  _,
+  _,
+  _,
+  ap (λ t. name_of c.args.form ∷ t) (two c.args.rest.now (record { ref_ptr = (0, 0); now = [] }) c.in-Remove-len2.len_at_least),
+  c.in-None.ensures,
+)
