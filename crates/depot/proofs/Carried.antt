@@ -1,4 +1,4 @@
--- An errand from the open of its files to their close.
+-- A task from the open of its files to their close.
 use Rattle.std.proofs.Common.{◌≡◌, ◌⊎◌, ◌≤◌, inl, inr, IsTrue, Option, Some, None, Result, Ok, Err, refl, sym, arith}
 use Rattle.sqlite_disk.specs.declared.Disk.{Ghosts}
 use Rattle.sqlite_disk.specs.declared.Files.{Files}
@@ -16,7 +16,7 @@ use Rattle.depot_cli.specs.Carrying.{HasCarried, OutlastsCarrying}
 use Rattle.depot_cli.specs.Tasks.{HasPerformed, MayAdd, desk}
 use Rattle.depot.specs.Ending.{HasCounted, IsToldAs}
 use Rattle.depot.specs.Private.{IsFound, IsLeftOf, IsShut}
-use Rattle.depot.specs.Errands.{Answer, HasEnded, IsAnswered, IsKept}
+use Rattle.depot.specs.Tasks.{Answer, HasEnded, IsAnswered, IsKept}
 use Rattle.depot.proofs.Ended.{Came, at_state, ends, left_by, left_open, refused_by, still_at}
 
 -- what a command came to, and the depot at that
@@ -92,7 +92,7 @@ module _ {D : Type 0} (g : Ghosts D) where
     came : Came g (IsAnswered it image left_of) (λ before after answered held. IsKept it.command before after held) before new
     came = record { after = made.after; answered = made.answered; shows = λ is_open. (made.shows is_open).0; left = left }
 
-  -- an errand was carried to what opening gave, which was closed then
+  -- a task was carried to what opening gave, which was closed then
   pub ended : (opened mid : Result (Held (FileStore D g)) Refusal) (left : Option (Result (Files D) (FileStore D g))) → ((file : D) → g.may_leave file (g.seen file))
       → (it : Answer) (image : Image) → IsFound image opened
       → HasCarried file_state it.command it.status opened mid it.out it.err it.out_after it.err_after → OutlastsCarrying file_state it.command opened mid

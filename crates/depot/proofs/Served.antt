@@ -237,7 +237,7 @@ module _ {D : Type 0} (g : Ghosts D) where
         let begun : Fits left (λ v. ⊥) first (ledger before it.old.host it.old.out) = record {
           is = refl;
           track = record {
-            works = record { shows = λ is_open. at; shut = inl at.2; unlimited = unlimited };
+            works = record { shows = λ is_open. at; closed_by_failure = inl at.2; unlimited = unlimited };
             left = λ trees may. inl (left_open g old stays before at trees may);
           };
         } in

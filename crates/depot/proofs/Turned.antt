@@ -36,7 +36,7 @@ module _ {D : Type 0} (g : Ghosts D) where
   -- counts has shut it, and it has no limit of steps.
   pub record Works (state : Entries) (depot : Held (FileStore D g)) : Type 0 where
     pub shows : Shows state depot
-    pub shut : IsTrue (file_state depot).is_open ⊎ (0 < (file_state depot).faults)
+    pub closed_by_failure : IsTrue (file_state depot).is_open ⊎ (0 < (file_state depot).faults)
     pub unlimited : (file_state depot).step_limit ≡ None
 
   -- so it stands after a call, too
@@ -44,7 +44,7 @@ module _ {D : Type 0} (g : Ghosts D) where
       → Survives (file_state old) (file_state new) P → Works after new
   still_works old new before after works shows clean survives = record {
     shows = shows;
-    shut = elim works.shut [
+    closed_by_failure = elim works.closed_by_failure [
       | inl is_open ↦ elim (survives.closes clean is_open) [ inl still ↦ inl still | inr more ↦ let one : 0 < (file_state new).faults = omega (arith, more) in inr one ]
       | inr some ↦ inr (omega (arith, some, survives.counts))
     ];
@@ -81,7 +81,7 @@ module _ {D : Type 0} (g : Ghosts D) where
         may = refused.0;
         depot = old;
         shows = works.shows;
-        shut = works.shut;
+        closed_by_failure = works.closed_by_failure;
         unlimited = works.unlimited;
         cause = all.0;
         after = new;
@@ -184,6 +184,6 @@ module _ {D : Type 0} (g : Ghosts D) where
   withdrawn before old new works clean lines it = record {
     after = before;
     happens = record { some = it.some; few = it.few; files = it.files; held = refl; out = it.out };
-    shows = still_at g old.depot new.depot before works.shows (it.spared clean);
+    shows = still_at g old.depot new.depot before works.shows (it.unchanged clean);
     closes = inr refl;
   }

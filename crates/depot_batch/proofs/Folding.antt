@@ -7,7 +7,7 @@ use Rattle.sqlite.specs.Held.{Held, state}
 use Rattle.sqlite.specs.State.{HasCleanDisk, State, Survives}
 use Rattle.encodings.specs.Supply.{Supply}
 use Rattle.part_store.specs.Entries.{Entries}
-use Rattle.part_store.specs.Standing.{Spares, Stands}
+use Rattle.part_store.specs.Standing.{LeavesUnchanged, Stands}
 use Rattle.depot_actions.specs.Deliveries.{calls_of}
 use Rattle.depot_actions.specs.DepotState.{Command, Does, Listed, Reply as DepotReply, Text as Written}
 use Rattle.depot_actions.specs.History.{AreSteps, Call}
@@ -59,14 +59,14 @@ record Went (lines : List (List ℕ)) (before : Entries) (new : State) : Type 0 
   steps : AreSteps calls before after
   stands : IsTrue new.is_open → Stands new.now after
 
-spared : (old new : State) (before : Entries) → Spares old new → (IsTrue old.is_open → Stands old.now before) → Went [] before new
-spared old new before spares given = record {
+unchanged : (old new : State) (before : Entries) → LeavesUnchanged old new → (IsTrue old.is_open → Stands old.now before) → Went [] before new
+unchanged old new before spares given = record {
   calls = [];
   after = before;
   are = tt;
   steps = refl;
   stands = λ is_open.
-      let stood = given (spares.shut is_open) in
+      let stood = given (spares.stays_closed is_open) in
       subst (λ d. Stands d before) (sym (spares.same stood.schema is_open).0) stood;
 }
 
@@ -105,9 +105,9 @@ module _ {S : Type 0} (g : Ghosts S) where
     refused_went : (asked : Asked) (refusal : Refusal) → IsRefused g name asked refusal old new host host2 → Went [] before (state g new)
     refused_went (Reply request) refusal refused = elim refused [
       | inl unread ↦ same old new before unread.1 given
-      | inr asked ↦ spared (state g old) (state g new) before (asked.2.1 clean).2 given
+      | inr asked ↦ unchanged (state g old) (state g new) before (asked.2.1 clean).2 given
     ]
-    refused_went (IntoFile export) refusal refused = spared (state g old) (state g new) before (refused.1 clean) given
+    refused_went (IntoFile export) refusal refused = unchanged (state g old) (state g new) before (refused.1 clean) given
 
   module _ (name : List ℕ) (old new : Office S) (before : Entries) (clean : HasCleanDisk (state g new.depot))
       (given : IsTrue (state g old.depot).is_open → Stands (state g old.depot).now before) where
@@ -131,7 +131,7 @@ module _ {S : Type 0} (g : Ghosts S) where
           steps = done.1.steps;
           stands = λ is_open. (done.2.stands is_open).0;
         }
-    turn_went (Withdrawn lines) happens = spared (state g old.depot) (state g new.depot) before (happens.spared clean) given
+    turn_went (Withdrawn lines) happens = unchanged (state g old.depot) (state g new.depot) before (happens.unchanged clean) given
 
   outlasts : (name : List ℕ) (turn : Turn) (old new : Office S) → Happens g name turn old new → Outlasts g turn old new
   outlasts name (Alone line outcome) old new happens = happens.outlasts

@@ -9,7 +9,7 @@ use Rattle.sqlite_trees.specs.declared.store.Store.{Ghosts}
 use Rattle.sqlite.specs.Held.{Held, state}
 use Rattle.sqlite.specs.State.{HasCleanDisk, State, Survives}
 use Rattle.part_store.specs.Entries.{Listing}
-use Rattle.part_store.specs.Standing.{Spares}
+use Rattle.part_store.specs.Standing.{LeavesUnchanged}
 use Rattle.part_store.specs.declared.entry.EntryRow.{EntryRow}
 use Rattle.encodings.specs.Device.{HasBroken, HasTaken, Output}
 use Rattle.encodings.proofs.Outputs.{broken_first, broken_later}
@@ -81,9 +81,9 @@ is_delivery line user file mail host host2 is same read = (user, file, is, mail.
 
 -- ---- on a depot
 
--- what nothing happened to is spared
-pub spared_still : (s : State) → Spares s s
-spared_still s = record { same = λ schema is_open. (refl, refl); shut = λ is_open. is_open; closes = λ is_open. inl is_open }
+-- what nothing happened to is unchanged
+pub unchanged_still : (s : State) → LeavesUnchanged s s
+unchanged_still s = record { same = λ schema is_open. (refl, refl); stays_closed = λ is_open. is_open; closes = λ is_open. inl is_open }
 
 module _ {S : Type 0} (g : Ghosts S) where
   -- lines were withdrawn before the depot was asked
@@ -93,20 +93,20 @@ module _ {S : Type 0} (g : Ghosts S) where
     some = some;
     few = few;
     files = files;
-    spared = λ clean. subst (λ (d : Held S). Spares (state g old.depot) (state g d)) (sym same) (spared_still (state g old.depot));
+    unchanged = λ clean. subst (λ (d : Held S). LeavesUnchanged (state g old.depot) (state g d)) (sym same) (unchanged_still (state g old.depot));
     out = out;
     outlasts = subst (λ (d : Held S). Survives (state g old.depot) (state g d) (MayMakeAll lines (state g old.depot) old.host new.host)) (sym same) (still (state g old.depot));
   }
 
   -- they were withdrawn since it refused them
   pub withdrawn_late : (lines : List (List ℕ)) (commands : List Command) (old new : Office S) → 0 < length commands → length lines ≤ most_together → AreDeliveries lines commands old.host new.host
-      → (HasCleanDisk (state g new.depot) → Spares (state g old.depot) (state g new.depot))
+      → (HasCleanDisk (state g new.depot) → LeavesUnchanged (state g old.depot) (state g new.depot))
       → Survives (state g old.depot) (state g new.depot) (MayLeaveAll commands (state g old.depot)) → new.out ≡ old.out → AreWithdrawn g lines old new
-  withdrawn_late lines commands old new some few files spared survives out = record {
+  withdrawn_late lines commands old new some few files unchanged survives out = record {
     some = omega (arith, some, as_many lines commands old.host new.host files);
     few = few;
     files = record { read = lines; later = []; are = sym (append-nil lines); commands = commands; mid = new.host; files = files; stops = inl refl };
-    spared = spared;
+    unchanged = unchanged;
     out = out;
     outlasts = more_left (state g old.depot) (state g new.depot) (λ db made. (commands, files, made)) survives;
   }

@@ -9,7 +9,7 @@ use Rattle.sqlite_trees.specs.Tree.{Trees}
 use Rattle.sqlite.specs.Held.{Held, state}
 use Rattle.sqlite.specs.State.{HasCleanDisk, State, Survives}
 use Rattle.part_store.specs.Entries.{Listing}
-use Rattle.part_store.specs.Standing.{Spares}
+use Rattle.part_store.specs.Standing.{LeavesUnchanged}
 use Rattle.depot_actions.specs.Deliveries.{DoesAll, MayLeaveAll}
 use Rattle.depot_actions.specs.DepotState.{Command, Export as Exports, Listed, Reply as DepotReply, Text as Written}
 use Rattle.depot_actions.specs.History.{Call}
@@ -103,7 +103,7 @@ module _ {S : Type 0} (g : Ghosts S) where
       (HasNotMade refusal export.file.now name host host2
       ⊎ ((refusal ≢ Write) × (host2 ≡ with_call (makes export.file.now name) host)
       × HasRefused (Exports export.user.now export.number export.encoding) refusal (state g old) (state g new)))
-      × (HasCleanDisk (state g new) → Spares (state g old) (state g new))
+      × (HasCleanDisk (state g new) → LeavesUnchanged (state g old) (state g new))
 
   -- what is asked was done, with this text as the answer
   abbrev pub IsDone : Text → Asked → List ℕ → Held S → Held S → HostState → HostState → Type 0
@@ -235,7 +235,7 @@ module _ {S : Type 0} (g : Ghosts S) where
     pub some : 0 < length lines
     pub few : length lines ≤ most_together
     pub files : AreLookedUp lines old.host new.host
-    pub spared : HasCleanDisk (state g new.depot) → Spares (state g old.depot) (state g new.depot)
+    pub unchanged : HasCleanDisk (state g new.depot) → LeavesUnchanged (state g old.depot) (state g new.depot)
     pub out : new.out ≡ old.out
     pub outlasts : Outlasts (Withdrawn lines) old new
 

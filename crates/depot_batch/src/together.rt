@@ -5,7 +5,7 @@ ghost use Rattle.std.specs.declared.alloc.Global.{Global};
 ghost use Rattle.sqlite.specs.Held.{state};
 ghost use Rattle.sqlite.specs.State.{HasCleanDisk};
 ghost use Rattle.part_store.specs.Calls.{MayCommit};
-ghost use Rattle.part_store.specs.Standing.{Spares};
+ghost use Rattle.part_store.specs.Standing.{LeavesUnchanged};
 ghost use Rattle.encodings.specs.Device.{HasBroken, HasTaken};
 ghost use Rattle.depot_actions.specs.Deliveries.{DoesAll, MayLeaveAll, command_of as asked_of};
 ghost use Rattle.depot_actions.specs.DepotState.{Listed};
@@ -80,8 +80,8 @@ fn deliver_mails<S: Alter>(
     ensures done { HasCleanDisk (state S.Store depot.new) → IfSome result
         (λ replies. DoesAll (map command_of mails.now) (map Listed (map filed_by replies.items))
         (state S.Store depot.old) (state S.Store depot.new)) }
-    ensures spared { IfNone result (HasCleanDisk (state S.Store depot.new)
-        → Spares (state S.Store depot.old) (state S.Store depot.new)) }
+    ensures unchanged { IfNone result (HasCleanDisk (state S.Store depot.new)
+        → LeavesUnchanged (state S.Store depot.old) (state S.Store depot.new)) }
     ensures survives { MayCommit S.Store depot.old depot.new
         (MayLeaveAll (map command_of mails.now)) }
 {

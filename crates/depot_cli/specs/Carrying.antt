@@ -1,4 +1,4 @@
--- What comes of an errand and of an inspection, by what opening the file gave.
+-- What comes of a task and of an inspection, by what opening the file gave.
 use Rattle.std.specs.Prelude.{◌≡◌, ℕ, Option, None, Some, Result, Ok, Err, ⊤}
 use Rattle.sqlite.specs.State.{State, Survives}
 use Rattle.part_store.specs.declared.looking.Unopened.{Unopened}
@@ -12,9 +12,9 @@ use Rattle.depot_cli.specs.NoDepots.{no_depot_of}
 use Rattle.depot_cli.specs.Tasks.{HasPerformed, MayAdd, desk}
 use Rattle.depot_cli.specs.declared.no_depot.NoDepot.{NoDepot}
 
--- ---- errands
+-- ---- tasks
 
--- An errand was carried to what opening gave, with this status: its command was performed on the
+-- A task was carried to what opening gave, with this status: its command was performed on the
 -- depot, which is open still; or the refusal of opening was told, with status 1.
 abbrev pub HasCarried :
     {H : Type 0} → (H → State) → Command → ℕ → Result H Refusal → Result H Refusal

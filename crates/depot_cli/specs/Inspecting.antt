@@ -3,7 +3,7 @@ use Rattle.std.specs.Prelude.{◌≡◌, ◌⊎◌, ℕ, IsTrue, Option}
 use Rattle.sqlite.specs.State.{HasCleanDisk, State}
 use Rattle.part_store.specs.Entries.{Entries}
 use Rattle.part_store.specs.Refusals.{AreNamed}
-use Rattle.part_store.specs.Standing.{Spares, Stands}
+use Rattle.part_store.specs.Standing.{LeavesUnchanged, Stands}
 use Rattle.encodings.specs.Device.{HasBroken, HasTaken, Output}
 use Rattle.depot_actions.specs.Causes.{IsStoreFault, IsUncounted}
 use Rattle.depot_actions.specs.Overviews.{IsOverview}
@@ -19,7 +19,7 @@ use Rattle.depot_cli.specs.declared.no_depot.NoDepot.{NoDepot}
 abbrev pub HasSeen : Overview → State → State → Type 0
 HasSeen x old new =
     HasCleanDisk new → IsTrue old.is_open
-    × ((before : Entries) → Stands old.now before → IsOverview old.now.trees before x) × Spares old new
+    × ((before : Entries) → Stands old.now before → IsOverview old.now.trees before x) × LeavesUnchanged old new
 
 -- and that was written whole
 abbrev pub HasShownAll : Option ℕ → Desk → Desk → Type 0
@@ -37,7 +37,7 @@ abbrev pub HasShownNone : Desk → Desk → Type 0
 HasShownNone old new =
     (refusal : Refusal) × ((refusal ≡ Memory) ⊎ (refusal ≡ Database))
     × (HasCleanDisk new.store → (AreNamed old.store.now.trees → IsStoreFault IsUncounted old.store new.store refusal)
-    × Spares old.store new.store)
+    × LeavesUnchanged old.store new.store)
     × HasTold refusal old.err new.err × (new.out ≡ old.out)
 
 -- a depot was inspected with this status: 0 where what it holds was written whole, else 1

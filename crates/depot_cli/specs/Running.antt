@@ -13,17 +13,17 @@ use Rattle.depot_jobs.specs.declared.line.CommandLine.{CommandLine}
 use Rattle.depot_jobs.specs.declared.line.CommandLine.TheVariants.{Alone, OnDepot, Program, Inspect, Batch}
 use Rattle.depot_jobs.specs.Requests.{Request}
 use Rattle.depot_cli.specs.Requests.{command_of, request_command}
-use Rattle.depot_cli.specs.declared.errand.Errand.{Errand}
+use Rattle.depot_cli.specs.declared.pending_task.PendingTask.{PendingTask}
 use Rattle.depot_cli.specs.declared.running.Next.{Next}
 use Rattle.depot_cli.specs.declared.running.Next.TheVariants as next
 
--- the file of a request was read, if it has one: the errand is the depot's name, and what the request
+-- the file of a request was read, if it has one: the task is the depot's name, and what the request
 -- asks of it with these octets
-pub record HasPrepared (depot : Text) (request : Request) (errand : Errand) (old new : HostState) : Type 0 where
+pub record HasPrepared (depot : Text) (request : Request) (pending : PendingTask) (old new : HostState) : Type 0 where
   pub octets : List ℕ
   pub read : HasReadFile (file_of request) octets old new
-  pub name : errand.name.now ≡ depot
-  pub command : command_of errand.task ≡ request_command request octets
+  pub name : pending.name.now ≡ depot
+  pub command : command_of pending.task ≡ request_command request octets
 
 -- it was not read, and the refusal was told
 pub record HasNotPrepared (request : Request) (status : ℕ) (old new : World) : Type 0 where
@@ -33,13 +33,13 @@ pub record HasNotPrepared (request : Request) (status : ℕ) (old new : World) :
   pub out : new.out ≡ old.out
   pub is_refused : status ≡ refused
 
--- What comes of a command. Work was done, with a status, and a request became an errand; or what they
+-- What comes of a command. Work was done, with a status, and a request became a task; or what they
 -- read was not read. Of all others nothing was done: they are handed on as whose program is saved,
 -- from which depot and as which file, as the file that is inspected, and as the depot of a batch.
 abbrev pub LeadsTo : CommandLine → Next → World → World → Type 0
 LeadsTo (Alone work) (next.Exit status) old new = HasWorked work status old new ⊎ HasNotWorked work status old new
-LeadsTo (OnDepot depot request) (next.Perform errand) old new =
-    HasPrepared depot.now request errand old.host new.host × (new.out ≡ old.out) × (new.err ≡ old.err)
+LeadsTo (OnDepot depot request) (next.Perform pending) old new =
+    HasPrepared depot.now request pending old.host new.host × (new.out ≡ old.out) × (new.err ≡ old.err)
 LeadsTo (OnDepot depot request) (next.Exit status) old new = HasNotPrepared request status old new
 LeadsTo (Program depot user out) (next.Save saving) old new =
     (saving.name.now ≡ depot.now) × (saving.user.now ≡ user.now) × (saving.out.now ≡ out.now) × (new ≡ old)

@@ -1,7 +1,7 @@
 -- What saving a user's program does.
 use Rattle.std.specs.Prelude.{◌≡◌, ◌⊎◌, ℕ, List, length, Option, None, Some, Result, Ok, Err, ⊤}
 use Rattle.sqlite.specs.State.{HasCleanDisk, State, Survives}
-use Rattle.part_store.specs.Standing.{Spares}
+use Rattle.part_store.specs.Standing.{LeavesUnchanged}
 use Rattle.depot_actions.specs.DepotState.{Does, Program, ProgramOf}
 use Rattle.encodings.specs.Device.{HasBroken, HasTaken}
 use Rattle.refusals.specs.declared.refusal.Refusal.{Refusal}
@@ -16,7 +16,7 @@ use Rattle.depot_cli.specs.declared.saving.Saving.{Saving}
 -- returns what was written
 abbrev pub HasGiven : List ℕ → Option (List ℕ) → State → State → Type 0
 HasGiven user program old new =
-    HasCleanDisk new → Does (ProgramOf user) (Program program) old new × Spares old new
+    HasCleanDisk new → Does (ProgramOf user) (Program program) old new × LeavesUnchanged old new
 
 -- the user has this program, and it was made the file
 abbrev pub HasSavedFile : Saving → List ℕ → State → State → HostState → HostState → Type 0

@@ -2,7 +2,7 @@
 use Rattle.std.specs.Prelude.{◌≡◌, ◌≢◌, ◌⊎◌, ℕ, List, map}
 use Rattle.sqlite.specs.State.{HasCleanDisk, State}
 use Rattle.sqlite_trees.specs.Tree.{Trees}
-use Rattle.part_store.specs.Standing.{Spares, listed}
+use Rattle.part_store.specs.Standing.{LeavesUnchanged, listed}
 use Rattle.part_store.specs.Refusals.{AreNamed}
 use Rattle.depot_actions.specs.Causes.{HasCause, IsExport, IsFault, MayRefuse}
 use Rattle.depot_actions.specs.DepotState.{Command, Does, MayLeave, Reply, SetScript, SetCode, ListAll}
@@ -66,7 +66,7 @@ HasFault command refusal old new = IsFault command old new refusal
 abbrev pub HasRefused : Command → Refusal → State → State → Type 0
 HasRefused command refusal old new =
     MayRefuse command refusal
-    × (HasCleanDisk new → HasCause refusal command old × HasFault command refusal old new × Spares old new)
+    × (HasCleanDisk new → HasCause refusal command old × HasFault command refusal old new × LeavesUnchanged old new)
 
 -- and the reply was written whole
 abbrev pub HasReplied : Command → Desk → Desk → Type 0

@@ -86,4 +86,4 @@ returns-clause-tried g c =
     (λ (trees : Trees). MayLeaveAll (map command_of ms) (state g.S.Store c.args.depot.now) trees)) c.deref-2.ensures.value c.deliver_mails.ensures.survives in
     let some : 0 < length (map command_of mails) = rw (length-map mails command_of) c.in-Some.ensures.some in
     withdrawn_late g.S.Store (lines_of cut) (map command_of mails) old new some
-    (first_few lines cut (drop c.len.result lines) (cut_rest lines cut c.len.result c.truncate.ensures.items) most_together c.requires.few) files c.in-None.ensures.spared survives refl
+    (first_few lines cut (drop c.len.result lines) (cut_rest lines cut c.len.result c.truncate.ensures.items) most_together c.requires.few) files c.in-None.ensures.unchanged survives refl

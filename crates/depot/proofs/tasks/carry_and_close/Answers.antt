@@ -1,6 +1,6 @@
-use Rattle.depot.specs.Errands.{answer}
+use Rattle.depot.specs.Tasks.{answer}
 use Rattle.depot.proofs.Carried.{ended, told}
-use Rattle.depot.proofs.errands.carry_and_close.Goals as goal
+use Rattle.depot.proofs.tasks.carry_and_close.Goals as goal
 
 pub returns : goal.returns
 returns g c = record {

@@ -1,5 +1,5 @@
 use Rattle.depot.proofs.Ended.{found_in}
-use Rattle.depot.proofs.errands.carry_from.Goals as goal
+use Rattle.depot.proofs.tasks.carry_from.Goals as goal
 
 pub returns : goal.returns
 returns g c = record {

@@ -1,4 +1,4 @@
-//! Errands, from the open of their depot to its close.
+//! Tasks, from the open of their depot to its close.
 //!
 //! The promises hold for any type that stands for what the files held. The program passes the one of which nothing is known (`Unknown`),
 //! since what a file of the system holds no contract can say: what it runs is the same code. So it is with batches, with programs that
@@ -8,18 +8,18 @@ ghost use Rattle.sqlite.specs.WalFiles.{image_at};
 ghost use Rattle.depot_cli.specs.Requests.{command_of};
 ghost use Rattle.depot.specs.Ending.{IsToldAs};
 ghost use Rattle.depot.specs.Private.{IsFound, IsLeftOf};
-ghost use Rattle.depot.specs.Errands.{HasEnded, answer};
+ghost use Rattle.depot.specs.Tasks.{HasEnded, answer};
 
 use crate::closing::{Left, close};
 use depot_actions::Depot;
-use depot_cli::{Errand, carry};
+use depot_cli::{PendingTask, carry};
 use encodings::Sink;
 use refusals::Refusal;
 use sqlite::{FileFrom, FileStore, Start};
 use sqlite_disk::Disk;
 use std::alloc::Global;
 
-/// Opens the depot that an errand names, has the errand carried to it, and closes it. Gives the status, and what is left of the files;
+/// Opens the depot that a task names, has the task carried to it, and closes it. Gives the status, and what is left of the files;
 /// none where the depot wasn't opened.
 ///
 /// `B` stands for what the two files held. Where they stood for a state and no lie of the disk was taken for true, a status of 0 means
@@ -30,37 +30,37 @@ use std::alloc::Global;
 /// in the body.
 pub fn carry_from<B: Start, O: Sink, E: Sink>(
     rt: &HostRuntime,
-    errand: &Errand<'_>,
+    pending: &PendingTask<'_>,
     start: B,
     out: &mut O,
     err: &mut E,
 ) -> (u8, Option<Left<FileFrom<B>>>)
     ensures ended { HasEnded
-        (answer (command_of errand.now.task) result.0 (O.output out.old) (E.output err.old)
+        (answer (command_of pending.now.task) result.0 (O.output out.old) (E.output err.old)
         (O.output out.new) (E.output err.new))
         (image_at B.Start) result.1 }
 {
-    let opened = Depot::open_from(rt, errand.name, start);
-    carry_and_close(rt.alloc(), errand, opened, out, err)
+    let opened = Depot::open_from(rt, pending.name, start);
+    carry_and_close(rt.alloc(), pending, opened, out, err)
 }
 
-// Carries an errand to what opening gave, and closes that.
+// Carries a task to what opening gave, and closes that.
 fn carry_and_close<D: Disk + Drop, O: Sink, E: Sink>(
     alloc: Global,
-    errand: &Errand<'_>,
+    pending: &PendingTask<'_>,
     opened: Result<Depot<FileStore<D>>, Refusal>,
     out: &mut O,
     err: &mut E,
 ) -> (u8, Option<Left<D>>)
     ensures ended { (image : Image) → IsFound image opened → HasEnded
-        (answer (command_of errand.now.task) result.0 (O.output out.old) (E.output err.old)
+        (answer (command_of pending.now.task) result.0 (O.output out.old) (E.output err.old)
         (O.output out.new) (E.output err.new))
         image result.1 }
     ensures told { IsLeftOf (λ e. IsToldAs e result.0 (O.output out.old) (E.output err.old)
         (O.output out.new) (E.output err.new)) opened result.1 }
 {
     let mut opened = opened;
-    let status = carry(alloc, errand, &mut opened, out, err);
+    let status = carry(alloc, pending, &mut opened, out, err);
     let left = close(opened);
     (status, left)
 }

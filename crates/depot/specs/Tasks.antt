@@ -1,4 +1,4 @@
--- What an errand answers, and what it leaves of its depot's files, from the open to the close.
+-- What a task answers, and what it leaves of its depot's files, from the open to the close.
 use Rattle.std.specs.Prelude.{◌≡◌, ◌≢◌, ◌⊎◌, ℕ, Option, Result}
 use Rattle.sqlite_disk.specs.declared.Disk.{Ghosts}
 use Rattle.sqlite_disk.specs.declared.Files.{Files}
@@ -15,7 +15,7 @@ use Rattle.depot_jobs.specs.Jobs.{HasTold}
 use Rattle.depot_cli.specs.Printed.{reply_text}
 use Rattle.depot.specs.Ending.{EndsSo, IsRefusedBy, IsToldAs, IsUnopened}
 
--- an errand's command, the status that it ends with, and standard output and standard error before it
+-- a task's command, the status that it ends with, and standard output and standard error before it
 -- and after it
 pub record Answer : Type 0 where
   pub command : Command
@@ -55,7 +55,7 @@ abbrev pub IsKept : Command → Entries → Entries → Entries → Type 0
 IsKept command before after held =
     (held ≡ after) ⊎ ((after ≡ before) × (reply : Reply) × Accepts before command reply held)
 
--- an errand ended, by what is left of files that held the image
+-- a task ended, by what is left of files that held the image
 abbrev pub HasEnded : {D : Type 0} {g : Ghosts D} → Answer → Image → Option (Result (Files D) (FileStore D g)) → Type 0
 HasEnded {D} {g} it image left =
     EndsSo g (IsAnswered it image) (λ left before after answered held. IsKept it.command before after held)
