@@ -153,7 +153,7 @@ What is no depot. Nothing is made there.
 Only if: command -v sqlite3 # there is no sqlite3
     $ sqlite3 file 'CREATE TABLE notes (text)'
     $ depot inspect file
-    no depot: its tables are others
+    no depot: it has other tables, or none
     [1]
 
 ## another process holds it
