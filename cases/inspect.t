@@ -156,6 +156,18 @@ Only if: command -v sqlite3 # there is no sqlite3
     no depot: it has other tables, or none
     [1]
 
+## a depot whose making was cut off
+Only if: command -v sqlite3 # there is no sqlite3
+    $ sqlite3 mail.depot 'CREATE TABLE notes (text)' 'DROP TABLE notes'
+    $ depot inspect mail.depot
+    no depot: it has other tables, or none
+    [1]
+    $ depot list mail.depot ann
+    none
+    $ depot inspect mail.depot | grep -v '^log '
+    depot
+    contents 0 octets 0
+
 ## another process holds it
 Only if: command -v sqlite3 # there is no sqlite3
     $ depot list mail.depot ann
