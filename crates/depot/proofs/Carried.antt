@@ -13,7 +13,7 @@ use Rattle.part_store.specs.Opening.{HoldsState, IsAt, IsReadyFrom}
 use Rattle.part_store.specs.Standing.{IsStored}
 use Rattle.refusals.specs.declared.refusal.Refusal.{Refusal}
 use Rattle.depot_cli.specs.Carrying.{HasCarried, OutlastsCarrying}
-use Rattle.depot_cli.specs.Tasks.{HasPerformed, MayAdd, desk}
+use Rattle.depot_cli.specs.Tasks.{HasPerformed, MayAdd, store_and_outputs}
 use Rattle.depot.specs.Ending.{HasCounted, IsToldAs}
 use Rattle.depot.specs.Private.{IsFound, IsLeftOf, IsShut}
 use Rattle.depot.specs.Tasks.{Answer, HasEnded, IsAnswered, IsKept}
@@ -29,7 +29,7 @@ record Did {D : Type 0} {g : Ghosts D} (it : Answer) (image : Image) (left : Res
 module _ {D : Type 0} (g : Ghosts D) where
   did : (old new : Held (FileStore D g)) (it : Answer) (image : Image) (left : Result (Files D) (FileStore D g)) (before : Entries) → IsReadyFrom image old → (file_state old).step_limit ≡ None
       → (file_state old).faults ≤ (file_state new).faults → HasCounted (file_state new).faults left → IsAt before (file_state old) → HasCleanDisk (file_state new)
-      → HasPerformed it.command it.status (desk (file_state old) it.out it.err) (desk (file_state new) it.out_after it.err_after) → Did it image left before new
+      → HasPerformed it.command it.status (store_and_outputs (file_state old) it.out it.err) (store_and_outputs (file_state new) it.out_after it.err_after) → Did it image left before new
   did old new it image left before ready unlimited counts counted at clean (inl (status, (reply, done, taken, quiet))) =
       let one = (done clean).1 before at.0 in
       record {
@@ -66,7 +66,7 @@ module _ {D : Type 0} (g : Ghosts D) where
 
   module _ (old new : Held (FileStore D g)) (stays : (file : D) → g.may_leave file (g.seen file)) (it : Answer) (image : Image) (left_of : Result (Files D) (FileStore D g)) (before : Entries)
       (found : IsFound image (Ok old)) (counted : HasCounted (file_state new).faults left_of) (at : IsAt before (file_state old)) (clean : HasCleanDisk (file_state new))
-      (performed : HasPerformed it.command it.status (desk (file_state old) it.out it.err) (desk (file_state new) it.out_after it.err_after))
+      (performed : HasPerformed it.command it.status (store_and_outputs (file_state old) it.out it.err) (store_and_outputs (file_state new) it.out_after it.err_after))
       (survives : Survives (file_state old) (file_state new) (MayAdd it.command (file_state old))) where
     made : Did it image left_of before new
     made = did old new it image left_of before found.0 found.1 survives.counts counted at clean performed

@@ -3,19 +3,19 @@
 
 mod batches;
 mod closing;
-mod tasks;
 mod looks;
 mod place;
 mod programs;
 mod streams;
+mod tasks;
 
 use crate::batches::serve_from;
-use crate::tasks::carry_from;
 use crate::looks::inspect_from;
 use crate::place::{Obstacle, look_at};
 use crate::programs::save_from;
 use crate::streams::hold_closed;
-use depot_cli::{PendingTask, Next, Saving, run, tell_no_depot};
+use crate::tasks::carry_from;
+use depot_cli::{Next, PendingTask, Saving, run, tell_no_depot};
 use depot_jobs::{Host, System, tell, tell_no_words, texts, words};
 use encodings::{OfRead, OfWrite, Sink};
 use refusals::Refusal;

@@ -19,7 +19,7 @@ use Rattle.depot_jobs.specs.Host.{HostState}
 use Rattle.depot_jobs.specs.Inputs.{HasReadFile}
 use Rattle.depot_jobs.specs.declared.request.OnDepot.TheVariants as requests
 use Rattle.depot_batch.specs.Asked.{Text}
-use Rattle.depot_batch.specs.Batch.{AreAnsweredBy, AreDeliveries, AreLookedUp, AreWithdrawn, IsAsked, IsDelivery, MayMakeAll, Office, filed_text, most_together}
+use Rattle.depot_batch.specs.Batch.{AreAnsweredBy, AreDeliveries, AreLookedUp, AreWithdrawn, IsAsked, IsDelivery, MayMakeAll, DepotAndOutput, filed_text, most_together}
 use Rattle.depot_batch.specs.Private.{IsPassedOver, command_of, filed_by, lines_of}
 use Rattle.depot_batch.specs.declared.asked.Asked.TheVariants.{Reply}
 use Rattle.depot_batch.specs.declared.mails.Mail.{Mail}
@@ -87,7 +87,7 @@ unchanged_still s = record { same = λ schema is_open. (refl, refl); stays_close
 
 module _ {S : Type 0} (g : Ghosts S) where
   -- lines were withdrawn before the depot was asked
-  pub withdrawn_early : (lines : List (List ℕ)) (old new : Office S) → 0 < length lines → length lines ≤ most_together → AreLookedUp lines old.host new.host → new.depot ≡ old.depot → new.out ≡ old.out
+  pub withdrawn_early : (lines : List (List ℕ)) (old new : DepotAndOutput S) → 0 < length lines → length lines ≤ most_together → AreLookedUp lines old.host new.host → new.depot ≡ old.depot → new.out ≡ old.out
       → AreWithdrawn g lines old new
   withdrawn_early lines old new some few files same out = record {
     some = some;
@@ -99,7 +99,7 @@ module _ {S : Type 0} (g : Ghosts S) where
   }
 
   -- they were withdrawn since it refused them
-  pub withdrawn_late : (lines : List (List ℕ)) (commands : List Command) (old new : Office S) → 0 < length commands → length lines ≤ most_together → AreDeliveries lines commands old.host new.host
+  pub withdrawn_late : (lines : List (List ℕ)) (commands : List Command) (old new : DepotAndOutput S) → 0 < length commands → length lines ≤ most_together → AreDeliveries lines commands old.host new.host
       → (HasCleanDisk (state g new.depot) → LeavesUnchanged (state g old.depot) (state g new.depot))
       → Survives (state g old.depot) (state g new.depot) (MayLeaveAll commands (state g old.depot)) → new.out ≡ old.out → AreWithdrawn g lines old new
   withdrawn_late lines commands old new some few files unchanged survives out = record {
@@ -112,7 +112,7 @@ module _ {S : Type 0} (g : Ghosts S) where
   }
 
   -- they were done
-  pub answered_together : (Written : List ℕ → Output → Output → Type 0) (lines : List (List ℕ)) (commands : List Command) (filed : List (List Listing)) (old new : Office S)
+  pub answered_together : (Written : List ℕ → Output → Output → Type 0) (lines : List (List ℕ)) (commands : List Command) (filed : List (List Listing)) (old new : DepotAndOutput S)
       → length lines ≤ most_together → AreDeliveries lines commands old.host new.host
       → (HasCleanDisk (state g new.depot) → DoesAll commands (map Listed filed) (state g old.depot) (state g new.depot))
       → Survives (state g old.depot) (state g new.depot) (MayLeaveAll commands (state g old.depot)) → Written (flat_map filed_text filed) old.out new.out

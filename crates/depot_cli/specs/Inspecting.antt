@@ -12,7 +12,7 @@ use Rattle.refusals.specs.declared.refusal.Refusal.{Refusal}
 use Rattle.refusals.specs.declared.refusal.Refusal.TheVariants.{Memory, Database, Write}
 use Rattle.depot_jobs.specs.Jobs.{HasTold}
 use Rattle.depot_cli.specs.Printed.{no_depot_text, overview_text}
-use Rattle.depot_cli.specs.Tasks.{Desk}
+use Rattle.depot_cli.specs.Tasks.{StoreAndOutputs}
 use Rattle.depot_cli.specs.declared.no_depot.NoDepot.{NoDepot}
 
 -- the depot told what it holds, and holds that still, as long as its disk returns what was written
@@ -22,18 +22,18 @@ HasSeen x old new =
     × ((before : Entries) → Stands old.now before → IsOverview old.now.trees before x) × LeavesUnchanged old new
 
 -- and that was written whole
-abbrev pub HasShownAll : Option ℕ → Desk → Desk → Type 0
+abbrev pub HasShownAll : Option ℕ → StoreAndOutputs → StoreAndOutputs → Type 0
 HasShownAll log old new = (x : Overview) × HasSeen x old.store new.store
     × HasTaken (overview_text log x) old.out new.out × (new.err ≡ old.err)
 
 -- or broke off
-abbrev pub HasShownSome : Option ℕ → Desk → Desk → Type 0
+abbrev pub HasShownSome : Option ℕ → StoreAndOutputs → StoreAndOutputs → Type 0
 HasShownSome log old new = (x : Overview) × HasSeen x old.store new.store
     × HasBroken (overview_text log x) old.out new.out × HasTold Write old.err new.err
 
 -- Or memory was refused, or the database failed, which has a cause where the users of the tables are
 -- texts; nothing was written, and the depot is as it was.
-abbrev pub HasShownNone : Desk → Desk → Type 0
+abbrev pub HasShownNone : StoreAndOutputs → StoreAndOutputs → Type 0
 HasShownNone old new =
     (refusal : Refusal) × ((refusal ≡ Memory) ⊎ (refusal ≡ Database))
     × (HasCleanDisk new.store → (AreNamed old.store.now.trees → IsStoreFault IsUncounted old.store new.store refusal)
@@ -41,7 +41,7 @@ HasShownNone old new =
     × HasTold refusal old.err new.err × (new.out ≡ old.out)
 
 -- a depot was inspected with this status: 0 where what it holds was written whole, else 1
-abbrev pub HasInspected : Option ℕ → ℕ → Desk → Desk → Type 0
+abbrev pub HasInspected : Option ℕ → ℕ → StoreAndOutputs → StoreAndOutputs → Type 0
 HasInspected log status old new =
     ((status ≡ 0) × HasShownAll log old new) ⊎ ((status ≡ 1) × (HasShownSome log old new ⊎ HasShownNone old new))
 

@@ -4,7 +4,7 @@ use Rattle.clap.specs.Words.{Text}
 use Rattle.refusals.specs.declared.refusal.Refusal.{Refusal}
 use Rattle.depot_jobs.specs.Host.{HostState}
 use Rattle.depot_jobs.specs.Inputs.{HasNotReadFile, HasReadFile, file_of}
-use Rattle.depot_jobs.specs.Jobs.{HasTold, World}
+use Rattle.depot_jobs.specs.Jobs.{HasTold, HostAndOutputs}
 use Rattle.depot_jobs.specs.Statuses.{refused}
 use Rattle.depot_jobs.specs.Usage.{HasNoLine}
 use Rattle.depot_jobs.specs.Words.{IsLine}
@@ -26,7 +26,7 @@ pub record HasPrepared (depot : Text) (request : Request) (pending : PendingTask
   pub command : command_of pending.task ≡ request_command request octets
 
 -- it was not read, and the refusal was told
-pub record HasNotPrepared (request : Request) (status : ℕ) (old new : World) : Type 0 where
+pub record HasNotPrepared (request : Request) (status : ℕ) (old new : HostAndOutputs) : Type 0 where
   pub refusal : Refusal
   pub unread : HasNotReadFile refusal (file_of request) old.host new.host
   pub told : HasTold refusal old.err new.err
@@ -36,7 +36,7 @@ pub record HasNotPrepared (request : Request) (status : ℕ) (old new : World) :
 -- What comes of a command. Work was done, with a status, and a request became a task; or what they
 -- read was not read. Of all others nothing was done: they are handed on as whose program is saved,
 -- from which depot and as which file, as the file that is inspected, and as the depot of a batch.
-abbrev pub LeadsTo : CommandLine → Next → World → World → Type 0
+abbrev pub LeadsTo : CommandLine → Next → HostAndOutputs → HostAndOutputs → Type 0
 LeadsTo (Alone work) (next.Exit status) old new = HasWorked work status old new ⊎ HasNotWorked work status old new
 LeadsTo (OnDepot depot request) (next.Perform pending) old new =
     HasPrepared depot.now request pending old.host new.host × (new.out ≡ old.out) × (new.err ≡ old.err)
@@ -48,7 +48,7 @@ LeadsTo (Batch depot) (next.Batch name) old new = (name.now ≡ depot.now) × (n
 LeadsTo _ _ old new = ⊥
 
 -- what comes of words: their command is carried out, or they say none
-abbrev pub HasRun : List Text → Next → World → World → Type 0
+abbrev pub HasRun : List Text → Next → HostAndOutputs → HostAndOutputs → Type 0
 HasRun words after old new =
     ((line : CommandLine) × IsLine words line × LeadsTo line after old new)
     ⊎ ((status : ℕ) × (after ≡ next.Exit status) × HasNoLine words status old new)

@@ -3,9 +3,9 @@ ghost use Rattle.sqlite.specs.Held.{state};
 ghost use Rattle.depot_cli.specs.Carrying.{HasCarried, HasReported, OutlastsCarrying, OutlastsReporting};
 ghost use Rattle.depot_cli.specs.Requests.{command_of};
 
-use crate::pending_task::PendingTask;
 use crate::inspection::inspect;
 use crate::no_depot::{NoDepot, tell_no_depot};
+use crate::pending_task::PendingTask;
 use crate::task::perform;
 use depot_actions::Depot;
 use depot_jobs::tell;

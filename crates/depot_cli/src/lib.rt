@@ -10,17 +10,17 @@
 
 mod carrying;
 mod entries;
-mod pending_task;
 mod inspection;
 mod no_depot;
+mod pending_task;
 mod running;
 mod saving;
 mod task;
 
 pub use carrying::{carry, inspect_opened};
-pub use pending_task::PendingTask;
 pub use inspection::inspect;
 pub use no_depot::{NoDepot, tell_no_depot};
+pub use pending_task::PendingTask;
 pub use running::{Next, run};
 pub use saving::{Saving, save};
 pub use task::{Reply, perform, put_reply, reply_to};

@@ -1,7 +1,7 @@
 // From the words of a command line to its status.
 ghost use Rattle.std.specs.Prelude.{◌≡◌, IfErr, IfOk, map};
 ghost use Rattle.depot_jobs.specs.Inputs.{HasNotReadFile, file_of};
-ghost use Rattle.depot_jobs.specs.Jobs.{world};
+ghost use Rattle.depot_jobs.specs.Jobs.{host_and_outputs};
 ghost use Rattle.depot_cli.specs.Running.{HasPrepared, HasRun, LeadsTo};
 
 use crate::pending_task::PendingTask;
@@ -42,8 +42,8 @@ pub fn run<'a, H: Host, O: Sink, E: Sink>(
     err: &mut E,
 ) -> Next<'a>
     ensures { HasRun (map (λ w. w.now) words.entry.now) result
-        (world (H.state host.old) (O.output out.old) (E.output err.old))
-        (world (H.state host.new) (O.output out.new) (E.output err.new)) }
+        (host_and_outputs (H.state host.old) (O.output out.old) (E.output err.old))
+        (host_and_outputs (H.state host.new) (O.output out.new) (E.output err.new)) }
 {
     match line_of(alloc, words) {
         Ok(line) => lead(alloc, line, host, out, err),
@@ -60,8 +60,8 @@ fn lead<'a, H: Host, O: Sink, E: Sink>(
     err: &mut E,
 ) -> Next<'a>
     ensures { LeadsTo line.entry result
-        (world (H.state host.old) (O.output out.old) (E.output err.old))
-        (world (H.state host.new) (O.output out.new) (E.output err.new)) }
+        (host_and_outputs (H.state host.old) (O.output out.old) (E.output err.old))
+        (host_and_outputs (H.state host.new) (O.output out.new) (E.output err.new)) }
 {
     match line {
         CommandLine::Alone(work) => Next::Exit(carry_out(alloc, work, host, out, err)),

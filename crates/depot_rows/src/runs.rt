@@ -2,7 +2,7 @@
 
 use crate::shelf::{Asked, Known, Shelf};
 use depot_actions::Depot;
-use depot_cli::{PendingTask, Next, Saving, inspect, perform, run, save};
+use depot_cli::{Next, PendingTask, Saving, inspect, perform, run, save};
 use depot_jobs::{Host, tell};
 use encodings::{OfWrite, Sink};
 use std::alloc::Global;
@@ -30,7 +30,12 @@ struct Seen {
 }
 
 // Carries a task to an empty depot in memory, and gives the status.
-fn carry<O: Sink, E: Sink>(alloc: Global, pending: &PendingTask<'_>, out: &mut O, err: &mut E) -> u8 {
+fn carry<O: Sink, E: Sink>(
+    alloc: Global,
+    pending: &PendingTask<'_>,
+    out: &mut O,
+    err: &mut E,
+) -> u8 {
     match Depot::in_memory(alloc) {
         Ok(opened) => {
             let mut depot = opened;
