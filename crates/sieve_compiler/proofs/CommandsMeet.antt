@@ -9,7 +9,7 @@ use Rattle.bytecode_format.specs.Operations.{operation_of}
 use Rattle.bytecode_verifier.specs.Loops.{same_loops}
 use Rattle.bytecode_verifier.specs.Rows.{row_named, is_jump}
 use Rattle.mime_decode.specs.Mail.{Mail}
-use Rattle.mime_decode.specs.Scope.{visited}
+use Rattle.mime_decode.specs.Visited.{visited}
 use Rattle.octets.specs.Limits.{max_loops}
 use Rattle.sieve_check.specs.declared.typed.Act.{Act}
 use Rattle.sieve_check.specs.declared.typed.Act.TheVariants.{Leave, Stop}

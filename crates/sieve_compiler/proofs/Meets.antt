@@ -7,7 +7,7 @@ use Rattle.bytecode_format.specs.Code.{Code}
 use Rattle.bytecode_verifier.specs.Loops.{same_loops}
 use Rattle.bytecode_verifier.specs.Rows.{row_named, is_jump}
 use Rattle.mime_decode.specs.Mail.{Mail, IsMail}
-use Rattle.mime_decode.specs.Scope.{visited}
+use Rattle.mime_decode.specs.Visited.{visited}
 use Rattle.octets.specs.Limits.{max_loops}
 use Rattle.sieve_check.specs.Bounded.{IsBoundedCommand, AreBoundedCommands, AreBoundedBranches, IsCommandIn, AreCommandsIn, AreBranchesIn, IsBounded}
 use Rattle.sieve_check.specs.Typed.{CommandForm, does, for_every_part, choice, CommandForms, no_command, command, BranchForms, no_branch, otherwise, branch}

@@ -6,7 +6,6 @@ ghost use Rattle.mail_matching.specs.FirstMatch.{first_match};
 ghost use Rattle.mail_matching.specs.HeaderTests.{header_finding, header_match};
 ghost use Rattle.mail_matching.specs.Outcomes.{after};
 ghost use Rattle.mail_matching.specs.PartTests.{body_finding, body_match, digest_finding, digest_match};
-ghost use Rattle.mail_matching.specs.Selection.{scope_of, selector_of};
 ghost use Rattle.mail_matching.specs.Texts.{AreTexts};
 ghost use Rattle.sieve_meaning.specs.Evaluation.{texts_in};
 ghost use Rattle.sieve_meaning.specs.Meaning.{answer, current, is_size};
@@ -91,12 +90,12 @@ fn fields<'m>(
     ensures outcome { IfOk result
         (λ reply. (captures : List (List ℕ))
         → after reply.outcome captures
-        ≡ header_match test.how (scope_of test.scope) subject.entry.part
-        (selector_of test.selector texts.now.params.items) texts.now.names.items
+        ≡ header_match test.how test.scope subject.entry.part
+        test.selector texts.now.params.items texts.now.names.items
         texts.now.keys.items subject.entry.message.now captures) }
     ensures found { IfOk result (λ reply. reply.found
-        ≡ Some (shortened most (header_finding test.how (scope_of test.scope) subject.entry.part
-        (selector_of test.selector texts.now.params.items) texts.now.names.items
+        ≡ Some (shortened most (header_finding test.how test.scope subject.entry.part
+        test.selector texts.now.params.items texts.now.names.items
         texts.now.keys.items subject.entry.message.now))) }
 {
     let Texts {

@@ -1,7 +1,7 @@
 // Commands, done and told.
 ghost use Rattle.std.specs.Prelude.{◌≡◌, ◌∷◌, ℕ, List, IfErr, IfOk, option_map};
 ghost use Rattle.std.specs.Borrow.{Bor};
-ghost use Rattle.mime_decode.specs.Scope.{visited};
+ghost use Rattle.mime_decode.specs.Visited.{visited};
 ghost use Rattle.sieve_check.specs.Bounded.{AreBoundedCommands, IsBoundedCommand};
 ghost use Rattle.sieve_check.specs.TypedView.{command_form, commands_form};
 ghost use Rattle.sieve_meaning.specs.Evaluation.{HasEvaluated};
