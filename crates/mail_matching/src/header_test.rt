@@ -1,12 +1,12 @@
 // The test `header`.
-ghost use Rattle.std.specs.Prelude.{◌≡◌, ◌<◌, ◌^◌, ℕ, All, List, IfOk, IfSome, IsOk, OnOk, length};
-ghost use Rattle.mail_matching.specs.Selection.{selected_values};
+ghost use Rattle.std.specs.Prelude.{◌≡◌, ◌<◌, ◌^◌, ℕ, All, List, IfOk, IfSome, IsOk, length};
 ghost use Rattle.mail_matching.specs.Headers.{selected_in_all};
 ghost use Rattle.mail_matching.specs.Costs as costs;
-ghost use Rattle.mail_matching.specs.Findings.{finding_of, shortened};
+ghost use Rattle.mail_matching.specs.Findings.{shortened};
 ghost use Rattle.mail_matching.specs.HeaderTests.{header_cost, header_finding, header_match, AreUnfolded, headers_in_scope};
 ghost use Rattle.mail_matching.specs.Outcomes.{after};
 ghost use Rattle.mail_matching.specs.Private.{GoesOn};
+ghost use Rattle.mail_matching.specs.Selection.{selected_values};
 ghost use Rattle.mail_matching.specs.Texts.{AreTexts};
 ghost use Rattle.mail_matching.specs.declared.finding.Finding.TheVariants.{NoneOf};
 ghost use Rattle.mail_matching.specs.declared.outcome.Outcome.TheVariants.{Fails};
