@@ -153,8 +153,20 @@ What is no depot. Nothing is made there.
 Only if: command -v sqlite3 # there is no sqlite3
     $ sqlite3 file 'CREATE TABLE notes (text)'
     $ depot inspect file
-    no depot: its tables are others
+    no depot: it has other tables, or none
     [1]
+
+## a depot whose making was cut off
+Only if: command -v sqlite3 # there is no sqlite3
+    $ sqlite3 mail.depot 'CREATE TABLE notes (text)' 'DROP TABLE notes'
+    $ depot inspect mail.depot
+    no depot: it has other tables, or none
+    [1]
+    $ depot list mail.depot ann
+    none
+    $ depot inspect mail.depot | grep -v '^log '
+    depot
+    contents 0 octets 0
 
 ## another process holds it
 Only if: command -v sqlite3 # there is no sqlite3

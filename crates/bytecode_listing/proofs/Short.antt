@@ -23,7 +23,8 @@ use Rattle.bytecode_listing.specs.declared.wording.Facet.TheVariants.{Match, Com
 use Rattle.bytecode_listing.specs.Wording.{words, word_of, both, match_words, scope_words, selection_words, counts_words, said_a}
 use Rattle.bytecode_listing.specs.declared.comments.Table.{Table}
 use Rattle.bytecode_listing.specs.declared.comments.Table.TheVariants.{Strings, Numbers, Instructions}
-use Rattle.bytecode_listing.specs.Listing.{is_plain, two_digits, escaped_octet, quoted, shown, table_of, entry_text, in_words, told, meant, comment, added, scaled_text, share_notes, refused_at, refusal_notes}
+use Rattle.bytecode_listing.specs.Listing.{shown, table_of, entry_text, in_words, told, meant, comment, added, scaled_text, share_notes, refused_at, refusal_notes}
+use Rattle.bytecode_listing.specs.Quoted.{escaped_octet, is_plain, quoted, two_digits}
 
 abbrev IsShort : Option (List ℕ) → Type 0
 IsShort None = Unit {0}

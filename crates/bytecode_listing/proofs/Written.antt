@@ -9,7 +9,8 @@ use Rattle.std.proofs.lemmas.Bool.Decides.{nat_tests}
 use Rattle.bytecode_format.specs.Operations.{operation_of}
 use Rattle.bytecode_format.specs.declared.operation.Operation.{Operation}
 use Rattle.bytecode_listing.specs.Names.{name_of, named_among, octet_named}
-use Rattle.bytecode_listing.specs.Listing.{two_digits, is_plain, escaped_octet, quoted, title, operation_text}
+use Rattle.bytecode_listing.specs.Listing.{title, operation_text}
+use Rattle.bytecode_listing.specs.Quoted.{escaped_octet, is_plain, quoted, two_digits}
 use Rattle.bytecode_listing.specs.Tokens.{InText, is_word_octet, tokens_from, tokens_of}
 use Rattle.bytecode_listing.specs.Labels.{◌>>=◌}
 use Rattle.bytecode_listing.specs.Items.{Tokens, word_at, text_at, left_at, octet_in, octet_at, found, operation_at}

@@ -1,7 +1,7 @@
 -- The listing of a program.
-use Rattle.std.specs.Prelude.{ℕ, suc, ◌/◌, ◌%◌, ◌^◌, ◌<◌, ◌==◌, ◌&&◌, ◌||◌, nat_le, nat_lt, not, Bool, false, List, [], ◌∷◌, ◌++◌, length, take, All, Option, Some, None, slice_get, option_map, option_and_then, if◌then◌else◌, codes}
+use Rattle.std.specs.Prelude.{ℕ, suc, ◌^◌, ◌<◌, ◌==◌, nat_lt, List, [], ◌∷◌, ◌++◌, length, All, Option, Some, None, slice_get, option_map, option_and_then, if◌then◌else◌, codes}
 use Rattle.std.specs.List.{flat_map}
-use Rattle.std.specs.Fmt.{decimal, digit_glyph}
+use Rattle.std.specs.Fmt.{decimal}
 use Rattle.bytecode_format.specs.Code.{Code}
 use Rattle.bytecode_format.specs.Operations.{operation_of}
 use Rattle.bytecode_format.specs.declared.instruction.Instruction.{Instruction}
@@ -16,6 +16,7 @@ use Rattle.refusals.specs.Lines.{name_of as refusal_name, number_of, place_of}
 use Rattle.refusals.specs.declared.refusal.Refusal.{Refusal}
 use Rattle.bytecode_verifier.specs.declared.share.Share.{Share}
 use Rattle.bytecode_listing.specs.Names.{name_of}
+use Rattle.bytecode_listing.specs.Quoted.{cut, quoted, two_digits}
 use Rattle.bytecode_listing.specs.Wording.{a_words, after_a, said_a}
 use Rattle.bytecode_listing.specs.declared.comments.Table.{Table}
 use Rattle.bytecode_listing.specs.declared.comments.Table.TheVariants.{Strings, Numbers, Instructions}
@@ -23,22 +24,6 @@ use Rattle.bytecode_listing.specs.declared.comments.Table.TheVariants.{Strings, 
 -- a line: its text and LF
 abbrev pub line : List ℕ → List ℕ
 line text = text ++ 10 ∷ []
-
--- an octet as two lower-case hexadecimal digits
-abbrev pub two_digits : ℕ → List ℕ
-two_digits octet = digit_glyph false (octet / 16) ∷ digit_glyph false (octet % 16) ∷ []
-
--- an octet that stands for itself between quotes: 32 to 126 without the quote and the backslash
-abbrev pub is_plain : ℕ → Bool
-is_plain octet = (nat_le 32 octet && nat_le octet 126) && not (octet == 34 || octet == 92)
-
--- an octet between quotes: itself, or a backslash and its two digits
-abbrev pub escaped_octet : ℕ → List ℕ
-escaped_octet octet = if is_plain octet then octet ∷ [] else 92 ∷ two_digits octet
-
--- octets between quotes
-abbrev pub quoted : List ℕ → List ℕ
-quoted octets = 34 ∷ (flat_map escaped_octet octets ++ 34 ∷ [])
 
 -- an operation: its name, or OP and the octet that names none
 abbrev pub title : ℕ → Option Operation → List ℕ
@@ -81,10 +66,7 @@ max_shown = 40
 
 -- a string in a comment: between quotes; of a longer one the first octets, and dots
 abbrev pub shown : List ℕ → List ℕ
-shown text =
-    if nat_le (length text) max_shown
-    then quoted text
-    else quoted (take max_shown text) ++ codes "..."
+shown text = cut max_shown (codes "...") text
 
 -- what a place in a table refers to: the string, the number in decimal digits, or the place of the
 -- instruction; None outside of the table

@@ -5,8 +5,9 @@ ghost use Rattle.bytecode_listing.specs.Listing.{comment, entry_text, meant, sho
 ghost use Rattle.bytecode_listing.specs.declared.wording.Facet.TheVariants.{Scope};
 ghost use Rattle.bytecode_listing.specs.Wording.{counts_words, match_words, said_a, scope_words, selection_words, word_of};
 
+use crate::quoting::put_cut;
 use crate::wording::{Facet, word_of};
-use crate::writing::{put_number, put_quoted};
+use crate::writing::put_number;
 use bytecode_format::{Instruction, Operation, Program, TestCounts};
 use bytecode_verifier::row_of;
 use std::alloc::AllocError;
@@ -43,12 +44,7 @@ fn put_text(out: &mut Vec<u8>, text: &[u8]) -> Result<(), AllocError>
     ensures { OnOk result (out.new.items ≡ out.old.items ++ (codes " ; " ++ shown text.now)) }
 {
     out.extend_from_slice(b" ; ")?;
-    if text.len() <= MAX_SHOWN {
-        return put_quoted(out, text);
-    }
-    let (beginning, _) = text.split_at(MAX_SHOWN);
-    put_quoted(out, beginning)?;
-    out.extend_from_slice(b"...")
+    put_cut(out, text, MAX_SHOWN, b"...")
 }
 
 // Appends the comment of a number, after this word.

@@ -1,5 +1,5 @@
 // The items of a listing, one at a time: each reader gives what it read and what is left after it.
-ghost use Rattle.std.specs.Prelude.{◌≡◌, ℕ, List, ◌+◌, ◌*◌, ◌-◌, ◌^◌, ◌&&◌, ◌≤◌, ◌<◌, nat_lt, length, IfOk, Some, None, if◌then◌else◌, codes};
+ghost use Rattle.std.specs.Prelude.{◌≡◌, ℕ, List, ◌+◌, ◌*◌, ◌-◌, ◌^◌, ◌&&◌, ◌≤◌, ◌<◌, IfOk, Some, None, if◌then◌else◌, codes};
 ghost use Rattle.std.specs.Char.{is_ascii_digit};
 ghost use Rattle.bytecode_listing.specs.Tokens.{tokens_of};
 ghost use Rattle.bytecode_listing.specs.Items.{keyword_at, field_number, number_at, is_within, value_from, octet_in, octet_at, operation_at, field_at, round_at, fields_at, a_value, a_field, a_at, keys_after, counts_at, counted_at, name_at, target_at, target_field, c_at, place_at, max_count, draft_at, label_at, line_at, number_item, string_item};

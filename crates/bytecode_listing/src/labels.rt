@@ -1,9 +1,5 @@
 // The places that names and strings stand for.
 ghost use Rattle.std.specs.Prelude.{◌≡◌, ℕ, List, [], None, Some, MatchResult};
-ghost use Rattle.std.specs.Borrow.{Bor};
-ghost use Rattle.std.specs.BTreeMap.{get_by};
-ghost use Rattle.std.specs.Ordering.{nat_cmp};
-ghost use Rattle.std.specs.Cmp.Lexicographic.{slice_cmp};
 ghost use Rattle.bytecode_listing.specs.Labels.{place_of, double_after, looked_up, c_of, instruction_of, instructions_in, resolved};
 ghost use Rattle.bytecode_listing.specs.declared.drafts.Line.{Line};
 ghost use Rattle.bytecode_listing.specs.declared.error.ReadError.TheVariants.{At};

@@ -10,6 +10,7 @@ mod labels;
 pub mod laws;
 mod names;
 mod notes;
+pub mod quoting;
 mod strings;
 mod tokens;
 mod wording;
@@ -18,6 +19,4 @@ mod writing;
 pub use assembling::assemble;
 pub use error::{FaultKind, ListingError};
 pub use names::name_of;
-pub use writing::{
-    disassemble, disassemble_accepted, disassemble_refused, put_instruction, put_quoted,
-};
+pub use writing::{disassemble, disassemble_accepted, disassemble_refused, put_instruction};

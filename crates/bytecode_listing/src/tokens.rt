@@ -1,5 +1,5 @@
 // The tokens of a listing, one at a time.
-ghost use Rattle.std.specs.Prelude.{◌≡◌, ◌∷◌, ◌≤◌, ◌<◌, [], length, MatchOption, MatchResult, is_ok};
+ghost use Rattle.std.specs.Prelude.{◌≡◌, ◌≤◌, ◌<◌, [], length, MatchResult, is_ok};
 ghost use Rattle.std.specs.List.{take_while};
 ghost use Rattle.bytecode_listing.specs.Tokens.{Comment, InText, Text, is_white, is_word_octet, tokens_of, tokens_from};
 ghost use Rattle.bytecode_listing.specs.Items.{word_at, text_in, text_at, left_at, is_left, begins_with, begins_number};

@@ -1,5 +1,5 @@
 // Words in the place of numbers: how a test compares, and what it looks at.
-ghost use Rattle.std.specs.Prelude.{◌≡◌, ◌+◌, ◌*◌, ◌<◌, ◌≤◌, map, bytes_eq, unwrap_or, length, option_map, IfSome};
+ghost use Rattle.std.specs.Prelude.{◌≡◌, ◌+◌, ◌*◌, ◌<◌, map, bytes_eq, unwrap_or, length, option_map, IfSome};
 ghost use Rattle.std.specs.List.{position};
 ghost use Rattle.bytecode_listing.specs.Tokens.{tokens_of};
 ghost use Rattle.bytecode_listing.specs.Items.{facet_at, joined, match_at, worded_at, selection_at};

@@ -1,14 +1,15 @@
 // Programs as listings.
-ghost use Rattle.std.specs.Prelude.{◌≡◌, ◌++◌, ◌<◌, false, All, IfOk, OnOk};
+ghost use Rattle.std.specs.Prelude.{◌≡◌, ◌++◌, All, IfOk, OnOk};
 ghost use Rattle.std.specs.List.{flat_map};
-ghost use Rattle.std.specs.Fmt.{decimal, digit_glyph};
-ghost use Rattle.bytecode_listing.specs.Listing.{is_plain, two_digits, escaped_octet, quoted, operation_text, field_text, fields_text, instruction_text, instruction_line, instruction_lines, number_line, string_line, line, listing_of, listing_with, accepted_listing, refused_listing, AreOctets};
+ghost use Rattle.std.specs.Fmt.{decimal};
+ghost use Rattle.bytecode_listing.specs.Listing.{operation_text, field_text, fields_text, instruction_text, instruction_line, instruction_lines, number_line, string_line, line, listing_of, listing_with, accepted_listing, refused_listing, AreOctets};
 ghost use Rattle.bytecode_listing.specs.Items.{Lists};
 ghost use Rattle.bytecode_listing.specs.Noted.{notes_in};
 
 use crate::comments::put_comment;
 use crate::names::name_of;
 use crate::notes::{Notes, put_note};
+use crate::quoting::{put_quoted, two_digits};
 use bytecode_format::{Instruction, Operation, Program};
 use bytecode_verifier::{Refusal, Verified};
 use itoa::Buffer;
@@ -22,61 +23,6 @@ pub(crate) fn put_number(out: &mut Vec<u8>, number: u64) -> Result<(), AllocErro
     out.extend_from_slice(Buffer::new().format(number as u128).as_bytes())
 }
 
-// A hexadecimal digit.
-fn digit(n: u8) -> u8
-    requires { n < 16 }
-    ensures { result ≡ digit_glyph false n }
-{
-    if n < 10 { b'0' + n } else { b'a' - 10 + n }
-}
-
-// Appends an octet as two hexadecimal digits.
-fn put_digits(out: &mut Vec<u8>, octet: u8) -> Result<(), AllocError>
-    ensures { OnOk result (out.new.items ≡ out.old.items ++ two_digits octet) }
-{
-    out.extend_from_slice(&[digit(octet / 16), digit(octet % 16)])
-}
-
-// Whether an octet stands for itself between quotes.
-fn is_plain(octet: u8) -> bool
-    ensures { result ≡ is_plain octet }
-{
-    matches!(octet, 32..=126) && !matches!(octet, b'"' | b'\\')
-}
-
-// Appends an octet between quotes.
-fn put_octet(out: &mut Vec<u8>, octet: u8) -> Result<(), AllocError>
-    ensures { OnOk result (out.new.items ≡ out.old.items ++ escaped_octet octet) }
-{
-    if is_plain(octet) {
-        Ok(out.push(octet)?)
-    } else {
-        out.push(b'\\')?;
-        put_digits(out, octet)
-    }
-}
-
-// Appends octets as they stand between quotes.
-fn put_escaped(out: &mut Vec<u8>, octets: &[u8]) -> Result<(), AllocError>
-    ensures { OnOk result (out.new.items ≡ out.old.items ++ flat_map escaped_octet octets.now) }
-{
-    'octets: for octet in octets {
-        put_octet(out, *octet)?;
-    }
-    Ok(())
-}
-
-/// Appends octets between quotes, as the strings of a listing.
-///
-/// An error comes only where memory was refused.
-pub fn put_quoted(out: &mut Vec<u8>, octets: &[u8]) -> Result<(), AllocError>
-    ensures { OnOk result (out.new.items ≡ out.old.items ++ quoted octets.now) }
-{
-    out.push(b'"')?;
-    put_escaped(out, octets)?;
-    Ok(out.push(b'"')?)
-}
-
 // Appends an operation's name, or OP and the octet that names none.
 fn put_operation(out: &mut Vec<u8>, octet: u8) -> Result<(), AllocError>
     ensures { OnOk result (out.new.items ≡ out.old.items ++ operation_text octet) }
@@ -85,7 +31,7 @@ fn put_operation(out: &mut Vec<u8>, octet: u8) -> Result<(), AllocError>
         out.extend_from_slice(name_of(operation))
     } else {
         out.extend_from_slice(b"OP ")?;
-        put_digits(out, octet)
+        out.extend_from_slice(&two_digits(octet))
     }
 }
 

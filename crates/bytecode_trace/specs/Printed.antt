@@ -1,5 +1,5 @@
 -- The line of a step, and the trace of a program on a message.
-use Rattle.std.specs.Prelude.{ℕ, ◌-◌, true, false, List, [], ◌∷◌, ◌++◌, length, take, slice_get, nat_le, codes, Option, None, Some, option_map, if◌then◌else◌}
+use Rattle.std.specs.Prelude.{ℕ, ◌-◌, true, false, List, [], ◌∷◌, ◌++◌, slice_get, codes, Option, None, Some, option_map}
 use Rattle.std.specs.List.{flat_map}
 use Rattle.std.specs.Option.{option_map_or}
 use Rattle.std.specs.Fmt.{decimal}
@@ -8,7 +8,8 @@ use Rattle.bytecode_format.specs.Operations.{operation_of}
 use Rattle.bytecode_format.specs.declared.instruction.Instruction.{Instruction}
 use Rattle.bytecode_format.specs.declared.operation.Operation.{Operation}
 use Rattle.bytecode_format.specs.declared.operation.Operation.TheVariants.{Halt, Literal, Variable, Capture, Join, Set as SetOp, Bool as BoolOp, Not, Jump, JumpIfTrue, JumpIfFalse, Header, Exists, String, Size, PartSize, PartBody, PartDigest, Keep, Discard, File, Store, Each, Next, Break, Take}
-use Rattle.bytecode_listing.specs.Listing.{instruction_text, quoted}
+use Rattle.bytecode_listing.specs.Listing.{instruction_text}
+use Rattle.bytecode_listing.specs.Quoted.{quoted_start}
 use Rattle.mime_decode.specs.Mail.{Mail}
 use Rattle.sieve_vm.specs.State.{Value, truth, text, current_part}
 use Rattle.sieve_vm.specs.Lent.{top}
@@ -16,19 +17,11 @@ use Rattle.bytecode_trace.specs.Steps.{TakenStep, steps_of}
 use Rattle.bytecode_trace.specs.declared.telling.Told.{Told}
 use Rattle.bytecode_trace.specs.declared.telling.Told.TheVariants.{Left, Taken, Set, Nothing}
 
--- how many octets are printed of a text
-abbrev pub max_shown : ℕ
-max_shown = 80
-
--- a text between quotes, as a listing has it; of a longer one the first octets, and two dots
-abbrev pub shown : List ℕ → List ℕ
-shown octets = if nat_le (length octets) max_shown then quoted octets else quoted (take max_shown octets) ++ codes ".."
-
 -- a value of the stack or of a variable
 abbrev pub value_text : Value → List ℕ
 value_text (truth true) = codes "yes"
 value_text (truth false) = codes "no"
-value_text (text octets) = shown octets
+value_text (text octets) = quoted_start octets
 
 -- a part, by its number
 abbrev pub part_text : ℕ → List ℕ

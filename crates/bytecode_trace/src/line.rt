@@ -5,18 +5,16 @@ ghost use Rattle.bytecode_format.specs.Code.{Code};
 ghost use Rattle.sieve_vm.specs.Lent.{value_of};
 ghost use Rattle.sieve_vm.specs.Moment.{goes_on, state_at, turn_at};
 ghost use Rattle.sieve_vm.specs.State.{State};
-ghost use Rattle.bytecode_trace.specs.Printed.{column, part_text, shown, step_line, value_text};
+ghost use Rattle.bytecode_trace.specs.Printed.{column, part_text, step_line, value_text};
 ghost use Rattle.bytecode_trace.specs.Private.{IsBegun, beginning, told_after, told_before};
 
 use crate::telling::{Told, told_of};
 use bytecode_format::{Instruction, Operation};
-use bytecode_listing::{put_instruction, put_quoted};
+use bytecode_listing::put_instruction;
+use bytecode_listing::quoting::put_quoted_start;
 use itoa::Buffer;
 use sieve_vm::{Progress, StackValue};
 use std::alloc::{AllocError, Global};
-
-/// How many octets are printed of a text.
-const MAX_SHOWN: usize = 80;
 
 /// What is known of a step before it is taken.
 #[derive(Drop)]
@@ -40,18 +38,6 @@ fn put_number(out: &mut Vec<u8>, number: u128) -> Result<(), AllocError>
     out.extend_from_slice(Buffer::new().format(number).as_bytes())
 }
 
-// Appends a text between quotes; of a long one the first octets, and two dots.
-fn put_shown(out: &mut Vec<u8>, octets: &[u8]) -> Result<(), AllocError>
-    ensures { OnOk result (out.new.items ≡ out.old.items ++ shown octets.now) }
-{
-    if octets.len() <= MAX_SHOWN {
-        return put_quoted(out, octets);
-    }
-    let (beginning, _) = octets.split_at(MAX_SHOWN);
-    put_quoted(out, beginning)?;
-    out.extend_from_slice(b"..")
-}
-
 // Appends a value.
 fn put_value(out: &mut Vec<u8>, value: StackValue<'_>) -> Result<(), AllocError>
     ensures { OnOk result (out.new.items ≡ out.old.items ++ value_text (value_of value.entry)) }
@@ -59,7 +45,7 @@ fn put_value(out: &mut Vec<u8>, value: StackValue<'_>) -> Result<(), AllocError>
     match value {
         StackValue::Truth(true) => out.extend_from_slice(b"yes"),
         StackValue::Truth(false) => out.extend_from_slice(b"no"),
-        StackValue::Text(octets) => put_shown(out, octets),
+        StackValue::Text(octets) => put_quoted_start(out, octets),
     }
 }
 

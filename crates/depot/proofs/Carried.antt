@@ -1,4 +1,4 @@
--- An errand from the open of its files to their close.
+-- A task from the open of its files to their close.
 use Rattle.std.proofs.Common.{◌≡◌, ◌⊎◌, ◌≤◌, inl, inr, IsTrue, Option, Some, None, Result, Ok, Err, refl, sym, arith}
 use Rattle.sqlite_disk.specs.declared.Disk.{Ghosts}
 use Rattle.sqlite_disk.specs.declared.Files.{Files}
@@ -13,10 +13,10 @@ use Rattle.part_store.specs.Opening.{HoldsState, IsAt, IsReadyFrom}
 use Rattle.part_store.specs.Standing.{IsStored}
 use Rattle.refusals.specs.declared.refusal.Refusal.{Refusal}
 use Rattle.depot_cli.specs.Carrying.{HasCarried, OutlastsCarrying}
-use Rattle.depot_cli.specs.Tasks.{HasPerformed, MayAdd, desk}
+use Rattle.depot_cli.specs.Tasks.{HasPerformed, MayAdd, store_and_outputs}
 use Rattle.depot.specs.Ending.{HasCounted, IsToldAs}
 use Rattle.depot.specs.Private.{IsFound, IsLeftOf, IsShut}
-use Rattle.depot.specs.Errands.{Answer, HasEnded, IsAnswered, IsKept}
+use Rattle.depot.specs.Tasks.{Answer, HasEnded, IsAnswered, IsKept}
 use Rattle.depot.proofs.Ended.{Came, at_state, ends, left_by, left_open, refused_by, still_at}
 
 -- what a command came to, and the depot at that
@@ -29,7 +29,7 @@ record Did {D : Type 0} {g : Ghosts D} (it : Answer) (image : Image) (left : Res
 module _ {D : Type 0} (g : Ghosts D) where
   did : (old new : Held (FileStore D g)) (it : Answer) (image : Image) (left : Result (Files D) (FileStore D g)) (before : Entries) → IsReadyFrom image old → (file_state old).step_limit ≡ None
       → (file_state old).faults ≤ (file_state new).faults → HasCounted (file_state new).faults left → IsAt before (file_state old) → HasCleanDisk (file_state new)
-      → HasPerformed it.command it.status (desk (file_state old) it.out it.err) (desk (file_state new) it.out_after it.err_after) → Did it image left before new
+      → HasPerformed it.command it.status (store_and_outputs (file_state old) it.out it.err) (store_and_outputs (file_state new) it.out_after it.err_after) → Did it image left before new
   did old new it image left before ready unlimited counts counted at clean (inl (status, (reply, done, taken, quiet))) =
       let one = (done clean).1 before at.0 in
       record {
@@ -66,7 +66,7 @@ module _ {D : Type 0} (g : Ghosts D) where
 
   module _ (old new : Held (FileStore D g)) (stays : (file : D) → g.may_leave file (g.seen file)) (it : Answer) (image : Image) (left_of : Result (Files D) (FileStore D g)) (before : Entries)
       (found : IsFound image (Ok old)) (counted : HasCounted (file_state new).faults left_of) (at : IsAt before (file_state old)) (clean : HasCleanDisk (file_state new))
-      (performed : HasPerformed it.command it.status (desk (file_state old) it.out it.err) (desk (file_state new) it.out_after it.err_after))
+      (performed : HasPerformed it.command it.status (store_and_outputs (file_state old) it.out it.err) (store_and_outputs (file_state new) it.out_after it.err_after))
       (survives : Survives (file_state old) (file_state new) (MayAdd it.command (file_state old))) where
     made : Did it image left_of before new
     made = did old new it image left_of before found.0 found.1 survives.counts counted at clean performed
@@ -92,7 +92,7 @@ module _ {D : Type 0} (g : Ghosts D) where
     came : Came g (IsAnswered it image left_of) (λ before after answered held. IsKept it.command before after held) before new
     came = record { after = made.after; answered = made.answered; shows = λ is_open. (made.shows is_open).0; left = left }
 
-  -- an errand was carried to what opening gave, which was closed then
+  -- a task was carried to what opening gave, which was closed then
   pub ended : (opened mid : Result (Held (FileStore D g)) Refusal) (left : Option (Result (Files D) (FileStore D g))) → ((file : D) → g.may_leave file (g.seen file))
       → (it : Answer) (image : Image) → IsFound image opened
       → HasCarried file_state it.command it.status opened mid it.out it.err it.out_after it.err_after → OutlastsCarrying file_state it.command opened mid

@@ -18,7 +18,7 @@ use Rattle.sqlite.proofs.StateLemmas.{clean_if_open}
 use Rattle.part_store.specs.Crashes.{KeepsState}
 use Rattle.part_store.specs.Entries.{Entries, no_entries}
 use Rattle.part_store.specs.Opening.{HoldsNoTables, HoldsState, HoldsStore, IsAt, IsFoundIn, IsReadyFrom, KeepsStore, TellsWhy}
-use Rattle.part_store.specs.Standing.{IsStored, Spares, Stands}
+use Rattle.part_store.specs.Standing.{IsStored, LeavesUnchanged, Stands}
 use Rattle.part_store.specs.declared.looking.Unopened.{Unopened}
 use Rattle.part_store.proofs.Crashed.{closing_holds_one, files_leave_committed}
 use Rattle.part_store.proofs.Stored.{stored_as}
@@ -57,11 +57,11 @@ module _ {D : Type 0} (g : Ghosts D) where
   left_open depot stays state at trees may =
       stored_as trees (file_state depot).committed state (files_leave_committed depot stays trees at.2 may) (subst (λ (d : Database). Stands d state) (sym at.1) at.0)
 
-  -- a depot that was spared shows what it showed
-  pub still_at : (old new : Held (FileStore D g)) (state : Entries) → (IsTrue (file_state old).is_open → IsAt state (file_state old)) → Spares (file_state old) (file_state new)
+  -- a depot that was unchanged shows what it showed
+  pub still_at : (old new : Held (FileStore D g)) (state : Entries) → (IsTrue (file_state old).is_open → IsAt state (file_state old)) → LeavesUnchanged (file_state old) (file_state new)
       → IsTrue (file_state new).is_open → IsAt state (file_state new)
   still_at old new state at spares is_open =
-      let was = at (spares.shut is_open) in
+      let was = at (spares.stays_closed is_open) in
       let same = spares.same was.0.schema is_open in
       (subst (λ (d : Database). Stands d state) (sym same.0) was.0, same.1 ∙ was.1 ∙ sym same.0, is_open)
 
@@ -75,7 +75,7 @@ module _ {D : Type 0} (g : Ghosts D) where
         may = may;
         depot = old;
         shows = λ is_open. at;
-        shut = inl at.2;
+        closed_by_failure = inl at.2;
         unlimited = unlimited;
         cause = cause;
         after = new;

@@ -13,7 +13,7 @@ use Rattle.part_store.specs.declared.looking.Unopened.{Unopened}
 use Rattle.depot_cli.specs.Carrying.{HasReported, HasToldWhy, OutlastsReporting}
 use Rattle.depot_cli.specs.Inspecting.{HasInspected}
 use Rattle.depot_cli.specs.NoDepots.{no_depot_of}
-use Rattle.depot_cli.specs.Tasks.{desk}
+use Rattle.depot_cli.specs.Tasks.{store_and_outputs}
 use Rattle.depot.specs.Private.{IsLeftOf, IsSeen, IsShut}
 use Rattle.depot.specs.Ending.{HasCounted}
 use Rattle.depot.specs.Looks.{HasEnded, IsAnswered, IsUntold, Look}
@@ -27,7 +27,7 @@ module _ {D : Type 0} (g : Ghosts D) where
 
   done : (image : Image) (left : Result (Files D) (FileStore D g)) (old new : Held (FileStore D g)) (it : Look) (before : Entries) → IsFoundIn image old → (file_state old).step_limit ≡ None
       → HasCounted (file_state new).faults left → IsAt before (file_state old) → HasCleanDisk (file_state new)
-      → HasInspected it.log it.status (desk (file_state old) it.out it.err) (desk (file_state new) it.out_after it.err_after) → Done image left it before new
+      → HasInspected it.log it.status (store_and_outputs (file_state old) it.out it.err) (store_and_outputs (file_state new) it.out_after it.err_after) → Done image left it before new
   done image left old new it before finds unlimited counted at clean (inl (status, (x, seen, taken, quiet))) =
       let all = seen clean in
       record {
@@ -59,7 +59,7 @@ module _ {D : Type 0} (g : Ghosts D) where
 
   came : (image : Image) (left : Result (Files D) (FileStore D g)) (old new : Held (FileStore D g)) → ((file : D) → g.may_leave file (g.seen file)) → (it : Look) (before : Entries) → IsSeen image (Ok old)
       → HasCounted (file_state new).faults left → IsAt before (file_state old) → HasCleanDisk (file_state new)
-      → HasInspected it.log it.status (desk (file_state old) it.out it.err) (desk (file_state new) it.out_after it.err_after)
+      → HasInspected it.log it.status (store_and_outputs (file_state old) it.out it.err) (store_and_outputs (file_state new) it.out_after it.err_after)
       → Survives (file_state old) (file_state new) (λ _. ⊥) → Came g (IsAnswered image left it) (λ before after answered held. held ≡ before) before new
   came image left old new stays it before found counted at clean inspected survives =
       let one = done image left old new it before found.0 found.1 counted at clean inspected in

@@ -17,7 +17,7 @@ use Rattle.depot_actions.specs.DepotState.{Command}
 use Rattle.depot_jobs.specs.Host.{HostState}
 use Rattle.depot_cli.specs.Requests.{request_command}
 use Rattle.depot_batch.specs.Asked.{Text}
-use Rattle.depot_batch.specs.Batch.{AreDeliveries, HasServed, IsAsked, MayMake, MayMakeAll, MayMakeOne, Office, office}
+use Rattle.depot_batch.specs.Batch.{AreDeliveries, HasServed, IsAsked, MayMake, MayMakeAll, MayMakeOne, DepotAndOutput, depot_and_output}
 use Rattle.depot_batch.specs.Batch as batch
 use Rattle.depot_batch.specs.Turns.{Alone, HasServedBy, Together, Turn, Withdrawn}
 use Rattle.depot_batch.specs.declared.asked.Asked.{Asked}
@@ -103,19 +103,19 @@ module _ {D : Type 0} (g : Ghosts D) where
     abbrev IsSound : Held (FileStore D g) → Type 0
     IsSound depot = HasCleanDisk (file_state depot) × HasCounted (file_state depot).faults left
 
-    abbrev Sound : Office (FileStore D g) → Type 0
-    Sound office = IsSound office.depot
+    abbrev Sound : DepotAndOutput (FileStore D g) → Type 0
+    Sound depot_and_output = IsSound depot_and_output.depot
 
     sound_before : {P : Trees → Type 0} (old new : Held (FileStore D g)) → Survives (file_state old) (file_state new) P → IsSound new → IsSound old
     sound_before old new survives sound = (omega (arith, survives.clean, sound.0), fewer g (file_state old).faults (file_state new).faults left survives.counts sound.1)
 
-    -- a ledger goes beside an office: the depot stands at its state, and the rest is the same
-    record Fits (Made : Entries × Entries → Type 0) (office : Office (FileStore D g)) (beside : Ledger) : Type 0 where
-      is : beside ≡ ledger beside.held office.host office.out
-      track : Track Made beside.held office.depot
+    -- a ledger goes beside these three: the depot stands at its state, and the rest is the same
+    record Fits (Made : Entries × Entries → Type 0) (depot_and_output : DepotAndOutput (FileStore D g)) (beside : Ledger) : Type 0 where
+      is : beside ≡ ledger beside.held depot_and_output.host depot_and_output.out
+      track : Track Made beside.held depot_and_output.depot
 
-    widen : (Made More : Entries × Entries → Type 0) (office : Office (FileStore D g)) (beside : Ledger) → ((v : Entries × Entries) → Made v → More v) → Fits Made office beside → Fits More office beside
-    widen Made More office beside more fits = record {
+    widen : (Made More : Entries × Entries → Type 0) (depot_and_output : DepotAndOutput (FileStore D g)) (beside : Ledger) → ((v : Entries × Entries) → Made v → More v) → Fits Made depot_and_output beside → Fits More depot_and_output beside
+    widen Made More depot_and_output beside more fits = record {
       is = fits.is;
       track = record {
         works = fits.track.works;
@@ -127,12 +127,12 @@ module _ {D : Type 0} (g : Ghosts D) where
     }
 
     module _ (stays : (file : D) → g.may_leave file (g.seen file)) (name : Text) where
-      abbrev After : (Ledger → Ledger → Type 0) → (Entries × Entries → Type 0) → Turn → Office (FileStore D g) → Ledger → Type 0
+      abbrev After : (Ledger → Ledger → Type 0) → (Entries × Entries → Type 0) → Turn → DepotAndOutput (FileStore D g) → Ledger → Type 0
       After Other Made turn new old =
           Beside (batch.Happens over_files name) (batch.Breaks over_files name) (Happens left name) (Breaks left name) Sound MakesBeside Fits Other (λ after v. Made v ⊎ MakesBeside v turn old after) new old
 
       -- what a turn does goes beside it
-      goes : (Other : Ledger → Ledger → Type 0) (Made : Entries × Entries → Type 0) (turn : Turn) (old new : Office (FileStore D g)) (beside : Ledger) (May : Trees → Type 0) → Fits Made old beside
+      goes : (Other : Ledger → Ledger → Type 0) (Made : Entries × Entries → Type 0) (turn : Turn) (old new : DepotAndOutput (FileStore D g)) (beside : Ledger) (May : Trees → Type 0) → Fits Made old beside
           → HasCleanDisk (file_state new.depot) → Survives (file_state old.depot) (file_state new.depot) May
           → ((trees : Trees) → May trees → MadeIn turn old.host new.host beside.held trees) → Turned g Other beside.held old new → After Other Made turn new beside
       goes Other Made turn old new beside May fits clean survives made one =
@@ -149,7 +149,7 @@ module _ {D : Type 0} (g : Ghosts D) where
             };
           }
 
-      module _ (WrittenAs : List ℕ → Output → Output → Type 0) (Made : Entries × Entries → Type 0) (old new : Office (FileStore D g)) (beside : Ledger) (fits : Fits Made old beside) (sound : Sound new) where
+      module _ (WrittenAs : List ℕ → Output → Output → Type 0) (Made : Entries × Entries → Type 0) (old new : DepotAndOutput (FileStore D g)) (beside : Ledger) (fits : Fits Made old beside) (sound : Sound new) where
         goes_alone : (line : Text) (outcome : Outcome) → batch.IsAnsweredBy over_files WrittenAs name line outcome old new
             → After (IsAnsweredBy WrittenAs left name line outcome) Made (Alone line outcome) new beside
         goes_alone line outcome it =
@@ -164,7 +164,7 @@ module _ {D : Type 0} (g : Ghosts D) where
             (λ trees may. made_together lines beside.held old.depot old.host new.host trees fits.track.works.shows (inl (it.done sound.0).0) may)
             (together g WrittenAs beside.held old new fits.track.works sound.0 lines it)
 
-      step : (Made : Entries × Entries → Type 0) (turn : Turn) (old new : Office (FileStore D g)) (beside : Ledger) → Fits Made old beside → Sound new
+      step : (Made : Entries × Entries → Type 0) (turn : Turn) (old new : DepotAndOutput (FileStore D g)) (beside : Ledger) → Fits Made old beside → Sound new
           → batch.Happens over_files name turn old new → After (Happens left name turn) Made turn new beside
       step Made (Alone line outcome) old new beside fits sound it = goes_alone HasTaken Made old new beside fits sound line outcome it
       step Made (Together lines) old new beside fits sound it = goes_together HasTaken Made old new beside fits sound lines it
@@ -173,18 +173,18 @@ module _ {D : Type 0} (g : Ghosts D) where
           (λ trees may. made_together lines beside.held old.depot old.host new.host trees fits.track.works.shows (inr it.some) may)
           (withdrawn g beside.held old new fits.track.works sound.0 lines it)
 
-      broken : (Made : Entries × Entries → Type 0) (turn : Turn) (old new : Office (FileStore D g)) (beside : Ledger) → Fits Made old beside → Sound new
+      broken : (Made : Entries × Entries → Type 0) (turn : Turn) (old new : DepotAndOutput (FileStore D g)) (beside : Ledger) → Fits Made old beside → Sound new
           → batch.Breaks over_files name turn old new → After (Breaks left name turn) Made turn new beside
       broken Made (Alone line outcome) old new beside fits sound it = goes_alone HasBroken Made old new beside fits sound line outcome it
       broken Made (Together lines) old new beside fits sound it = goes_together HasBroken Made old new beside fits sound lines it
       broken Made (Withdrawn lines) old new beside fits sound it = absurd it
 
-      was_sound : (turn : Turn) (old new : Office (FileStore D g)) → batch.Happens over_files name turn old new → Sound new → Sound old
+      was_sound : (turn : Turn) (old new : DepotAndOutput (FileStore D g)) → batch.Happens over_files name turn old new → Sound new → Sound old
       was_sound (Alone line outcome) old new it sound = sound_before old.depot new.depot it.outlasts sound
       was_sound (Together lines) old new it sound = sound_before old.depot new.depot it.outlasts sound
       was_sound (Withdrawn lines) old new it sound = sound_before old.depot new.depot it.outlasts sound
 
-      was_sound_broken : (turn : Turn) (old new : Office (FileStore D g)) → batch.Breaks over_files name turn old new → Sound new → Sound old
+      was_sound_broken : (turn : Turn) (old new : DepotAndOutput (FileStore D g)) → batch.Breaks over_files name turn old new → Sound new → Sound old
       was_sound_broken (Alone line outcome) old new it sound = sound_before old.depot new.depot it.outlasts sound
       was_sound_broken (Together lines) old new it sound = sound_before old.depot new.depot it.outlasts sound
       was_sound_broken (Withdrawn lines) old new it sound = absurd it
@@ -195,11 +195,11 @@ module _ {D : Type 0} (g : Ghosts D) where
   -- ---- from the open to the close
 
   module _ (left : Result (Files D) (FileStore D g)) (old new : Held (FileStore D g)) (stays : (file : D) → g.may_leave file (g.seen file)) (it : Batch) (sound : IsSound left new) where
-    abbrev first : Office (FileStore D g)
-    first = office over_files old it.old.host it.old.out
+    abbrev first : DepotAndOutput (FileStore D g)
+    first = depot_and_output over_files old it.old.host it.old.out
 
-    abbrev end : Office (FileStore D g)
-    end = office over_files new it.new.host it.new.out
+    abbrev end : DepotAndOutput (FileStore D g)
+    end = depot_and_output over_files new it.new.host it.new.out
 
     abbrev Serves : Type 0
     Serves = HasServed over_files it.name it.status it.input it.input_after first end it.old.err it.new.err
@@ -237,7 +237,7 @@ module _ {D : Type 0} (g : Ghosts D) where
         let begun : Fits left (λ v. ⊥) first (ledger before it.old.host it.old.out) = record {
           is = refl;
           track = record {
-            works = record { shows = λ is_open. at; shut = inl at.2; unlimited = unlimited };
+            works = record { shows = λ is_open. at; closed_by_failure = inl at.2; unlimited = unlimited };
             left = λ trees may. inl (left_open g old stays before at trees may);
           };
         } in

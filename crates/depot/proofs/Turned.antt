@@ -17,7 +17,7 @@ use Rattle.depot_actions.specs.DepotState.{Accepts, Command, Export as Exports, 
 use Rattle.depot_cli.specs.Requests.{request_command}
 use Rattle.depot_cli.specs.Tasks.{HasRefused}
 use Rattle.depot_batch.specs.Asked.{Text}
-use Rattle.depot_batch.specs.Batch.{IsAsked, Office}
+use Rattle.depot_batch.specs.Batch.{IsAsked, DepotAndOutput}
 use Rattle.depot_batch.specs.Batch as batch
 use Rattle.depot_batch.specs.declared.asked.Asked.{Asked}
 use Rattle.depot_batch.specs.declared.asked.Asked.TheVariants.{Reply as ToReply, Export as IntoFile}
@@ -36,7 +36,7 @@ module _ {D : Type 0} (g : Ghosts D) where
   -- counts has shut it, and it has no limit of steps.
   pub record Works (state : Entries) (depot : Held (FileStore D g)) : Type 0 where
     pub shows : Shows state depot
-    pub shut : IsTrue (file_state depot).is_open ⊎ (0 < (file_state depot).faults)
+    pub closed_by_failure : IsTrue (file_state depot).is_open ⊎ (0 < (file_state depot).faults)
     pub unlimited : (file_state depot).step_limit ≡ None
 
   -- so it stands after a call, too
@@ -44,7 +44,7 @@ module _ {D : Type 0} (g : Ghosts D) where
       → Survives (file_state old) (file_state new) P → Works after new
   still_works old new before after works shows clean survives = record {
     shows = shows;
-    shut = elim works.shut [
+    closed_by_failure = elim works.closed_by_failure [
       | inl is_open ↦ elim (survives.closes clean is_open) [ inl still ↦ inl still | inr more ↦ let one : 0 < (file_state new).faults = omega (arith, more) in inr one ]
       | inr some ↦ inr (omega (arith, some, survives.counts))
     ];
@@ -81,7 +81,7 @@ module _ {D : Type 0} (g : Ghosts D) where
         may = refused.0;
         depot = old;
         shows = works.shows;
-        shut = works.shut;
+        closed_by_failure = works.closed_by_failure;
         unlimited = works.unlimited;
         cause = all.0;
         after = new;
@@ -91,7 +91,7 @@ module _ {D : Type 0} (g : Ghosts D) where
       }
 
   -- what came of a line, and the depot at the state after it
-  record Step (left : Result (Files D) (FileStore D g)) (name line : Text) (outcome : Outcome) (text : List ℕ) (before : Entries) (old new : Office (FileStore D g)) : Type 0 where
+  record Step (left : Result (Files D) (FileStore D g)) (name line : Text) (outcome : Outcome) (text : List ℕ) (before : Entries) (old new : DepotAndOutput (FileStore D g)) : Type 0 where
     after : Entries
     come : HasCome left name line outcome text (ledger before old.host old.out) (ledger after new.host new.out)
     shows : Shows after new.depot
@@ -101,7 +101,7 @@ module _ {D : Type 0} (g : Ghosts D) where
   stays_at : (old new : Held (FileStore D g)) (before : Entries) → Shows before old → new ≡ old → Shows before new
   stays_at old new before shows same = subst (λ (d : Held (FileStore D g)). Shows before d) (sym same) shows
 
-  module _ (left : Result (Files D) (FileStore D g)) (name line : Text) (text : List ℕ) (before : Entries) (old new : Office (FileStore D g)) (works : Works before old.depot) (clean : HasCleanDisk (file_state new.depot))
+  module _ (left : Result (Files D) (FileStore D g)) (name line : Text) (text : List ℕ) (before : Entries) (old new : DepotAndOutput (FileStore D g)) (works : Works before old.depot) (clean : HasCleanDisk (file_state new.depot))
       (counts : (file_state old.depot).faults ≤ (file_state new.depot).faults) (counted : HasCounted (file_state new.depot).faults left) where
     shows : Shows before old.depot
     shows = works.shows
@@ -156,13 +156,13 @@ module _ {D : Type 0} (g : Ghosts D) where
   -- ---- what a turn does
 
   -- what happened in a turn, and the depot at the state after it
-  pub record Turned (Other : Ledger → Ledger → Type 0) (before : Entries) (old new : Office (FileStore D g)) : Type 0 where
+  pub record Turned (Other : Ledger → Ledger → Type 0) (before : Entries) (old new : DepotAndOutput (FileStore D g)) : Type 0 where
     pub after : Entries
     pub happens : Other (ledger before old.host old.out) (ledger after new.host new.out)
     pub shows : Shows after new.depot
     pub closes : IsTrue (file_state new.depot).is_open ⊎ (after ≡ before)
 
-  module _ (WrittenAs : List ℕ → Output → Output → Type 0) (before : Entries) (old new : Office (FileStore D g)) (works : Works before old.depot) (clean : HasCleanDisk (file_state new.depot)) where
+  module _ (WrittenAs : List ℕ → Output → Output → Type 0) (before : Entries) (old new : DepotAndOutput (FileStore D g)) (works : Works before old.depot) (clean : HasCleanDisk (file_state new.depot)) where
     pub alone : (left : Result (Files D) (FileStore D g)) → HasCounted (file_state new.depot).faults left → (name line : Text) (outcome : Outcome)
         → batch.IsAnsweredBy over_files WrittenAs name line outcome old new → Turned (IsAnsweredBy WrittenAs left name line outcome) before old new
     alone left counted name line outcome it =
@@ -179,11 +179,11 @@ module _ {D : Type 0} (g : Ghosts D) where
           closes = one.closes;
         }
 
-  pub withdrawn : (before : Entries) (old new : Office (FileStore D g)) → Works before old.depot → HasCleanDisk (file_state new.depot) → (lines : List (List ℕ))
+  pub withdrawn : (before : Entries) (old new : DepotAndOutput (FileStore D g)) → Works before old.depot → HasCleanDisk (file_state new.depot) → (lines : List (List ℕ))
       → batch.AreWithdrawn over_files lines old new → Turned (AreWithdrawn lines) before old new
   withdrawn before old new works clean lines it = record {
     after = before;
     happens = record { some = it.some; few = it.few; files = it.files; held = refl; out = it.out };
-    shows = still_at g old.depot new.depot before works.shows (it.spared clean);
+    shows = still_at g old.depot new.depot before works.shows (it.unchanged clean);
     closes = inr refl;
   }

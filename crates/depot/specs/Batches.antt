@@ -15,7 +15,7 @@ use Rattle.depot_actions.specs.Deliveries.{AcceptsAll}
 use Rattle.depot_actions.specs.DepotState.{Accepts, Command, Export as Exports, Listed, Reply, Text as Written}
 use Rattle.depot_jobs.specs.Host.{HasMade, HasNotMade, HostState, makes, with_call}
 use Rattle.depot_jobs.specs.Inputs.{HasNotReadFile, HasReadFile, file_of}
-use Rattle.depot_jobs.specs.Jobs.{World}
+use Rattle.depot_jobs.specs.Jobs.{HostAndOutputs}
 use Rattle.depot_jobs.specs.Printed.{refusal_line}
 use Rattle.depot_jobs.specs.Requests.{Request}
 use Rattle.depot_cli.specs.Printed.{reply_text}
@@ -165,10 +165,10 @@ pub record Batch : Type 0 where
   pub status : ℕ
   pub input : Supply
   pub input_after : Supply
-  pub old : World
-  pub new : World
+  pub old : HostAndOutputs
+  pub new : HostAndOutputs
 
-abbrev pub batch_of : Text → ℕ → Supply → Supply → World → World → Batch
+abbrev pub batch_of : Text → ℕ → Supply → Supply → HostAndOutputs → HostAndOutputs → Batch
 batch_of name status input input_after old new =
     record { name = name; status = status; input = input; input_after = input_after; old = old; new = new }
 

@@ -79,7 +79,7 @@ module _ {D : Type 0} {g : Ghosts D} (left : Result (Files D) (FileStore D g)) w
     pub may : MayRefuse command refusal
     pub depot : Held (FileStore D g)
     pub shows : IsTrue (file_state depot).is_open → IsAt before (file_state depot)
-    pub shut : IsTrue (file_state depot).is_open ⊎ (0 < (file_state depot).faults)
+    pub closed_by_failure : IsTrue (file_state depot).is_open ⊎ (0 < (file_state depot).faults)
     pub unlimited : (file_state depot).step_limit ≡ None
     pub cause : HasCause refusal command (file_state depot)
     pub after : Held (FileStore D g)

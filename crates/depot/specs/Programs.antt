@@ -11,7 +11,7 @@ use Rattle.refusals.specs.declared.refusal.Refusal.TheVariants.{NoSuchEntry, Wri
 use Rattle.encodings.specs.Device.{HasBroken, HasTaken}
 use Rattle.depot_actions.specs.DepotState.{Accepts, Program, ProgramOf}
 use Rattle.depot_jobs.specs.Host.{HasMade, HasNotMade}
-use Rattle.depot_jobs.specs.Jobs.{HasTold, World}
+use Rattle.depot_jobs.specs.Jobs.{HasTold, HostAndOutputs}
 use Rattle.depot_jobs.specs.Printed.{line, wrote_text}
 use Rattle.depot_cli.specs.declared.saving.Saving.{Saving}
 use Rattle.depot.specs.Ending.{EndsSo, IsRefusedBy, IsUnopened}
@@ -21,10 +21,10 @@ use Rattle.depot.specs.Ending.{EndsSo, IsRefusedBy, IsUnopened}
 pub record Save : Type 0 where
   pub saving : Saving
   pub status : ℕ
-  pub old : World
-  pub new : World
+  pub old : HostAndOutputs
+  pub new : HostAndOutputs
 
-abbrev pub save_of : Saving → ℕ → World → World → Save
+abbrev pub save_of : Saving → ℕ → HostAndOutputs → HostAndOutputs → Save
 save_of saving status old new = record { saving = saving; status = status; old = old; new = new }
 
 -- the depot tells the user's program, if he has one

@@ -2,7 +2,7 @@
 ghost use Rattle.sqlite.specs.Recovery.{Image};
 ghost use Rattle.sqlite.specs.WalFiles.{image_at};
 ghost use Rattle.depot.specs.Batches.{HasEnded, batch_of};
-ghost use Rattle.depot_jobs.specs.Jobs.{world};
+ghost use Rattle.depot_jobs.specs.Jobs.{host_and_outputs};
 ghost use Rattle.depot.specs.Ending.{IsToldAs};
 ghost use Rattle.depot.specs.Private.{IsFound, IsLeftOf};
 
@@ -37,8 +37,8 @@ pub fn serve_from<B: Start, H: Host, R: BufRead + Drop, W: Write + Drop, E: Sink
     ensures ended { HasEnded
         (batch_of name.now result.0 (⟦<OfRead<R> as Source>⟧.supply input.old)
         (⟦<OfRead<R> as Source>⟧.supply input.new)
-        (world (H.state host.old) (⟦<OfWrite<W> as Sink>⟧.output out.old) (E.output err.old))
-        (world (H.state host.new) (⟦<OfWrite<W> as Sink>⟧.output out.new) (E.output err.new)))
+        (host_and_outputs (H.state host.old) (⟦<OfWrite<W> as Sink>⟧.output out.old) (E.output err.old))
+        (host_and_outputs (H.state host.new) (⟦<OfWrite<W> as Sink>⟧.output out.new) (E.output err.new)))
         (image_at B.Start) result.1 }
 {
     let opened = Depot::open_from(rt, name, start);
@@ -58,8 +58,8 @@ fn serve_and_close<D: Disk + Drop, H: Host, R: BufRead + Drop, W: Write + Drop, 
     ensures ended { (image : Image) → IsFound image opened → HasEnded
         (batch_of name.now result.0 (⟦<OfRead<R> as Source>⟧.supply input.old)
         (⟦<OfRead<R> as Source>⟧.supply input.new)
-        (world (H.state host.old) (⟦<OfWrite<W> as Sink>⟧.output out.old) (E.output err.old))
-        (world (H.state host.new) (⟦<OfWrite<W> as Sink>⟧.output out.new) (E.output err.new)))
+        (host_and_outputs (H.state host.old) (⟦<OfWrite<W> as Sink>⟧.output out.old) (E.output err.old))
+        (host_and_outputs (H.state host.new) (⟦<OfWrite<W> as Sink>⟧.output out.new) (E.output err.new)))
         image result.1 }
     ensures told { IsLeftOf (λ e. IsToldAs e result.0
         (⟦<OfWrite<W> as Sink>⟧.output out.old) (E.output err.old)

@@ -1,21 +1,21 @@
-// Hands the words and the system to the command line, and its errands to the depot that they name.
+// Hands the words and the system to the command line, and its tasks to the depot that they name.
 #![tactic(auto)]
 
 mod batches;
 mod closing;
-mod errands;
 mod looks;
 mod place;
 mod programs;
 mod streams;
+mod tasks;
 
 use crate::batches::serve_from;
-use crate::errands::carry_from;
 use crate::looks::inspect_from;
 use crate::place::{Obstacle, look_at};
 use crate::programs::save_from;
 use crate::streams::hold_closed;
-use depot_cli::{Errand, Next, Saving, run, tell_no_depot};
+use crate::tasks::carry_from;
+use depot_cli::{Next, PendingTask, Saving, run, tell_no_depot};
 use depot_jobs::{Host, System, tell, tell_no_words, texts, words};
 use encodings::{OfRead, OfWrite, Sink};
 use refusals::Refusal;
@@ -50,7 +50,7 @@ fn start<O: Sink, E: Sink>(rt: &HostRuntime, out: &mut O, err: &mut E) -> u8 {
     let mut host = System::new(rt, process::id(rt.process()));
     match run(rt.alloc(), &texts, &mut host, out, err) {
         Next::Exit(status) => status,
-        Next::Perform(errand) => perform_errand(rt, &errand, out, err),
+        Next::Perform(pending) => perform_task(rt, &pending, out, err),
         Next::Inspect(name) => inspect_file(rt, name, out, err),
         Next::Save(saving) => save_program(rt, saving, &mut host, out, err),
         Next::Batch(name) => take_batch(rt, name, &mut host, err),
@@ -62,14 +62,14 @@ fn words_of(rt: &HostRuntime) -> io::Result<Vec<String>> {
     Ok(words(rt.alloc(), env::args(rt)?)?)
 }
 
-// Opens the depot of an errand, and has the errand carried to it.
-fn perform_errand<O: Sink, E: Sink>(
+// Opens the depot of a task, and has the task carried to it.
+fn perform_task<O: Sink, E: Sink>(
     rt: &HostRuntime,
-    errand: &Errand<'_>,
+    pending: &PendingTask<'_>,
     out: &mut O,
     err: &mut E,
 ) -> u8 {
-    let (status, _left) = carry_from(rt, errand, Unknown, out, err);
+    let (status, _left) = carry_from(rt, pending, Unknown, out, err);
     status
 }
 

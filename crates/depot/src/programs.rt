@@ -1,7 +1,7 @@
 //! Programs that are saved, from the open of their depot to its close.
 ghost use Rattle.sqlite.specs.Recovery.{Image};
 ghost use Rattle.sqlite.specs.WalFiles.{image_at};
-ghost use Rattle.depot_jobs.specs.Jobs.{world};
+ghost use Rattle.depot_jobs.specs.Jobs.{host_and_outputs};
 ghost use Rattle.depot.specs.Ending.{IsToldAs};
 ghost use Rattle.depot.specs.Private.{IsFound, IsLeftOf};
 ghost use Rattle.depot.specs.Programs.{HasEnded, save_of};
@@ -33,8 +33,8 @@ pub fn save_from<B: Start, H: Host, O: Sink, E: Sink>(
 ) -> (u8, Option<Left<FileFrom<B>>>)
     ensures ended { HasEnded
         (save_of saving.entry result.0
-        (world (H.state host.old) (O.output out.old) (E.output err.old))
-        (world (H.state host.new) (O.output out.new) (E.output err.new)))
+        (host_and_outputs (H.state host.old) (O.output out.old) (E.output err.old))
+        (host_and_outputs (H.state host.new) (O.output out.new) (E.output err.new)))
         (image_at B.Start) result.1 }
 {
     let opened = Depot::open_from(rt, saving.name, start);
@@ -52,8 +52,8 @@ fn save_and_close<D: Disk + Drop, H: Host, O: Sink, E: Sink>(
 ) -> (u8, Option<Left<D>>)
     ensures ended { (image : Image) → IsFound image opened → HasEnded
         (save_of saving.entry result.0
-        (world (H.state host.old) (O.output out.old) (E.output err.old))
-        (world (H.state host.new) (O.output out.new) (E.output err.new)))
+        (host_and_outputs (H.state host.old) (O.output out.old) (E.output err.old))
+        (host_and_outputs (H.state host.new) (O.output out.new) (E.output err.new)))
         image result.1 }
     ensures told { IsLeftOf (λ e. IsToldAs e result.0 (O.output out.old) (E.output err.old)
         (O.output out.new) (E.output err.new)) opened result.1 }

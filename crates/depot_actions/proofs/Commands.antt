@@ -6,7 +6,7 @@ use Rattle.bytecode_format.specs.Code.{Code}
 use Rattle.bytecode_format.specs.Spelling.{spelling}
 use Rattle.sieve_engine.specs.Evaluation.{IsCompiled}
 use Rattle.part_store.specs.Entries.{Entries, Entry, with_program, without_entry}
-use Rattle.part_store.specs.Standing.{IsEntryAt, IsStored, Makes, MayMake, Spares, Stands}
+use Rattle.part_store.specs.Standing.{IsEntryAt, IsStored, Makes, MayMake, LeavesUnchanged, Stands}
 use Rattle.depot_actions.specs.DepotState.{Accepts, Command, Does, Done, Leaves, MayLeave, Remove, Reply, SetScript}
 use Rattle.depot_actions.specs.Users.{is_user_name}
 
@@ -22,15 +22,15 @@ survives_more old new P Q f h = record {
   crash = λ clean db may. elim (h.crash clean db may) [ inl earlier ↦ inl earlier | inr made ↦ inr (f db made) ];
 }
 
--- doing nothing spares
-pub spares_self : (s : State) → Spares s s
-spares_self s = record { same = λ _ _. (refl, refl); shut = λ is_open. is_open; closes = λ is_open. inl is_open }
+-- doing nothing leaves the store unchanged
+pub unchanged_self : (s : State) → LeavesUnchanged s s
+unchanged_self s = record { same = λ _ _. (refl, refl); stays_closed = λ is_open. is_open; closes = λ is_open. inl is_open }
 
--- what is spared stands for what it stood for
-pub stands_still : (old new : State) (before : Entries) → Spares old new → Stands old.now before → IsTrue new.is_open → Stands new.now before
+-- what is unchanged stands for what it stood for
+pub stands_still : (old new : State) (before : Entries) → LeavesUnchanged old new → Stands old.now before → IsTrue new.is_open → Stands new.now before
 stands_still old new before spares stands is_open = subst (λ d. Stands d before) (sym (spares.same stands.schema is_open).0) stands
 
-pub left_alone : (old new : State) (before : Entries) → IsTrue old.is_open → (IsTrue new.is_open → new.committed ≡ new.now) → Spares old new → Stands old.now before
+pub left_alone : (old new : State) (before : Entries) → IsTrue old.is_open → (IsTrue new.is_open → new.committed ≡ new.now) → LeavesUnchanged old new → Stands old.now before
     → Leaves before before old new
 left_alone old new before was_open settled spares stands = record {
   stands = λ is_open. (stands_still old new before spares stands is_open, settled is_open);

@@ -11,7 +11,7 @@ use Rattle.mime_decode.specs.Mail.{IsReadable, mail_of}
 use Rattle.part_store.specs.Entries.{Draft, Entries, Listing, with_entries}
 use Rattle.part_store.specs.Filing.{Collides, HasRoom}
 use Rattle.part_store.specs.Inside.{Stays}
-use Rattle.part_store.specs.Standing.{Spares, Stands}
+use Rattle.part_store.specs.Standing.{LeavesUnchanged, Stands}
 use Rattle.part_store.proofs.Entering.{stands_still}
 use Rattle.part_store.proofs.Failing.{later_failed}
 use Rattle.refusals.specs.declared.refusal.Refusal.{Refusal}
@@ -144,14 +144,14 @@ module _ (old mid new : State) (user message : List ℕ) (program : Option (List
   unfiled_cause shut refusal.Read h = absurd h
   unfiled_cause shut (refusal.Listing place) h = absurd h
 
--- what is spared twice is spared
-pub spared_twice : (old mid new : State) → old.faults ≤ mid.faults → mid.faults ≤ new.faults → Spares old mid → Spares mid new → Spares old new
-spared_twice old mid new early late first later = record {
+-- what is unchanged twice is unchanged
+pub unchanged_twice : (old mid new : State) → old.faults ≤ mid.faults → mid.faults ≤ new.faults → LeavesUnchanged old mid → LeavesUnchanged mid new → LeavesUnchanged old new
+unchanged_twice old mid new early late first later = record {
   same = λ schema is_open.
-      let one = first.same schema (later.shut is_open) in
+      let one = first.same schema (later.stays_closed is_open) in
       let two = later.same (ap (λ (d : Database). d.schema) one.0 ∙ schema) is_open in
       (two.0 ∙ one.0, two.1 ∙ one.1);
-  shut = λ is_open. first.shut (later.shut is_open);
+  stays_closed = λ is_open. first.stays_closed (later.stays_closed is_open);
   closes = λ was_open. elim (first.closes was_open) [
     | inl still ↦ elim (later.closes still) [ inl is_open ↦ inl is_open | inr failed ↦ inr (omega (arith, early, failed)) ]
     | inr failed ↦ inr (omega (arith, late, failed))

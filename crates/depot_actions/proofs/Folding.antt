@@ -18,7 +18,7 @@ one_answer : (command : Command) (reply : Option Reply) (old new : State) (befor
 one_answer command None old new before spares given = record {
   after = before;
   step = refl;
-  stands = λ is_open. stands_still old new before spares (given (spares.shut is_open)) is_open;
+  stands = λ is_open. stands_still old new before spares (given (spares.stays_closed is_open)) is_open;
 }
 one_answer command (Some reply) old new before does given =
     let done = does.1 before (given does.0) in

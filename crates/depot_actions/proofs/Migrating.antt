@@ -19,7 +19,7 @@ use Rattle.bytecode_format.specs.Code.{Code}
 use Rattle.bytecode_format.specs.Spelling.{spelling}
 use Rattle.sieve_engine.specs.Execution.{IsChecked}
 use Rattle.part_store.specs.Entries.{AreProgramsOf, Entries, IsBefore, UserProgram, program_named, with_programs}
-use Rattle.part_store.specs.Standing.{Makes, MayMake, Spares, Stands, pair_of}
+use Rattle.part_store.specs.Standing.{Makes, MayMake, LeavesUnchanged, Stands, pair_of}
 use Rattle.part_store.specs.Refusals.{HaveNoUserRoom}
 use Rattle.refusals.specs.declared.refusal.Refusal.{Refusal}
 use Rattle.refusals.specs.declared.refusal.Refusal.TheVariants as refusal
@@ -190,7 +190,7 @@ none_named before = λ i. record before { programs = λ user. go user (before.pr
 accepts : (before : Entries) (stored renewed : List UserProgram) → AreProgramsOf before stored → AreRenewals stored renewed → Accepts before Migrate (Migrated (length renewed)) (with_programs renewed before)
 accepts before stored renewed are renewals = record { named = tt; step = migrates before stored renewed are renewals }
 
-module _ (old mid new : State) (stored renewed : List UserProgram) (was_open : IsTrue old.is_open) (told : (before : Entries) → Stands old.now before → AreProgramsOf before stored) (spares : Spares old mid)
+module _ (old mid new : State) (stored renewed : List UserProgram) (was_open : IsTrue old.is_open) (told : (before : Entries) → Stands old.now before → AreProgramsOf before stored) (spares : LeavesUnchanged old mid)
     (are : AreRenewals stored renewed) where
   pub migrated : (number : ℕ) → number ≡ length renewed → Makes (with_programs renewed) mid new → Does Migrate (Migrated number) old new
   migrated number same makes = (
@@ -246,7 +246,7 @@ spoilt_fault old new stored e told cause is before stands =
     inr (inl (found.0.0, subst IsSpoilt (sym own) found.2))
 
 pub roomless_fault : {P Q : Trees → Type 0} (old mid new : State) (stored renewed : List UserProgram) (e : Refusal) → ((before : Entries) → Stands old.now before → AreProgramsOf before stored) → AreRenewals stored renewed
-    → Spares old mid → Survives old mid P → Survives mid new Q → HasCleanDisk new → IsStoreFault (HaveNoUserRoom renewed) mid new e → IsFault Migrate old new e
+    → LeavesUnchanged old mid → Survives old mid P → Survives mid new Q → HasCleanDisk new → IsStoreFault (HaveNoUserRoom renewed) mid new e → IsFault Migrate old new e
 roomless_fault old mid new stored renewed e told are spares one two clean fault =
     weaker_fault (HaveNoUserRoom renewed) (IsHindered Migrate) old new e (λ before stands none. inr (stored, renewed, told before stands, are, none))
     (later_fault (HaveNoUserRoom renewed) old mid new e spares one two clean fault)

@@ -5,8 +5,8 @@ use Rattle.sqlite_trees.specs.Tree.{Trees}
 use Rattle.sqlite.specs.Effect.{Database as Held}
 use Rattle.sqlite.specs.State.{State, HasCleanDisk, Survives}
 use Rattle.part_store.specs.Entries.{Entries}
-use Rattle.part_store.specs.Refusals.{Blames, BlamesOr}
-use Rattle.part_store.specs.Standing.{Spares, Stands}
+use Rattle.part_store.specs.Refusals.{OnlyWhenFailed, OnlyWhenFailedOr}
+use Rattle.part_store.specs.Standing.{LeavesUnchanged, Stands}
 use Rattle.part_store.specs.declared.error.StoreError.{StoreError}
 use Rattle.part_store.specs.declared.error.StoreError.TheVariants as store
 use Rattle.part_store.proofs.Failing.{later_failed}
@@ -24,21 +24,21 @@ of_database store.Collision is = absurd cc
 of_database store.Database is = refl
 
 module _ {T : Type 0} (Other : Entries → Trees → Type 0) (old new : State) where
-  pub fault_told : (r : Result T StoreError) (told : Result T Refusal) → MatchResult r (λ x. told ≡ Ok x) (λ e. IsErrAnd told (λ d. d ≡ of_store e)) → IfErr r (BlamesOr Other old new)
+  pub fault_told : (r : Result T StoreError) (told : Result T Refusal) → MatchResult r (λ x. told ≡ Ok x) (λ e. IsErrAnd told (λ d. d ≡ of_store e)) → IfErr r (OnlyWhenFailedOr Other old new)
       → IfErr told (IsStoreFault Other old new)
   fault_told (Ok x) told cases blames = subst (λ t. IfErr t (IsStoreFault Other old new)) (sym cases) tt
   fault_told (Err e) (Ok x) cases blames = absurd cases
   fault_told (Err e) (Err d) cases blames = λ is. blames (of_database e (sym cases ∙ is))
 
   -- the same of a call that only reads
-  pub failure_told : (r : Result T StoreError) (told : Result T Refusal) → MatchResult r (λ x. told ≡ Ok x) (λ e. IsErrAnd told (λ d. d ≡ of_store e)) → IfErr r (Blames old new)
+  pub failure_told : (r : Result T StoreError) (told : Result T Refusal) → MatchResult r (λ x. told ≡ Ok x) (λ e. IsErrAnd told (λ d. d ≡ of_store e)) → IfErr r (OnlyWhenFailed old new)
       → IfErr told (IsStoreFault Other old new)
   failure_told (Ok x) told cases blames = subst (λ t. IfErr t (IsStoreFault Other old new)) (sym cases) tt
   failure_told (Err e) (Ok x) cases blames = absurd cases
   failure_told (Err e) (Err d) cases blames = λ is before stands. inl (blames (of_database e (sym cases ∙ is)) before stands)
 
 -- a later call of a store that was only read
-pub later_fault : {P Q : Trees → Type 0} (Other : Entries → Trees → Type 0) (old mid new : State) (refusal : Refusal) → Spares old mid → Survives old mid P → Survives mid new Q → HasCleanDisk new
+pub later_fault : {P Q : Trees → Type 0} (Other : Entries → Trees → Type 0) (old mid new : State) (refusal : Refusal) → LeavesUnchanged old mid → Survives old mid P → Survives mid new Q → HasCleanDisk new
     → IsStoreFault Other mid new refusal → IsStoreFault Other old new refusal
 later_fault Other old mid new refusal spares one two clean fault is before stands = elim (cases_Bool mid.is_open) [
   | inl on ↦

@@ -12,11 +12,11 @@ use Rattle.sqlite.specs.declared.error.Error.TheVariants.{SqliteFailure}
 use Rattle.sqlite.specs.declared.error.ErrorCode.TheVariants.{OutOfMemory}
 use Rattle.sqlite.proofs.Callers.{survives_begin}
 use Rattle.sqlite.proofs.StateLemmas.{survives_then}
-use Rattle.part_store.specs.Calls.{StaysShut}
+use Rattle.part_store.specs.Calls.{StaysClosed}
 use Rattle.part_store.specs.Entries.{Entries}
 use Rattle.part_store.specs.Inside.{KeepsStored, KeepsTables, StaysInside}
 use Rattle.part_store.specs.Refusals.{HasFailed, refusal_of}
-use Rattle.part_store.specs.Standing.{Spares, Stands}
+use Rattle.part_store.specs.Standing.{LeavesUnchanged, Stands}
 use Rattle.part_store.specs.Tables.{store_schema}
 use Rattle.part_store.specs.declared.error.StoreError.{StoreError}
 use Rattle.part_store.proofs.Entering.{kept_then}
@@ -69,8 +69,8 @@ cause_as refusal.Write command s t same on h = h
 cause_as refusal.Read command s t same on h = h
 cause_as (refusal.Listing place) command s t same on h = h
 
--- what is rolled back is spared
-pub rolled_back : (old mid new : State) → (IsTrue old.is_open → old.now ≡ old.committed) → KeepsStored old mid → StaysShut old mid → IsRolledBack mid new → Survives old new (λ _. ⊥) → HasCleanDisk new → Spares old new
+-- what is rolled back is unchanged
+pub rolled_back : (old mid new : State) → (IsTrue old.is_open → old.now ≡ old.committed) → KeepsStored old mid → StaysClosed old mid → IsRolledBack mid new → Survives old new (λ _. ⊥) → HasCleanDisk new → LeavesUnchanged old new
 rolled_back old mid new settled kept shut rolled survives clean = record {
   same = λ schema is_open.
       let keeps = kept schema in
@@ -78,14 +78,14 @@ rolled_back old mid new settled kept shut rolled survives clean = record {
       let mid_open = rolled.was_open is_open in
       let committed = keeps.committed mid_open in
       (undone.0 ∙ committed ∙ sym (settled (shut mid_open)), undone.1 ∙ committed);
-  shut = λ is_open. shut (rolled.was_open is_open);
+  stays_closed = λ is_open. shut (rolled.was_open is_open);
   closes = λ was_open. survives.closes clean was_open;
 }
 
 -- so is what a commit is refused for
-pub commit_spared : {P : Trees → Type 0} (old mid new : State) (e : Error) → (IsTrue old.is_open → old.now ≡ old.committed) → KeepsStored old mid → StaysShut old mid
-    → (old.now.schema ≡ store_schema → IsTrue mid.in_transaction) → FailsToCommit mid new e → Survives old new P → HasCleanDisk new → Spares old new
-commit_spared old mid new e settled kept shut inside fails survives clean = record {
+pub commit_unchanged : {P : Trees → Type 0} (old mid new : State) (e : Error) → (IsTrue old.is_open → old.now ≡ old.committed) → KeepsStored old mid → StaysClosed old mid
+    → (old.now.schema ≡ store_schema → IsTrue mid.in_transaction) → FailsToCommit mid new e → Survives old new P → HasCleanDisk new → LeavesUnchanged old new
+commit_unchanged old mid new e settled kept shut inside fails survives clean = record {
   same = λ schema is_open. elim fails [
     | inl h ↦
         let mid_open = h.3.was_open is_open in
@@ -94,7 +94,7 @@ commit_spared old mid new e settled kept shut inside fails survives clean = reco
         (undone.0 ∙ committed ∙ sym (settled (shut mid_open)), undone.1 ∙ committed)
     | inr h ↦ absurd (true≢false (sym (inside schema) ∙ h.1))
   ];
-  shut = λ is_open. elim fails [ inl h ↦ shut (h.3.was_open is_open) | inr h ↦ shut h.2.0.was_open ];
+  stays_closed = λ is_open. elim fails [ inl h ↦ shut (h.3.was_open is_open) | inr h ↦ shut h.2.0.was_open ];
   closes = λ was_open. survives.closes clean was_open;
 }
 
@@ -141,7 +141,7 @@ module _ {S : Type 0} (g : store.Ghosts S) (conn : Held S) where
     λ before stands. let reached = reaches before stands in (reply, reached.0, reached.1, stored_as mid.now.trees mid.now reached.0 refl reached.2),
   )
 
-  pub done_together : (commands : List Command) (replies : List Reply) (mid new : State) → StaysShut begun mid → ReachesAll commands replies begun mid → Shows mid new mid.now mid.now false → DoesAll commands replies (state g conn) new
+  pub done_together : (commands : List Command) (replies : List Reply) (mid new : State) → StaysClosed begun mid → ReachesAll commands replies begun mid → Shows mid new mid.now mid.now false → DoesAll commands replies (state g conn) new
   done_together commands replies mid new shut reaches shows = (
     shut shows.was_open,
     λ before stands.
@@ -252,7 +252,7 @@ pub record Delivering (commands : List Command) (replies : List Reply) (old mid 
   pub was_open : HasCleanDisk mid → 0 < length commands → IsTrue old.is_open
   pub inside : HasCleanDisk mid → StaysInside old mid
   pub schema : HasCleanDisk mid → KeepsTables old mid
-  pub shut : HasCleanDisk mid → StaysShut old mid
+  pub stays_closed : HasCleanDisk mid → StaysClosed old mid
   pub kept : HasCleanDisk mid → KeepsStored old mid
   pub survives : Survives old mid (λ _. ⊥)
 
@@ -263,24 +263,24 @@ module _ (commands : List Command) (replies : List Reply) (old mid new : State) 
   pub kept_on : HasCleanDisk new → KeepsStored mid new → KeepsStored old new
   kept_on clean kept schema = kept_then old mid new (so_far.kept (early clean) schema) (kept (so_far.schema (early clean) schema))
 
-  pub shut_on : HasCleanDisk new → StaysShut mid new → StaysShut old new
-  shut_on clean shut is_open = so_far.shut (early clean) (shut is_open)
+  pub shut_on : HasCleanDisk new → StaysClosed mid new → StaysClosed old new
+  shut_on clean shut is_open = so_far.stays_closed (early clean) (shut is_open)
 
   pub survives_on : Survives old new (λ _. ⊥)
   survives_on = survives_then old mid new _ _ (λ _. ⊥) (λ clean trees none. none) (λ clean trees none. none) so_far.survives two
 
   pub one_more : (command : Command) (reply : Reply) → (HasCleanDisk new → Reaches command reply mid new) → (HasCleanDisk new → IsTrue mid.is_open) → (HasCleanDisk new → StaysInside mid new)
-      → (HasCleanDisk new → KeepsTables mid new) → (HasCleanDisk new → StaysShut mid new) → (HasCleanDisk new → KeepsStored mid new)
+      → (HasCleanDisk new → KeepsTables mid new) → (HasCleanDisk new → StaysClosed mid new) → (HasCleanDisk new → KeepsStored mid new)
       → Delivering (commands ++ command ∷ []) (replies ++ reply ∷ []) old new
   one_more command reply reaches is_open inside schema shut kept = record {
     reaches = λ clean before stands.
         let first = so_far.reaches (early clean) before stands in
         let second = reaches clean first.0 first.2 in
         (second.0, accepts_more before first.0 second.0 commands replies command reply first.1 second.1, second.2);
-    was_open = λ clean some. so_far.shut (early clean) (is_open clean);
+    was_open = λ clean some. so_far.stays_closed (early clean) (is_open clean);
     inside = λ clean has on. inside clean (so_far.schema (early clean) has) (so_far.inside (early clean) has on);
     schema = λ clean has. schema clean (so_far.schema (early clean) has);
-    shut = λ clean. shut_on clean (shut clean);
+    stays_closed = λ clean. shut_on clean (shut clean);
     kept = λ clean. kept_on clean (kept clean);
     survives = survives_on;
   }
@@ -293,7 +293,7 @@ module _ (commands : List Command) (replies : List Reply) (old mid new : State) 
     at = record { earlier = commands; later = later; are = are; number = number };
     mid = mid.now;
     reached = λ before stands. let first = so_far.reaches (early clean) before stands in (replies, first.0, first.1, first.2);
-    cause = cause_as e command mid (record old { now = mid.now }) refl (so_far.shut (early clean)) cause;
+    cause = cause_as e command mid (record old { now = mid.now }) refl (so_far.stays_closed (early clean)) cause;
     fault = λ is before stands.
         let first = so_far.reaches (early clean) before stands in
         elim (fault (so_far.inside (early clean) stands.schema inside) is first.0 first.2) [

@@ -4,7 +4,7 @@ use Rattle.sqlite_trees.specs.declared.store.Store.{Ghosts}
 use Rattle.sqlite.specs.Held.{Held, state}
 use Rattle.sqlite.specs.State.{State}
 use Rattle.part_store.specs.Entries.{Entries}
-use Rattle.part_store.specs.Standing.{Spares}
+use Rattle.part_store.specs.Standing.{LeavesUnchanged}
 use Rattle.depot_actions.specs.DepotState.{Accepts, Command, Does, Reply}
 
 -- a command, and its reply, or none where it was refused
@@ -12,9 +12,9 @@ pub record Call : Type 0 where
   pub command : Command
   pub reply : Option Reply
 
--- the store does a command with its reply, or is spared
+-- the store does a command with its reply, or is unchanged
 abbrev pub Answers : Command → Option Reply → State → State → Type 0
-Answers command None old new = Spares old new
+Answers command None old new = LeavesUnchanged old new
 Answers command (Some reply) old new = Does command reply old new
 
 -- calls of a depot are answered one after another, also after a failure has shut its store

@@ -1,9 +1,9 @@
 // Deliveries, alone and several at once.
 ghost use Rattle.std.specs.Prelude.{◌≡◌, ◌<◌, length, map, IfErr, IsTrue, OnOk};
 ghost use Rattle.part_store.specs.Access.{InTransaction};
-ghost use Rattle.part_store.specs.Calls.{Always, CommitsNothing, IfDone, IfRefused, MayCommit, OnDone, OnRefused, StaysShut};
+ghost use Rattle.part_store.specs.Calls.{Always, CommitsNothing, IfDone, IfRefused, MayCommit, OnDone, OnRefused, StaysClosed};
 ghost use Rattle.part_store.specs.Inside.{KeepsStored, KeepsTables, StaysInside};
-ghost use Rattle.part_store.specs.Standing.{Spares, listed};
+ghost use Rattle.part_store.specs.Standing.{LeavesUnchanged, listed};
 ghost use Rattle.depot_actions.specs.Causes.{IsCause, IsFault, IsSound, MayRefuse};
 ghost use Rattle.depot_actions.specs.Deliveries.{AreRefused, DoesAll, IsRefusedAt, MayLeaveAll, MayRefuseAll, MayRefuseAt, command_of, reply_of};
 ghost use Rattle.depot_actions.specs.DepotState.{Deliver, Does, IsNamed, Listed, MayLeave};
@@ -52,7 +52,7 @@ pub(crate) fn deliver_alone<S: Alter>(
 ) -> Result<Vec<EntryRow>, Refusal>
     ensures done { IfDone S.Store store.old store.new result
         (λ rows. Does (Deliver user.now message.now) (Listed (map listed rows.items))) }
-    ensures spared { OnRefused S.Store store.old store.new result Spares }
+    ensures unchanged { OnRefused S.Store store.old store.new result LeavesUnchanged }
     ensures which { IfErr result (MayRefuse (Deliver user.now message.now)) }
     ensures refused { IfRefused S.Store store.old store.new result
         (IsCause (Deliver user.now message.now)) }
@@ -82,7 +82,7 @@ pub(crate) fn deliver_together<S: Alter>(
 ) -> Result<Vec<Vec<EntryRow>>, RefusedDelivery>
     ensures done { IfDone S.Store store.old store.new result
         (λ replies. DoesAll (map command_of deliveries.now) (map reply_of replies.items)) }
-    ensures spared { OnRefused S.Store store.old store.new result Spares }
+    ensures unchanged { OnRefused S.Store store.old store.new result LeavesUnchanged }
     ensures which { IfErr result
         (λ e. MayRefuseAll (map command_of deliveries.now) e.place e.refusal) }
     ensures refused { IfRefused S.Store store.old store.new result
@@ -114,7 +114,7 @@ fn deliver_each<S: Alter>(
     ensures open { OnDone S.Store tx.old.conn.now tx.new.conn.now result
         (λ old _. 0 < length deliveries.now → IsTrue old.is_open) }
     ensures inside { OnDone S.Store tx.old.conn.now tx.new.conn.now result StaysInside }
-    ensures shut { Always S.Store tx.old.conn.now tx.new.conn.now StaysShut }
+    ensures stays_closed { Always S.Store tx.old.conn.now tx.new.conn.now StaysClosed }
     ensures kept { Always S.Store tx.old.conn.now tx.new.conn.now KeepsStored }
     ensures which { IfErr result
         (λ e. MayRefuseAt (map command_of deliveries.now) e.place e.refusal) }

@@ -7,7 +7,7 @@ ghost use Rattle.part_store.specs.Entries.{Entries, no_entries};
 ghost use Rattle.part_store.specs.Opening.{HoldsNoTables, HoldsStore, IsAt, IsFoundIn, IsReady, IsReadyFrom, TellsWhy};
 ghost use Rattle.sqlite.specs.WalFiles.{image_at};
 ghost use Rattle.part_store.specs.Refusals.{AreNamed};
-ghost use Rattle.part_store.specs.Standing.{Spares, Stands, listed};
+ghost use Rattle.part_store.specs.Standing.{LeavesUnchanged, Stands, listed};
 ghost use Rattle.refusals.specs.declared.refusal.Refusal.TheVariants.{Memory, Database, Write};
 ghost use Rattle.depot_actions.specs.Causes.{IsCause, IsFault, IsStoreFault, IsUncounted, MayRefuse};
 ghost use Rattle.depot_actions.specs.Deliveries.{AreRefused, DoesAll, MayLeaveAll, MayRefuseAll, command_of, reply_of};
@@ -84,7 +84,7 @@ impl<S: Alter> Depot<S> {
     pub fn set_script(&mut self, alloc: Global, user: &str, script: &[u8]) -> Result<(), Refusal>
         ensures done { OnDone S.Store self.old self.new result
             (Does (SetScript user.now script.now) Done) }
-        ensures spared { OnRefused S.Store self.old self.new result Spares }
+        ensures unchanged { OnRefused S.Store self.old self.new result LeavesUnchanged }
         ensures which { IfErr result (MayRefuse (SetScript user.now script.now)) }
         ensures refused { IfRefused S.Store self.old self.new result
             (IsCause (SetScript user.now script.now)) }
@@ -109,7 +109,7 @@ impl<S: Alter> Depot<S> {
     pub fn set_code(&mut self, alloc: Global, user: &str, program: &[u8]) -> Result<(), Refusal>
         ensures done { OnDone S.Store self.old self.new result
             (Does (SetCode user.now program.now) Done) }
-        ensures spared { OnRefused S.Store self.old self.new result Spares }
+        ensures unchanged { OnRefused S.Store self.old self.new result LeavesUnchanged }
         ensures which { IfErr result (MayRefuse (SetCode user.now program.now)) }
         ensures refused { IfRefused S.Store self.old self.new result
             (IsCause (SetCode user.now program.now)) }
@@ -141,7 +141,7 @@ impl<S: Alter> Depot<S> {
     ) -> Result<Vec<EntryRow>, Refusal>
         ensures done { IfDone S.Store self.old self.new result
             (λ rows. Does (Deliver user.now message.now) (Listed (map listed rows.items))) }
-        ensures spared { OnRefused S.Store self.old self.new result Spares }
+        ensures unchanged { OnRefused S.Store self.old self.new result LeavesUnchanged }
         ensures which { IfErr result (MayRefuse (Deliver user.now message.now)) }
         ensures refused { IfRefused S.Store self.old self.new result
             (IsCause (Deliver user.now message.now)) }
@@ -167,7 +167,7 @@ impl<S: Alter> Depot<S> {
     ) -> Result<Vec<Vec<EntryRow>>, RefusedDelivery>
         ensures done { IfDone S.Store self.old self.new result
             (λ replies. DoesAll (map command_of deliveries.now) (map reply_of replies.items)) }
-        ensures spared { OnRefused S.Store self.old self.new result Spares }
+        ensures unchanged { OnRefused S.Store self.old self.new result LeavesUnchanged }
         ensures which { IfErr result
             (λ e. MayRefuseAll (map command_of deliveries.now) e.place e.refusal) }
         ensures refused { IfRefused S.Store self.old self.new result
@@ -186,7 +186,7 @@ impl<S: Alter> Depot<S> {
     pub fn list(&mut self, user: &str) -> Result<Vec<EntryRow>, Refusal>
         ensures done { IfDone S.Store self.old self.new result (λ rows. Does (ListAll user.now)
             (Listed (map listed rows.items))) }
-        ensures spared { Always S.Store self.old self.new Spares }
+        ensures unchanged { Always S.Store self.old self.new LeavesUnchanged }
         ensures which { IfErr result (MayRefuse (ListAll user.now)) }
         ensures refused { IfRefused S.Store self.old self.new result (IsCause (ListAll user.now)) }
         ensures cause { IfRefused S.Store self.old self.new result (IsFault (ListAll user.now)) }
@@ -206,7 +206,7 @@ impl<S: Alter> Depot<S> {
     pub fn program_of(&mut self, user: &str) -> Result<Option<Vec<u8>>, Refusal>
         ensures done { IfDone S.Store self.old self.new result (λ found. Does (ProgramOf user.now)
             (Program (option_map (λ v. v.items) found))) }
-        ensures spared { Always S.Store self.old self.new Spares }
+        ensures unchanged { Always S.Store self.old self.new LeavesUnchanged }
         ensures which { IfErr result (MayRefuse (ProgramOf user.now)) }
         ensures refused { IfRefused S.Store self.old self.new result
             (IsCause (ProgramOf user.now)) }
@@ -248,7 +248,7 @@ impl<S: Alter> Depot<S> {
             (Text text))))) }
         ensures unwritten { IfErr result
             (λ e. e ≢ Write → e ≢ Memory → W.output writer.new ≡ W.output writer.old) }
-        ensures spared { Always S.Store self.old self.new Spares }
+        ensures unchanged { Always S.Store self.old self.new LeavesUnchanged }
         ensures which { IfErr result (MayRefuse (Export user.now number encoding)) }
         ensures refused { IfRefused S.Store self.old self.new result
             (IsCause (Export user.now number encoding)) }
@@ -271,7 +271,7 @@ impl<S: Alter> Depot<S> {
     pub fn remove(&mut self, user: &str, number: u32) -> Result<(), Refusal>
         ensures done { OnDone S.Store self.old self.new result
             (Does (Remove user.now number) Done) }
-        ensures spared { OnRefused S.Store self.old self.new result Spares }
+        ensures unchanged { OnRefused S.Store self.old self.new result LeavesUnchanged }
         ensures which { IfErr result (MayRefuse (Remove user.now number)) }
         ensures refused { IfRefused S.Store self.old self.new result
             (IsCause (Remove user.now number)) }
@@ -296,7 +296,7 @@ impl<S: Alter> Depot<S> {
     pub fn migrate(&mut self, alloc: Global) -> Result<usize, Refusal>
         ensures done { IfDone S.Store self.old self.new result (λ number. Does Migrate
             (Migrated number)) }
-        ensures spared { OnRefused S.Store self.old self.new result Spares }
+        ensures unchanged { OnRefused S.Store self.old self.new result LeavesUnchanged }
         ensures which { IfErr result (MayRefuse Migrate) }
         ensures refused { IfRefused S.Store self.old self.new result (IsCause Migrate) }
         ensures cause { Always S.Store self.old self.new (λ old new. AreNamed old.now.trees
@@ -319,9 +319,9 @@ impl<S: Alter> Depot<S> {
     ///
     /// `Database`, also where octets are more than 64 bits can count or a user's name isn't UTF-8. `Memory` where an allocation was refused.
     pub fn inspect(&mut self, alloc: Global) -> Result<Overview, Refusal>
-        ensures told { IfDone S.Store self.old self.new result (λ x old _. IsTrue old.is_open
+        ensures answer { IfDone S.Store self.old self.new result (λ x old _. IsTrue old.is_open
             × ((before : Entries) → Stands old.now before → IsOverview old.now.trees before x)) }
-        ensures spared { Always S.Store self.old self.new Spares }
+        ensures unchanged { Always S.Store self.old self.new LeavesUnchanged }
         ensures refused { IfErr result (λ e. (e ≡ Memory) ⊎ (e ≡ Database)) }
         ensures cause { Always S.Store self.old self.new (λ old new. AreNamed old.now.trees
             → IfErr result (IsStoreFault IsUncounted old new)) }

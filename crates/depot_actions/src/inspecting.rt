@@ -5,7 +5,7 @@ ghost use Rattle.sqlite.specs.Held.{state};
 ghost use Rattle.part_store.specs.Access.{ReadsStore};
 ghost use Rattle.part_store.specs.Tables.{contents_tree, users_tree};
 ghost use Rattle.part_store.specs.Entries.{Entries, Listing, entries_of, listing_of};
-ghost use Rattle.part_store.specs.Standing.{Spares, Stands, listed};
+ghost use Rattle.part_store.specs.Standing.{LeavesUnchanged, Stands, listed};
 ghost use Rattle.part_store.specs.Totals.{IsTotalOf};
 ghost use Rattle.part_store.specs.UserLines.{AreUsersOf, line_of};
 ghost use Rattle.part_store.specs.declared.entry.EntryRow.{EntryRow as Row};
@@ -32,9 +32,9 @@ pub(crate) fn look_over<S: Alter>(
     store: &mut PartStore<S>,
     alloc: Global,
 ) -> Result<Overview, Refusal>
-    ensures told { IfDone S.Store store.old store.new result (λ x old _. IsTrue old.is_open
+    ensures answer { IfDone S.Store store.old store.new result (λ x old _. IsTrue old.is_open
         × ((before : Entries) → Stands old.now before → IsOverview old.now.trees before x)) }
-    ensures spared { Always S.Store store.old store.new Spares }
+    ensures unchanged { Always S.Store store.old store.new LeavesUnchanged }
     ensures refused { IfErr result (λ e. (e ≡ Memory) ⊎ (e ≡ Database)) }
     ensures cause { Always S.Store store.old store.new (λ old new. AreNamed old.now.trees
         → IfErr result (IsStoreFault IsUncounted old new)) }
@@ -48,7 +48,7 @@ pub(crate) fn look_over<S: Alter>(
 
 // The users that have a row.
 fn rows_of<S: Alter>(store: &mut PartStore<S>) -> Result<Vec<UserRow>, Refusal>
-    ensures told { IfDone S.Store store.old store.new result (λ rows old _. (before : Entries)
+    ensures answer { IfDone S.Store store.old store.new result (λ rows old _. (before : Entries)
         → Stands old.now before → AreUsersOf (old.now.trees users_tree) before
         (map line_of rows.items)) }
     ensures reads { ReadsStore S.Store store.old store.new result }
@@ -61,7 +61,7 @@ fn rows_of<S: Alter>(store: &mut PartStore<S>) -> Result<Vec<UserRow>, Refusal>
 
 // How many contents there are, and their octets.
 fn total_of<S: Alter>(store: &mut PartStore<S>) -> Result<ContentTotal, Refusal>
-    ensures told { IfDone S.Store store.old store.new result (λ total old _. (before : Entries)
+    ensures answer { IfDone S.Store store.old store.new result (λ total old _. (before : Entries)
         → Stands old.now before → IsTotalOf (old.now.trees contents_tree) total) }
     ensures reads { ReadsStore S.Store store.old store.new result }
     ensures refused { IfErr result (λ e. (e ≡ Memory) ⊎ (e ≡ Database)) }
@@ -76,9 +76,9 @@ fn summaries<S: Alter>(
     alloc: Global,
     rows: &[UserRow],
 ) -> Result<Vec<UserOverview>, Refusal>
-    ensures told { Tells S.Store store.old store.new result (λ before users. AreSummaries before
+    ensures answer { Tells S.Store store.old store.new result (λ before users. AreSummaries before
         (map line_of rows.now) users.items) }
-    ensures spared { Always S.Store store.old store.new Spares }
+    ensures unchanged { Always S.Store store.old store.new LeavesUnchanged }
     ensures refused { IfErr result (λ e. (e ≡ Memory) ⊎ (e ≡ Database)) }
     ensures cause { IfRefused S.Store store.old store.new result (IsStoreFault IsUncounted) }
     ensures survives { CommitsNothing S.Store store.old store.new }
@@ -97,7 +97,7 @@ fn summary<S: Alter>(
     alloc: Global,
     row: &UserRow,
 ) -> Result<UserOverview, Refusal>
-    ensures told { Tells S.Store store.old store.new result (λ before x. Summarises
+    ensures answer { Tells S.Store store.old store.new result (λ before x. Summarises
         (line_of row.now) (map listing_of (entries_of (string_bytes row.now.user) before)) x) }
     ensures reads { ReadsStore S.Store store.old store.new result }
     ensures refused { IfErr result (λ e. (e ≡ Memory) ⊎ (e ≡ Database)) }
@@ -109,7 +109,7 @@ fn summary<S: Alter>(
 
 // The entries of a user, who may have any name that is stored.
 fn entries_in<S: Alter>(store: &mut PartStore<S>, user: &str) -> Result<Vec<EntryRow>, Refusal>
-    ensures told { Tells S.Store store.old store.new result (λ before rows. map listed rows.items
+    ensures answer { Tells S.Store store.old store.new result (λ before rows. map listed rows.items
         ≡ map listing_of (entries_of user.now before)) }
     ensures reads { ReadsStore S.Store store.old store.new result }
     ensures refused { IfErr result (λ e. (e ≡ Memory) ⊎ (e ≡ Database)) }
@@ -120,7 +120,7 @@ fn entries_in<S: Alter>(store: &mut PartStore<S>, user: &str) -> Result<Vec<Entr
 
 // A user with these entries, summarised.
 fn summary_of(alloc: Global, row: &UserRow, entries: &[EntryRow]) -> Result<UserOverview, Refusal>
-    ensures told { IfOk result (λ x. Summarises (line_of row.now) (map listed entries.now) x) }
+    ensures answer { IfOk result (λ x. Summarises (line_of row.now) (map listed entries.now) x) }
     ensures refused { IfErr result (λ e. (e ≡ Memory) ⊎ (e ≡ Database)) }
     ensures cause { IfErr result
         (λ e. e ≡ Database → 2 ^ 64 ≤ sum_by (λ (e : Listing). e.octets) (map listed entries.now)) }

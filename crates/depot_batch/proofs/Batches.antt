@@ -8,7 +8,7 @@ use Rattle.encodings.specs.Supply.{HasGiven, HasStoppedGiving, Supply}
 use Rattle.refusals.specs.declared.refusal.Refusal.{Refusal}
 use Rattle.refusals.specs.declared.refusal.Refusal.TheVariants.{Database, Memory, Read, Write}
 use Rattle.depot_jobs.specs.Jobs.{HasTold}
-use Rattle.depot_batch.specs.Batch.{AreTaken, Breaks, Happens, HasServed, IsAnsweredBy, Office}
+use Rattle.depot_batch.specs.Batch.{AreTaken, Breaks, Happens, HasServed, IsAnsweredBy, DepotAndOutput}
 use Rattle.encodings.specs.Device.{HasTaken}
 use Rattle.depot_batch.specs.Lines.{HasNotTaken, HasShown, HasTakenAll, IsLine, IsUnfinished}
 use Rattle.depot_batch.specs.Private.{HasServedLast, HasTurned}
@@ -80,7 +80,7 @@ module _ (s0 s1 s2 : Supply) (first : HasShown [] s0 s1) where
 -- ---- turns
 
 -- where a batch stands after so many turns
-pub record StandsAfter {S : Type 0} (g : Ghosts S) (name : List ℕ) (count : ℕ) (input rest : Supply) (old new : Office S) (err err2 : Output) : Type 0 where
+pub record StandsAfter {S : Type 0} (g : Ghosts S) (name : List ℕ) (count : ℕ) (input rest : Supply) (old new : DepotAndOutput S) (err err2 : Output) : Type 0 where
   pub turns : List Turn
   pub taken : AreTaken g name turns input rest old new
   pub counted : length turns ≡ count
@@ -88,21 +88,21 @@ pub record StandsAfter {S : Type 0} (g : Ghosts S) (name : List ℕ) (count : �
 
 module _ {S : Type 0} (g : Ghosts S) (name : List ℕ) where
   -- why a batch ends, whatever number of turns it had
-  abbrev Ends : ℕ → ℕ → List Turn → Supply → Supply → Office S → Office S → Output → Output → Type 0
+  abbrev Ends : ℕ → ℕ → List Turn → Supply → Supply → DepotAndOutput S → DepotAndOutput S → Output → Output → Type 0
   Ends status count last rest left old new err err2 = EndsBy (Happens g name) (Breaks g name) status count last rest left old new err err2
 
   -- one turn more was taken
-  taken_more : (turns : List Turn) (turn : Turn) (input rest left : Supply) (old mid new : Office S) → AreTaken g name turns input rest old mid
+  taken_more : (turns : List Turn) (turn : Turn) (input rest left : Supply) (old mid new : DepotAndOutput S) → AreTaken g name turns input rest old mid
       → Takes turn rest left → Happens g name turn mid new → GoesOn turn → AreTaken g name (turns ++ turn ∷ []) input left old new
   taken_more [] turn input rest left old mid new before takes happens on =
-      (left, new, subst (λ (s : Supply). Takes turn s left) before.0 takes, subst (λ (o : Office S). Happens g name turn o new) before.1 happens, on, (refl, refl))
+      (left, new, subst (λ (s : Supply). Takes turn s left) before.0 takes, subst (λ (o : DepotAndOutput S). Happens g name turn o new) before.1 happens, on, (refl, refl))
   taken_more (first ∷ turns) turn input rest left old mid new before takes happens on =
       (before.0, before.1, before.2, before.3, before.4, taken_more turns turn before.0 rest left before.1 mid new before.5 takes happens on)
 
-  pub stands_first : (input : Supply) (old : Office S) (err : Output) → StandsAfter g name 0 input input old old err err
+  pub stands_first : (input : Supply) (old : DepotAndOutput S) (err : Output) → StandsAfter g name 0 input input old old err err
   stands_first input old err = record { turns = []; taken = (refl, refl); counted = refl; silent = refl }
 
-  pub stands_on : (count : ℕ) (input rest left : Supply) (old mid new : Office S) (err err2 err3 : Output) → StandsAfter g name count input rest old mid err err2
+  pub stands_on : (count : ℕ) (input rest left : Supply) (old mid new : DepotAndOutput S) (err err2 err3 : Output) → StandsAfter g name count input rest old mid err err2
       → HasTurned g name None rest left mid new err2 err3 → StandsAfter g name (count + 1) input left old new err err3
   stands_on count input rest left old mid new err err2 err3 before turned = record {
     turns = before.turns ++ turned.0 ∷ [];
@@ -112,13 +112,13 @@ module _ {S : Type 0} (g : Ghosts S) (name : List ℕ) where
   }
 
   -- the reasons don't hang on the number of turns, but for that of counting
-  ends_at : (status count : ℕ) (last : List Turn) (rest left : Supply) (old new : Office S) (err err2 : Output) → Ends status 0 last rest left old new err err2
+  ends_at : (status count : ℕ) (last : List Turn) (rest left : Supply) (old new : DepotAndOutput S) (err err2 : Output) → Ends status 0 last rest left old new err err2
       → Ends status count last rest left old new err err2
   ends_at status count last rest left old new err err2 (inl all) = inl (all.0, all.1, elim all.2 [ inl end ↦ inl end | inr counted ↦ absurd (omega (arith, counted.0)) ], all.3, all.4)
   ends_at status count last rest left old new err err2 (inr others) = inr others
 
   -- a turn with which the batch ends
-  pub ends : (status count : ℕ) (input rest left : Supply) (old mid new : Office S) (err err2 err3 : Output) → StandsAfter g name count input rest old mid err err2
+  pub ends : (status count : ℕ) (input rest left : Supply) (old mid new : DepotAndOutput S) (err err2 err3 : Output) → StandsAfter g name count input rest old mid err err2
       → HasTurned g name (Some status) rest left mid new err2 err3 → HasServed g name status input left old new err err3
   ends status count input rest left old mid new err err2 err3 before turned = record {
     turns = before.turns;
@@ -130,7 +130,7 @@ module _ {S : Type 0} (g : Ghosts S) (name : List ℕ) where
   }
 
   -- the end of counting
-  pub ends_counting : (count : ℕ) (input rest : Supply) (old new : Office S) (err err2 : Output) → StandsAfter g name count input rest old new err err2
+  pub ends_counting : (count : ℕ) (input rest : Supply) (old new : DepotAndOutput S) (err err2 : Output) → StandsAfter g name count input rest old new err err2
       → count ≡ 2 ^ 64 - 1 → HasServed g name 0 input rest old new err err2
   ends_counting count input rest old new err err2 before all = record {
     turns = before.turns;
@@ -144,7 +144,7 @@ module _ {S : Type 0} (g : Ghosts S) (name : List ℕ) where
   -- ---- one turn
 
   -- the input was only looked at before a turn
-  pub turned_after : (came : Option ℕ) (s0 s1 s2 : Supply) (old new : Office S) (err err2 : Output) → HasShown [] s0 s1
+  pub turned_after : (came : Option ℕ) (s0 s1 s2 : Supply) (old new : DepotAndOutput S) (err err2 : Output) → HasShown [] s0 s1
       → HasTurned g name came s1 s2 old new err err2 → HasTurned g name came s0 s2 old new err err2
   turned_after None s0 s1 s2 old new err err2 first turned = (turned.0, takes_after s0 s1 s2 first turned.0 turned.1, turned.2, turned.3, turned.4)
   turned_after (Some status) s0 s1 s2 old new err err2 first turned = (turned.0, after turned.1)
@@ -157,31 +157,31 @@ module _ {S : Type 0} (g : Ghosts S) (name : List ℕ) where
       after (inr (inr (inr (inr all)))) = inr (inr (inr (inr (all.0, all.1, all.2, all.3, unread_after s0 s1 s2 first all.2 all.3 all.4, all.5, all.6))))
 
   -- the end of the input
-  pub turned_end : (s0 s1 : Supply) (old : Office S) (err : Output) → HasTakenAll [] s0 s1 → HasTurned g name (Some 0) s0 s1 old old err err
+  pub turned_end : (s0 s1 : Supply) (old : DepotAndOutput S) (err : Output) → HasTakenAll [] s0 s1 → HasTurned g name (Some 0) s0 s1 old old err err
   turned_end s0 s1 old err end = ([], inl (refl, refl, inl end, refl, refl))
 
   -- the end of the input within a line
-  pub turned_within : (status : ℕ) (octets : List ℕ) (s0 s1 : Supply) (old new : Office S) (err err2 : Output) → IsUnfinished octets × HasTakenAll octets s0 s1
+  pub turned_within : (status : ℕ) (octets : List ℕ) (s0 s1 : Supply) (old new : DepotAndOutput S) (err err2 : Output) → IsUnfinished octets × HasTakenAll octets s0 s1
       → HasServedLast g name status octets old new err err2 → HasTurned g name (Some status) s0 s1 old new err err2
   turned_within status octets s0 s1 old new err err2 taken served =
       (Alone octets served.0 ∷ [], inr (inl (octets, served.0, refl, taken.0, taken.1, served.1)))
 
   -- a line was answered
-  pub turned_on : (line : List ℕ) (outcome : Outcome) (s0 s1 : Supply) (old new : Office S) (err : Output) → IsLine line × HasGiven line s0 s1
+  pub turned_on : (line : List ℕ) (outcome : Outcome) (s0 s1 : Supply) (old new : DepotAndOutput S) (err : Output) → IsLine line × HasGiven line s0 s1
       → IsAnsweredBy g HasTaken name line outcome old new → (outcome ≡ Refused Database → ⊥) → HasTurned g name None s0 s1 old new err err
   turned_on line outcome s0 s1 old new err taken answered on = (Alone line outcome, taken, answered, on, refl)
 
   -- a line was refused `Database`
-  pub turned_shut : (line : List ℕ) (s0 s1 : Supply) (old new : Office S) (err : Output) → IsLine line × HasGiven line s0 s1
+  pub turned_shut : (line : List ℕ) (s0 s1 : Supply) (old new : DepotAndOutput S) (err : Output) → IsLine line × HasGiven line s0 s1
       → IsAnsweredBy g HasTaken name line (Refused Database) old new → HasTurned g name (Some 1) s0 s1 old new err err
   turned_shut line s0 s1 old new err taken answered = (Alone line (Refused Database) ∷ [], inr (inr (inl (refl, line, refl, taken.0, taken.1, answered, refl))))
 
   -- answers broke off
-  pub turned_broken : (turn : Turn) (status : ℕ) (s0 s1 : Supply) (old new : Office S) (err err2 : Output) → Takes turn s0 s1 → Breaks g name turn old new
+  pub turned_broken : (turn : Turn) (status : ℕ) (s0 s1 : Supply) (old new : DepotAndOutput S) (err err2 : Output) → Takes turn s0 s1 → Breaks g name turn old new
       → status ≡ 1 → HasTold Write err err2 → HasTurned g name (Some status) s0 s1 old new err err2
   turned_broken turn status s0 s1 old new err err2 takes breaks one told = (turn ∷ [], inr (inr (inr (inl (one, turn, refl, takes, breaks, told)))))
 
   -- no line could be read
-  pub turned_unread : (refusal : Refusal) (octets : List ℕ) (status : ℕ) (s0 s1 : Supply) (old : Office S) (err err2 : Output) → HasNotTaken refusal octets s0 s1
+  pub turned_unread : (refusal : Refusal) (octets : List ℕ) (status : ℕ) (s0 s1 : Supply) (old : DepotAndOutput S) (err err2 : Output) → HasNotTaken refusal octets s0 s1
       → status ≡ 1 → HasTold refusal err err2 → HasTurned g name (Some status) s0 s1 old old err err2
   turned_unread refusal octets status s0 s1 old err err2 unread one told = ([], inr (inr (inr (inr (one, refl, refusal, octets, unread, told, refl)))))

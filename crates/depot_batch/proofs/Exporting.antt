@@ -3,7 +3,7 @@ use Rattle.std.proofs.Common.{◌≡◌, ◌≢◌, ◌⊎◌, ◌∙◌, ap, in
 use Rattle.sqlite_trees.specs.declared.store.Store.{Ghosts}
 use Rattle.sqlite.specs.Held.{Held, state}
 use Rattle.sqlite.specs.State.{HasCleanDisk}
-use Rattle.part_store.specs.Standing.{Spares}
+use Rattle.part_store.specs.Standing.{LeavesUnchanged}
 use Rattle.depot_actions.specs.DepotState.{Export as Exports}
 use Rattle.encodings.specs.Device.{Output, counted}
 use Rattle.depot_jobs.specs.Host.{HasNotMade, HostState, IsFreshOutput, makes, with_call, with_faults}
@@ -35,15 +35,15 @@ module _ {S : Type 0} (g : Ghosts S) where
       → (e ≡ Memory → faults ≡ fresh.faults)
       → (e ≢ Write → e ≢ Memory → faults ≡ fresh.faults)
       → HasRefused (Exports export.user.now export.number export.encoding) e (state g old) (state g new)
-      → (HasCleanDisk (state g new) → Spares (state g old) (state g new))
+      → (HasCleanDisk (state g new) → LeavesUnchanged (state g old) (state g new))
       → HasNotExported g name export e old new host host2
-  given_up e name export old new host mid host2 fresh faults made begun gone failed stopped unwritten refused spared =
+  given_up e name export old new host mid host2 fresh faults made begun gone failed stopped unwritten refused unchanged =
       let asked = with_call (makes export.file.now name) host in
       let after : host2 ≡ with_faults faults asked = subst (λ h. host2 ≡ with_faults faults h) made gone in
       elim (comes_late e) [
         | inl is ↦
             let broke = one_fault asked host2 faults (failed is ∙ ap (counted 1) begun.faults) after in
-            (inl (subst (λ r. HasNotMade r export.file.now name host host2) (sym is) broke), spared)
-        | inr (inl is) ↦ (inr ((λ write. cc (is, write)), no_fault asked host2 faults (stopped is ∙ begun.faults) after, refused), spared)
-        | inr (inr other) ↦ (inr (other.0, no_fault asked host2 faults (unwritten other.0 other.1 ∙ begun.faults) after, refused), spared)
+            (inl (subst (λ r. HasNotMade r export.file.now name host host2) (sym is) broke), unchanged)
+        | inr (inl is) ↦ (inr ((λ write. cc (is, write)), no_fault asked host2 faults (stopped is ∙ begun.faults) after, refused), unchanged)
+        | inr (inr other) ↦ (inr (other.0, no_fault asked host2 faults (unwritten other.0 other.1 ∙ begun.faults) after, refused), unchanged)
       ]

@@ -7,14 +7,14 @@ use Rattle.sqlite.specs.Held.{Held, state}
 use Rattle.sqlite.specs.State.{HasCleanDisk, State, Survives}
 use Rattle.encodings.specs.Supply.{Supply}
 use Rattle.part_store.specs.Entries.{Entries}
-use Rattle.part_store.specs.Standing.{Spares, Stands}
+use Rattle.part_store.specs.Standing.{LeavesUnchanged, Stands}
 use Rattle.depot_actions.specs.Deliveries.{calls_of}
 use Rattle.depot_actions.specs.DepotState.{Command, Does, Listed, Reply as DepotReply, Text as Written}
 use Rattle.depot_actions.specs.History.{AreSteps, Call}
 use Rattle.depot_jobs.specs.Host.{HostState}
 use Rattle.depot_jobs.specs.declared.request.OnDepot.TheVariants as requests
 use Rattle.refusals.specs.declared.refusal.Refusal.{Refusal}
-use Rattle.depot_batch.specs.Batch.{AreDeliveries, AreTaken, Happens, HasCome, IsAsked, IsCallOf, IsDone, IsMadeAtOne, IsRefused, Office, Outlasts, command_asked}
+use Rattle.depot_batch.specs.Batch.{AreDeliveries, AreTaken, Happens, HasCome, IsAsked, IsCallOf, IsDone, IsMadeAtOne, IsRefused, DepotAndOutput, Outlasts, command_asked}
 use Rattle.depot_batch.specs.Turns.{Alone, Together, Turn, Withdrawn, done_in, lines_done}
 use Rattle.depot_batch.specs.declared.asked.Asked.{Asked}
 use Rattle.depot_batch.specs.declared.asked.Asked.TheVariants.{Reply, Export as IntoFile}
@@ -59,14 +59,14 @@ record Went (lines : List (List ℕ)) (before : Entries) (new : State) : Type 0 
   steps : AreSteps calls before after
   stands : IsTrue new.is_open → Stands new.now after
 
-spared : (old new : State) (before : Entries) → Spares old new → (IsTrue old.is_open → Stands old.now before) → Went [] before new
-spared old new before spares given = record {
+unchanged : (old new : State) (before : Entries) → LeavesUnchanged old new → (IsTrue old.is_open → Stands old.now before) → Went [] before new
+unchanged old new before spares given = record {
   calls = [];
   after = before;
   are = tt;
   steps = refl;
   stands = λ is_open.
-      let stood = given (spares.shut is_open) in
+      let stood = given (spares.stays_closed is_open) in
       subst (λ d. Stands d before) (sym (spares.same stood.schema is_open).0) stood;
 }
 
@@ -105,11 +105,11 @@ module _ {S : Type 0} (g : Ghosts S) where
     refused_went : (asked : Asked) (refusal : Refusal) → IsRefused g name asked refusal old new host host2 → Went [] before (state g new)
     refused_went (Reply request) refusal refused = elim refused [
       | inl unread ↦ same old new before unread.1 given
-      | inr asked ↦ spared (state g old) (state g new) before (asked.2.1 clean).2 given
+      | inr asked ↦ unchanged (state g old) (state g new) before (asked.2.1 clean).2 given
     ]
-    refused_went (IntoFile export) refusal refused = spared (state g old) (state g new) before (refused.1 clean) given
+    refused_went (IntoFile export) refusal refused = unchanged (state g old) (state g new) before (refused.1 clean) given
 
-  module _ (name : List ℕ) (old new : Office S) (before : Entries) (clean : HasCleanDisk (state g new.depot))
+  module _ (name : List ℕ) (old new : DepotAndOutput S) (before : Entries) (clean : HasCleanDisk (state g new.depot))
       (given : IsTrue (state g old.depot).is_open → Stands (state g old.depot).now before) where
     come_went : (line : List ℕ) (outcome : Outcome) (text : List ℕ) → HasCome g name line outcome text old new → Went (done_in (Alone line outcome)) before (state g new.depot)
     come_went line Done text come = done_went name line old.depot new.depot old.host new.host before clean given come.0 text come.1 come.2
@@ -131,26 +131,26 @@ module _ {S : Type 0} (g : Ghosts S) where
           steps = done.1.steps;
           stands = λ is_open. (done.2.stands is_open).0;
         }
-    turn_went (Withdrawn lines) happens = spared (state g old.depot) (state g new.depot) before (happens.spared clean) given
+    turn_went (Withdrawn lines) happens = unchanged (state g old.depot) (state g new.depot) before (happens.unchanged clean) given
 
-  outlasts : (name : List ℕ) (turn : Turn) (old new : Office S) → Happens g name turn old new → Outlasts g turn old new
+  outlasts : (name : List ℕ) (turn : Turn) (old new : DepotAndOutput S) → Happens g name turn old new → Outlasts g turn old new
   outlasts name (Alone line outcome) old new happens = happens.outlasts
   outlasts name (Together lines) old new happens = happens.outlasts
   outlasts name (Withdrawn lines) old new happens = happens.outlasts
 
   -- a disk that is clean after turns was clean before them
-  clean_all : (name : List ℕ) (turns : List Turn) (input rest : Supply) (old new : Office S) → AreTaken g name turns input rest old new → HasCleanDisk (state g new.depot)
+  clean_all : (name : List ℕ) (turns : List Turn) (input rest : Supply) (old new : DepotAndOutput S) → AreTaken g name turns input rest old new → HasCleanDisk (state g new.depot)
       → HasCleanDisk (state g old.depot)
-  clean_all name [] input rest old new are clean = subst (λ (o : Office S). HasCleanDisk (state g o.depot)) are.1 clean
+  clean_all name [] input rest old new are clean = subst (λ (o : DepotAndOutput S). HasCleanDisk (state g o.depot)) are.1 clean
   clean_all name (turn ∷ turns) input rest old new are clean =
       clean_before (state g old.depot) (state g are.1.depot) (outlasts name turn old are.1 are.3) (clean_all name turns are.0 rest are.1 new are.5 clean)
 
-  pub turns_went : (name : List ℕ) (turns : List Turn) (input rest : Supply) (old new : Office S) (before : Entries) → AreTaken g name turns input rest old new
+  pub turns_went : (name : List ℕ) (turns : List Turn) (input rest : Supply) (old new : DepotAndOutput S) (before : Entries) → AreTaken g name turns input rest old new
       → HasCleanDisk (state g new.depot) → (IsTrue (state g old.depot).is_open → Stands (state g old.depot).now before)
       → (calls : List Call) × (after : Entries) × AllZip IsCallOf (lines_done turns) calls × AreSteps calls before after
       × (IsTrue (state g new.depot).is_open → Stands (state g new.depot).now after)
   turns_went name [] input rest old new before are clean given =
-      ([], before, tt, refl, subst (λ (o : Office S). IsTrue (state g o.depot).is_open → Stands (state g o.depot).now before) (sym are.1) given)
+      ([], before, tt, refl, subst (λ (o : DepotAndOutput S). IsTrue (state g o.depot).is_open → Stands (state g o.depot).now before) (sym are.1) given)
   turns_went name (turn ∷ turns) input rest old new before are clean given =
       let one = turn_went name old are.1 before (clean_all name turns are.0 rest are.1 new are.5 clean) given turn are.3 in
       let more = turns_went name turns are.0 rest are.1 new one.after are.5 clean one.stands in (
@@ -162,9 +162,9 @@ module _ {S : Type 0} (g : Ghosts S) where
       )
 
   -- what a crash leaves after turns
-  pub left_by_turns : (name : List ℕ) (turns : List Turn) (input rest : Supply) (old new : Office S) → AreTaken g name turns input rest old new → HasCleanDisk (state g new.depot)
+  pub left_by_turns : (name : List ℕ) (turns : List Turn) (input rest : Supply) (old new : DepotAndOutput S) → AreTaken g name turns input rest old new → HasCleanDisk (state g new.depot)
       → (trees : Trees) → (state g new.depot).may_leave trees → (state g old.depot).may_leave trees ⊎ IsMadeAtOne g name turns input old trees
-  left_by_turns name [] input rest old new are clean trees left = inl (subst (λ (o : Office S). (state g o.depot).may_leave trees) are.1 left)
+  left_by_turns name [] input rest old new are clean trees left = inl (subst (λ (o : DepotAndOutput S). (state g o.depot).may_leave trees) are.1 left)
   left_by_turns name (turn ∷ turns) input rest old new are clean trees left =
       let mid = are.1 in
       elim (left_by_turns name turns are.0 rest mid new are.5 clean trees left) [

@@ -9,7 +9,7 @@ use Rattle.sqlite_trees.specs.declared.store.Store.{Ghosts}
 use Rattle.sqlite.specs.Held.{Held, state}
 use Rattle.sqlite.specs.State.{HasCleanDisk, State, Survives}
 use Rattle.part_store.specs.Entries.{Listing}
-use Rattle.part_store.specs.Standing.{Spares}
+use Rattle.part_store.specs.Standing.{LeavesUnchanged}
 use Rattle.part_store.specs.declared.entry.EntryRow.{EntryRow}
 use Rattle.encodings.specs.Device.{HasBroken, HasTaken, Output}
 use Rattle.encodings.proofs.Outputs.{broken_first, broken_later}
@@ -19,7 +19,7 @@ use Rattle.depot_jobs.specs.Host.{HostState}
 use Rattle.depot_jobs.specs.Inputs.{HasReadFile}
 use Rattle.depot_jobs.specs.declared.request.OnDepot.TheVariants as requests
 use Rattle.depot_batch.specs.Asked.{Text}
-use Rattle.depot_batch.specs.Batch.{AreAnsweredBy, AreDeliveries, AreLookedUp, AreWithdrawn, IsAsked, IsDelivery, MayMakeAll, Office, filed_text, most_together}
+use Rattle.depot_batch.specs.Batch.{AreAnsweredBy, AreDeliveries, AreLookedUp, AreWithdrawn, IsAsked, IsDelivery, MayMakeAll, DepotAndOutput, filed_text, most_together}
 use Rattle.depot_batch.specs.Private.{IsPassedOver, command_of, filed_by, lines_of}
 use Rattle.depot_batch.specs.declared.asked.Asked.TheVariants.{Reply}
 use Rattle.depot_batch.specs.declared.mails.Mail.{Mail}
@@ -81,38 +81,38 @@ is_delivery line user file mail host host2 is same read = (user, file, is, mail.
 
 -- ---- on a depot
 
--- what nothing happened to is spared
-pub spared_still : (s : State) → Spares s s
-spared_still s = record { same = λ schema is_open. (refl, refl); shut = λ is_open. is_open; closes = λ is_open. inl is_open }
+-- what nothing happened to is unchanged
+pub unchanged_still : (s : State) → LeavesUnchanged s s
+unchanged_still s = record { same = λ schema is_open. (refl, refl); stays_closed = λ is_open. is_open; closes = λ is_open. inl is_open }
 
 module _ {S : Type 0} (g : Ghosts S) where
   -- lines were withdrawn before the depot was asked
-  pub withdrawn_early : (lines : List (List ℕ)) (old new : Office S) → 0 < length lines → length lines ≤ most_together → AreLookedUp lines old.host new.host → new.depot ≡ old.depot → new.out ≡ old.out
+  pub withdrawn_early : (lines : List (List ℕ)) (old new : DepotAndOutput S) → 0 < length lines → length lines ≤ most_together → AreLookedUp lines old.host new.host → new.depot ≡ old.depot → new.out ≡ old.out
       → AreWithdrawn g lines old new
   withdrawn_early lines old new some few files same out = record {
     some = some;
     few = few;
     files = files;
-    spared = λ clean. subst (λ (d : Held S). Spares (state g old.depot) (state g d)) (sym same) (spared_still (state g old.depot));
+    unchanged = λ clean. subst (λ (d : Held S). LeavesUnchanged (state g old.depot) (state g d)) (sym same) (unchanged_still (state g old.depot));
     out = out;
     outlasts = subst (λ (d : Held S). Survives (state g old.depot) (state g d) (MayMakeAll lines (state g old.depot) old.host new.host)) (sym same) (still (state g old.depot));
   }
 
   -- they were withdrawn since it refused them
-  pub withdrawn_late : (lines : List (List ℕ)) (commands : List Command) (old new : Office S) → 0 < length commands → length lines ≤ most_together → AreDeliveries lines commands old.host new.host
-      → (HasCleanDisk (state g new.depot) → Spares (state g old.depot) (state g new.depot))
+  pub withdrawn_late : (lines : List (List ℕ)) (commands : List Command) (old new : DepotAndOutput S) → 0 < length commands → length lines ≤ most_together → AreDeliveries lines commands old.host new.host
+      → (HasCleanDisk (state g new.depot) → LeavesUnchanged (state g old.depot) (state g new.depot))
       → Survives (state g old.depot) (state g new.depot) (MayLeaveAll commands (state g old.depot)) → new.out ≡ old.out → AreWithdrawn g lines old new
-  withdrawn_late lines commands old new some few files spared survives out = record {
+  withdrawn_late lines commands old new some few files unchanged survives out = record {
     some = omega (arith, some, as_many lines commands old.host new.host files);
     few = few;
     files = record { read = lines; later = []; are = sym (append-nil lines); commands = commands; mid = new.host; files = files; stops = inl refl };
-    spared = spared;
+    unchanged = unchanged;
     out = out;
     outlasts = more_left (state g old.depot) (state g new.depot) (λ db made. (commands, files, made)) survives;
   }
 
   -- they were done
-  pub answered_together : (Written : List ℕ → Output → Output → Type 0) (lines : List (List ℕ)) (commands : List Command) (filed : List (List Listing)) (old new : Office S)
+  pub answered_together : (Written : List ℕ → Output → Output → Type 0) (lines : List (List ℕ)) (commands : List Command) (filed : List (List Listing)) (old new : DepotAndOutput S)
       → length lines ≤ most_together → AreDeliveries lines commands old.host new.host
       → (HasCleanDisk (state g new.depot) → DoesAll commands (map Listed filed) (state g old.depot) (state g new.depot))
       → Survives (state g old.depot) (state g new.depot) (MayLeaveAll commands (state g old.depot)) → Written (flat_map filed_text filed) old.out new.out

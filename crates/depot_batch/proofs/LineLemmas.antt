@@ -7,7 +7,7 @@ use Rattle.sqlite.specs.State.{State, Survives}
 use Rattle.encodings.specs.Device.{HasBroken, HasTaken}
 use Rattle.depot_batch.specs.Answers.{AreNoTexts, HasComeOf, IsUnasked, IsUnaskedText}
 use Rattle.depot_batch.specs.Asked.{AskNothing}
-use Rattle.depot_batch.specs.Batch.{HasCome, HasWords, IsAnsweredBy, IsAsked, IsWrong, MayMake, MayMakeOne, Office, Outlasts, closing}
+use Rattle.depot_batch.specs.Batch.{HasCome, HasWords, IsAnsweredBy, IsAsked, IsWrong, MayMake, MayMakeOne, DepotAndOutput, Outlasts, closing}
 use Rattle.depot_batch.specs.Turns.{Alone}
 use Rattle.depot_batch.specs.declared.asked.Asked.{Asked}
 use Rattle.depot_batch.specs.declared.fault.LineFault.{LineFault}
@@ -58,30 +58,30 @@ pub nothing_asked : (octets : List ℕ) (words : List (List ℕ)) (fault : LineF
 nothing_asked octets words fault has nothing = wrong_words octets words fault has nothing
 
 module _ {S : Type 0} (g : Ghosts S) where
-  come_of : (name octets : List ℕ) (asked : Asked) (outcome : Outcome) (text : List ℕ) (old new : Office S) → IsAsked octets asked
+  come_of : (name octets : List ℕ) (asked : Asked) (outcome : Outcome) (text : List ℕ) (old new : DepotAndOutput S) → IsAsked octets asked
       → HasComeOf g name asked outcome text old.depot new.depot old.host new.host → HasCome g name octets outcome text old new
   come_of name octets asked Done text old new is come = (asked, is, come)
   come_of name octets asked (Refused refusal) text old new is come = (come.0, inr (asked, is, come.1))
   come_of name octets asked Wrong text old new is come = absurd come
 
-  unasked_come : (name octets : List ℕ) (why : Unasked) (outcome : Outcome) (text : List ℕ) (old new : Office S) → IsUnasked octets why → IsUnaskedText why outcome text
+  unasked_come : (name octets : List ℕ) (why : Unasked) (outcome : Outcome) (text : List ℕ) (old new : DepotAndOutput S) → IsUnasked octets why → IsUnaskedText why outcome text
       → new.depot ≡ old.depot → new.host ≡ old.host → HasCome g name octets outcome text old new
   unasked_come name octets (unasked.Wrong fault) outcome text old new wrong is depot host =
       subst (λ o. HasCome g name octets o text old new) (sym is.0) (fault, wrong, is.1, (depot, host))
   unasked_come name octets unasked.NoMemory outcome text old new wrong is depot host =
       subst (λ o. HasCome g name octets o text old new) (sym is.0) (is.1, inl (refl, (depot, host)))
 
-  outlasts_asked : (octets : List ℕ) (outcome : Outcome) (asked : Asked) (old new : Office S) → IsAsked octets asked
+  outlasts_asked : (octets : List ℕ) (outcome : Outcome) (asked : Asked) (old new : DepotAndOutput S) → IsAsked octets asked
       → Survives (state g old.depot) (state g new.depot) (MayMake asked (state g old.depot) old.host new.host) → Outlasts g (Alone octets outcome) old new
   outlasts_asked octets outcome asked old new is survives = more_left (state g old.depot) (state g new.depot) (λ db made. (asked, is, made)) survives
 
-  outlasts_idle : (octets : List ℕ) (outcome : Outcome) (old new : Office S) → new.depot ≡ old.depot → Outlasts g (Alone octets outcome) old new
+  outlasts_idle : (octets : List ℕ) (outcome : Outcome) (old new : DepotAndOutput S) → new.depot ≡ old.depot → Outlasts g (Alone octets outcome) old new
   outlasts_idle octets outcome old new same =
       subst (λ d. Survives (state g old.depot) (state g d) (MayMakeOne octets (state g old.depot) old.host new.host)) (sym same)
       (still (state g old.depot))
 
   -- what is asked was answered
-  pub asked_answered : {E : Type 0} (r : Result Outcome E) (name octets : List ℕ) (asked : Asked) (old new : Office S) → IsAsked octets asked
+  pub asked_answered : {E : Type 0} (r : Result Outcome E) (name octets : List ℕ) (asked : Asked) (old new : DepotAndOutput S) → IsAsked octets asked
       → Survives (state g old.depot) (state g new.depot) (MayMake asked (state g old.depot) old.host new.host)
       → IfOk r (λ outcome. (text : List ℕ) × HasComeOf g name asked outcome text old.depot new.depot old.host new.host × HasTaken (text ++ closing outcome) old.out new.out)
       → IfOk r (λ outcome. IsAnsweredBy g HasTaken name octets outcome old new)
@@ -93,7 +93,7 @@ module _ {S : Type 0} (g : Ghosts S) where
   }
   asked_answered (Err e) name octets asked old new is survives answered = tt
 
-  pub asked_broken : {E : Type 0} (r : Result Outcome E) (name octets : List ℕ) (asked : Asked) (old new : Office S) → IsAsked octets asked
+  pub asked_broken : {E : Type 0} (r : Result Outcome E) (name octets : List ℕ) (asked : Asked) (old new : DepotAndOutput S) → IsAsked octets asked
       → Survives (state g old.depot) (state g new.depot) (MayMake asked (state g old.depot) old.host new.host)
       → OnErr r ((outcome : Outcome) × (text : List ℕ) × HasComeOf g name asked outcome text old.depot new.depot old.host new.host × HasBroken (text ++ closing outcome) old.out new.out)
       → OnErr r ((outcome : Outcome) × IsAnsweredBy g HasBroken name octets outcome old new)
@@ -109,7 +109,7 @@ module _ {S : Type 0} (g : Ghosts S) where
   )
 
   -- a line that wasn't asked for anything was answered
-  pub unasked_answered : {E : Type 0} (r : Result Outcome E) (name octets : List ℕ) (why : Unasked) (old new : Office S) → IsUnasked octets why
+  pub unasked_answered : {E : Type 0} (r : Result Outcome E) (name octets : List ℕ) (why : Unasked) (old new : DepotAndOutput S) → IsUnasked octets why
       → new.depot ≡ old.depot → new.host ≡ old.host
       → IfOk r (λ outcome. (text : List ℕ) × IsUnaskedText why outcome text × HasTaken (text ++ closing outcome) old.out new.out)
       → IfOk r (λ outcome. IsAnsweredBy g HasTaken name octets outcome old new)
@@ -121,7 +121,7 @@ module _ {S : Type 0} (g : Ghosts S) where
   }
   unasked_answered (Err e) name octets why old new wrong depot host answered = tt
 
-  pub unasked_broken : {E : Type 0} (r : Result Outcome E) (name octets : List ℕ) (why : Unasked) (old new : Office S) → IsUnasked octets why
+  pub unasked_broken : {E : Type 0} (r : Result Outcome E) (name octets : List ℕ) (why : Unasked) (old new : DepotAndOutput S) → IsUnasked octets why
       → new.depot ≡ old.depot → new.host ≡ old.host
       → OnErr r ((outcome : Outcome) × (text : List ℕ) × IsUnaskedText why outcome text × HasBroken (text ++ closing outcome) old.out new.out)
       → OnErr r ((outcome : Outcome) × IsAnsweredBy g HasBroken name octets outcome old new)

@@ -9,7 +9,7 @@ use Rattle.sqlite_trees.specs.Tree.{Trees}
 use Rattle.sqlite.specs.Held.{Held, state}
 use Rattle.sqlite.specs.State.{HasCleanDisk, State, Survives}
 use Rattle.part_store.specs.Entries.{Listing}
-use Rattle.part_store.specs.Standing.{Spares}
+use Rattle.part_store.specs.Standing.{LeavesUnchanged}
 use Rattle.depot_actions.specs.Deliveries.{DoesAll, MayLeaveAll}
 use Rattle.depot_actions.specs.DepotState.{Command, Export as Exports, Listed, Reply as DepotReply, Text as Written}
 use Rattle.depot_actions.specs.History.{Call}
@@ -103,7 +103,7 @@ module _ {S : Type 0} (g : Ghosts S) where
       (HasNotMade refusal export.file.now name host host2
       ⊎ ((refusal ≢ Write) × (host2 ≡ with_call (makes export.file.now name) host)
       × HasRefused (Exports export.user.now export.number export.encoding) refusal (state g old) (state g new)))
-      × (HasCleanDisk (state g new) → Spares (state g old) (state g new))
+      × (HasCleanDisk (state g new) → LeavesUnchanged (state g old) (state g new))
 
   -- what is asked was done, with this text as the answer
   abbrev pub IsDone : Text → Asked → List ℕ → Held S → Held S → HostState → HostState → Type 0
@@ -178,21 +178,21 @@ MayMakeIn (Withdrawn lines) old host host2 trees = MayMakeAll lines old host hos
 -- ---- on a depot
 
 -- what lines are answered with: the depot, the host and standard output
-pub record Office (S : Type 0) : Type 0 where
+pub record DepotAndOutput (S : Type 0) : Type 0 where
   pub depot : Held S
   pub host : HostState
   pub out : Output
 
 module _ {S : Type 0} (g : Ghosts S) where
-  abbrev pub office : Held S → HostState → Output → Office S
-  office depot host out = record { depot = depot; host = host; out = out }
+  abbrev pub depot_and_output : Held S → HostState → Output → DepotAndOutput S
+  depot_and_output depot host out = record { depot = depot; host = host; out = out }
 
   -- nothing happened to the depot and the host
-  abbrev pub IsIdle : Office S → Office S → Type 0
+  abbrev pub IsIdle : DepotAndOutput S → DepotAndOutput S → Type 0
   IsIdle old new = (new.depot ≡ old.depot) × (new.host ≡ old.host)
 
   -- what came of a line, and the text of its answer
-  abbrev pub HasCome : Text → List ℕ → Outcome → List ℕ → Office S → Office S → Type 0
+  abbrev pub HasCome : Text → List ℕ → Outcome → List ℕ → DepotAndOutput S → DepotAndOutput S → Type 0
   HasCome name octets Done text old new = (asked : Asked) × IsAsked octets asked
       × IsDone g name asked text old.depot new.depot old.host new.host
   HasCome name octets (Refused refusal) text old new =
@@ -205,14 +205,14 @@ module _ {S : Type 0} (g : Ghosts S) where
 
   -- what a crash may leave of the depot at a turn: what it could have left before, or what the turn
   -- makes of it
-  abbrev pub Outlasts : Turn → Office S → Office S → Type 0
+  abbrev pub Outlasts : Turn → DepotAndOutput S → DepotAndOutput S → Type 0
   Outlasts turn old new =
       Survives (state g old.depot) (state g new.depot) (MayMakeIn turn (state g old.depot) old.host new.host)
 
   -- Answers were written so: whole, or up to where the sink broke.
   module _ (Written : List ℕ → Output → Output → Type 0) where
     -- a line was answered alone, by its text and what ends that
-    pub record IsAnsweredBy (name line : List ℕ) (outcome : Outcome) (old new : Office S) : Type 0 where
+    pub record IsAnsweredBy (name line : List ℕ) (outcome : Outcome) (old new : DepotAndOutput S) : Type 0 where
       pub text : List ℕ
       pub come : HasCome name line outcome text old new
       pub written : Written (text ++ closing outcome) old.out new.out
@@ -220,7 +220,7 @@ module _ {S : Type 0} (g : Ghosts S) where
 
     -- Lines were done together, and answered: each asks for a delivery, the files were read in turn,
     -- and the depot did all. Then the answers were written, in the lines' order.
-    pub record AreAnsweredBy (lines : List (List ℕ)) (old new : Office S) : Type 0 where
+    pub record AreAnsweredBy (lines : List (List ℕ)) (old new : DepotAndOutput S) : Type 0 where
       pub few : length lines ≤ most_together
       pub commands : List Command
       pub files : AreDeliveries lines commands old.host new.host
@@ -231,44 +231,44 @@ module _ {S : Type 0} (g : Ghosts S) where
       pub outlasts : Outlasts (Together lines) old new
 
   -- nothing came of lines that were to be done together: the depot is as it was, and nothing was written
-  pub record AreWithdrawn (lines : List (List ℕ)) (old new : Office S) : Type 0 where
+  pub record AreWithdrawn (lines : List (List ℕ)) (old new : DepotAndOutput S) : Type 0 where
     pub some : 0 < length lines
     pub few : length lines ≤ most_together
     pub files : AreLookedUp lines old.host new.host
-    pub spared : HasCleanDisk (state g new.depot) → Spares (state g old.depot) (state g new.depot)
+    pub unchanged : HasCleanDisk (state g new.depot) → LeavesUnchanged (state g old.depot) (state g new.depot)
     pub out : new.out ≡ old.out
     pub outlasts : Outlasts (Withdrawn lines) old new
 
   -- what happens in a turn
-  abbrev pub Happens : Text → Turn → Office S → Office S → Type 0
+  abbrev pub Happens : Text → Turn → DepotAndOutput S → DepotAndOutput S → Type 0
   Happens name (Alone line outcome) old new = IsAnsweredBy HasTaken name line outcome old new
   Happens name (Together lines) old new = AreAnsweredBy HasTaken lines old new
   Happens name (Withdrawn lines) old new = AreWithdrawn lines old new
 
   -- the sink broke while its answers were written
-  abbrev pub Breaks : Text → Turn → Office S → Office S → Type 0
+  abbrev pub Breaks : Text → Turn → DepotAndOutput S → DepotAndOutput S → Type 0
   Breaks name (Alone line outcome) old new = IsAnsweredBy HasBroken name line outcome old new
   Breaks name (Together lines) old new = AreAnsweredBy HasBroken lines old new
   Breaks name (Withdrawn lines) old new = ⊥
 
   -- turns of a batch, one after another; in none was a line refused `Database`
-  abbrev pub AreTaken : Text → List Turn → Supply → Supply → Office S → Office S → Type 0
+  abbrev pub AreTaken : Text → List Turn → Supply → Supply → DepotAndOutput S → DepotAndOutput S → Type 0
   AreTaken name turns input rest old new = AreTakenBy (Happens name) turns input rest old new
 
   -- the trees are what one of the turns makes, whole, of what the turns before it left
-  pub record IsMadeAtOne (name : Text) (turns : List Turn) (input : Supply) (old : Office S) (trees : Trees) : Type 0 where
+  pub record IsMadeAtOne (name : Text) (turns : List Turn) (input : Supply) (old : DepotAndOutput S) (trees : Trees) : Type 0 where
     pub before : List Turn
     pub turn : Turn
     pub later : List Turn
     pub are : turns ≡ before ++ turn ∷ later
     pub here : Supply
-    pub mid : Office S
+    pub mid : DepotAndOutput S
     pub taken : AreTaken name before input here old mid
     pub host : HostState
     pub made : MayMakeIn turn (state g mid.depot) mid.host host trees
 
   -- a batch was served, with this status
-  abbrev pub HasServed : Text → ℕ → Supply → Supply → Office S → Office S → Output → Output → Type 0
+  abbrev pub HasServed : Text → ℕ → Supply → Supply → DepotAndOutput S → DepotAndOutput S → Output → Output → Type 0
   HasServed name status input input2 old new err err2 =
       HasServedBy (Happens name) (Breaks name) status input input2 old new err err2
 
@@ -278,7 +278,7 @@ module _ {S : Type 0} (g : Ghosts S) where
       Text → ℕ → Supply → Supply → Result (Held S) Refusal → Result (Held S) Refusal
       → HostState → HostState → Output → Output → Output → Output → Type 0
   IsServed name status input input2 (Ok old) (Ok new) host host2 out out2 err err2 =
-      HasServed name status input input2 (office old host out) (office new host2 out2) err err2
+      HasServed name status input input2 (depot_and_output old host out) (depot_and_output new host2 out2) err err2
   IsServed name status input input2 (Err refusal) (Err same) host host2 out out2 err err2 =
       (same ≡ refusal) × (status ≡ 1) × HasTold refusal err err2 × (input2 ≡ input) × (host2 ≡ host) × (out2 ≡ out)
   IsServed name status input input2 opened now host host2 out out2 err err2 = ⊥

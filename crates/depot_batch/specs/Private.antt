@@ -20,7 +20,7 @@ use Rattle.depot_batch.specs.declared.reading.Taken.TheVariants.{Line, Unfinishe
 use Rattle.depot_batch.specs.declared.together.Tried.{Tried}
 use Rattle.depot_batch.specs.declared.together.Tried.TheVariants as tried
 use Rattle.depot_batch.specs.Asked.{Text}
-use Rattle.depot_batch.specs.Batch.{AreAnsweredBy, AreWithdrawn, Breaks, Happens, IsUnread, Office, most_together}
+use Rattle.depot_batch.specs.Batch.{AreAnsweredBy, AreWithdrawn, Breaks, Happens, IsUnread, DepotAndOutput, most_together}
 use Rattle.depot_batch.specs.Lines.{HasShown, HasTakenAll, IsLine, IsUnfinished}
 use Rattle.depot_batch.specs.Turns.{Alone, EndsBy, GoesOn, HasServedLastBy, Takes, Turn}
 use Rattle.depot_batch.specs.Words.{texts_of}
@@ -105,18 +105,18 @@ IsPassedOver line host host2 = (host2 ≡ host) ⊎ IsUnread line host host2
 
 module _ {S : Type 0} (g : Ghosts S) where
   -- what came of lines that were to be done together
-  abbrev pub HasTried : Tried → List (List ℕ) → Office S → Office S → Type 0
+  abbrev pub HasTried : Tried → List (List ℕ) → DepotAndOutput S → DepotAndOutput S → Type 0
   HasTried tried.Done lines old new = AreAnsweredBy g HasTaken lines old new
   HasTried tried.Withdrawn lines old new = AreWithdrawn g lines old new
 
   -- a turn was taken, and the batch goes on; or it ended, with this status
-  abbrev pub HasTurned : Text → Option ℕ → Supply → Supply → Office S → Office S → Output → Output → Type 0
+  abbrev pub HasTurned : Text → Option ℕ → Supply → Supply → DepotAndOutput S → DepotAndOutput S → Output → Output → Type 0
   HasTurned name None input rest old new err err2 =
       (turn : Turn) × Takes turn input rest × Happens g name turn old new × GoesOn turn × (err2 ≡ err)
   HasTurned name (Some status) input rest old new err err2 =
       (last : List Turn) × EndsBy (Happens g name) (Breaks g name) status 0 last input rest old new err err2
 
   -- the last octets of the input were answered, in which no line break is
-  abbrev pub HasServedLast : Text → ℕ → List ℕ → Office S → Office S → Output → Output → Type 0
+  abbrev pub HasServedLast : Text → ℕ → List ℕ → DepotAndOutput S → DepotAndOutput S → Output → Output → Type 0
   HasServedLast name status octets old new err err2 =
       (outcome : Outcome) × HasServedLastBy (Happens g name) (Breaks g name) status (Alone octets outcome) old new err err2

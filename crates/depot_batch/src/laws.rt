@@ -11,7 +11,7 @@ ghost use Rattle.depot_actions.specs.History.{AreSteps, Call};
 ghost use Rattle.depot_actions.specs.PlainMedia.{HavePlainMedia};
 ghost use Rattle.depot_cli.specs.Printed.{entries_text};
 ghost use Rattle.depot_cli.specs.declared.entries.Detail.TheVariants.{Brief};
-ghost use Rattle.depot_batch.specs.Batch.{AreTaken, HasCome, IsCallOf, IsMadeAtOne, Office};
+ghost use Rattle.depot_batch.specs.Batch.{AreTaken, HasCome, IsCallOf, IsMadeAtOne, DepotAndOutput};
 ghost use Rattle.depot_batch.specs.Closings.{has_closing};
 ghost use Rattle.depot_batch.specs.Turns.{Turn, lines_answered, lines_done};
 ghost use Rattle.depot_batch.specs.Words.{Writes, spaced, words_of};
@@ -31,7 +31,7 @@ pub fn lines_say_their_words()
 /// What an open depot holds after turns of a batch is what the commands of the lines that were answered `= 0` make of what it held before, one
 /// after another, in the order of the lines, whether they were done alone or together. Other lines make nothing.
 pub fn batches_are_a_fold<S: Alter>()
-    ensures { (name : List ℕ) (turns : List Turn) (input rest : Supply) (old new : Office S)
+    ensures { (name : List ℕ) (turns : List Turn) (input rest : Supply) (old new : DepotAndOutput S)
         (before : Entries)
         → AreTaken S.Store name turns input rest old new → HasCleanDisk (state S.Store new.depot)
         → (IsTrue (state S.Store old.depot).is_open → Stands (state S.Store old.depot).now before)
@@ -43,7 +43,7 @@ pub fn batches_are_a_fold<S: Alter>()
 /// A crash, at any moment of a batch, leaves what it could have left before the batch, or what one of the turns makes, whole, of what the turns
 /// before it left: the command of a line that is done alone, or all commands of lines that are done together.
 pub fn crashes_leave_one_turn_whole<S: Alter>()
-    ensures { (name : List ℕ) (turns : List Turn) (input rest : Supply) (old new : Office S)
+    ensures { (name : List ℕ) (turns : List Turn) (input rest : Supply) (old new : DepotAndOutput S)
         → AreTaken S.Store name turns input rest old new → HasCleanDisk (state S.Store new.depot)
         → (trees : Trees) → (state S.Store new.depot).may_leave trees
         → (state S.Store old.depot).may_leave trees
@@ -52,7 +52,7 @@ pub fn crashes_leave_one_turn_whole<S: Alter>()
 
 /// Exactly the lines that are answered in turns are taken of the input, in their order.
 pub fn lines_are_taken_as_answered<S: Alter>()
-    ensures { (name : List ℕ) (turns : List Turn) (input rest : Supply) (old new : Office S)
+    ensures { (name : List ℕ) (turns : List Turn) (input rest : Supply) (old new : DepotAndOutput S)
         → AreTaken S.Store name turns input rest old new
         → HasGiven (concat (lines_answered turns)) input rest }
 {}
@@ -61,14 +61,14 @@ pub fn lines_are_taken_as_answered<S: Alter>()
 /// whatever was filed. Of the depot this takes one thing: no media type of an entry has a line break. A depot that commands made of
 /// nothing has that.
 pub fn no_answer_closes_itself<S: Alter>()
-    ensures alone { (name octets : List ℕ) (outcome : Outcome) (text : List ℕ) (old new : Office S)
+    ensures alone { (name octets : List ℕ) (outcome : Outcome) (text : List ℕ) (old new : DepotAndOutput S)
         → HasCome S.Store name octets outcome text old new
         → HasCleanDisk (state S.Store new.depot) → (before : Entries)
         → Stands (state S.Store old.depot).now before → HavePlainMedia before
         → has_closing true text ≡ false }
     ensures together { (entries : List Listing)
         → has_closing true (entries_text Brief entries) ≡ false }
-    ensures begun { (name octets : List ℕ) (outcome : Outcome) (text : List ℕ) (old new : Office S)
+    ensures begun { (name octets : List ℕ) (outcome : Outcome) (text : List ℕ) (old new : DepotAndOutput S)
         → HasCome S.Store name octets outcome text old new
         → HasCleanDisk (state S.Store new.depot) → (before : Entries)
         → Stands (state S.Store old.depot).now before

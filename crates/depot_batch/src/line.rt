@@ -8,7 +8,7 @@ ghost use Rattle.depot_jobs.specs.Printed.{line as line_of, refusal_line};
 ghost use Rattle.depot_batch.specs.Answers.{AreNoTexts, HasComeOf, HasLineWords, HasNotWritten, HasWritten, IsUnasked, IsUnaskedText};
 ghost use Rattle.depot_batch.specs.Asked.{Asks, Text};
 ghost use Rattle.depot_batch.specs.Sentences.{wrong_line};
-ghost use Rattle.depot_batch.specs.Batch.{IsAnsweredBy, MayMake, closing, office};
+ghost use Rattle.depot_batch.specs.Batch.{IsAnsweredBy, MayMake, closing, depot_and_output};
 ghost use Rattle.depot_batch.specs.declared.outcome.Outcome.{Outcome};
 ghost use Rattle.depot_batch.specs.declared.outcome.Outcome.TheVariants.{Refused};
 
@@ -49,12 +49,12 @@ pub fn serve<S: Alter, H: Host, W: Write + Drop>(
     out: &mut OfWrite<W>,
 ) -> Result<Outcome, DeviceFailed>
     ensures answered { IfOk result (λ outcome. IsAnsweredBy S.Store HasTaken name.now line.now outcome
-        (office S.Store depot.old (H.state host.old) (⟦<OfWrite<W> as Sink>⟧.output out.old))
-        (office S.Store depot.new (H.state host.new) (⟦<OfWrite<W> as Sink>⟧.output out.new))) }
+        (depot_and_output S.Store depot.old (H.state host.old) (⟦<OfWrite<W> as Sink>⟧.output out.old))
+        (depot_and_output S.Store depot.new (H.state host.new) (⟦<OfWrite<W> as Sink>⟧.output out.new))) }
     ensures broken { OnErr result ((outcome : Outcome)
         × IsAnsweredBy S.Store HasBroken name.now line.now outcome
-        (office S.Store depot.old (H.state host.old) (⟦<OfWrite<W> as Sink>⟧.output out.old))
-        (office S.Store depot.new (H.state host.new) (⟦<OfWrite<W> as Sink>⟧.output out.new))) }
+        (depot_and_output S.Store depot.old (H.state host.old) (⟦<OfWrite<W> as Sink>⟧.output out.old))
+        (depot_and_output S.Store depot.new (H.state host.new) (⟦<OfWrite<W> as Sink>⟧.output out.new))) }
 {
     match line_words(alloc, line) {
         Ok(words) => match texts(alloc, &words) {

@@ -3,7 +3,7 @@ ghost use Rattle.std.specs.Prelude.{◌≡◌, ◌<◌, ◌≤◌, ◌^◌, leng
 ghost use Rattle.std.specs.List.{All, concat};
 ghost use Rattle.refusals.specs.declared.refusal.Refusal.TheVariants.{Database};
 ghost use Rattle.encodings.specs.Supply.{Supply};
-ghost use Rattle.depot_batch.specs.Batch.{HasServed, IsServed, most_together, office};
+ghost use Rattle.depot_batch.specs.Batch.{HasServed, IsServed, most_together, depot_and_output};
 ghost use Rattle.depot_batch.specs.Lines.{HasShown, IsLine};
 ghost use Rattle.depot_batch.specs.Private.{CanTake, HasServedLast, HasTurned, lines_of};
 ghost use Rattle.depot_batch.specs.declared.outcome.Outcome.TheVariants.{Refused};
@@ -74,8 +74,8 @@ fn serve_lines<S: Alter, H: Host, R: BufRead + Drop, W: Write + Drop, E: Sink>(
 ) -> u8
     ensures { HasServed S.Store name.now result (⟦<OfRead<R> as Source>⟧.supply input.old)
         (⟦<OfRead<R> as Source>⟧.supply input.new)
-        (office S.Store depot.old (H.state host.old) (⟦<OfWrite<W> as Sink>⟧.output out.old))
-        (office S.Store depot.new (H.state host.new) (⟦<OfWrite<W> as Sink>⟧.output out.new))
+        (depot_and_output S.Store depot.old (H.state host.old) (⟦<OfWrite<W> as Sink>⟧.output out.old))
+        (depot_and_output S.Store depot.new (H.state host.new) (⟦<OfWrite<W> as Sink>⟧.output out.new))
         (E.output err.old) (E.output err.new) }
 {
     let mut alone = 0;
@@ -102,8 +102,8 @@ fn take_turn<S: Alter, H: Host, R: BufRead + Drop, W: Write + Drop, E: Sink>(
 ) -> Option<u8>
     ensures { HasTurned S.Store name.now result (⟦<OfRead<R> as Source>⟧.supply input.old)
         (⟦<OfRead<R> as Source>⟧.supply input.new)
-        (office S.Store depot.old (H.state host.old) (⟦<OfWrite<W> as Sink>⟧.output out.old))
-        (office S.Store depot.new (H.state host.new) (⟦<OfWrite<W> as Sink>⟧.output out.new))
+        (depot_and_output S.Store depot.old (H.state host.old) (⟦<OfWrite<W> as Sink>⟧.output out.old))
+        (depot_and_output S.Store depot.new (H.state host.new) (⟦<OfWrite<W> as Sink>⟧.output out.new))
         (E.output err.old) (E.output err.new) }
 {
     if *alone > 0 {
@@ -142,8 +142,8 @@ fn take_together<S: Alter, H: Host, R: BufRead + Drop, W: Write + Drop, E: Sink>
         → HasShown (concat (lines_of lines.items)) before
         (⟦<OfRead<R> as Source>⟧.supply input.old)
         → HasTurned S.Store name.now result before (⟦<OfRead<R> as Source>⟧.supply input.new)
-        (office S.Store depot.old (H.state host.old) (⟦<OfWrite<W> as Sink>⟧.output out.old))
-        (office S.Store depot.new (H.state host.new) (⟦<OfWrite<W> as Sink>⟧.output out.new))
+        (depot_and_output S.Store depot.old (H.state host.old) (⟦<OfWrite<W> as Sink>⟧.output out.old))
+        (depot_and_output S.Store depot.new (H.state host.new) (⟦<OfWrite<W> as Sink>⟧.output out.new))
         (E.output err.old) (E.output err.new) }
 {
     let mut lines = lines;
@@ -175,8 +175,8 @@ fn take_alone<S: Alter, H: Host, R: BufRead + Drop, W: Write + Drop, E: Sink>(
 ) -> Option<u8>
     ensures { HasTurned S.Store name.now result (⟦<OfRead<R> as Source>⟧.supply input.old)
         (⟦<OfRead<R> as Source>⟧.supply input.new)
-        (office S.Store depot.old (H.state host.old) (⟦<OfWrite<W> as Sink>⟧.output out.old))
-        (office S.Store depot.new (H.state host.new) (⟦<OfWrite<W> as Sink>⟧.output out.new))
+        (depot_and_output S.Store depot.old (H.state host.old) (⟦<OfWrite<W> as Sink>⟧.output out.old))
+        (depot_and_output S.Store depot.new (H.state host.new) (⟦<OfWrite<W> as Sink>⟧.output out.new))
         (E.output err.old) (E.output err.new) }
 {
     let mut line = Vec::new(alloc);
@@ -207,8 +207,8 @@ fn serve_last<S: Alter, H: Host, W: Write + Drop, E: Sink>(
     err: &mut E,
 ) -> u8
     ensures { HasServedLast S.Store name.now result octets.now
-        (office S.Store depot.old (H.state host.old) (⟦<OfWrite<W> as Sink>⟧.output out.old))
-        (office S.Store depot.new (H.state host.new) (⟦<OfWrite<W> as Sink>⟧.output out.new))
+        (depot_and_output S.Store depot.old (H.state host.old) (⟦<OfWrite<W> as Sink>⟧.output out.old))
+        (depot_and_output S.Store depot.new (H.state host.new) (⟦<OfWrite<W> as Sink>⟧.output out.new))
         (E.output err.old) (E.output err.new) }
 {
     match serve(alloc, name, octets, depot, host, out) {

@@ -5,11 +5,11 @@ ghost use Rattle.std.specs.declared.alloc.Global.{Global};
 ghost use Rattle.sqlite.specs.Held.{state};
 ghost use Rattle.sqlite.specs.State.{HasCleanDisk};
 ghost use Rattle.part_store.specs.Calls.{MayCommit};
-ghost use Rattle.part_store.specs.Standing.{Spares};
+ghost use Rattle.part_store.specs.Standing.{LeavesUnchanged};
 ghost use Rattle.encodings.specs.Device.{HasBroken, HasTaken};
 ghost use Rattle.depot_actions.specs.Deliveries.{DoesAll, MayLeaveAll, command_of as asked_of};
 ghost use Rattle.depot_actions.specs.DepotState.{Listed};
-ghost use Rattle.depot_batch.specs.Batch.{AreAnsweredBy, filed_text, most_together, office};
+ghost use Rattle.depot_batch.specs.Batch.{AreAnsweredBy, filed_text, most_together, depot_and_output};
 ghost use Rattle.depot_batch.specs.Private.{HasTried, command_of, filed_by, lines_of};
 
 use crate::line::{flush, status_of};
@@ -51,11 +51,11 @@ pub fn serve_together<S: Alter, H: Host, W: Write + Drop>(
     requires few { length (lines_of lines.old.items) ≤ most_together }
     ensures first { (later : List (Vec ℕ Global)) × (lines.old.items ≡ lines.new.items ++ later) }
     ensures tried { IfOk result (λ tried. HasTried S.Store tried (lines_of lines.new.items)
-        (office S.Store depot.old (H.state host.old) (⟦<OfWrite<W> as Sink>⟧.output out.old))
-        (office S.Store depot.new (H.state host.new) (⟦<OfWrite<W> as Sink>⟧.output out.new))) }
+        (depot_and_output S.Store depot.old (H.state host.old) (⟦<OfWrite<W> as Sink>⟧.output out.old))
+        (depot_and_output S.Store depot.new (H.state host.new) (⟦<OfWrite<W> as Sink>⟧.output out.new))) }
     ensures broken { OnErr result (AreAnsweredBy S.Store HasBroken (lines_of lines.new.items)
-        (office S.Store depot.old (H.state host.old) (⟦<OfWrite<W> as Sink>⟧.output out.old))
-        (office S.Store depot.new (H.state host.new) (⟦<OfWrite<W> as Sink>⟧.output out.new))) }
+        (depot_and_output S.Store depot.old (H.state host.old) (⟦<OfWrite<W> as Sink>⟧.output out.old))
+        (depot_and_output S.Store depot.new (H.state host.new) (⟦<OfWrite<W> as Sink>⟧.output out.new))) }
 {
     let Some(mails) = read_mails(alloc, lines, host) else {
         return Ok(Tried::Withdrawn);
@@ -80,8 +80,8 @@ fn deliver_mails<S: Alter>(
     ensures done { HasCleanDisk (state S.Store depot.new) → IfSome result
         (λ replies. DoesAll (map command_of mails.now) (map Listed (map filed_by replies.items))
         (state S.Store depot.old) (state S.Store depot.new)) }
-    ensures spared { IfNone result (HasCleanDisk (state S.Store depot.new)
-        → Spares (state S.Store depot.old) (state S.Store depot.new)) }
+    ensures unchanged { IfNone result (HasCleanDisk (state S.Store depot.new)
+        → LeavesUnchanged (state S.Store depot.old) (state S.Store depot.new)) }
     ensures survives { MayCommit S.Store depot.old depot.new
         (MayLeaveAll (map command_of mails.now)) }
 {

@@ -7,7 +7,7 @@ use Rattle.refusals.specs.declared.refusal.Refusal.{Refusal}
 use Rattle.refusals.specs.declared.refusal.Refusal.TheVariants.{Memory, MessageTooLarge, TooManyParts, NotCanonical, Lexical, ScriptTooLong, Syntax, TooDeep, UnknownCommand, MissingCapability, UnknownCapability, BadArguments, Limit, Spelling, Index, Form, End, Loop, Jump, NoPart, Stack, Listing, NoSuchEntry, NumberFull, Collision, Database, UserName, Write, Read}
 use Rattle.depot_jobs.specs.Jobs.{HasTold}
 use Rattle.depot_cli.specs.Printed.{reply_text}
-use Rattle.depot_cli.specs.Tasks.{Desk, HasDone, HasPerformed, HasRefused}
+use Rattle.depot_cli.specs.Tasks.{StoreAndOutputs, HasDone, HasPerformed, HasRefused}
 
 -- whether a refusal is one that may come after some of an export was written
 comes_late : (e : Refusal) → (e ≡ Write) ⊎ (e ≡ Memory) ⊎ ((e ≢ Write) × (e ≢ Memory))
@@ -42,7 +42,7 @@ comes_late Write = inl refl
 comes_late Read = inr (inr (λ is. cc is, λ is. cc is))
 
 -- an export stopped: a call of the writer failed, memory was refused for a piece, or it was refused and nothing was written
-pub stopped : (e : Refusal) (command : Command) (status : ℕ) (old new : Desk) → IsExport command
+pub stopped : (e : Refusal) (command : Command) (status : ℕ) (old new : StoreAndOutputs) → IsExport command
     → (e ≡ Write → (reply : Reply) × HasDone command reply old.store new.store × HasBroken (reply_text command reply) old.out new.out)
     → (e ≡ Memory → (new.out ≡ old.out) ⊎ ((reply : Reply) × HasDone command reply old.store new.store × HasBegun (reply_text command reply) old.out new.out))
     → (e ≢ Write → e ≢ Memory → new.out ≡ old.out)

@@ -1,4 +1,4 @@
--- What comes of an errand and of an inspection, by what opening the file gave.
+-- What comes of a task and of an inspection, by what opening the file gave.
 use Rattle.std.specs.Prelude.{◌≡◌, ℕ, Option, None, Some, Result, Ok, Err, ⊤}
 use Rattle.sqlite.specs.State.{State, Survives}
 use Rattle.part_store.specs.declared.looking.Unopened.{Unopened}
@@ -9,18 +9,18 @@ use Rattle.refusals.specs.declared.refusal.Refusal.TheVariants.{Memory}
 use Rattle.depot_cli.specs.Inspecting.{HasInspected, HasSaidWhy}
 use Rattle.depot_jobs.specs.Jobs.{HasTold}
 use Rattle.depot_cli.specs.NoDepots.{no_depot_of}
-use Rattle.depot_cli.specs.Tasks.{HasPerformed, MayAdd, desk}
+use Rattle.depot_cli.specs.Tasks.{HasPerformed, MayAdd, store_and_outputs}
 use Rattle.depot_cli.specs.declared.no_depot.NoDepot.{NoDepot}
 
--- ---- errands
+-- ---- tasks
 
--- An errand was carried to what opening gave, with this status: its command was performed on the
+-- A task was carried to what opening gave, with this status: its command was performed on the
 -- depot, which is open still; or the refusal of opening was told, with status 1.
 abbrev pub HasCarried :
     {H : Type 0} → (H → State) → Command → ℕ → Result H Refusal → Result H Refusal
     → Output → Output → Output → Output → Type 0
 HasCarried store command status (Ok old) (Ok new) out err out2 err2 =
-    HasPerformed command status (desk (store old) out err) (desk (store new) out2 err2)
+    HasPerformed command status (store_and_outputs (store old) out err) (store_and_outputs (store new) out2 err2)
 HasCarried store command status (Err refusal) (Err same) out err out2 err2 =
     (same ≡ refusal) × (status ≡ 1) × HasTold refusal err err2 × (out2 ≡ out)
 HasCarried store command status opened left out err out2 err2 = ⊥
@@ -47,7 +47,7 @@ abbrev pub HasReported :
     {H : Type 0} → (H → State) → Option ℕ → ℕ → Result H Unopened → Result H Unopened
     → Output → Output → Output → Output → Type 0
 HasReported store log status (Ok old) (Ok new) out err out2 err2 =
-    HasInspected log status (desk (store old) out err) (desk (store new) out2 err2)
+    HasInspected log status (store_and_outputs (store old) out err) (store_and_outputs (store new) out2 err2)
 HasReported store log status (Err why) (Err same) out err out2 err2 =
     (same ≡ why) × (status ≡ 1) × HasToldWhy (no_depot_of why) out err out2 err2
 HasReported store log status opened left out err out2 err2 = ⊥

@@ -76,7 +76,7 @@ why_text why.Empty = codes "it is empty"
 why_text why.Held = codes "another process holds it"
 why_text why.Closed = codes "its log or its journal can't be opened"
 why_text why.Damaged = codes "it is no database, or it is damaged"
-why_text why.OtherTables = codes "its tables are others"
+why_text why.OtherTables = codes "it has other tables, or none"
 why_text why.Disk = codes "the disk failed"
 
 -- the line of that

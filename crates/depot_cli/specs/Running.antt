@@ -4,7 +4,7 @@ use Rattle.clap.specs.Words.{Text}
 use Rattle.refusals.specs.declared.refusal.Refusal.{Refusal}
 use Rattle.depot_jobs.specs.Host.{HostState}
 use Rattle.depot_jobs.specs.Inputs.{HasNotReadFile, HasReadFile, file_of}
-use Rattle.depot_jobs.specs.Jobs.{HasTold, World}
+use Rattle.depot_jobs.specs.Jobs.{HasTold, HostAndOutputs}
 use Rattle.depot_jobs.specs.Statuses.{refused}
 use Rattle.depot_jobs.specs.Usage.{HasNoLine}
 use Rattle.depot_jobs.specs.Words.{IsLine}
@@ -13,33 +13,33 @@ use Rattle.depot_jobs.specs.declared.line.CommandLine.{CommandLine}
 use Rattle.depot_jobs.specs.declared.line.CommandLine.TheVariants.{Alone, OnDepot, Program, Inspect, Batch}
 use Rattle.depot_jobs.specs.Requests.{Request}
 use Rattle.depot_cli.specs.Requests.{command_of, request_command}
-use Rattle.depot_cli.specs.declared.errand.Errand.{Errand}
+use Rattle.depot_cli.specs.declared.pending_task.PendingTask.{PendingTask}
 use Rattle.depot_cli.specs.declared.running.Next.{Next}
 use Rattle.depot_cli.specs.declared.running.Next.TheVariants as next
 
--- the file of a request was read, if it has one: the errand is the depot's name, and what the request
+-- the file of a request was read, if it has one: the task is the depot's name, and what the request
 -- asks of it with these octets
-pub record HasPrepared (depot : Text) (request : Request) (errand : Errand) (old new : HostState) : Type 0 where
+pub record HasPrepared (depot : Text) (request : Request) (pending : PendingTask) (old new : HostState) : Type 0 where
   pub octets : List ℕ
   pub read : HasReadFile (file_of request) octets old new
-  pub name : errand.name.now ≡ depot
-  pub command : command_of errand.task ≡ request_command request octets
+  pub name : pending.name.now ≡ depot
+  pub command : command_of pending.task ≡ request_command request octets
 
 -- it was not read, and the refusal was told
-pub record HasNotPrepared (request : Request) (status : ℕ) (old new : World) : Type 0 where
+pub record HasNotPrepared (request : Request) (status : ℕ) (old new : HostAndOutputs) : Type 0 where
   pub refusal : Refusal
   pub unread : HasNotReadFile refusal (file_of request) old.host new.host
   pub told : HasTold refusal old.err new.err
   pub out : new.out ≡ old.out
   pub is_refused : status ≡ refused
 
--- What comes of a command. Work was done, with a status, and a request became an errand; or what they
+-- What comes of a command. Work was done, with a status, and a request became a task; or what they
 -- read was not read. Of all others nothing was done: they are handed on as whose program is saved,
 -- from which depot and as which file, as the file that is inspected, and as the depot of a batch.
-abbrev pub LeadsTo : CommandLine → Next → World → World → Type 0
+abbrev pub LeadsTo : CommandLine → Next → HostAndOutputs → HostAndOutputs → Type 0
 LeadsTo (Alone work) (next.Exit status) old new = HasWorked work status old new ⊎ HasNotWorked work status old new
-LeadsTo (OnDepot depot request) (next.Perform errand) old new =
-    HasPrepared depot.now request errand old.host new.host × (new.out ≡ old.out) × (new.err ≡ old.err)
+LeadsTo (OnDepot depot request) (next.Perform pending) old new =
+    HasPrepared depot.now request pending old.host new.host × (new.out ≡ old.out) × (new.err ≡ old.err)
 LeadsTo (OnDepot depot request) (next.Exit status) old new = HasNotPrepared request status old new
 LeadsTo (Program depot user out) (next.Save saving) old new =
     (saving.name.now ≡ depot.now) × (saving.user.now ≡ user.now) × (saving.out.now ≡ out.now) × (new ≡ old)
@@ -48,7 +48,7 @@ LeadsTo (Batch depot) (next.Batch name) old new = (name.now ≡ depot.now) × (n
 LeadsTo _ _ old new = ⊥
 
 -- what comes of words: their command is carried out, or they say none
-abbrev pub HasRun : List Text → Next → World → World → Type 0
+abbrev pub HasRun : List Text → Next → HostAndOutputs → HostAndOutputs → Type 0
 HasRun words after old new =
     ((line : CommandLine) × IsLine words line × LeadsTo line after old new)
     ⊎ ((status : ℕ) × (after ≡ next.Exit status) × HasNoLine words status old new)

@@ -2,7 +2,7 @@
 use Rattle.std.specs.Prelude.{◌≡◌, ◌≢◌, ◌⊎◌, ℕ, List, map}
 use Rattle.sqlite.specs.State.{HasCleanDisk, State}
 use Rattle.sqlite_trees.specs.Tree.{Trees}
-use Rattle.part_store.specs.Standing.{Spares, listed}
+use Rattle.part_store.specs.Standing.{LeavesUnchanged, listed}
 use Rattle.part_store.specs.Refusals.{AreNamed}
 use Rattle.depot_actions.specs.Causes.{HasCause, IsExport, IsFault, MayRefuse}
 use Rattle.depot_actions.specs.DepotState.{Command, Does, MayLeave, Reply, SetScript, SetCode, ListAll}
@@ -31,13 +31,13 @@ MayAdd (depot.Remove user number) old trees = MayLeave (depot.Remove user number
 MayAdd depot.Migrate old trees = MayLeave depot.Migrate old trees
 
 -- what a task works with: the store of the depot, standard output and standard error
-pub record Desk : Type 1 where
+pub record StoreAndOutputs : Type 1 where
   pub store : State
   pub out : Output
   pub err : Output
 
-abbrev pub desk : State → Output → Output → Desk
-desk store out err = record { store = store; out = out; err = err }
+abbrev pub store_and_outputs : State → Output → Output → StoreAndOutputs
+store_and_outputs store out err = record { store = store; out = out; err = err }
 
 -- the depot did the command with this reply, as long as its disk returns what was written
 abbrev pub HasDone : Command → Reply → State → State → Type 0
@@ -66,35 +66,35 @@ HasFault command refusal old new = IsFault command old new refusal
 abbrev pub HasRefused : Command → Refusal → State → State → Type 0
 HasRefused command refusal old new =
     MayRefuse command refusal
-    × (HasCleanDisk new → HasCause refusal command old × HasFault command refusal old new × Spares old new)
+    × (HasCleanDisk new → HasCause refusal command old × HasFault command refusal old new × LeavesUnchanged old new)
 
 -- and the reply was written whole
-abbrev pub HasReplied : Command → Desk → Desk → Type 0
+abbrev pub HasReplied : Command → StoreAndOutputs → StoreAndOutputs → Type 0
 HasReplied command old new =
     (reply : Reply) × HasDone command reply old.store new.store × HasTaken (reply_text command reply) old.out new.out
     × (new.err ≡ old.err)
 
 -- or broke off, which the command outlasts
-abbrev pub HasBrokenOff : Command → Desk → Desk → Type 0
+abbrev pub HasBrokenOff : Command → StoreAndOutputs → StoreAndOutputs → Type 0
 HasBrokenOff command old new =
     (reply : Reply) × HasDone command reply old.store new.store × HasBroken (reply_text command reply) old.out new.out
     × HasTold Write old.err new.err
 
 -- or memory was refused for the next piece of an export, of which the first were written
-abbrev pub HasRunOut : Command → Desk → Desk → Type 0
+abbrev pub HasRunOut : Command → StoreAndOutputs → StoreAndOutputs → Type 0
 HasRunOut command old new =
     IsExport command × (reply : Reply) × HasDone command reply old.store new.store
     × HasBegun (reply_text command reply) old.out new.out × HasTold Memory old.err new.err
 
 -- the depot refused the command, and is as it was; of an export that is none of Write, which has no
 -- cause in any other command
-abbrev pub HasDeclined : Command → Desk → Desk → Type 0
+abbrev pub HasDeclined : Command → StoreAndOutputs → StoreAndOutputs → Type 0
 HasDeclined command old new =
     (refusal : Refusal) × (IsExport command → refusal ≢ Write) × HasRefused command refusal old.store new.store
     × HasTold refusal old.err new.err × (new.out ≡ old.out)
 
 -- a command was performed, with this status: 0 for a reply that was written whole, else 1
-abbrev pub HasPerformed : Command → ℕ → Desk → Desk → Type 0
+abbrev pub HasPerformed : Command → ℕ → StoreAndOutputs → StoreAndOutputs → Type 0
 HasPerformed command status old new =
     ((status ≡ 0) × HasReplied command old new)
     ⊎ ((status ≡ 1) × (HasBrokenOff command old new ⊎ HasRunOut command old new ⊎ HasDeclined command old new))

@@ -1,11 +1,11 @@
-// Errands and inspections, by what opening the file gave.
+// Tasks and inspections, by what opening the file gave.
 ghost use Rattle.sqlite.specs.Held.{state};
 ghost use Rattle.depot_cli.specs.Carrying.{HasCarried, HasReported, OutlastsCarrying, OutlastsReporting};
 ghost use Rattle.depot_cli.specs.Requests.{command_of};
 
-use crate::errand::Errand;
 use crate::inspection::inspect;
 use crate::no_depot::{NoDepot, tell_no_depot};
+use crate::pending_task::PendingTask;
 use crate::task::perform;
 use depot_actions::Depot;
 use depot_jobs::tell;
@@ -15,7 +15,7 @@ use refusals::Refusal;
 use sqlite::Alter;
 use std::alloc::Global;
 
-/// Carries an errand to what opening its depot gave, and gives the status: the task is performed on
+/// Carries a task to what opening its depot gave, and gives the status: the task is performed on
 /// the depot, once, as [`perform`] says; or the line of the refusal of opening is written to `err`,
 /// with 1. What was opened stays open, for whoever closes it.
 ///
@@ -23,19 +23,19 @@ use std::alloc::Global;
 /// what the command makes of it.
 pub fn carry<S: Alter, O: Sink, E: Sink>(
     alloc: Global,
-    errand: &Errand<'_>,
+    pending: &PendingTask<'_>,
     opened: &mut Result<Depot<S>, Refusal>,
     out: &mut O,
     err: &mut E,
 ) -> u8
-    ensures carried { HasCarried (state S.Store) (command_of errand.now.task) result
+    ensures carried { HasCarried (state S.Store) (command_of pending.now.task) result
         opened.old opened.new
         (O.output out.old) (E.output err.old) (O.output out.new) (E.output err.new) }
-    ensures survives { OutlastsCarrying (state S.Store) (command_of errand.now.task)
+    ensures survives { OutlastsCarrying (state S.Store) (command_of pending.now.task)
         opened.old opened.new }
 {
     match opened {
-        Ok(depot) => perform(alloc, &errand.task, depot, out, err),
+        Ok(depot) => perform(alloc, &pending.task, depot, out, err),
         Err(refusal) => tell(err, refusal),
     }
 }

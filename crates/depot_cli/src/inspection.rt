@@ -6,7 +6,7 @@ ghost use Rattle.encodings.specs.Device.{HasBroken, HasTaken};
 ghost use Rattle.depot_cli.specs.Inspecting.{HasInspected};
 ghost use Rattle.depot_jobs.specs.Printed.{line as line_of};
 ghost use Rattle.depot_cli.specs.Printed.{contents_text, head_text, numbers_text, overview_text, state_line, user_line, users_text};
-ghost use Rattle.depot_cli.specs.Tasks.{desk};
+ghost use Rattle.depot_cli.specs.Tasks.{store_and_outputs};
 
 use crate::task::finish;
 use depot_actions::{Depot, Overview, ProgramState, UserOverview};
@@ -29,8 +29,8 @@ pub fn inspect<S: Alter, O: Sink, E: Sink>(
     err: &mut E,
 ) -> u8
     ensures inspected { HasInspected log result
-        (desk (state S.Store depot.old) (O.output out.old) (E.output err.old))
-        (desk (state S.Store depot.new) (O.output out.new) (E.output err.new)) }
+        (store_and_outputs (state S.Store depot.old) (O.output out.old) (E.output err.old))
+        (store_and_outputs (state S.Store depot.new) (O.output out.new) (E.output err.new)) }
     ensures survives { Survives (state S.Store depot.old) (state S.Store depot.new) (λ _. ⊥) }
 {
     match depot.inspect(alloc) {

@@ -92,7 +92,7 @@ fn words(why: NoDepot) -> &'static str
         NoDepot::Held => "another process holds it",
         NoDepot::Closed => "its log or its journal can't be opened",
         NoDepot::Damaged => "it is no database, or it is damaged",
-        NoDepot::OtherTables => "its tables are others",
+        NoDepot::OtherTables => "it has other tables, or none",
         NoDepot::Disk => "the disk failed",
     }
 }

@@ -1,10 +1,10 @@
 // From the words of a command line to its status.
 ghost use Rattle.std.specs.Prelude.{◌≡◌, IfErr, IfOk, map};
 ghost use Rattle.depot_jobs.specs.Inputs.{HasNotReadFile, file_of};
-ghost use Rattle.depot_jobs.specs.Jobs.{world};
+ghost use Rattle.depot_jobs.specs.Jobs.{host_and_outputs};
 ghost use Rattle.depot_cli.specs.Running.{HasPrepared, HasRun, LeadsTo};
 
-use crate::errand::Errand;
+use crate::pending_task::PendingTask;
 use crate::saving::Saving;
 use depot_jobs::{CommandLine, Host, Request, carry_out, line_of, read_file_of, tell, tell_fault};
 use encodings::Sink;
@@ -17,8 +17,8 @@ pub enum Next<'a> {
     /// To end with a status: 0 for success, 1 for a refusal or an answer that broke off, 2 for
     /// words that aren't those of a command, and for help.
     Exit(u8),
-    /// To perform an errand on a depot. What it reads was read, and nothing was done yet.
-    Perform(Errand<'a>),
+    /// To perform a task on a depot. What it reads was read, and nothing was done yet.
+    Perform(PendingTask<'a>),
     /// To say what the file of this name is, and what the depot in it holds. Nothing was done yet.
     Inspect(&'a str),
     /// To save a user's program as a file. Nothing was done yet.
@@ -42,8 +42,8 @@ pub fn run<'a, H: Host, O: Sink, E: Sink>(
     err: &mut E,
 ) -> Next<'a>
     ensures { HasRun (map (λ w. w.now) words.entry.now) result
-        (world (H.state host.old) (O.output out.old) (E.output err.old))
-        (world (H.state host.new) (O.output out.new) (E.output err.new)) }
+        (host_and_outputs (H.state host.old) (O.output out.old) (E.output err.old))
+        (host_and_outputs (H.state host.new) (O.output out.new) (E.output err.new)) }
 {
     match line_of(alloc, words) {
         Ok(line) => lead(alloc, line, host, out, err),
@@ -60,13 +60,13 @@ fn lead<'a, H: Host, O: Sink, E: Sink>(
     err: &mut E,
 ) -> Next<'a>
     ensures { LeadsTo line.entry result
-        (world (H.state host.old) (O.output out.old) (E.output err.old))
-        (world (H.state host.new) (O.output out.new) (E.output err.new)) }
+        (host_and_outputs (H.state host.old) (O.output out.old) (E.output err.old))
+        (host_and_outputs (H.state host.new) (O.output out.new) (E.output err.new)) }
 {
     match line {
         CommandLine::Alone(work) => Next::Exit(carry_out(alloc, work, host, out, err)),
         CommandLine::OnDepot { depot, request } => match prepare(alloc, depot, request, host) {
-            Ok(errand) => Next::Perform(errand),
+            Ok(pending) => Next::Perform(pending),
             Err(refusal) => Next::Exit(tell(err, &refusal)),
         },
         CommandLine::Program { depot, user, out } => Next::Save(Saving {
@@ -79,20 +79,20 @@ fn lead<'a, H: Host, O: Sink, E: Sink>(
     }
 }
 
-// Reads the file of a request, and gives the errand to the depot of this name.
+// Reads the file of a request, and gives the task to the depot of this name.
 fn prepare<'a, H: Host>(
     alloc: Global,
     name: &'a str,
     request: Request<'a>,
     host: &mut H,
-) -> Result<Errand<'a>, Refusal>
-    ensures prepared { IfOk result (λ errand. HasPrepared name.entry.now request.entry errand
+) -> Result<PendingTask<'a>, Refusal>
+    ensures prepared { IfOk result (λ pending. HasPrepared name.entry.now request.entry pending
         (H.state host.old) (H.state host.new)) }
     ensures unread { IfErr result (λ e. HasNotReadFile e (file_of request.entry)
         (H.state host.old) (H.state host.new)) }
 {
     match read_file_of(alloc, request, host) {
-        Ok(octets) => Ok(Errand {
+        Ok(octets) => Ok(PendingTask {
             name,
             task: request.with_octets(octets),
         }),

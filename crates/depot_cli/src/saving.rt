@@ -2,7 +2,7 @@
 ghost use Rattle.std.specs.Prelude.{◌≡◌, IfErr, IfOk, List, length, ℕ, OnErr, OnOk};
 ghost use Rattle.sqlite.specs.Held.{state};
 ghost use Rattle.sqlite.specs.State.{Survives};
-ghost use Rattle.depot_jobs.specs.Jobs.{world};
+ghost use Rattle.depot_jobs.specs.Jobs.{host_and_outputs};
 ghost use Rattle.depot_cli.specs.Saving.{HasNotSaved, HasSaved, HasSavedFile, HasServed, IsUnsaved, OutlastsSaving};
 
 use crate::task::finish;
@@ -41,8 +41,8 @@ pub fn save<S: Alter, H: Host, O: Sink, E: Sink>(
     err: &mut E,
 ) -> u8
     ensures served { HasServed (state S.Store) saving.entry result opened.old opened.new
-        (world (H.state host.old) (O.output out.old) (E.output err.old))
-        (world (H.state host.new) (O.output out.new) (E.output err.new)) }
+        (host_and_outputs (H.state host.old) (O.output out.old) (E.output err.old))
+        (host_and_outputs (H.state host.new) (O.output out.new) (E.output err.new)) }
     ensures survives { OutlastsSaving (state S.Store) opened.old opened.new }
 {
     match opened {

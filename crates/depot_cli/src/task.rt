@@ -8,7 +8,7 @@ ghost use Rattle.refusals.specs.declared.refusal.Refusal.TheVariants.{Write};
 ghost use Rattle.depot_jobs.specs.Jobs.{HasTold};
 ghost use Rattle.depot_cli.specs.Printed.{migrated_text, removed_text};
 ghost use Rattle.depot_cli.specs.Requests.{command_of};
-ghost use Rattle.depot_cli.specs.Tasks.{HasAnswered, HasPerformed, HasRefused, MayAdd, desk, text_in};
+ghost use Rattle.depot_cli.specs.Tasks.{HasAnswered, HasPerformed, HasRefused, MayAdd, store_and_outputs, text_in};
 
 use crate::entries::{Detail, put_entries};
 use depot_actions::Depot;
@@ -52,8 +52,8 @@ pub fn perform<S: Alter, O: Sink, E: Sink>(
     err: &mut E,
 ) -> u8
     ensures performed { HasPerformed (command_of task.now) result
-        (desk (state S.Store depot.old) (O.output out.old) (E.output err.old))
-        (desk (state S.Store depot.new) (O.output out.new) (E.output err.new)) }
+        (store_and_outputs (state S.Store depot.old) (O.output out.old) (E.output err.old))
+        (store_and_outputs (state S.Store depot.new) (O.output out.new) (E.output err.new)) }
     ensures survives { Survives (state S.Store depot.old) (state S.Store depot.new)
         (MayAdd (command_of task.now) (state S.Store depot.old)) }
 {

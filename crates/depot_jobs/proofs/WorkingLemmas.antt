@@ -3,7 +3,7 @@ use Rattle.std.proofs.Common.{◌≡◌, ◌≢◌, ◌≤◌, ◌⊎◌, ℕ, z
 use Rattle.clap.specs.Words.{App, Text, takes}
 use Rattle.clap.specs.declared.error.kind.ErrorKind.{ErrorKind}
 use Rattle.clap.specs.declared.error.kind.ErrorKind.TheVariants.{OutOfMemory}
-use Rattle.depot_jobs.specs.Jobs.{HasAnswered, HasFound, HasRefused, HasStopped, HasTold, World}
+use Rattle.depot_jobs.specs.Jobs.{HasAnswered, HasFound, HasRefused, HasStopped, HasTold, HostAndOutputs}
 use Rattle.depot_jobs.specs.Host.{HostState, Origin}
 use Rattle.depot_jobs.specs.Inputs.{HasRead, HaveRead}
 use Rattle.depot_jobs.specs.Statuses.{refused, usage}
@@ -27,7 +27,7 @@ without_more (inr (inl b)) = inr (inl b)
 without_more (inr (inr c)) = inr (inr c.0)
 
 -- a status is that of success or of a refusal
-pub outcome : {P Q : Type 0} (job : Job) (status : ℕ) (old new : World) → status ≤ 1
+pub outcome : {P Q : Type 0} (job : Job) (status : ℕ) (old new : HostAndOutputs) → status ≤ 1
     → (status ≡ 0 → HasAnswered job old new × P) → (status ≡ 1 → HasFound job old new ⊎ (HasStopped job old new ⊎ (HasRefused job old new × Q))) → HasOutcome job status old new
 outcome job zero old new small done failed = inl (refl, (done refl).0)
 outcome job (suc zero) old new small done failed = inr (refl, without_more (failed refl))
@@ -42,7 +42,7 @@ pub no_line : {words : List Text} {kind : ErrorKind} → (app : App) × IsDepot 
 no_line {words} {kind} taken other = (taken.0, taken.1, not_taken (takes taken.0 words) kind taken.2 other)
 
 -- words that say no command were explained, or memory was refused
-pub explained : {words : List Text} {kind : ErrorKind} {status : ℕ} {old new : World} → (app : App) × IsDepot app × (takes app words ≡ true → kind ≡ OutOfMemory) → KeepsOthers old new
+pub explained : {words : List Text} {kind : ErrorKind} {status : ℕ} {old new : HostAndOutputs} → (app : App) × IsDepot app × (takes app words ≡ true → kind ≡ OutOfMemory) → KeepsOthers old new
     → ((status ≡ refused) × HasTold Memory old.err new.err) ⊎ ((kind ≢ OutOfMemory) × (status ≡ usage) × HasToldUsage old.err new.err) → HasNoLine words status old new
 explained taken others (inl told) = inl (told.0, others, told.1)
 explained taken others (inr text) = inr (text.1, no_line taken text.0, others, text.2)

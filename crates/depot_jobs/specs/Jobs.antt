@@ -167,25 +167,25 @@ HasLongProgram (Decode encoding text) = ⊥
 -- ---- what answering does
 
 -- what a command works with: the host, standard output and standard error
-pub record World : Type 0 where
+pub record HostAndOutputs : Type 0 where
   pub host : HostState
   pub out : Output
   pub err : Output
 
-abbrev pub world : HostState → Output → Output → World
-world host out err = record { host = host; out = out; err = err }
+abbrev pub host_and_outputs : HostState → Output → Output → HostAndOutputs
+host_and_outputs host out err = record { host = host; out = out; err = err }
 
 -- the line of a refusal was written, or the sink broke while it was
 abbrev pub HasTold : Refusal → Output → Output → Type 0
 HasTold refusal old new = HasTaken (refusal_line refusal) old new ⊎ HasBroken (refusal_line refusal) old new
 
 -- the job was done, and its answer was written whole
-abbrev pub HasAnswered : Job → World → World → Type 0
+abbrev pub HasAnswered : Job → HostAndOutputs → HostAndOutputs → Type 0
 HasAnswered job old new = (text : List ℕ) × IsAnswer job text old.host new.host × HasTaken text old.out new.out
     × (new.err ≡ old.err)
 
 -- what the job found was written whole, and its refusal was told
-abbrev pub HasFound : Job → World → World → Type 0
+abbrev pub HasFound : Job → HostAndOutputs → HostAndOutputs → Type 0
 HasFound job old new =
     (text : List ℕ) × (refusal : Refusal) × IsFinding job text refusal old.host new.host × HasTaken text old.out new.out
     × HasTold refusal old.err new.err
@@ -208,13 +208,13 @@ GoesOutAsMade (Decode encoding text) = ⊥
 
 -- The job was done, but its answer, or what it found, broke off: a call failed, or memory was refused, which may be only where
 -- the answer goes out as it is made.
-abbrev pub HasStopped : Job → World → World → Type 0
+abbrev pub HasStopped : Job → HostAndOutputs → HostAndOutputs → Type 0
 HasStopped job old new =
     (text : List ℕ) × (found : Option Refusal) × (refusal : Refusal) × IsShown job text found old.host new.host
     × device.HasStopped refusal text old.out new.out × (refusal ≡ refusals.Memory → GoesOutAsMade job)
     × HasTold refusal old.err new.err
 
 -- the job was refused
-abbrev pub HasRefused : Job → World → World → Type 0
+abbrev pub HasRefused : Job → HostAndOutputs → HostAndOutputs → Type 0
 HasRefused job old new = (refusal : Refusal) × IsJobRefusal job refusal old.host new.host
     × HasTold refusal old.err new.err × (new.out ≡ old.out)

@@ -4,7 +4,7 @@ use Rattle.clap.specs.Words.{App, Text, takes}
 use Rattle.depot_words.specs.Commands.{IsDepot}
 use Rattle.encodings.specs.Device.{HasBroken, HasTaken, Output}
 use Rattle.refusals.specs.declared.refusal.Refusal.TheVariants.{Memory}
-use Rattle.depot_jobs.specs.Jobs.{HasTold, World}
+use Rattle.depot_jobs.specs.Jobs.{HasTold, HostAndOutputs}
 use Rattle.depot_jobs.specs.Printed.{shown}
 use Rattle.depot_jobs.specs.Statuses.{refused, usage}
 
@@ -21,11 +21,11 @@ abbrev pub HasToldUsage : Output → Output → Type 0
 HasToldUsage old new = (text : List ℕ) × HasShown text old new
 
 -- nothing but standard error was touched
-abbrev pub KeepsOthers : World → World → Type 0
+abbrev pub KeepsOthers : HostAndOutputs → HostAndOutputs → Type 0
 KeepsOthers old new = (new.host ≡ old.host) × (new.out ≡ old.out)
 
 -- what comes of words that say no command: memory was refused while they were read, or the user was told
-abbrev pub HasNoLine : List Text → ℕ → World → World → Type 0
+abbrev pub HasNoLine : List Text → ℕ → HostAndOutputs → HostAndOutputs → Type 0
 HasNoLine words status old new =
     ((status ≡ refused) × KeepsOthers old new × HasTold Memory old.err new.err)
     ⊎ ((status ≡ usage) × IsNoLine words × KeepsOthers old new × HasToldUsage old.err new.err)

@@ -9,7 +9,7 @@ use Rattle.bytecode_format.specs.declared.operation.Operation.TheVariants.{Keep,
 use Rattle.refusals.specs.declared.refusal.Refusal.{Refusal}
 use Rattle.depot_jobs.specs.Host.{HostState}
 use Rattle.depot_jobs.specs.Inputs.{HaveNotRead, HaveRead, input, origins_of}
-use Rattle.depot_jobs.specs.Jobs.{HasAnswered, HasFound, HasRefused, HasStopped, HasTold, World, world}
+use Rattle.depot_jobs.specs.Jobs.{HasAnswered, HasFound, HasRefused, HasStopped, HasTold, HostAndOutputs, host_and_outputs}
 use Rattle.depot_jobs.specs.Statuses.{refused, success}
 use Rattle.depot_jobs.specs.declared.job.Job.{Job}
 use Rattle.depot_jobs.specs.declared.job.Job.TheVariants as jobs
@@ -64,21 +64,21 @@ IsJobOf (Decode encoding) inputs job = (text : Bor (List ℕ)) × (job ≡ jobs.
 -- ---- what comes of it
 
 -- a job was answered with this status
-abbrev pub HasOutcome : Job → ℕ → World → World → Type 0
+abbrev pub HasOutcome : Job → ℕ → HostAndOutputs → HostAndOutputs → Type 0
 HasOutcome job status old new = ((status ≡ success) × HasAnswered job old new)
     ⊎ ((status ≡ refused) × (HasFound job old new ⊎ (HasStopped job old new ⊎ HasRefused job old new)))
 
 -- what work reads was read, and its job was answered with this status
-pub record HasWorked (work : Work) (status : ℕ) (old new : World) : Type 0 where
+pub record HasWorked (work : Work) (status : ℕ) (old new : HostAndOutputs) : Type 0 where
   pub inputs : List (List ℕ)
   pub mid : HostState
   pub read : HaveRead (origins_of work) inputs old.host mid
   pub job : Job
   pub is_job : IsJobOf work inputs job
-  pub outcome : HasOutcome job status (world mid old.out old.err) new
+  pub outcome : HasOutcome job status (host_and_outputs mid old.out old.err) new
 
 -- what it reads was not read, and the refusal was told
-pub record HasNotWorked (work : Work) (status : ℕ) (old new : World) : Type 0 where
+pub record HasNotWorked (work : Work) (status : ℕ) (old new : HostAndOutputs) : Type 0 where
   pub refusal : Refusal
   pub unread : HaveNotRead refusal (origins_of work) old.host new.host
   pub told : HasTold refusal old.err new.err

@@ -17,7 +17,7 @@ ghost use Rattle.refusals.specs.declared.refusal.Refusal.TheVariants.{Listing, M
 ghost use Rattle.sieve_engine.specs.Execution.{IsChecked, IsProgramRefusal};
 ghost use Rattle.depot_jobs.specs.Host.{HasMade, HasNotMade};
 ghost use Rattle.encodings.specs.Device.{HasBroken, HasTaken};
-ghost use Rattle.depot_jobs.specs.Jobs.{HasAnswered, HasFound, HasLongProgram, HasLongScript, HasRefused, HasStopped, HasTold, IsFaultless, IsJobRefusal, IsListing, IsShown, IsUnspelled, commented, world};
+ghost use Rattle.depot_jobs.specs.Jobs.{HasAnswered, HasFound, HasLongProgram, HasLongScript, HasRefused, HasStopped, HasTold, IsFaultless, IsJobRefusal, IsListing, IsShown, IsUnspelled, commented, host_and_outputs};
 ghost use Rattle.depot_jobs.specs.Private.{IsAnswerOf, answer_refusal, answer_text, lines_text, refusal_in, verdict_line};
 ghost use Rattle.depot_jobs.specs.Printed.{line, ok_text, refusal_line, wrote_text};
 
@@ -184,19 +184,19 @@ pub fn answer<H: Host, O: Sink, E: Sink>(
 ) -> u8
     ensures status { result ≤ 1 }
     ensures done { result ≡ 0 → HasAnswered job.entry
-        (world (H.state host.old) (O.output out.old) (E.output err.old))
-        (world (H.state host.new) (O.output out.new) (E.output err.new))
+        (host_and_outputs (H.state host.old) (O.output out.old) (E.output err.old))
+        (host_and_outputs (H.state host.new) (O.output out.new) (E.output err.new))
         × (err.new ≡ err.old) }
     ensures failed { result ≡ 1 →
         HasFound job.entry
-        (world (H.state host.old) (O.output out.old) (E.output err.old))
-        (world (H.state host.new) (O.output out.new) (E.output err.new))
+        (host_and_outputs (H.state host.old) (O.output out.old) (E.output err.old))
+        (host_and_outputs (H.state host.new) (O.output out.new) (E.output err.new))
         ⊎ (HasStopped job.entry
-        (world (H.state host.old) (O.output out.old) (E.output err.old))
-        (world (H.state host.new) (O.output out.new) (E.output err.new))
+        (host_and_outputs (H.state host.old) (O.output out.old) (E.output err.old))
+        (host_and_outputs (H.state host.new) (O.output out.new) (E.output err.new))
         ⊎ (HasRefused job.entry
-        (world (H.state host.old) (O.output out.old) (E.output err.old))
-        (world (H.state host.new) (O.output out.new) (E.output err.new))
+        (host_and_outputs (H.state host.old) (O.output out.old) (E.output err.old))
+        (host_and_outputs (H.state host.new) (O.output out.new) (E.output err.new))
         × (out.new ≡ out.old))) }
     ensures long_script { HasLongScript job.entry → (result ≡ 1)
         × HasTold ScriptTooLong (E.output err.old) (E.output err.new) × (out.new ≡ out.old) }

@@ -1,7 +1,7 @@
 // From work to its status.
 ghost use Rattle.std.specs.Prelude.{◌≡◌, ◌⊎◌, List, ℕ};
 ghost use Rattle.bytecode_format.specs.Spelling.{spelling};
-ghost use Rattle.depot_jobs.specs.Jobs.{world};
+ghost use Rattle.depot_jobs.specs.Jobs.{host_and_outputs};
 ghost use Rattle.depot_jobs.specs.Inputs.{input};
 ghost use Rattle.depot_jobs.specs.Working.{HasNotWorked, HasWorked, IsJobOf, keeping_code};
 
@@ -31,11 +31,11 @@ pub fn carry_out<H: Host, O: Sink, E: Sink>(
     err: &mut E,
 ) -> u8
     ensures { HasWorked work.entry result
-        (world (H.state host.old) (O.output out.old) (E.output err.old))
-        (world (H.state host.new) (O.output out.new) (E.output err.new))
+        (host_and_outputs (H.state host.old) (O.output out.old) (E.output err.old))
+        (host_and_outputs (H.state host.new) (O.output out.new) (E.output err.new))
         ⊎ HasNotWorked work.entry result
-        (world (H.state host.old) (O.output out.old) (E.output err.old))
-        (world (H.state host.new) (O.output out.new) (E.output err.new)) }
+        (host_and_outputs (H.state host.old) (O.output out.old) (E.output err.old))
+        (host_and_outputs (H.state host.new) (O.output out.new) (E.output err.new)) }
 {
     match read_inputs(alloc, inputs_of(work), host) {
         Ok((first, second)) => {

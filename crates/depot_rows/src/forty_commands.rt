@@ -81,7 +81,7 @@ fn come<O: Sink, E: Sink>(
     let mut host = Shelf::new(alloc, known, known, b"", 0);
     match run(alloc, words, &mut host, out, err) {
         Next::Exit(status) => status,
-        Next::Perform(errand) => perform(alloc, &errand.task, depot, out, err),
+        Next::Perform(pending) => perform(alloc, &pending.task, depot, out, err),
         Next::Inspect(_) | Next::Save(_) | Next::Batch(_) => 2,
     }
 }

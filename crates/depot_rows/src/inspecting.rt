@@ -57,7 +57,10 @@ const WHYS: [(NoDepot, &str); 13] = [
         NoDepot::Damaged,
         "no depot: it is no database, or it is damaged\n",
     ),
-    (NoDepot::OtherTables, "no depot: its tables are others\n"),
+    (
+        NoDepot::OtherTables,
+        "no depot: it has other tables, or none\n",
+    ),
     (NoDepot::Disk, "no depot: the disk failed\n"),
 ];
 

@@ -2,7 +2,7 @@
 
 use crate::shelf::{Asked, Known, Shelf};
 use depot_actions::Depot;
-use depot_cli::{Errand, Next, Saving, inspect, perform, run, save};
+use depot_cli::{Next, PendingTask, Saving, inspect, perform, run, save};
 use depot_jobs::{Host, tell};
 use encodings::{OfWrite, Sink};
 use std::alloc::Global;
@@ -29,12 +29,17 @@ struct Seen {
     faults: u64,
 }
 
-// Carries an errand to an empty depot in memory, and gives the status.
-fn carry<O: Sink, E: Sink>(alloc: Global, errand: &Errand<'_>, out: &mut O, err: &mut E) -> u8 {
+// Carries a task to an empty depot in memory, and gives the status.
+fn carry<O: Sink, E: Sink>(
+    alloc: Global,
+    pending: &PendingTask<'_>,
+    out: &mut O,
+    err: &mut E,
+) -> u8 {
     match Depot::in_memory(alloc) {
         Ok(opened) => {
             let mut depot = opened;
-            perform(alloc, &errand.task, &mut depot, out, err)
+            perform(alloc, &pending.task, &mut depot, out, err)
         }
         Err(refusal) => tell(err, &refusal),
     }
@@ -73,7 +78,7 @@ fn come(rt: &HostRuntime, words: &[&str], room: usize) -> Seen {
     let mut err = OfWrite::new(Vec::new(rt.alloc()));
     let status = match run(rt.alloc(), words, &mut host, &mut out, &mut err) {
         Next::Exit(status) => status,
-        Next::Perform(errand) => carry(rt.alloc(), &errand, &mut out, &mut err),
+        Next::Perform(pending) => carry(rt.alloc(), &pending, &mut out, &mut err),
         Next::Inspect(_) => look(rt.alloc(), &mut out, &mut err),
         Next::Save(saving) => fetch(rt.alloc(), saving, &mut host, &mut out, &mut err),
         // no row has lines

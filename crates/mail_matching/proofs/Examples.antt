@@ -8,7 +8,10 @@ use Rattle.mime_params.specs.MediaValue.{disposition_of, media_type_of, param_at
 use Rattle.mime_params.specs.declared.encoding.TransferEncoding.TheVariants.{SevenBit}
 use Rattle.mime_tree.specs.PartTree.{text_plain}
 use Rattle.mime_decode.specs.Mail.{Mail, Part}
-use Rattle.mime_decode.specs.Scope.{Scope, Root, Current, CurrentAndBelow, Selector, Value, ContentType, Param}
+use Rattle.bytecode_format.specs.declared.selection.Scope.{Scope}
+use Rattle.bytecode_format.specs.declared.selection.Scope.TheVariants as scopes
+use Rattle.bytecode_format.specs.declared.selection.Selector.{Selector}
+use Rattle.bytecode_format.specs.declared.selection.Selector.TheVariants.{Value, ContentType, Param}
 use Rattle.mail_matching.specs.FirstMatch.{no_captures}
 use Rattle.mail_matching.specs.HeaderTests.{exists_in, header_cost, header_match}
 use Rattle.mail_matching.specs.PartTests.{body_cost}
@@ -40,47 +43,47 @@ equal = record { kind = Is; comparator = Casemap }
 abbrev containing : Match
 containing = record { kind = Contains; comparator = Casemap }
 
-abbrev finds : Match → Scope → Option ℕ → Selector → List (List ℕ) → List (List ℕ) → Option (List (List ℕ))
-finds how scope current selector names keys = header_match how scope current selector names keys mail no_captures
+abbrev finds : Match → Scope → Option ℕ → Selector → List (List ℕ) → List (List ℕ) → List (List ℕ) → Option (List (List ℕ))
+finds how scope current selector params names keys = header_match how scope current selector params names keys mail no_captures
 
 -- ---- a part, and those below it
 
-in_a_part_below : finds equal CurrentAndBelow (Some 1) Value (codes "Subject" ∷ []) (codes "BELOW" ∷ []) ≡ Some no_captures
+in_a_part_below : finds equal scopes.PartAndBelow (Some 1) Value [] (codes "Subject" ∷ []) (codes "BELOW" ∷ []) ≡ Some no_captures
 in_a_part_below = refl
 
-not_in_the_part_alone : finds equal Current (Some 1) Value (codes "Subject" ∷ []) (codes "below" ∷ []) ≡ None
+not_in_the_part_alone : finds equal scopes.Part (Some 1) Value [] (codes "Subject" ∷ []) (codes "below" ∷ []) ≡ None
 not_in_the_part_alone = refl
 
-not_above_the_part : finds equal CurrentAndBelow (Some 1) Value (codes "Subject" ∷ []) (codes "root" ∷ []) ≡ None
+not_above_the_part : finds equal scopes.PartAndBelow (Some 1) Value [] (codes "Subject" ∷ []) (codes "root" ∷ []) ≡ None
 not_above_the_part = refl
 
 -- 3 fields in 2 parts, and values of 3 and 5 octets
-what_it_costs : header_cost CurrentAndBelow (Some 1) Value (codes "Subject" ∷ []) (codes "abc" ∷ []) mail ≡ 4 * 8 + (4 + 6) * 4
+what_it_costs : header_cost scopes.PartAndBelow (Some 1) Value [] (codes "Subject" ∷ []) (codes "abc" ∷ []) mail ≡ 4 * 8 + (4 + 6) * 4
 what_it_costs = refl
 
-names_of_different_parts : exists_in CurrentAndBelow None (codes "subject" ∷ codes "content-type" ∷ codes "content-disposition" ∷ []) mail ≡ true
+names_of_different_parts : exists_in scopes.PartAndBelow None (codes "subject" ∷ codes "content-type" ∷ codes "content-disposition" ∷ []) mail ≡ true
 names_of_different_parts = refl
 
-not_in_the_root : exists_in Root (Some 1) (codes "subject" ∷ codes "content-type" ∷ []) mail ≡ false
+not_in_the_root : exists_in scopes.Message (Some 1) (codes "subject" ∷ codes "content-type" ∷ []) mail ≡ false
 not_in_the_root = refl
 
 -- ---- types and parameters
 
-the_disposition : finds equal Current (Some 3) ContentType (codes "Content-Disposition" ∷ []) (codes "attachment" ∷ []) ≡ Some no_captures
+the_disposition : finds equal scopes.Part (Some 3) ContentType [] (codes "Content-Disposition" ∷ []) (codes "attachment" ∷ []) ≡ Some no_captures
 unfolding media_type_of disposition_of param_at
 the_disposition = refl
 
 -- an absent parameter has no value, not even an empty one
-an_absent_parameter : finds containing Current (Some 1) (Param (codes "name" ∷ [])) (codes "Content-Type" ∷ []) ([] ∷ []) ≡ None
+an_absent_parameter : finds containing scopes.Part (Some 1) Param (codes "name" ∷ []) (codes "Content-Type" ∷ []) ([] ∷ []) ≡ None
 unfolding media_type_of disposition_of param_at
 an_absent_parameter = refl
 
 -- it costs nothing but the looking for fields
-its_cost : header_cost Current (Some 1) (Param (codes "name" ∷ [])) (codes "Content-Type" ∷ []) (codes "abc" ∷ []) mail ≡ 3 * 13
+its_cost : header_cost scopes.Part (Some 1) Param (codes "name" ∷ []) (codes "Content-Type" ∷ []) (codes "abc" ∷ []) mail ≡ 3 * 13
 unfolding media_type_of disposition_of param_at
 its_cost = refl
 
-a_parameter : finds equal Current (Some 1) (Param (codes "name" ∷ codes "CHARSET" ∷ [])) (codes "Content-Type" ∷ []) (codes "UTF-8" ∷ []) ≡ Some no_captures
+a_parameter : finds equal scopes.Part (Some 1) Param (codes "name" ∷ codes "CHARSET" ∷ []) (codes "Content-Type" ∷ []) (codes "UTF-8" ∷ []) ≡ Some no_captures
 unfolding media_type_of disposition_of param_at
 a_parameter = refl
 

@@ -19,14 +19,15 @@ use Rattle.sha2.proofs.Facts256.{length-sha256}
 use Rattle.hex.specs.Hex.{lower_digits}
 use Rattle.hex.proofs.HexLemmas.{length-encode_with}
 use Rattle.mime_decode.specs.Content.{digest_of}
-use Rattle.mime_decode.specs.Scope.{Scope, Root, Current, CurrentAndBelow, Selector, Value, Main, Sub, ContentType, Param, content_type_of, current_or_root, first_and_below, given, main_of, params_of, parts_in_scope, reading_of, selected_of, selected_values, sub_of}
+use Rattle.bytecode_format.specs.declared.selection.Scope.{Scope}
+use Rattle.bytecode_format.specs.declared.selection.Scope.TheVariants as scopes
+use Rattle.bytecode_format.specs.declared.selection.Selector.{Selector}
+use Rattle.bytecode_format.specs.declared.selection.Selector.TheVariants.{Value, Main, Sub, ContentType, Param}
 use Rattle.mail_matching.specs.Costs.{extent_of, names_cost, values_cost}
 use Rattle.mail_matching.specs.Headers.{AreWithin, selected_among, selected_in_all, selected_named, values_of_params}
 use Rattle.mail_matching.specs.HeaderTests.{fields_in_scope, headers_in_scope}
 use Rattle.mail_matching.specs.PartTests.{body_cost, digest_cost}
-use Rattle.mail_matching.specs.Selection.{selector_of, values_of_a_field}
-use Rattle.bytecode_format.specs.declared.selection.Selector as declared
-use Rattle.bytecode_format.specs.declared.selection.Selector.TheVariants as variants
+use Rattle.mail_matching.specs.Selection.{content_type_of, current_or_root, first_and_below, given, main_of, params_of, parts_in_scope, reading_of, selected_of, selected_values, sub_of, values_of_a_field}
 use Rattle.mail_matching.specs.Texts.{AreTexts}
 use Rattle.mail_matching.proofs.Lengths.{given_in, reading_in}
 
@@ -79,57 +80,57 @@ params_within limit params names are =
     rw (extent_flat_map (λ name. given (value_named name params)) names)
     (sum_by-le (λ name. extent_of (given (value_named name params))) (limit + 2) names (λ k d lt. given_within limit (value_named _ params) (given_in limit _ params are)))
 
-field_within : (selector : Selector) (field : Field) → extent_of (selected_of selector field) ≤ values_of_a_field selector * (length field.value + 2)
-field_within Value field = omega (arith, extent_one field.value)
-field_within Main field = omega (arith, extent_one (main_of (reading_of field)), (reading_in field).main)
-field_within Sub field = omega (arith, extent_one (sub_of (reading_of field)), (reading_in field).sub)
-field_within ContentType field = omega (arith, extent_one (content_type_of (reading_of field)), (reading_in field).content_type)
-field_within (Param names) field =
-    le_trans (params_within (length field.value) (params_of (reading_of field)) names (reading_in field).params)
-    (mul-le-mul_right (length field.value + 2) (le-max_left (length names) 1))
+field_within : (selector : Selector) (params : List (List ℕ)) (field : Field) → extent_of (selected_of selector params field) ≤ values_of_a_field selector params * (length field.value + 2)
+field_within Value params field = omega (arith, extent_one field.value)
+field_within Main params field = omega (arith, extent_one (main_of (reading_of field)), (reading_in field).main)
+field_within Sub params field = omega (arith, extent_one (sub_of (reading_of field)), (reading_in field).sub)
+field_within ContentType params field = omega (arith, extent_one (content_type_of (reading_of field)), (reading_in field).content_type)
+field_within Param params field =
+    le_trans (params_within (length field.value) (params_of (reading_of field)) params (reading_in field).params)
+    (mul-le-mul_right (length field.value + 2) (le-max_left (length params) 1))
 
 -- ---- what is selected of the fields of a name
 
 -- what is selected of one field, where it has the name
-abbrev pub where_named : Selector → List ℕ → Field → List (List ℕ)
-where_named selector name field = selected_named selector (field ∷ []) name
+abbrev pub where_named : Selector → List (List ℕ) → List ℕ → Field → List (List ℕ)
+where_named selector params name field = selected_named selector params (field ∷ []) name
 
-pub named_each : (selector : Selector) (name : List ℕ) (fields : List Field) → selected_named selector fields name ≡ flat_map (where_named selector name) fields
-named_each selector name [] = refl
-named_each selector name (field ∷ fields) = elim (cases_Bool (is_word field.name name)) [
-  | inl named ↦ rw named (ap (λ values. values ++ selected_named selector fields name) (sym (append-nil (selected_of selector field))) ∙ ap (λ values. selected_of selector field ++ [] ++ values) (named_each selector name fields))
-  | inr other ↦ rw other (named_each selector name fields)
+pub named_each : (selector : Selector) (params : List (List ℕ)) (name : List ℕ) (fields : List Field) → selected_named selector params fields name ≡ flat_map (where_named selector params name) fields
+named_each selector params name [] = refl
+named_each selector params name (field ∷ fields) = elim (cases_Bool (is_word field.name name)) [
+  | inl named ↦ rw named (ap (λ values. values ++ selected_named selector params fields name) (sym (append-nil (selected_of selector params field))) ∙ ap (λ values. selected_of selector params field ++ [] ++ values) (named_each selector params name fields))
+  | inr other ↦ rw other (named_each selector params name fields)
 ]
 
-where_named_within : (selector : Selector) (name : List ℕ) (field : Field) → extent_of (where_named selector name field) ≤ values_of_a_field selector * (length field.value + 2)
-where_named_within selector name field = elim (cases_Bool (is_word field.name name)) [
-  | inl named ↦ rw named (rw (append-nil (selected_of selector field)) (field_within selector field))
+where_named_within : (selector : Selector) (params : List (List ℕ)) (name : List ℕ) (field : Field) → extent_of (where_named selector params name field) ≤ values_of_a_field selector params * (length field.value + 2)
+where_named_within selector params name field = elim (cases_Bool (is_word field.name name)) [
+  | inl named ↦ rw named (rw (append-nil (selected_of selector params field)) (field_within selector params field))
   | inr other ↦ rw other (omega arith)
 ]
 
-named_within : (selector : Selector) (name : List ℕ) (fields : List Field) → extent_of (selected_named selector fields name) ≤ values_of_a_field selector * fields_extent fields
-named_within selector name fields =
-    let each = sum_by-le-sum_by (λ field. extent_of (where_named selector name field)) (λ (field : Field). values_of_a_field selector * (length field.value + 2)) fields (where_named_within selector name) in
+named_within : (selector : Selector) (params : List (List ℕ)) (name : List ℕ) (fields : List Field) → extent_of (selected_named selector params fields name) ≤ values_of_a_field selector params * fields_extent fields
+named_within selector params name fields =
+    let each = sum_by-le-sum_by (λ field. extent_of (where_named selector params name field)) (λ (field : Field). values_of_a_field selector params * (length field.value + 2)) fields (where_named_within selector params name) in
     omega (
       arith,
-      ap extent_of (named_each selector name fields),
-      extent_flat_map (where_named selector name) fields,
+      ap extent_of (named_each selector params name fields),
+      extent_flat_map (where_named selector params name) fields,
       each,
-      sum_scaled (values_of_a_field selector) (λ (field : Field). length field.value + 2) fields,
+      sum_scaled (values_of_a_field selector params) (λ (field : Field). length field.value + 2) fields,
     )
 
 -- what is selected in a header
-among_within : (selector : Selector) (names : List (List ℕ)) (fields : List Field) → extent_of (selected_among selector names fields) ≤ length names * (values_of_a_field selector * fields_extent fields)
-among_within selector names fields =
-    rw (extent_flat_map (selected_named selector fields) names)
-    (sum_by-le (λ name. extent_of (selected_named selector fields name)) (values_of_a_field selector * fields_extent fields) names (λ k d lt. named_within selector _ fields))
+among_within : (selector : Selector) (params names : List (List ℕ)) (fields : List Field) → extent_of (selected_among selector params names fields) ≤ length names * (values_of_a_field selector params * fields_extent fields)
+among_within selector params names fields =
+    rw (extent_flat_map (selected_named selector params fields) names)
+    (sum_by-le (λ name. extent_of (selected_named selector params fields name)) (values_of_a_field selector params * fields_extent fields) names (λ k d lt. named_within selector params _ fields))
 
 -- what is selected in some headers
-pub all_within : (selector : Selector) (names : List (List ℕ)) (headers : List (List Field)) → extent_of (selected_in_all selector names headers) ≤ length names * values_of_a_field selector * sum_by fields_extent headers
-all_within selector names headers =
-    let factor = length names * values_of_a_field selector in
-    let each = sum_by-le-sum_by (λ fields. extent_of (selected_among selector names fields)) (λ (fields : List Field). factor * fields_extent fields) headers (λ fields. omega (arith, among_within selector names fields, mul_assoc (length names) (values_of_a_field selector) (fields_extent fields))) in
-    omega (arith, extent_flat_map (selected_among selector names) headers, each, sum_scaled factor fields_extent headers)
+pub all_within : (selector : Selector) (params names : List (List ℕ)) (headers : List (List Field)) → extent_of (selected_in_all selector params names headers) ≤ length names * values_of_a_field selector params * sum_by fields_extent headers
+all_within selector params names headers =
+    let factor = length names * values_of_a_field selector params in
+    let each = sum_by-le-sum_by (λ fields. extent_of (selected_among selector params names fields)) (λ (fields : List Field). factor * fields_extent fields) headers (λ fields. omega (arith, among_within selector params names fields, mul_assoc (length names) (values_of_a_field selector params) (fields_extent fields))) in
+    omega (arith, extent_flat_map (selected_among selector params names) headers, each, sum_scaled factor fields_extent headers)
 
 -- ---- the parts in scope
 
@@ -142,10 +143,10 @@ pub dropped_within : (place : ℕ) (parts : List Part) → parts_extent (drop pl
 dropped_within place parts = omega (arith, sum_by-take-drop (λ (p : Part). fields_extent p.fields) parts place)
 
 scope_within : (scope : Scope) (current : Option ℕ) (mail : Mail) → parts_extent (parts_in_scope scope current mail) ≤ parts_extent mail.parts
-scope_within Root current mail = sum_by-take-le (λ (p : Part). fields_extent p.fields) mail.parts 1
-scope_within Current current mail =
+scope_within scopes.Message current mail = sum_by-take-le (λ (p : Part). fields_extent p.fields) mail.parts 1
+scope_within scopes.Part current mail =
     le_trans (sum_by-take-le (λ (p : Part). fields_extent p.fields) (drop (current_or_root current) mail.parts) 1) (dropped_within (current_or_root current) mail.parts)
-scope_within CurrentAndBelow current mail = le_trans (first_within (drop (current_or_root current) mail.parts)) (dropped_within (current_or_root current) mail.parts)
+scope_within scopes.PartAndBelow current mail = le_trans (first_within (drop (current_or_root current) mail.parts)) (dropped_within (current_or_root current) mail.parts)
 
 extent_of_parts : (parts : List Part) → fields_extent (flat_map (λ (p : Part). p.fields) parts) ≡ parts_extent parts
 extent_of_parts [] = refl
@@ -177,23 +178,23 @@ sum_of_headers (part ∷ parts) =
 pub headers_extent : (parts : List Part) (limit : ℕ) → parts_extent parts ≤ limit → sum_by fields_extent (map (λ (p : Part). p.fields) parts) ≤ limit
 headers_extent parts limit le = omega (arith, sum_of_headers parts, le)
 
-pub selected_are_in_all : (scope : Scope) (current : Option ℕ) (selector : Selector) (names : List (List ℕ)) (mail : Mail)
-    → selected_in_all selector names (headers_in_scope scope current mail) ≡ selected_values scope current selector names mail
-selected_are_in_all scope current selector names mail = flat_map-map (selected_among selector names) (λ (p : Part). p.fields) (parts_in_scope scope current mail)
+pub selected_are_in_all : (scope : Scope) (current : Option ℕ) (selector : Selector) (params names : List (List ℕ)) (mail : Mail)
+    → selected_in_all selector params names (headers_in_scope scope current mail) ≡ selected_values scope current selector params names mail
+selected_are_in_all scope current selector params names mail = flat_map-map (selected_among selector params names) (λ (p : Part). p.fields) (parts_in_scope scope current mail)
 
-selected_within : (mail : Mail) → IsMail mail → (scope : Scope) (current : Option ℕ) (selector : Selector) (names : List (List ℕ)) → extent_of (selected_values scope current selector names mail) ≤ length names * values_of_a_field selector * size_of mail
-selected_within mail is scope current selector names =
+selected_within : (mail : Mail) → IsMail mail → (scope : Scope) (current : Option ℕ) (selector : Selector) (params names : List (List ℕ)) → extent_of (selected_values scope current selector params names mail) ≤ length names * values_of_a_field selector params * size_of mail
+selected_within mail is scope current selector params names =
     let headers = headers_extent (parts_in_scope scope current mail) (size_of mail) (le_trans (scope_within scope current mail) is.fields) in
     omega (
       arith,
-      ap extent_of (selected_are_in_all scope current selector names mail),
-      le_trans (all_within selector names (headers_in_scope scope current mail)) (mul-le-mul_left (length names * values_of_a_field selector) headers),
+      ap extent_of (selected_are_in_all scope current selector params names mail),
+      le_trans (all_within selector params names (headers_in_scope scope current mail)) (mul-le-mul_left (length names * values_of_a_field selector params) headers),
     )
 
-pub values_cost-within : (mail : Mail) → IsMail mail → (scope : Scope) (current : Option ℕ) (selector : Selector) (names keys : List (List ℕ)) → values_cost (selected_values scope current selector names mail) keys ≤ length names * values_of_a_field selector * size_of mail * extent_of keys
-values_cost-within mail is scope current selector names keys =
-    let values = selected_values scope current selector names mail in
-    rw (values_cost-product values keys) (mul-le-mul_right (extent_of keys) (selected_within mail is scope current selector names))
+pub values_cost-within : (mail : Mail) → IsMail mail → (scope : Scope) (current : Option ℕ) (selector : Selector) (params names keys : List (List ℕ)) → values_cost (selected_values scope current selector params names mail) keys ≤ length names * values_of_a_field selector params * size_of mail * extent_of keys
+values_cost-within mail is scope current selector params names keys =
+    let values = selected_values scope current selector params names mail in
+    rw (values_cost-product values keys) (mul-le-mul_right (extent_of keys) (selected_within mail is scope current selector params names))
 
 -- ---- one value
 
@@ -213,16 +214,16 @@ digest_cost-is part keys = value_cost (digest_of part.content) keys ∙ ap (λ n
 
 -- ---- what a test selects is little enough to be counted
 
-values_few : (selector : declared.Selector) (params : List (List ℕ)) → AreTexts params → values_of_a_field (selector_of selector params) ≤ max_stack
-values_few variants.Value params are = omega arith
-values_few variants.Main params are = omega arith
-values_few variants.Sub params are = omega arith
-values_few variants.ContentType params are = omega arith
-values_few variants.Param params are = max-le are.few (omega arith)
+values_few : (selector : Selector) (params : List (List ℕ)) → AreTexts params → values_of_a_field selector params ≤ max_stack
+values_few Value params are = omega arith
+values_few Main params are = omega arith
+values_few Sub params are = omega arith
+values_few ContentType params are = omega arith
+values_few Param params are = max-le are.few (omega arith)
 
-pub all_few : (selector : declared.Selector) (params names : List (List ℕ)) (headers : List (List Field)) → AreTexts params → AreTexts names → sum_by fields_extent headers ≤ max_message
-    → extent_of (selected_in_all (selector_of selector params) names headers) ≤ max_stack * max_stack * max_message
+pub all_few : (selector : Selector) (params names : List (List ℕ)) (headers : List (List Field)) → AreTexts params → AreTexts names → sum_by fields_extent headers ≤ max_message
+    → extent_of (selected_in_all selector params names headers) ≤ max_stack * max_stack * max_message
 all_few selector params names headers are few short =
-    let factor = mul-le (length names) (values_of_a_field (selector_of selector params)) max_stack max_stack few.few (values_few selector params are) in
-    le_trans (all_within (selector_of selector params) names headers)
-    (mul-le (length names * values_of_a_field (selector_of selector params)) (sum_by fields_extent headers) (max_stack * max_stack) max_message factor short)
+    let factor = mul-le (length names) (values_of_a_field selector params) max_stack max_stack few.few (values_few selector params are) in
+    le_trans (all_within selector params names headers)
+    (mul-le (length names * values_of_a_field selector params) (sum_by fields_extent headers) (max_stack * max_stack) max_message factor short)

@@ -14,8 +14,8 @@ use Rattle.mime_params.specs.Words.{Word, with_octet, quoted, word, value, is_va
 use Rattle.mime_params.specs.MediaValue.{◌>>=◌, ReadParam, after_octet, after_semicolon, before_others, disposition_of, is_named, media_type_of, param_at, parameters_of, params_in, params_of, token, value_named}
 use Rattle.mime_params.proofs.Gaps.{gap_shorter}
 use Rattle.octets.specs.Ascii.{is_word}
-use Rattle.mime_decode.specs.Scope as scope
 use Rattle.mail_matching.specs.Headers.{AreWithin}
+use Rattle.mail_matching.specs.Selection as selection
 
 -- ---- words
 
@@ -169,16 +169,16 @@ disposition_in text = mains (token (after_gap text)) (word_in is_token_octet (af
 -- ---- readings
 
 -- what is read is no longer than this
-pub record ReadIn (limit : ℕ) (read : scope.Reading) : Type 0 where
-  pub main : length (scope.main_of read) ≤ limit
-  pub sub : length (scope.sub_of read) ≤ limit
-  pub content_type : length (scope.content_type_of read) ≤ limit
-  pub params : AreWithin limit (scope.params_of read)
+pub record ReadIn (limit : ℕ) (read : selection.Reading) : Type 0 where
+  pub main : length (selection.main_of read) ≤ limit
+  pub sub : length (selection.sub_of read) ≤ limit
+  pub content_type : length (selection.content_type_of read) ≤ limit
+  pub params : AreWithin limit (selection.params_of read)
 
-unreadable_in : (limit : ℕ) → ReadIn limit scope.Unreadable
+unreadable_in : (limit : ℕ) → ReadIn limit selection.Unreadable
 unreadable_in limit = record { main = omega arith; sub = omega arith; content_type = omega arith; params = All-nil (λ (p : Parameter). length p.value ≤ limit) }
 
-as_media_in : (limit : ℕ) (o : Option MediaType) → MatchOption o (Unit {0}) (MediaIn limit) → ReadIn limit (scope.as_media o)
+as_media_in : (limit : ℕ) (o : Option MediaType) → MatchOption o (Unit {0}) (MediaIn limit) → ReadIn limit (selection.as_media o)
 as_media_in limit None h = unreadable_in limit
 as_media_in limit (Some media) h =
     record {
@@ -188,11 +188,11 @@ as_media_in limit (Some media) h =
       params = h.1;
     }
 
-as_disposition_in : (limit : ℕ) (o : Option Disposition) → MatchOption o (Unit {0}) (DispositionIn limit) → ReadIn limit (scope.as_disposition o)
+as_disposition_in : (limit : ℕ) (o : Option Disposition) → MatchOption o (Unit {0}) (DispositionIn limit) → ReadIn limit (selection.as_disposition o)
 as_disposition_in limit None h = unreadable_in limit
 as_disposition_in limit (Some disposition) h = record { main = h.0; sub = omega arith; content_type = h.0; params = h.1 }
 
-others_in : (text : List ℕ) → ReadIn (length text) (scope.Others (parameters_of text))
+others_in : (text : List ℕ) → ReadIn (length text) (selection.Others (parameters_of text))
 others_in text =
     let n = length (take_while (λ c. not (c == 59)) text) in
     record {
@@ -202,7 +202,7 @@ others_in text =
       params = params_of_in (length (drop n text)) (length text) (drop n text) (omega (arith, length-drop n text));
     }
 
-pub reading_in : (field : Field) → ReadIn (length field.value) (scope.reading_of field)
+pub reading_in : (field : Field) → ReadIn (length field.value) (selection.reading_of field)
 reading_in field =
     elim (cases_Bool (is_word field.name (codes "Content-Type"))) [
       | inl media ↦ rw media (as_media_in (length field.value) (media_type_of field.value) (media_in field.value))

@@ -5,6 +5,7 @@ pub mod Lengths
 pub mod Onward
 pub mod Pairs
 pub mod Scopes
+mod SelectionExamples
 pub mod Sources
 pub mod TenCaptures
 pub mod AskedFor

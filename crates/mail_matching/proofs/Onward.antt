@@ -9,7 +9,7 @@ use Rattle.mail_matching.specs.Costs.{extent_of}
 use Rattle.mail_matching.specs.Findings.{finding_of, is_pair}
 use Rattle.mail_matching.specs.FirstMatch.{first_key, first_match}
 use Rattle.header_fields.specs.Fields.{Field}
-use Rattle.mime_decode.specs.Scope.{Selector}
+use Rattle.bytecode_format.specs.declared.selection.Selector.{Selector}
 use Rattle.mail_matching.specs.Headers.{selected_among, values_of_params}
 use Rattle.mail_matching.specs.Outcomes.{after, holds}
 use Rattle.mail_matching.specs.Private.{GoesOn, Stands, further}
@@ -155,7 +155,7 @@ values_of_none [] = refl
 values_of_none (name ∷ names) = values_of_none names
 
 -- nothing is selected where there are no fields
-pub selected_of_none : (selector : Selector) (names : List (List ℕ)) (fields : List Field) → length fields ≡ 0 → selected_among selector names fields ≡ []
-selected_of_none selector [] fields none = refl
-selected_of_none selector (name ∷ names) [] none = selected_of_none selector names [] none
-selected_of_none selector (name ∷ names) (field ∷ fields) none = absurd (omega (arith, none))
+pub selected_of_none : (selector : Selector) (params names : List (List ℕ)) (fields : List Field) → length fields ≡ 0 → selected_among selector params names fields ≡ []
+selected_of_none selector params [] fields none = refl
+selected_of_none selector params (name ∷ names) [] none = selected_of_none selector params names [] none
+selected_of_none selector params (name ∷ names) (field ∷ fields) none = absurd (omega (arith, none))

@@ -11,7 +11,8 @@ use Rattle.octets.specs.Ascii.{is_word}
 use Rattle.header_fields.specs.Fields.{Field}
 use Rattle.header_fields.specs.Extent.{fields_extent}
 use Rattle.mime_decode.specs.Mail.{IsMail, Mail, Part}
-use Rattle.mime_decode.specs.Scope.{Scope, current_or_root, first_and_below, parts_in_scope}
+use Rattle.bytecode_format.specs.declared.selection.Scope.{Scope}
+use Rattle.mail_matching.specs.Selection.{current_or_root, first_and_below, parts_in_scope}
 use Rattle.mail_matching.specs.Headers.{all_fields, headers_from}
 use Rattle.mail_matching.specs.HeaderTests.{fields_in_scope, has_field, headers_in_scope}
 use Rattle.mail_matching.proofs.Extents.{dropped_within, fields_few, headers_extent}

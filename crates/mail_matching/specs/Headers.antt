@@ -6,7 +6,8 @@ use Rattle.octets.specs.Ascii.{is_word}
 use Rattle.mime_decode.specs.Mail.{Mail, Part}
 use Rattle.mime_params.specs.MediaValue.{value_named}
 use Rattle.mime_params.specs.declared.params.Parameter.{Parameter}
-use Rattle.mime_decode.specs.Scope.{Selector, fields_named, given, selected_of}
+use Rattle.bytecode_format.specs.declared.selection.Selector.{Selector}
+use Rattle.mail_matching.specs.Selection.{fields_named, given, selected_of}
 
 -- the fields of each of so many parts, from one on
 abbrev pub headers_from : ℕ → ℕ → Mail → List (List Field)
@@ -17,16 +18,16 @@ abbrev pub all_fields : List (List Field) → List Field
 all_fields headers = flat_map (λ fields. fields) headers
 
 -- what is selected of the fields of a name
-abbrev pub selected_named : Selector → List Field → List ℕ → List (List ℕ)
-selected_named selector fields name = flat_map (selected_of selector) (fields_named name fields)
+abbrev pub selected_named : Selector → List (List ℕ) → List Field → List ℕ → List (List ℕ)
+selected_named selector params fields name = flat_map (selected_of selector params) (fields_named name fields)
 
 -- what is selected in a header, name by name
-abbrev pub selected_among : Selector → List (List ℕ) → List Field → List (List ℕ)
-selected_among selector names fields = flat_map (selected_named selector fields) names
+abbrev pub selected_among : Selector → List (List ℕ) → List (List ℕ) → List Field → List (List ℕ)
+selected_among selector params names fields = flat_map (selected_named selector params fields) names
 
 -- what is selected in some headers, one by one
-abbrev pub selected_in_all : Selector → List (List ℕ) → List (List Field) → List (List ℕ)
-selected_in_all selector names headers = flat_map (selected_among selector names) headers
+abbrev pub selected_in_all : Selector → List (List ℕ) → List (List ℕ) → List (List Field) → List (List ℕ)
+selected_in_all selector params names headers = flat_map (selected_among selector params names) headers
 
 -- the values of the parameters of these names
 abbrev pub values_of_params : List Parameter → List (List ℕ) → List (List ℕ)

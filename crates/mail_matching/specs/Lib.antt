@@ -8,8 +8,9 @@ pub mod Costs
 pub mod HeaderTests
 -- the tests of the current part
 pub mod PartTests
--- what the code hands over and what it is handed
+-- where tests look, and what they select there
 pub mod Selection
+-- what the code hands over and what it is handed
 pub mod Texts
 pub mod Outcomes
 -- what is kept of a value

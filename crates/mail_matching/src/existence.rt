@@ -4,7 +4,6 @@ ghost use Rattle.std.specs.List.{list_all};
 ghost use Rattle.octets.specs.Ascii.{is_word};
 ghost use Rattle.mail_matching.specs.Headers.{all_fields};
 ghost use Rattle.mail_matching.specs.HeaderTests.{exists_cost, exists_in, has_field};
-ghost use Rattle.mail_matching.specs.Selection.{scope_of};
 ghost use Rattle.mail_matching.specs.Texts.{AreTexts};
 
 use crate::cost::names_cost;
@@ -22,9 +21,9 @@ use mime_decode::Message;
 pub fn exists<N: Texts>(message: &Message, reach: Reach, names: &N) -> (bool, u64)
     requires current { IfSome reach.current (λ current. current < length message.now.parts) }
     requires names { AreTexts (N.texts names.now) }
-    ensures value { result.0 ≡ exists_in (scope_of reach.scope) reach.current (N.texts names.now)
+    ensures value { result.0 ≡ exists_in reach.scope reach.current (N.texts names.now)
         message.now }
-    ensures cost { result.1 ≡ exists_cost (scope_of reach.scope) reach.current (N.texts names.now)
+    ensures cost { result.1 ≡ exists_cost reach.scope reach.current (N.texts names.now)
         message.now }
 {
     let headers = Headers::in_scope(message, reach);

@@ -1,13 +1,12 @@
 // The test `header`.
 ghost use Rattle.std.specs.Prelude.{◌≡◌, ◌<◌, ◌^◌, ℕ, All, List, IfOk, IfSome, IsOk, OnOk, length};
-ghost use Rattle.mime_decode.specs.Scope.{selected_values};
+ghost use Rattle.mail_matching.specs.Selection.{selected_values};
 ghost use Rattle.mail_matching.specs.Headers.{selected_in_all};
 ghost use Rattle.mail_matching.specs.Costs as costs;
 ghost use Rattle.mail_matching.specs.Findings.{finding_of, shortened};
 ghost use Rattle.mail_matching.specs.HeaderTests.{header_cost, header_finding, header_match, AreUnfolded, headers_in_scope};
 ghost use Rattle.mail_matching.specs.Outcomes.{after};
 ghost use Rattle.mail_matching.specs.Private.{GoesOn};
-ghost use Rattle.mail_matching.specs.Selection.{scope_of, selector_of};
 ghost use Rattle.mail_matching.specs.Texts.{AreTexts};
 ghost use Rattle.mail_matching.specs.declared.finding.Finding.TheVariants.{NoneOf};
 ghost use Rattle.mail_matching.specs.declared.outcome.Outcome.TheVariants.{Fails};
@@ -52,16 +51,16 @@ pub fn header<'m, N: Texts, P: Texts, K: Texts>(
     ensures outcome { IfOk result
         (λ answer. (captures : List (List ℕ))
         → after answer.outcome captures
-        ≡ header_match test.how (scope_of test.reach.scope) test.reach.current
-        (selector_of test.selector (P.texts params.now)) (N.texts names.now) (K.texts keys.now)
+        ≡ header_match test.how test.reach.scope test.reach.current
+        test.selector (P.texts params.now) (N.texts names.now) (K.texts keys.now)
         message.now captures) }
     ensures cost { IfOk result (λ answer. answer.cost
-        ≡ header_cost (scope_of test.reach.scope) test.reach.current
-        (selector_of test.selector (P.texts params.now)) (N.texts names.now) (K.texts keys.now)
+        ≡ header_cost test.reach.scope test.reach.current
+        test.selector (P.texts params.now) (N.texts names.now) (K.texts keys.now)
         message.now) }
     ensures told { test.selector ≡ Value
         → All (AreUnfolded (N.texts names.now))
-        (headers_in_scope (scope_of test.reach.scope) test.reach.current message.now)
+        (headers_in_scope test.reach.scope test.reach.current message.now)
         → IsOk result }
 {
     let (answer, Nobody) = told(alloc, message, test, names, params, keys, Nobody)?;
@@ -90,16 +89,16 @@ pub fn find_header<'m, N: Texts, P: Texts, K: Texts>(
     ensures outcome { IfOk result
         (λ r. (captures : List (List ℕ))
         → after r.0.outcome captures
-        ≡ header_match test.how (scope_of test.reach.scope) test.reach.current
-        (selector_of test.selector (P.texts params.now)) (N.texts names.now) (K.texts keys.now)
+        ≡ header_match test.how test.reach.scope test.reach.current
+        test.selector (P.texts params.now) (N.texts names.now) (K.texts keys.now)
         message.now captures) }
     ensures cost { IfOk result (λ r. r.0.cost
-        ≡ header_cost (scope_of test.reach.scope) test.reach.current
-        (selector_of test.selector (P.texts params.now)) (N.texts names.now) (K.texts keys.now)
+        ≡ header_cost test.reach.scope test.reach.current
+        test.selector (P.texts params.now) (N.texts names.now) (K.texts keys.now)
         message.now) }
     ensures found { IfOk result (λ r. r.1
-        ≡ shortened most (header_finding test.how (scope_of test.reach.scope) test.reach.current
-        (selector_of test.selector (P.texts params.now)) (N.texts names.now) (K.texts keys.now)
+        ≡ shortened most (header_finding test.how test.reach.scope test.reach.current
+        test.selector (P.texts params.now) (N.texts names.now) (K.texts keys.now)
         message.now)) }
 {
     let found = Found::new(most);
@@ -124,23 +123,23 @@ fn told<'m, N: Texts, P: Texts, K: Texts, T: Telling>(
     ensures outcome { IfOk result
         (λ r. (captures : List (List ℕ))
         → after r.0.outcome captures
-        ≡ header_match test.how (scope_of test.reach.scope) test.reach.current
-        (selector_of test.selector (P.texts params.now)) (N.texts names.now) (K.texts keys.now)
+        ≡ header_match test.how test.reach.scope test.reach.current
+        test.selector (P.texts params.now) (N.texts names.now) (K.texts keys.now)
         message.now captures) }
     ensures cost { IfOk result (λ r. r.0.cost
-        ≡ header_cost (scope_of test.reach.scope) test.reach.current
-        (selector_of test.selector (P.texts params.now)) (N.texts names.now) (K.texts keys.now)
+        ≡ header_cost test.reach.scope test.reach.current
+        test.selector (P.texts params.now) (N.texts names.now) (K.texts keys.now)
         message.now) }
     ensures found { IfOk result (λ r. (most : ℕ) → T.knows most told (NoneOf 0)
-        → T.knows most r.1 (header_finding test.how (scope_of test.reach.scope)
-        test.reach.current (selector_of test.selector (P.texts params.now)) (N.texts names.now)
+        → T.knows most r.1 (header_finding test.how test.reach.scope
+        test.reach.current test.selector (P.texts params.now) (N.texts names.now)
         (K.texts keys.now) message.now)) }
-    ensures few { IfOk result (λ r. length (selected_values (scope_of test.reach.scope)
-        test.reach.current (selector_of test.selector (P.texts params.now)) (N.texts names.now)
+    ensures few { IfOk result (λ r. length (selected_values test.reach.scope
+        test.reach.current test.selector (P.texts params.now) (N.texts names.now)
         message.now) < 2 ^ 64) }
     ensures told { T.is_free → test.selector ≡ Value
         → All (AreUnfolded (N.texts names.now))
-        (headers_in_scope (scope_of test.reach.scope) test.reach.current message.now)
+        (headers_in_scope test.reach.scope test.reach.current message.now)
         → IsOk result }
 {
     let headers = Headers::in_scope(message, test.reach);
@@ -171,11 +170,11 @@ fn compared<'m, N: Texts, P: Texts, K: Texts, T: Telling>(
     requires params { AreTexts (P.texts test.now.params.now) }
     requires keys { AreTexts (K.texts test.now.keys.now) }
     ensures goes { IfOk result (λ progress. GoesOn T.knows test.now.how
-        (selected_in_all (selector_of test.now.selector (P.texts test.now.params.now))
+        (selected_in_all test.now.selector (P.texts test.now.params.now)
         (N.texts names.now) headers.now) (K.texts test.now.keys.now)
         (record { outcome = Fails; extent = 0; told = told }) progress) }
     ensures few { IfOk result (λ progress. costs.extent_of
-        (selected_in_all (selector_of test.now.selector (P.texts test.now.params.now))
+        (selected_in_all test.now.selector (P.texts test.now.params.now)
         (N.texts names.now) headers.now) < 2 ^ 64) }
     ensures told { T.is_free → test.now.selector ≡ Value → All (AreUnfolded (N.texts names.now)) headers.now
         → IsOk result }

@@ -3,10 +3,9 @@ ghost use Rattle.std.specs.Prelude.{◌≡◌, ◌+◌, ◌<◌, ◌≤◌, [], 
 ghost use Rattle.octets.specs.Limits.{max_message};
 ghost use Rattle.header_fields.specs.Extent.{fields_extent};
 ghost use Rattle.mime_decode.specs.Mail.{IsMail};
-ghost use Rattle.mime_decode.specs.Scope.{parts_in_scope};
+ghost use Rattle.mail_matching.specs.Selection.{parts_in_scope};
 ghost use Rattle.mail_matching.specs.Headers.{all_fields};
 ghost use Rattle.mail_matching.specs.HeaderTests.{headers_in_scope};
-ghost use Rattle.mail_matching.specs.Selection.{scope_of};
 
 use crate::selection::Reach;
 use crate::typed::TypedFields;
@@ -43,7 +42,7 @@ impl<'a, 'm> Headers<'a, 'm> {
     /// The headers in scope.
     pub(crate) fn in_scope(message: &'a Message<'m>, reach: Reach) -> Headers<'a, 'm>
         requires { IfSome reach.current (λ current. current < length message.now.parts) }
-        ensures { result ≡ headers_in_scope (scope_of reach.scope) reach.current message.now }
+        ensures { result ≡ headers_in_scope reach.scope reach.current message.now }
     {
         let (first, number) = numbers_in_scope(message, reach);
         Headers {
@@ -84,7 +83,7 @@ impl<'a, 'm> Headers<'a, 'm> {
 fn numbers_in_scope(message: &Message, reach: Reach) -> (usize, usize)
     requires { IfSome reach.current (λ current. current < length message.now.parts) }
     ensures parts { take result.1 (drop result.0 message.now.parts)
-        ≡ parts_in_scope (scope_of reach.scope) reach.current message.now }
+        ≡ parts_in_scope reach.scope reach.current message.now }
     ensures within { result.0 + result.1 ≤ length message.now.parts }
     ensures mail { IsMail message.now }
 {

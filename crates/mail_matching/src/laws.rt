@@ -3,13 +3,14 @@ ghost use Rattle.std.specs.Prelude.{◌≡◌, ◌+◌, ◌*◌, ◌≤◌, ℕ,
 ghost use Rattle.glob_match.specs.Matching.{max_captures};
 ghost use Rattle.glob_match.specs.declared.match_type.Match.{Match};
 ghost use Rattle.mime_decode.specs.Mail.{IsMail, Mail, Part, size_of};
-ghost use Rattle.mime_decode.specs.Scope.{Scope, Selector, selected_values};
+ghost use Rattle.bytecode_format.specs.declared.selection.Scope.{Scope};
+ghost use Rattle.bytecode_format.specs.declared.selection.Selector.{Selector};
 ghost use Rattle.mail_matching.specs.Costs.{extent_of, names_cost, values_cost};
 ghost use Rattle.mail_matching.specs.Findings.{after_pair, first_pair};
 ghost use Rattle.mail_matching.specs.FirstMatch.{first_match};
 ghost use Rattle.mail_matching.specs.HeaderTests.{fields_in_scope};
 ghost use Rattle.mail_matching.specs.PartTests.{body_cost, digest_cost};
-ghost use Rattle.mail_matching.specs.Selection.{values_of_a_field};
+ghost use Rattle.mail_matching.specs.Selection.{selected_values, values_of_a_field};
 
 /// Looking for fields by their names costs at most one more than the message has octets, for each octet of a name and for one more.
 pub fn names_cost_is_within_the_message()
@@ -23,9 +24,9 @@ pub fn names_cost_is_within_the_message()
 /// each value that may be selected of a field.
 pub fn values_cost_is_within_the_message()
     ensures { (mail : Mail) → IsMail mail
-        → (scope : Scope) (current : Option ℕ) (selector : Selector) (names keys : List (List ℕ))
-        → values_cost (selected_values scope current selector names mail) keys
-        ≤ length names * values_of_a_field selector * size_of mail * extent_of keys }
+        → (scope : Scope) (current : Option ℕ) (selector : Selector) (params names keys : List (List ℕ))
+        → values_cost (selected_values scope current selector params names mail) keys
+        ≤ length names * values_of_a_field selector params * size_of mail * extent_of keys }
 {}
 
 /// Comparing the content of a part costs at most what the message's octets do.

@@ -3,12 +3,11 @@ ghost use Rattle.std.specs.Prelude.{◌≡◌, ◌+◌, ◌<◌, ◌≤◌, ◌^
 ghost use Rattle.std.specs.Cow.{IsBorrowedSlice, cow_slice_items};
 ghost use Rattle.octets.specs.Limits.{max_message};
 ghost use Rattle.header_fields.specs.Extent.{fields_extent};
-ghost use Rattle.mime_decode.specs.Scope.{given, params_of, reading_of, selected_of};
+ghost use Rattle.mail_matching.specs.Selection.{given, params_of, reading_of, selected_of};
 ghost use Rattle.mail_matching.specs.Costs.{extent_of};
 ghost use Rattle.mail_matching.specs.Headers.{selected_among, selected_named, values_of_params};
 ghost use Rattle.mail_matching.specs.HeaderTests.{AreUnfolded, IsUnfolded};
 ghost use Rattle.mail_matching.specs.Private.{GoesOn};
-ghost use Rattle.mail_matching.specs.Selection.{selector_of};
 ghost use Rattle.mail_matching.specs.Texts.{AreTexts};
 ghost use Rattle.bytecode_format.specs.declared.selection.Selector.TheVariants.{Value};
 
@@ -57,10 +56,10 @@ impl<'m, T: Telling> Progress<'m, T> {
         requires keys { AreTexts (K.texts test.now.keys.now) }
         requires fields { fields_extent fields.now ≤ max_message }
         requires room { self.old.extent + extent_of
-            (selected_among (selector_of test.now.selector (P.texts test.now.params.now))
+            (selected_among test.now.selector (P.texts test.now.params.now)
             (N.texts names.now) fields.now) < 2 ^ 64 }
         ensures goes { OnOk result (GoesOn T.knows test.now.how
-            (selected_among (selector_of test.now.selector (P.texts test.now.params.now))
+            (selected_among test.now.selector (P.texts test.now.params.now)
             (N.texts names.now) fields.now) (K.texts test.now.keys.now) self.old self.new) }
         ensures told { T.is_free → test.now.selector ≡ Value → AreUnfolded (N.texts names.now) fields.now
             → IsOk result }
@@ -86,10 +85,10 @@ impl<'m, T: Telling> Progress<'m, T> {
         requires keys { AreTexts (K.texts test.now.keys.now) }
         requires fields { fields_extent fields.now ≤ max_message }
         requires room { self.old.extent + extent_of
-            (selected_named (selector_of test.now.selector (P.texts test.now.params.now)) fields.now
+            (selected_named test.now.selector (P.texts test.now.params.now) fields.now
             name.now) < 2 ^ 64 }
         ensures goes { OnOk result (GoesOn T.knows test.now.how
-            (selected_named (selector_of test.now.selector (P.texts test.now.params.now))
+            (selected_named test.now.selector (P.texts test.now.params.now)
             fields.now name.now) (K.texts test.now.keys.now) self.old self.new) }
         ensures told { T.is_free → test.now.selector ≡ Value → All (IsUnfolded name.now) fields.now
             → IsOk result }
@@ -112,10 +111,10 @@ impl<'m, T: Telling> Progress<'m, T> {
         requires keys { AreTexts (K.texts test.now.keys.now) }
         requires field { length field.now.value ≤ max_message }
         requires room { self.old.extent + extent_of
-            (selected_named (selector_of test.now.selector (P.texts test.now.params.now))
+            (selected_named test.now.selector (P.texts test.now.params.now)
             (field.now ∷ []) name.now) < 2 ^ 64 }
         ensures goes { OnOk result (GoesOn T.knows test.now.how
-            (selected_named (selector_of test.now.selector (P.texts test.now.params.now))
+            (selected_named test.now.selector (P.texts test.now.params.now)
             (field.now ∷ []) name.now) (K.texts test.now.keys.now) self.old self.new) }
         ensures told { T.is_free → test.now.selector ≡ Value → IsUnfolded name.now field.now → IsOk result }
     {
@@ -136,10 +135,10 @@ impl<'m, T: Telling> Progress<'m, T> {
         requires keys { AreTexts (K.texts test.now.keys.now) }
         requires field { length field.now.value ≤ max_message }
         requires room { self.old.extent + extent_of
-            (selected_of (selector_of test.now.selector (P.texts test.now.params.now)) field.now)
+            (selected_of test.now.selector (P.texts test.now.params.now) field.now)
             < 2 ^ 64 }
         ensures goes { OnOk result (GoesOn T.knows test.now.how
-            (selected_of (selector_of test.now.selector (P.texts test.now.params.now))
+            (selected_of test.now.selector (P.texts test.now.params.now)
             field.now) (K.texts test.now.keys.now) self.old self.new) }
         ensures told { T.is_free → test.now.selector ≡ Value → field.now.folded ≡ false → IsOk result }
     {

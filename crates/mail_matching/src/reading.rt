@@ -3,7 +3,7 @@ ghost use Rattle.std.specs.Prelude.{◌≡◌, IfOk, codes};
 ghost use Rattle.std.specs.Cow.{cow_slice_items};
 ghost use Rattle.mime_params.specs.MediaValue.{disposition_name, disposition_of, media_type_of, type_names};
 ghost use Rattle.octets.specs.Ascii.{is_word};
-ghost use Rattle.mime_decode.specs.Scope.{as_disposition, as_media, content_type_of, main_of, params_of, reading_of, sub_of};
+ghost use Rattle.mail_matching.specs.Selection.{as_disposition, as_media, content_type_of, main_of, params_of, reading_of, sub_of};
 ghost use Rattle.mime_tree.specs.TypeTexts.{IsTypeText};
 
 use crate::existence::is_named;

@@ -3,7 +3,7 @@ use Rattle.std.proofs.Common.{◌≡◌, ℕ, suc, ◌+◌, ◌-◌, ◌<◌, �
 use Rattle.std.proofs.lemmas.Option.{slice_get-get_or}
 use Rattle.std.specs.List.{HoldsAt}
 use Rattle.mime_decode.specs.Mail.{Mail, Part, IsMail}
-use Rattle.mime_decode.specs.Scope.{numbers_from, visited}
+use Rattle.mime_decode.specs.Visited.{numbers_from, visited}
 
 pub some_part : (parts : List Part) → 0 < length parts → Part
 some_part [] some = absurd (omega (arith, some))

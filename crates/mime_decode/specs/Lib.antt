@@ -3,5 +3,5 @@ pub mod Content
 pub mod Mail
 pub mod Together
 pub mod Refusals
--- where tests look, and what they select there
-pub mod Scope
+-- the parts that loops visit
+pub mod Visited

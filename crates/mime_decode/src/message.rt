@@ -6,7 +6,7 @@ ghost use Rattle.octets.specs.Limits.{max_message};
 ghost use Rattle.mime_tree.specs.PartTree.{tree_of};
 ghost use Rattle.mime_decode.specs.Content.{digest_of, is_decoded};
 ghost use Rattle.mime_decode.specs.Mail.{IsMail, IsReadable, mail_of, size_of};
-ghost use Rattle.mime_decode.specs.Scope.{numbers_from, visited};
+ghost use Rattle.mime_decode.specs.Visited.{numbers_from, visited};
 ghost use Rattle.mime_decode.specs.Refusals.{IsMessageRefusal};
 ghost use Rattle.mime_tree.specs.declared.error.MessageError.TheVariants.{MessageTooLarge};
 

@@ -7,7 +7,7 @@ use Rattle.sqlite.proofs.StateLemmas.{survives_then}
 use Rattle.part_store.specs.Tables.{contents_tree, entries_tree, store_schema}
 use Rattle.part_store.specs.Changes.{is_entry, IsTaken, Steps, IsTableIn}
 use Rattle.part_store.specs.Entries.{Entries}
-use Rattle.part_store.specs.Refusals.{refusal_of, Blames}
+use Rattle.part_store.specs.Refusals.{refusal_of, OnlyWhenFailed}
 use Rattle.part_store.specs.Causes.{IsWritable, WriteFaults}
 use Rattle.part_store.specs.Standing.{IsContentRow, Stands}
 use Rattle.part_store.specs.Inside.{Stays}
@@ -35,14 +35,14 @@ contents_table_in s before stands = (stands.tables.contents_rise, keyed_all IsCo
 
 -- the removal of an entry's row
 pub row_refused : (old mid new : State) (e : Error) → Stays old mid → (old.now.schema ≡ store_schema → IsTrue old.in_transaction → IsTrue mid.in_transaction) → Survives old mid (λ _. ⊥) → Survives mid new (λ _. ⊥)
-    → HasCleanDisk new → WriteFaults mid new e → IsTrue old.in_transaction → Blames old new (refusal_of e)
+    → HasCleanDisk new → WriteFaults mid new e → IsTrue old.in_transaction → OnlyWhenFailed old new (refusal_of e)
 row_refused old mid new e stays inside one two clean removes begun is before stands =
     later_failed old mid new one two clean (removes is (still_writable old mid before stays inside begun stands))
 
 -- and then that of its octets
 pub octets_refused : (old one mid new : State) (user : List ℕ) (number : ℕ) (e : Error) → Stays old one → (old.now.schema ≡ store_schema → IsTrue old.in_transaction → IsTrue one.in_transaction)
     → Steps (IsTaken entries_tree (is_entry user number)) one mid → Survives old one (λ _. ⊥) → Survives one mid (λ _. ⊥) → Survives mid new (λ _. ⊥) → HasCleanDisk new
-    → WriteFaults mid new e → IsTrue old.in_transaction → Blames old new (refusal_of e)
+    → WriteFaults mid new e → IsTrue old.in_transaction → OnlyWhenFailed old new (refusal_of e)
 octets_refused old one mid new user number e stays inside takes first second third clean faults begun is before stands =
     let can = still_writable old one before stays inside begun stands in
     let both = survives_then old one mid (λ _. ⊥) (λ _. ⊥) (λ _. ⊥) (λ _ _ h. h) (λ _ _ h. h) first second in

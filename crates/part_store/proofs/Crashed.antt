@@ -139,6 +139,6 @@ module _ {D : Type 0} {g : Ghosts D} where
           | inr stored ↦ inl (subst (HoldsStore other) (sym is) (holds_stored other found.0 no_entries found.2 stored))
         ] in r)
 
-    pub cut_off_spares : HoldsState image held → ∥ HoldsState other held ∥₁
-    cut_off_spares (inl holds) = cut_off_store holds
-    cut_off_spares (inr (none, is)) = cut_off_none none is
+    pub cut_off_leaves : HoldsState image held → ∥ HoldsState other held ∥₁
+    cut_off_leaves (inl holds) = cut_off_store holds
+    cut_off_leaves (inr (none, is)) = cut_off_none none is

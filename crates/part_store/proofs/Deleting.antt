@@ -49,8 +49,8 @@ use Rattle.part_store.proofs.Writes.{no_works, same_value, taken_next, went}
 pub tree_set : (db : Trees) (t : ℕ) (rows : List Row) → with_tree db t rows t ≡ rows
 tree_set db t rows = ap (λ b. if b then rows else db t) (eq-eqb t t refl)
 
-pub tree_spared : (db : Trees) (t : ℕ) (rows : List Row) (u : ℕ) → u ≢ t → with_tree db t rows u ≡ db u
-tree_spared db t rows u apart = ap (λ b. if b then rows else db u) (ne_eqb u t apart)
+pub tree_unchanged : (db : Trees) (t : ℕ) (rows : List Row) (u : ℕ) → u ≢ t → with_tree db t rows u ≡ db u
+tree_unchanged db t rows u apart = ap (λ b. if b then rows else db u) (ne_eqb u t apart)
 
 pub trees_apart : IsAscending (λ a b. a.tree ≡ b.tree → ⊥) store_schema.tables
 trees_apart = ((λ h. omega (arith, h), (λ h. omega (arith, h), tt)), ((λ h. omega (arith, h), tt), (tt, tt)))
@@ -69,7 +69,7 @@ module _ (limit : Option ℕ) (params : Row) (db : Trees) (text : List ℕ) (at 
       record {
         apart = trees_apart;
         listed = has_got store_schema.tables at table there;
-        others = λ t known apart. tree_spared db table.tree (edited db (gone rows)) t.tree apart;
+        others = λ t known apart. tree_unchanged db table.tree (edited db (gone rows)) t.tree apart;
         from = λ r h. inr (subst (λ l. Has l r) is h);
         stays = λ r h. subst (λ l. Has l r) (sym is) h;
         added = λ r h. absurd h;

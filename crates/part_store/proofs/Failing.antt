@@ -11,7 +11,7 @@ use Rattle.sqlite_trees.specs.declared.store.Store as store
 use Rattle.sqlite.specs.Held.{Held, state}
 use Rattle.sqlite.specs.State.{State, HasCleanDisk, Survives}
 use Rattle.part_store.specs.Entries.{Entries}
-use Rattle.part_store.specs.Refusals.{refusal_of, HasFailed, Blames, BlamesOr}
+use Rattle.part_store.specs.Refusals.{refusal_of, HasFailed, OnlyWhenFailed, OnlyWhenFailedOr}
 use Rattle.part_store.specs.Causes.{Faults}
 use Rattle.part_store.specs.declared.error.StoreError.{StoreError}
 use Rattle.part_store.specs.declared.error.StoreError.TheVariants.{Database}
@@ -22,7 +22,7 @@ module _ {Q : Trees → Type 0} (old mid new : State) (two : Survives mid new Q)
   first_failed (inl disk) = inl (omega (arith, disk, two.counts))
   first_failed (inr other) = inr other
 
-  pub blamed_first : (e : StoreError) → Blames old mid e → Blames old new e
+  pub blamed_first : (e : StoreError) → OnlyWhenFailed old mid e → OnlyWhenFailed old new e
   blamed_first e h is before stands = first_failed (h is before stands)
 
 module _ {P Q : Trees → Type 0} (old mid new : State) (one : Survives old mid P) (two : Survives mid new Q) (clean : HasCleanDisk new) where
@@ -38,7 +38,7 @@ module _ {P Q : Trees → Type 0} (old mid new : State) (one : Survives old mid 
   later_failed (inr (inr limited)) = inr (inr (subst IsSome one.limit limited))
 
 -- where the tables stand for a state they are the three
-pub faulted : (old new : State) (e : Error) → Faults old new e → Blames old new (refusal_of e)
+pub faulted : (old new : State) (e : Error) → Faults old new e → OnlyWhenFailed old new (refusal_of e)
 faulted old new e h is before stands = h is stands.schema
 
 -- what is readable is refused for want of memory alone
@@ -52,5 +52,5 @@ commit_blamed old new e inside (inr h) is = absurd (true≢false (sym inside ∙
 
 -- a transaction that is dropped after a refusal
 pub dropped : {S : Type 0} (g : store.Ghosts S) (conn : Held S) (mid new : State) (Other : Entries → Trees → Type 0) (e : StoreError) → Survives mid new (λ _. ⊥)
-    → (IsTrue true → BlamesOr Other (state g (record conn { in_transaction = true })) mid e) → BlamesOr Other (state g conn) new e
+    → (IsTrue true → OnlyWhenFailedOr Other (state g (record conn { in_transaction = true })) mid e) → OnlyWhenFailedOr Other (state g conn) new e
 dropped g conn mid new Other e two cause is before stands = elim (cause refl is before stands) [ inl failed ↦ inl (first_failed (state g conn) mid new two failed) | inr other ↦ inr other ]

@@ -42,7 +42,7 @@ use Rattle.part_store.specs.Causes.{HasNoRoom}
 use Rattle.part_store.specs.Tables.{keyed, store_schema}
 use Rattle.part_store.specs.Changes.{new_row}
 use Rattle.part_store.proofs.Equals.{truth_of}
-use Rattle.part_store.proofs.Deleting.{tree_set, tree_spared, trees_apart}
+use Rattle.part_store.proofs.Deleting.{tree_set, tree_unchanged, trees_apart}
 use Rattle.part_store.proofs.Stopped.{at_once, err_not_ok, stops_in, edit_stops}
 use Rattle.part_store.proofs.Writes.{no_works, put_is, same_value, went}
 
@@ -93,7 +93,7 @@ module _ (at tree : ℕ) (name : List ℕ) (columns : List Column) (key : List �
           let next = with_tree db tree after in
           let is = tree_set db tree after in
           let turned = turns store_schema db next (insertion rows) trees_apart (has_got store_schema.tables at (table) there) rises free is
-          (all_from (λ t. t.tree ≢ tree → next t.tree ≡ db t.tree) store_schema.tables (λ t known apart. tree_spared db tree after t.tree apart)) in
+          (all_from (λ t. t.tree ≢ tree → next t.tree ≡ db t.tree) store_schema.tables (λ t known apart. tree_unchanged db tree after t.tree apart)) in
           let put : after ≡ put_all (db tree) (new ∷ []) = ap (put_all (db tree)) news in
           unique_kept store_schema db next (table) (left_by db (insertion rows)) (taken_by db (insertion rows)) (insertion rows).news turned
           (ap (are_unique store_schema.indexes next (table)) news ∙ unique next (λ x h. put_has new (db tree) x (subst (λ l. Has l x) (is ∙ put) h))) (obeys.rules Unique)

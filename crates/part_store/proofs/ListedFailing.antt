@@ -12,7 +12,7 @@ use Rattle.octets.specs.Limits.{max_entry_number}
 use Rattle.part_store.specs.Tables.{entries_tree, equals}
 use Rattle.part_store.specs.Changes.{columns, IsListed, Reads, Steps}
 use Rattle.part_store.specs.Entries.{Entry, entries_of}
-use Rattle.part_store.specs.Refusals.{Blames}
+use Rattle.part_store.specs.Refusals.{OnlyWhenFailed}
 use Rattle.part_store.specs.Readings.{Shows}
 use Rattle.part_store.specs.Standing.{Stands, StandsFor}
 use Rattle.part_store.specs.declared.entry.EntryRow.{EntryRow}
@@ -34,8 +34,8 @@ shown_at db (r ∷ rows) (y ∷ xs) (suc place) row all lt is =
 module _ (old one mid new : State) (user : List ℕ) (rows : List Row) (place : ℕ) (row : Row) (out : List EntryRow) (e : StoreError)
     (reads : Steps (Reads (IsListed entries_tree (equals 1 (Text user)) (columns (2 ∷ 4 ∷ 3 ∷ 5 ∷ 6 ∷ 7 ∷ [])) rows)) old one) (survives : Survives old one (λ _. ⊥))
     (lt : place < length rows) (is : row ≡ get_or rows place row) (so_far : Reading rows place out one mid) (last : Survives mid new (λ _. ⊥)) (clean : HasCleanDisk new)
-    (cause : (x : Entry) → Shows mid.now.trees row x → x.number ≤ max_entry_number → Blames mid new e) where
-  pub listing_blamed : Blames old new e
+    (cause : (x : Entry) → Shows mid.now.trees row x → x.number ≤ max_entry_number → OnlyWhenFailed mid new e) where
+  pub listing_blamed : OnlyWhenFailed old new e
   listing_blamed told before stands =
       let early : HasCleanDisk mid = omega (arith, clean, last.clean) in
       let step = reads stands.schema in

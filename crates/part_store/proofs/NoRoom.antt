@@ -17,8 +17,8 @@ use Rattle.part_store.specs.Changes.{columns, new_row, IsFound, Reads, Steps, Is
 use Rattle.part_store.specs.Entries.{Draft, Entries, Entry, entry_of, numbered, with_entries, with_last}
 use Rattle.part_store.specs.Filing.{entry_values, HasRoom}
 use Rattle.part_store.specs.Additions.{CanFile, Claims, HasDraft, IsNext, RisesWithin, Stocks}
-use Rattle.part_store.specs.Refusals.{content_values, refusal_of, Blames, BlamesEntries, HasFailed, HasNoUserRoom, HaveNoRoom, RunsOut}
-use Rattle.part_store.specs.Causes.{AddFaults, BlamesRows, HasNoContent, HasNoRoom, HasSome, IsFree, LacksRoom}
+use Rattle.part_store.specs.Refusals.{content_values, refusal_of, OnlyWhenFailed, OnlyWhenNoEntriesFit, HasFailed, HasNoUserRoom, HaveNoRoom, RunsOut}
+use Rattle.part_store.specs.Causes.{AddFaults, OnlyWhenNoRowsFit, HasNoContent, HasNoRoom, HasSome, IsFree, LacksRoom}
 use Rattle.part_store.specs.Standing.{IsEntryRow, Stands, StandsFor}
 use Rattle.part_store.specs.Inside.{Stays}
 use Rattle.part_store.specs.declared.error.StoreError.TheVariants.{Database}
@@ -104,7 +104,7 @@ room_same user drafts one two contents entries (inr (inr big)) = inr (inr big)
 -- the last number of the entries isn't claimed
 pub claim_refused : (old new : State) (user : List ℕ) (last : ℕ) (drafts : List Draft) (e : Error)
     → (refusal_of e ≡ Database → (before : Entries) → Stands old.now before → HasFailed old new ⊎ HasNoUserRoom user (with_last user (last + length drafts) before) old.now.trees)
-    → ((before : Entries) → Stands old.now before → last ≡ before.lasts user) → BlamesRows user drafts old new (refusal_of e)
+    → ((before : Entries) → Stands old.now before → last ≡ before.lasts user) → OnlyWhenNoRowsFit user drafts old new (refusal_of e)
 claim_refused old new user last drafts e cause told is before stands = elim (cause is before stands) [
   | inl failed ↦ inl failed
   | inr none ↦ inr (inl (subst (λ n. HasNoUserRoom user (with_last user (n + length drafts) before) old.now.trees) (told before stands) none))
@@ -114,7 +114,7 @@ claim_refused old new user last drafts e cause told is before stands = elim (cau
 pub files_refused : (old mid new : State) (user : List ℕ) (last count : ℕ) (drafts : List Draft) (e : Error) → Survives old mid (λ _. ⊥) → Survives mid new (λ _. ⊥) → HasCleanDisk new
     → ((before : Entries) → Stands old.now before → Claims user (last + count) before old mid × CanFile (with_last user (last + count) before) user last count)
     → (refusal_of e ≡ Database → (before : Entries) → Stands mid.now before → CanFile before user last count → HasFailed mid new ⊎ HaveNoRoom user drafts mid.now.trees)
-    → BlamesRows user drafts old new (refusal_of e)
+    → OnlyWhenNoRowsFit user drafts old new (refusal_of e)
 files_refused old mid new user last count drafts e one two clean claims cause is before stands =
     let claimed = claims before stands in
     elim (cause is (with_last user (last + count) before) claimed.0.stands claimed.1) [
@@ -124,8 +124,8 @@ files_refused old mid new user last count drafts e one two clean claims cause is
 
 -- what was read before leaves the tables as they were
 pub entries_after : (old mid new : State) (user : List ℕ) (drafts : List Draft) (e : Error) → Survives old mid (λ _. ⊥) → Survives mid new (λ _. ⊥) → HasCleanDisk new → Stays old mid
-    → ((before : Entries) → Stands old.now before → HasRoom before user (length drafts)) → ((before : Entries) → Stands old.now before → BlamesRows user drafts mid new (refusal_of e))
-    → BlamesEntries user drafts old new (refusal_of e)
+    → ((before : Entries) → Stands old.now before → HasRoom before user (length drafts)) → ((before : Entries) → Stands old.now before → OnlyWhenNoRowsFit user drafts mid new (refusal_of e))
+    → OnlyWhenNoEntriesFit user drafts old new (refusal_of e)
 entries_after old mid new user drafts e one two clean stays room cause is before stands =
     let same = (stays stands.schema).1 in
     elim (cause before stands is before (stands_still old mid before stays stands)) [
@@ -134,7 +134,7 @@ entries_after old mid new user drafts e one two clean stays room cause is before
       | inr (inr none) ↦ inr (room before stands, inr (subst (HaveNoRoom user drafts) same none))
     ]
 
-pub entries_blamed : (old new : State) (user : List ℕ) (drafts : List Draft) (e : Error) → Blames old new (refusal_of e) → BlamesEntries user drafts old new (refusal_of e)
+pub entries_blamed : (old new : State) (user : List ℕ) (drafts : List Draft) (e : Error) → OnlyWhenFailed old new (refusal_of e) → OnlyWhenNoEntriesFit user drafts old new (refusal_of e)
 entries_blamed old new user drafts e h is before stands = inl (h is before stands)
 
 -- what the tables stand for after they were read they stood for before

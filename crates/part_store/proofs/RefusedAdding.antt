@@ -22,5 +22,5 @@ refused_adds g conn mid new user entries e (Err x) is survives undone adds =
       collision = λ clean same. adds.collision (early clean) (sym is ∙ same);
       was_open = λ clean. tt;
       begun = λ clean kind. adds.begun (early clean) (subst (λ y. (y ≡ NumberFull) ⊎ (y ≡ Collision)) is kind);
-      shut = λ clean is_open. adds.shut (early clean) ((undone clean).was_open is_open);
+      stays_closed = λ clean is_open. adds.stays_closed (early clean) ((undone clean).was_open is_open);
     }

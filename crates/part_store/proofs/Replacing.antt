@@ -12,7 +12,7 @@ use Rattle.part_store.specs.Tables.{store_schema, users_table, users_tree}
 use Rattle.part_store.specs.Entries.{Entries, UserProgram, program_named, with_program, with_programs}
 use Rattle.part_store.specs.Inside.{Brings, Stays}
 use Rattle.part_store.specs.Standing.{Stands, pair_of}
-use Rattle.part_store.specs.Refusals.{refusal_of, user_values, BlamesPrograms, BlamesRow, IsTooBig, RunsOut}
+use Rattle.part_store.specs.Refusals.{refusal_of, user_values, OnlyWhenNoProgramsFit, OnlyWhenNoRowFits, IsTooBig, RunsOut}
 use Rattle.part_store.specs.Causes.{RisesFrom}
 use Rattle.part_store.proofs.Apart.{bytes_same, same_bytes}
 use Rattle.part_store.proofs.Failing.{later_failed}
@@ -69,7 +69,7 @@ pub record Replacing (pairs : List UserProgram) (old now : State) : Type 0 where
   pub inside : HasCleanDisk now → old.now.schema ≡ store_schema → IsTrue old.in_transaction → IsTrue now.in_transaction
   pub schema : HasCleanDisk now → old.now.schema ≡ store_schema → now.now.schema ≡ store_schema
   pub opened : HasCleanDisk now → 0 < length pairs → IsTrue old.is_open
-  pub shut : HasCleanDisk now → IsTrue now.is_open → IsTrue old.is_open
+  pub stays_closed : HasCleanDisk now → IsTrue now.is_open → IsTrue old.is_open
   pub kept : HasCleanDisk now → old.now.schema ≡ store_schema → KeepsCommit old now
   pub rowids : HasCleanDisk now → (before : Entries) → Stands old.now before → RisesFrom (length pairs) (old.now.trees users_tree) (now.now.trees users_tree)
 
@@ -80,7 +80,7 @@ nothing_replaced s = record {
   inside = λ clean has h. h;
   schema = λ clean has. has;
   opened = λ clean some. absurd (omega (arith, some));
-  shut = λ clean h. h;
+  stays_closed = λ clean h. h;
   kept = λ clean has. record { was_open = λ h. h; committed = λ _. refl };
   rowids = λ clean before stands. rises_none (s.now.trees users_tree);
 }
@@ -99,8 +99,8 @@ replaced_more pairs pair old mid new so_far survives brings inside schema opened
           (subst (Stands new.now) (programs_push pairs pair before) second.0, second.1 ∙ first.1);
       inside = λ clean has h. inside clean (so_far.schema (early clean) has) (so_far.inside (early clean) has h);
       schema = λ clean has. schema clean (so_far.schema (early clean) has);
-      opened = λ clean some. so_far.shut (early clean) (opened clean);
-      shut = λ clean h. so_far.shut (early clean) (shut clean h);
+      opened = λ clean some. so_far.stays_closed (early clean) (opened clean);
+      stays_closed = λ clean h. so_far.stays_closed (early clean) (shut clean h);
       kept = λ clean has. kept_then old mid new (so_far.kept (early clean) has) (kept clean (so_far.schema (early clean) has));
       rowids = λ clean before stands.
           subst (λ n. RisesFrom n (old.now.trees users_tree) (new.now.trees users_tree)) (sym (length-append pairs (pair ∷ [])))
@@ -135,7 +135,7 @@ own_program user program before = rw (bytes_same user)
 
 pub one_refused : (old mid new : State) (user program : List ℕ) (e : Error) → Stays old mid → Survives old mid (λ _. ⊥) → Survives mid new (λ _. ⊥) → HasCleanDisk new
     → (old.now.schema ≡ store_schema → IsTrue old.in_transaction → IsTrue mid.in_transaction)
-    → (IsTrue mid.in_transaction → BlamesRow user (with_program user program) mid new (refusal_of e)) → IsTrue old.in_transaction → BlamesPrograms ((user, program) ∷ []) old new (refusal_of e)
+    → (IsTrue mid.in_transaction → OnlyWhenNoRowFits user (with_program user program) mid new (refusal_of e)) → IsTrue old.in_transaction → OnlyWhenNoProgramsFit ((user, program) ∷ []) old new (refusal_of e)
 one_refused old mid new user program e stays one two clean inside cause begun is before stands =
     let same = (stays stands.schema).1 in
     elim (cause (inside stands.schema begun) is before (stands_still old mid before stays stands)) [
@@ -145,7 +145,7 @@ one_refused old mid new user program e stays one two clean inside cause begun is
     ]
 
 pub pairs_refused : (pairs later whole : List UserProgram) (pair : UserProgram) (old mid new : State) (e : Error) → whole ≡ pairs ++ pair ∷ later → Replacing pairs old mid → Survives mid new (λ _. ⊥) → HasCleanDisk new
-    → (IsTrue mid.in_transaction → BlamesPrograms (pair ∷ []) mid new (refusal_of e)) → IsTrue old.in_transaction → BlamesPrograms whole old new (refusal_of e)
+    → (IsTrue mid.in_transaction → OnlyWhenNoProgramsFit (pair ∷ []) mid new (refusal_of e)) → IsTrue old.in_transaction → OnlyWhenNoProgramsFit whole old new (refusal_of e)
 pairs_refused pairs later whole pair old mid new e place so_far survives clean cause begun is before stands =
     let early : HasCleanDisk mid = omega (arith, clean, survives.clean) in
     let brought = so_far.brought early before stands in

@@ -139,9 +139,9 @@ module _ {D : Type 0} {g : Ghosts D} (image other : Image) where
       ∥∥₁_map (opens_again now may.0 (λ found there. (no_schema, empty_is_sound found (empty found there).1)) other may.1)
       (λ found. holds_empty other found.0 found.2 (empty found.0 found.1))
 
-  pub spared_by_open : (it : Leftover D g) (e : Error) → IsUnopened image (Some it) e → IsCleanLeft it → HasNoSums image → (held : Entries) → HoldsStore image held → MayLeaveRefused it other
+  pub unchanged_by_open : (it : Leftover D g) (e : Error) → IsUnopened image (Some it) e → IsCleanLeft it → HasNoSums image → (held : Entries) → HoldsStore image held → MayLeaveRefused it other
       → ∥ HoldsStore other held ∥₁
-  spared_by_open it e un clean plain held (d, holds, stands) may = ∥∥₁_map (keeps_database it e un clean plain d holds may) (λ still. let r : HoldsStore other held = (d, still, stands) in r)
+  unchanged_by_open it e un clean plain held (d, holds, stands) may = ∥∥₁_map (keeps_database it e un clean plain d holds may) (λ still. let r : HoldsStore other held = (d, still, stands) in r)
 
   still_none : (it : Leftover D g) (e : Error) → IsUnopened image (Some it) e → IsCleanLeft it → HasNoSums image → HoldsNoTables image → MayLeaveRefused it other → ∥ HoldsNoTables other ∥₁
   still_none it e un clean plain (inl nothing) may = keeps_nothing it e un clean nothing may
@@ -149,8 +149,8 @@ module _ {D : Type 0} {g : Ghosts D} (image other : Image) where
       ∥∥₁_map (keeps_database it e un clean plain d holds may) (λ still. let r : HoldsNoTables other = inr (d, still, none) in r)
 
   -- an open that is refused leaves the state that the files stand for
-  pub refused_spares : IsRefusedOpen g image other → (held : Entries) → HoldsState image held → ∥ HoldsState other held ∥₁
-  refused_spares it held (inl holds) =
-      ∥∥₁_map (spared_by_open it.leftover it.error it.unopened it.clean it.plain held holds it.may) (λ still. let r : HoldsState other held = inl still in r)
-  refused_spares it held (inr (none, is)) =
+  pub refused_leaves : IsRefusedOpen g image other → (held : Entries) → HoldsState image held → ∥ HoldsState other held ∥₁
+  refused_leaves it held (inl holds) =
+      ∥∥₁_map (unchanged_by_open it.leftover it.error it.unopened it.clean it.plain held holds it.may) (λ still. let r : HoldsState other held = inl still in r)
+  refused_leaves it held (inr (none, is)) =
       ∥∥₁_map (still_none it.leftover it.error it.unopened it.clean it.plain none it.may) (λ still. let r : HoldsState other held = inr (still, is) in r)

@@ -39,7 +39,7 @@ use Rattle.sqlite.specs.declared.error.Error.{Error}
 use Rattle.sqlite.proofs.Callers.{one_step}
 use Rattle.part_store.specs.Tables.{keyed, store_schema}
 use Rattle.part_store.specs.Changes.{KeepsOthers}
-use Rattle.part_store.proofs.Deleting.{tree_set, tree_spared, trees_apart}
+use Rattle.part_store.proofs.Deleting.{tree_set, tree_unchanged, trees_apart}
 use Rattle.part_store.proofs.Faults.{IsAnswered}
 use Rattle.part_store.proofs.Meaning.{alone}
 use Rattle.part_store.proofs.Rows.{answer_one, shown}
@@ -110,7 +110,7 @@ module _ (at tree : ℕ) (name : List ℕ) (columns : List Column) (key : List �
             let next = with_tree db tree after in
             let is = tree_set db tree after in
             let turned = turns store_schema db next (change rows) trees_apart (has_got store_schema.tables at (table) there) up fresh is
-            (all_from (λ t. t.tree ≢ tree → next t.tree ≡ db t.tree) store_schema.tables (λ t known apart. tree_spared db tree after t.tree apart)) in
+            (all_from (λ t. t.tree ≢ tree → next t.tree ≡ db t.tree) store_schema.tables (λ t known apart. tree_unchanged db tree after t.tree apart)) in
             let put : after ≡ put_all rest (becomes one ∷ []) = ap₂ put_all left news in
             unique_kept store_schema db next (table) (left_by db (change rows)) (taken_by db (change rows)) (change rows).news turned
             (ap (are_unique store_schema.indexes next (table)) news ∙ unique next (λ x h. put_has (becomes one) rest x (subst (λ l. Has l x) (is ∙ put) h))) (obeys.rules Unique)

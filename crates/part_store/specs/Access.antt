@@ -4,11 +4,11 @@ use Rattle.sqlite_trees.specs.declared.store.Store.{Ghosts}
 use Rattle.sqlite_trees.specs.Tree.{Trees}
 use Rattle.sqlite.specs.Held.{Held}
 use Rattle.sqlite.specs.State.{State}
-use Rattle.part_store.specs.Calls.{Always, CommitsNothing, DoneWhere, IfRefused, MayCommit, OnDone, OnRefused, RefusedWhere, Settles, StaysShut, Tells, WasOpen}
+use Rattle.part_store.specs.Calls.{Always, CommitsNothing, DoneWhere, IfRefused, MayCommit, OnDone, OnRefused, RefusedWhere, Settles, StaysClosed, Tells, WasOpen}
 use Rattle.part_store.specs.Entries.{Entries}
 use Rattle.part_store.specs.Filing.{Collides, HasRoom}
 use Rattle.part_store.specs.Inside.{KeepsStored}
-use Rattle.part_store.specs.Standing.{Makes, MayMake, Spares, Stands, draft_of}
+use Rattle.part_store.specs.Standing.{Makes, MayMake, LeavesUnchanged, Stands, draft_of}
 use Rattle.part_store.specs.declared.entry.NewEntry.{NewEntry}
 use Rattle.part_store.specs.declared.error.StoreError.{StoreError}
 use Rattle.part_store.specs.declared.error.StoreError.TheVariants.{Memory, NoSuchEntry, NumberFull, Collision, Database}
@@ -36,14 +36,14 @@ pub record IsRefusedAs {S : Type 0} (g : Ghosts S) (old new : Held S) {A E : Typ
 -- It reads an open store. Nothing has changed, whatever it answers, and an open store shows what is committed.
 pub record ReadsStore {S : Type 0} (g : Ghosts S) (old new : Held S) {A E : Type 0} (result : Result A E) : Type 0 where
   pub was_open : OnDone g old new result WasOpen
-  pub spared : Always g old new Spares
+  pub unchanged : Always g old new LeavesUnchanged
   pub settled : Always g old new Settles
   pub survives : CommitsNothing g old new
 
 -- It makes the change of an open store and commits it, or changes nothing. A crash leaves what was, or what `Commits` says.
 pub record WritesStore {S : Type 0} (g : Ghosts S) (old new : Held S) {A E : Type 0} (result : Result A E) (change : Entries → Entries) (Commits : State → Trees → Type 0) : Type 0 where
   pub made : OnDone g old new result (Makes change)
-  pub spared : OnRefused g old new result Spares
+  pub unchanged : OnRefused g old new result LeavesUnchanged
   pub survives : MayCommit g old new Commits
 
 -- what is made of an open store
@@ -53,7 +53,7 @@ MayMakeOpen change old trees = IsTrue old.is_open × MayMake change old trees
 -- Within a transaction it works on an open store, and commits nothing. What a failure has shut stays shut.
 pub record InTransaction {S : Type 0} (g : Ghosts S) (old new : Held S) {A E : Type 0} (result : Result A E) : Type 0 where
   pub was_open : OnDone g old new result WasOpen
-  pub shut : Always g old new StaysShut
+  pub stays_closed : Always g old new StaysClosed
   pub kept : Always g old new KeepsStored
   pub survives : CommitsNothing g old new
 
@@ -70,4 +70,4 @@ pub record AddsEntries {S : Type 0} (g : Ghosts S) (old new : Held S) (result : 
       → HasRoom before user (length entries) × Collides old.now.trees (map draft_of entries))
   pub was_open : OnDone g old new result WasOpen
   pub begun : IfRefused g old new result (λ old _ e. (e ≡ NumberFull) ⊎ (e ≡ Collision) → IsTrue old.is_open)
-  pub shut : Always g old new StaysShut
+  pub stays_closed : Always g old new StaysClosed

@@ -13,8 +13,8 @@ abbrev pub WasOpen : State → State → Type 0
 WasOpen old new = IsTrue old.is_open
 
 -- what is shut stays shut
-abbrev pub StaysShut : State → State → Type 0
-StaysShut old new = IsTrue new.is_open → IsTrue old.is_open
+abbrev pub StaysClosed : State → State → Type 0
+StaysClosed old new = IsTrue new.is_open → IsTrue old.is_open
 
 -- an open store shows what is committed
 abbrev pub Settles : State → State → Type 0

@@ -16,7 +16,7 @@ use Rattle.sqlite_value.specs.declared.value.Value.TheVariants.{Int, Text, Blob}
 use Rattle.part_store.specs.Changes.{is_entry, new_row}
 use Rattle.part_store.specs.Entries.{Entry, Draft}
 use Rattle.part_store.specs.Filing.{entry_values}
-use Rattle.part_store.specs.Refusals.{refusal_of, HasFailed, BlamesOr, IsRowidIn, content_values, HaveNoRows}
+use Rattle.part_store.specs.Refusals.{refusal_of, HasFailed, OnlyWhenFailedOr, IsRowidIn, content_values, HaveNoRows}
 use Rattle.part_store.specs.Standing.{HasContent}
 use Rattle.part_store.specs.UserLines.{HasRow}
 use Rattle.part_store.specs.Tables.{users_tree, contents_tree, entries_tree, equals, store_schema, contents_table, entries_table}
@@ -94,5 +94,5 @@ LacksRoom x digest db = HasNoRoom contents_table (content_values digest x.octets
     ⊎ HasNoRoom entries_table (entry_values x digest) db
 
 -- the same once their numbers are known to suffice
-abbrev pub BlamesRows : List ℕ → List Draft → State → State → StoreError → Type 0
-BlamesRows user drafts = BlamesOr (HaveNoRows user drafts)
+abbrev pub OnlyWhenNoRowsFit : List ℕ → List Draft → State → State → StoreError → Type 0
+OnlyWhenNoRowsFit user drafts = OnlyWhenFailedOr (HaveNoRows user drafts)

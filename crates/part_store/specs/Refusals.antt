@@ -32,12 +32,12 @@ abbrev pub HasFailed : State → State → Type 0
 HasFailed old new = DiskFailed old new ⊎ ((old.is_open ≡ false) ⊎ IsSome old.step_limit)
 
 -- where the tables stand for a state, `Database` is told only of a database that can't work
-abbrev pub Blames : State → State → StoreError → Type 0
-Blames old new e = e ≡ Database → (before : Entries) → Stands old.now before → HasFailed old new
+abbrev pub OnlyWhenFailed : State → State → StoreError → Type 0
+OnlyWhenFailed old new e = e ≡ Database → (before : Entries) → Stands old.now before → HasFailed old new
 
 -- the same where there may be another cause, which the state and the tables tell
-abbrev pub BlamesOr : (Entries → Trees → Type 0) → State → State → StoreError → Type 0
-BlamesOr Other old new e = e ≡ Database → (before : Entries) → Stands old.now before
+abbrev pub OnlyWhenFailedOr : (Entries → Trees → Type 0) → State → State → StoreError → Type 0
+OnlyWhenFailedOr Other old new e = e ≡ Database → (before : Entries) → Stands old.now before
     → HasFailed old new ⊎ Other before old.now.trees
 
 -- ---- want of room
@@ -67,8 +67,8 @@ HasNoUserRoom user after db = RunsOut (db users_tree) 1
 
 -- where the tables stand for a state, a change of a user's row is refused only by a database that
 -- can't work or has no room for the row
-abbrev pub BlamesRow : List ℕ → (Entries → Entries) → State → State → StoreError → Type 0
-BlamesRow user change = BlamesOr (λ before. HasNoUserRoom user (change before))
+abbrev pub OnlyWhenNoRowFits : List ℕ → (Entries → Entries) → State → State → StoreError → Type 0
+OnlyWhenNoRowFits user change = OnlyWhenFailedOr (λ before. HasNoUserRoom user (change before))
 
 -- the rows of users with these programs have no room
 abbrev pub HaveNoUserRoom : List UserProgram → Entries → Trees → Type 0
@@ -78,8 +78,8 @@ HaveNoUserRoom pairs before db =
     × IsTooBig users_table (user_values pair.0 (before.lasts pair.0) (Some pair.1)))
 
 -- where the tables stand for a state, programs are refused only by a database that can't work or has no room for a row
-abbrev pub BlamesPrograms : List UserProgram → State → State → StoreError → Type 0
-BlamesPrograms pairs = BlamesOr (HaveNoUserRoom pairs)
+abbrev pub OnlyWhenNoProgramsFit : List UserProgram → State → State → StoreError → Type 0
+OnlyWhenNoProgramsFit pairs = OnlyWhenFailedOr (HaveNoUserRoom pairs)
 
 -- the octets of a draft, or its row as an entry of the user, are too big
 abbrev pub IsDraftTooBig : List ℕ → Draft → Type 0
@@ -102,14 +102,14 @@ LackRoom user drafts before db = HasRoom before user (length drafts) × HaveNoRo
 
 -- where the tables stand for a state, entries of a user are refused only by a database that can't
 -- work, or, where their numbers suffice, has no room for them or for his row
-abbrev pub BlamesEntries : List ℕ → List Draft → State → State → StoreError → Type 0
-BlamesEntries user drafts = BlamesOr (LackRoom user drafts)
+abbrev pub OnlyWhenNoEntriesFit : List ℕ → List Draft → State → State → StoreError → Type 0
+OnlyWhenNoEntriesFit user drafts = OnlyWhenFailedOr (LackRoom user drafts)
 
 -- each user's name is UTF-8, as is each that a store was given
 abbrev pub AreNamed : Trees → Type 0
 AreNamed db = AllByRecursion (λ r. (user : List ℕ) → column r 1 ≡ Text user → IsUtf8 user) (db users_tree)
 
 -- the same where the users' names are read, too
-abbrev pub BlamesNamed : State → State → StoreError → Type 0
-BlamesNamed old new e = e ≡ Database → (before : Entries) → Stands old.now before → AreNamed old.now.trees
+abbrev pub OnlyWhenUnnamed : State → State → StoreError → Type 0
+OnlyWhenUnnamed old new e = e ≡ Database → (before : Entries) → Stands old.now before → AreNamed old.now.trees
     → HasFailed old new

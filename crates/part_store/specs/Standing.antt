@@ -107,9 +107,9 @@ DiskFailed old new = MoreFaults old.faults new.faults
 
 -- The tables are as they were. Only a fault of the disk shuts a store; it shows nothing of the
 -- tables then, and what is shut stays shut.
-pub record Spares (old new : State) : Type 0 where
+pub record LeavesUnchanged (old new : State) : Type 0 where
   pub same : old.now.schema ≡ store_schema → IsTrue new.is_open → (new.now ≡ old.now) × (new.committed ≡ old.committed)
-  pub shut : IsTrue new.is_open → IsTrue old.is_open
+  pub stays_closed : IsTrue new.is_open → IsTrue old.is_open
   pub closes : IsTrue old.is_open → IsTrue new.is_open ⊎ DiskFailed old new
 
 -- the user's entry of that number

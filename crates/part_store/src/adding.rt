@@ -6,8 +6,8 @@ ghost use Rattle.part_store.specs.Standing.{Stands, draft_of};
 ghost use Rattle.part_store.specs.Blaming.{AsRefusal, AsRefusalInside};
 ghost use Rattle.part_store.specs.Inside.{Stays, IsInside, KeepsStored, KeepsTables, StaysInside};
 ghost use Rattle.part_store.specs.Entries.{with_last};
-ghost use Rattle.part_store.specs.Refusals.{refusal_of, Blames, BlamesEntries, HasFailed, HasNoUserRoom, HaveNoRoom};
-ghost use Rattle.part_store.specs.Causes.{BlamesRows, TellsOfRow};
+ghost use Rattle.part_store.specs.Refusals.{refusal_of, OnlyWhenFailed, OnlyWhenNoEntriesFit, HasFailed, HasNoUserRoom, HaveNoRoom};
+ghost use Rattle.part_store.specs.Causes.{OnlyWhenNoRowsFit, TellsOfRow};
 ghost use Rattle.part_store.specs.declared.error.StoreError.TheVariants.{Database};
 ghost use Rattle.part_store.specs.Additions.{Adds, CanFile, Claims, Enters, FilesAll, IsFrom};
 ghost use Rattle.part_store.specs.Filing.{Collides};
@@ -47,7 +47,7 @@ pub(crate) fn put_entries<S: Alter>(
         (λ adding _ new. IsFrom adding → IsTrue new.in_transaction) }
     ensures schema { OnDone S.Store tx.old.conn.now tx.new.conn.now result KeepsTables }
     ensures cause { IfRefused S.Store tx.old.conn.now tx.new.conn.now result
-        (AsRefusalInside (BlamesEntries user.now (map draft_of entries.now))) }
+        (AsRefusalInside (OnlyWhenNoEntriesFit user.now (map draft_of entries.now))) }
     ensures within { InTransaction S.Store tx.old.conn.now tx.new.conn.now result }
 {
     let (last, is_known) = last_of(tx, user)?;
@@ -94,7 +94,7 @@ fn claim_and_file<S: Alter>(
         → ((before : _) → Stands old.now before
         → (last ≡ before.lasts user.now)
         × TellsOfRow user.now old.now.trees is_known)
-        → BlamesRows user.now (map draft_of entries.now) old new (refusal_of e)) }
+        → OnlyWhenNoRowsFit user.now (map draft_of entries.now) old new (refusal_of e)) }
     ensures survives { CommitsNothing S.Store tx.old.conn.now tx.new.conn.now }
 {
     claim(tx, user, is_known, last + entries.len() as u32)?;
@@ -104,12 +104,12 @@ fn claim_and_file<S: Alter>(
 /// A user's last number, and whether he has a row.
 fn last_of<S: Alter>(tx: &mut Transaction<'_, S>, user: &str) -> Result<(u32, bool), Error>
     ensures same_reference { tx.new.conn.ghost_name ≡ tx.old.conn.ghost_name }
-    ensures told { IfDone S.Store tx.old.conn.now tx.new.conn.now result
+    ensures answer { IfDone S.Store tx.old.conn.now tx.new.conn.now result
         (λ found old _. (before : _) → Stands old.now before
         → (found.0 ≡ before.lasts user.now) × TellsOfRow user.now old.now.trees found.1) }
     ensures same { OnDone S.Store tx.old.conn.now tx.new.conn.now result Stays }
     ensures inside { OnDone S.Store tx.old.conn.now tx.new.conn.now result StaysInside }
-    ensures cause { IfRefused S.Store tx.old.conn.now tx.new.conn.now result (AsRefusal Blames) }
+    ensures cause { IfRefused S.Store tx.old.conn.now tx.new.conn.now result (AsRefusal OnlyWhenFailed) }
     ensures within { InTransaction S.Store tx.old.conn.now tx.new.conn.now result }
 {
     match users::find_last(tx, user)? {

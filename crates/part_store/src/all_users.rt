@@ -7,7 +7,7 @@ ghost use Rattle.part_store.specs.Standing.{Stands};
 ghost use Rattle.part_store.specs.UserLines.{AreUsersOf, line_of};
 ghost use Rattle.part_store.specs.Readings.{answer_of, ShowsUser};
 ghost use Rattle.std.specs.List.{AllByRecursion};
-ghost use Rattle.part_store.specs.Refusals.{refusal_of, BlamesNamed};
+ghost use Rattle.part_store.specs.Refusals.{refusal_of, OnlyWhenUnnamed};
 ghost use Rattle.part_store.specs.declared.error.StoreError.TheVariants.{Memory, Database};
 ghost use Rattle.part_store.specs.Calls.{IfDone, IfRefused};
 
@@ -19,11 +19,11 @@ use sqlite::{Alter, Error, Row, Transaction};
 /// The users that have a row, in the order of their names.
 pub(crate) fn list_users<S: Alter>(tx: &mut Transaction<'_, S>) -> Result<Vec<UserRow>, StoreError>
     ensures same_reference { tx.new.conn.ghost_name ≡ tx.old.conn.ghost_name }
-    ensures told { IfDone S.Store tx.old.conn.now tx.new.conn.now result
+    ensures answer { IfDone S.Store tx.old.conn.now tx.new.conn.now result
         (λ users old _. (before : _) → Stands old.now before
         → AreUsersOf (old.now.trees users_tree) before (map line_of users.items)) }
     ensures refused { IfErr result (λ e. (e ≡ Memory) ⊎ (e ≡ Database)) }
-    ensures cause { IfRefused S.Store tx.old.conn.now tx.new.conn.now result BlamesNamed }
+    ensures cause { IfRefused S.Store tx.old.conn.now tx.new.conn.now result OnlyWhenUnnamed }
     ensures within { InTransaction S.Store tx.old.conn.now tx.new.conn.now result }
 {
     let rows = users::list(tx)?;

@@ -10,7 +10,7 @@ ghost use Rattle.part_store.specs.Readings.{IsParts, Shows, IsReadable};
 ghost use Rattle.part_store.specs.Inside.{Stays, KeepsStored};
 ghost use Rattle.part_store.specs.declared.entry.Kind.{Kind};
 ghost use Rattle.octets.specs.Limits.{max_entry_number};
-ghost use Rattle.part_store.specs.Refusals.{refusal_of, Blames};
+ghost use Rattle.part_store.specs.Refusals.{refusal_of, OnlyWhenFailed};
 ghost use Rattle.part_store.specs.declared.error.StoreError.TheVariants.{Memory, Database};
 ghost use Rattle.part_store.specs.Calls.{Always, CommitsNothing, IfDone, IfRefused, OnDone, Tells};
 
@@ -60,14 +60,14 @@ fn kind_of(row: &Row) -> Result<Kind, Error>
 /// How many octets are under a digest that an entry names.
 fn size_of<S: Alter>(tx: &mut Transaction<'_, S>, digest: &[u8]) -> Result<u64, Error>
     ensures same_reference { tx.new.conn.ghost_name ≡ tx.old.conn.ghost_name }
-    ensures told { IfDone S.Store tx.old.conn.now tx.new.conn.now result
+    ensures answer { IfDone S.Store tx.old.conn.now tx.new.conn.now result
         (λ size old _. (before : _) → Stands old.now before → (octets : List ℕ)
         → HasContent (old.now.trees contents_tree) digest.now octets → size ≡ length octets) }
     ensures same { OnDone S.Store tx.old.conn.now tx.new.conn.now result Stays }
     ensures kept { Always S.Store tx.old.conn.now tx.new.conn.now KeepsStored }
     ensures cause { IfRefused S.Store tx.old.conn.now tx.new.conn.now result
         (λ old new e. (octets : List ℕ) → HasContent (old.now.trees contents_tree) digest.now octets
-        → Blames old new (refusal_of e)) }
+        → OnlyWhenFailed old new (refusal_of e)) }
     ensures survives { CommitsNothing S.Store tx.old.conn.now tx.new.conn.now }
 {
     match contents::size(tx, digest)? {
@@ -79,14 +79,14 @@ fn size_of<S: Alter>(tx: &mut Transaction<'_, S>, digest: &[u8]) -> Result<u64, 
 /// The entry that a row of the answer to a listing shows.
 fn read_row<S: Alter>(tx: &mut Transaction<'_, S>, row: &Row) -> Result<EntryRow, Error>
     ensures same_reference { tx.new.conn.ghost_name ≡ tx.old.conn.ghost_name }
-    ensures told { IfDone S.Store tx.old.conn.now tx.new.conn.now result
+    ensures answer { IfDone S.Store tx.old.conn.now tx.new.conn.now result
         (λ entry old _. (before : _) → Stands old.now before → (x : _)
         → Shows old.now.trees row.now x → listed entry ≡ listing_of x) }
     ensures same { OnDone S.Store tx.old.conn.now tx.new.conn.now result Stays }
     ensures kept { Always S.Store tx.old.conn.now tx.new.conn.now KeepsStored }
     ensures cause { IfRefused S.Store tx.old.conn.now tx.new.conn.now result
         (λ old new e. (x : _) → Shows old.now.trees row.now x → x.number ≤ max_entry_number
-        → Blames old new (refusal_of e)) }
+        → OnlyWhenFailed old new (refusal_of e)) }
     ensures survives { CommitsNothing S.Store tx.old.conn.now tx.new.conn.now }
 {
     let Parts {
@@ -114,10 +114,10 @@ pub(crate) fn list_all<S: Alter>(
     user: &str,
 ) -> Result<Vec<EntryRow>, StoreError>
     ensures same_reference { tx.new.conn.ghost_name ≡ tx.old.conn.ghost_name }
-    ensures told { Tells S.Store tx.old.conn.now tx.new.conn.now result
+    ensures answer { Tells S.Store tx.old.conn.now tx.new.conn.now result
         (λ before rows. map listed rows.items ≡ map listing_of (entries_of user.now before)) }
     ensures refused { IfErr result (λ e. (e ≡ Memory) ⊎ (e ≡ Database)) }
-    ensures cause { IfRefused S.Store tx.old.conn.now tx.new.conn.now result Blames }
+    ensures cause { IfRefused S.Store tx.old.conn.now tx.new.conn.now result OnlyWhenFailed }
     ensures within { InTransaction S.Store tx.old.conn.now tx.new.conn.now result }
 {
     let rows = entries::list(tx, user)?;

@@ -22,7 +22,7 @@ pub enum Unopened {
     #[error("it is no database, or a damaged one")]
     Damaged,
     /// The database has other tables than a store, or none.
-    #[error("its tables are others")]
+    #[error("it has other tables, or none")]
     OtherTables,
     /// The disk failed.
     #[error("the disk failed")]

@@ -9,7 +9,7 @@ ghost use Rattle.part_store.specs.Blaming.{AsRefusal, AsRefusalInside};
 ghost use Rattle.part_store.specs.Inside.{Brings, Stays, IsInside, KeepsStored, StaysInside};
 ghost use Rattle.part_store.specs.Standing.{IsStored, Makes, MayMake, Stands, HasContent, IsEntryAt, HasNone, draft_of, listed, pair_of};
 ghost use Rattle.part_store.specs.Readings.{NamesDigest};
-ghost use Rattle.part_store.specs.Refusals.{refusal_of, Blames, BlamesEntries, BlamesNamed, BlamesOr, BlamesPrograms, BlamesRow};
+ghost use Rattle.part_store.specs.Refusals.{refusal_of, OnlyWhenFailed, OnlyWhenNoEntriesFit, OnlyWhenUnnamed, OnlyWhenFailedOr, OnlyWhenNoProgramsFit, OnlyWhenNoRowFits};
 ghost use Rattle.part_store.specs.declared.error.StoreError.TheVariants.{Memory, NoSuchEntry, NumberFull, Collision, Database};
 ghost use Rattle.part_store.specs.Crashes.{KeepsState};
 ghost use Rattle.part_store.specs.Looking.{are_tables};
@@ -110,7 +110,7 @@ fn ready_tables<S: Alter>(conn: &mut Connection<S>) -> Result<(), StoreError>
     ensures inside { IsTrue (state S.Store conn.old).in_transaction → result ≡ Err Database }
     ensures bare { OnErr result ((state S.Store conn.old).in_transaction ≡ false
         → IsBare (state S.Store conn.old)) }
-    ensures spared { OnRefused S.Store conn.old conn.new result
+    ensures unchanged { OnRefused S.Store conn.old conn.new result
         (λ old new. IsTrue new.is_open → IsKept old new) }
     ensures refused { IfErr result (λ e. (e ≡ Memory) ⊎ (e ≡ Database)) }
     ensures survives { MayCommit S.Store conn.old conn.new MakesEmpty }
@@ -134,13 +134,13 @@ fn digest_of<S: Alter>(
     number: u32,
 ) -> Result<Option<Vec<u8>>, Error>
     ensures same_reference { tx.new.conn.ghost_name ≡ tx.old.conn.ghost_name }
-    ensures told { IfDone S.Store tx.old.conn.now tx.new.conn.now result
+    ensures answer { IfDone S.Store tx.old.conn.now tx.new.conn.now result
         (λ found old _. (before : _) → Stands old.now before
         → MatchOption found (HasNone before user.now number)
         (λ digest. NamesDigest old.now.trees user.now number digest.items)) }
     ensures same { OnDone S.Store tx.old.conn.now tx.new.conn.now result Stays }
     ensures inside { OnDone S.Store tx.old.conn.now tx.new.conn.now result StaysInside }
-    ensures cause { IfRefused S.Store tx.old.conn.now tx.new.conn.now result (AsRefusal Blames) }
+    ensures cause { IfRefused S.Store tx.old.conn.now tx.new.conn.now result (AsRefusal OnlyWhenFailed) }
     ensures within { InTransaction S.Store tx.old.conn.now tx.new.conn.now result }
 {
     match entries::find(tx, user, number)? {
@@ -152,14 +152,14 @@ fn digest_of<S: Alter>(
 /// The content under a digest that an entry names.
 fn content_of<S: Alter>(tx: &mut Transaction<'_, S>, digest: &[u8]) -> Result<Vec<u8>, Error>
     ensures same_reference { tx.new.conn.ghost_name ≡ tx.old.conn.ghost_name }
-    ensures told { IfDone S.Store tx.old.conn.now tx.new.conn.now result
+    ensures answer { IfDone S.Store tx.old.conn.now tx.new.conn.now result
         (λ octets old _. (before : _) → Stands old.now before
         → HasContent (old.now.trees contents_tree) digest.now octets.items) }
     ensures same { OnDone S.Store tx.old.conn.now tx.new.conn.now result Stays }
     ensures kept { Always S.Store tx.old.conn.now tx.new.conn.now KeepsStored }
     ensures cause { IfRefused S.Store tx.old.conn.now tx.new.conn.now result
         (λ old new e. (octets : _) → HasContent (old.now.trees contents_tree) digest.now octets
-        → Blames old new (refusal_of e)) }
+        → OnlyWhenFailed old new (refusal_of e)) }
     ensures survives { CommitsNothing S.Store tx.old.conn.now tx.new.conn.now }
 {
     match contents::find(tx, digest)? {
@@ -174,11 +174,11 @@ fn read_bytes<S: Alter>(
     number: u32,
 ) -> Result<Option<Vec<u8>>, Error>
     ensures same_reference { tx.new.conn.ghost_name ≡ tx.old.conn.ghost_name }
-    ensures told { Tells S.Store tx.old.conn.now tx.new.conn.now result
+    ensures answer { Tells S.Store tx.old.conn.now tx.new.conn.now result
         (λ before found.
         MatchOption found (HasNone before user.now number)
         (λ octets. (x : _) × IsEntryAt before user.now number x × (octets.items ≡ x.octets))) }
-    ensures cause { IfRefused S.Store tx.old.conn.now tx.new.conn.now result (AsRefusal Blames) }
+    ensures cause { IfRefused S.Store tx.old.conn.now tx.new.conn.now result (AsRefusal OnlyWhenFailed) }
     ensures within { InTransaction S.Store tx.old.conn.now tx.new.conn.now result }
 {
     let Some(digest) = digest_of(tx, user, number)? else {
@@ -201,7 +201,7 @@ fn take_entry<S: Alter>(tx: &mut Transaction<'_, S>, user: &str, number: u32) ->
     ensures inside { IfDone S.Store tx.old.conn.now tx.new.conn.now result
         (λ done old new. done ≡ true → old.now.schema ≡ store_schema → IsTrue new.in_transaction) }
     ensures cause { IfRefused S.Store tx.old.conn.now tx.new.conn.now result
-        (AsRefusalInside Blames) }
+        (AsRefusalInside OnlyWhenFailed) }
     ensures within { InTransaction S.Store tx.old.conn.now tx.new.conn.now result }
 {
     let Some(digest) = digest_of(tx, user, number)? else {
@@ -223,7 +223,7 @@ impl<S: Alter> PartStore<S> {
             (λ s. Always S.Store conn s (λ old new. IsBare old → IsEmptied new)) }
         ensures same { IfOk result (λ s. (IsBare (state S.Store conn) → ⊥) → s ≡ conn) }
         ensures settled { IfOk result (λ s. (state S.Store s).in_transaction ≡ false) }
-        ensures spared { IfErr result
+        ensures unchanged { IfErr result
             (λ e. Always S.Store conn e.1 (λ old new. IsTrue new.is_open → IsKept old new)) }
         ensures mode { IfErr result
             (λ e. (state S.Store e.1).in_transaction ≡ (state S.Store conn).in_transaction) }
@@ -278,7 +278,7 @@ impl<S: Alter> PartStore<S> {
             (with_program user.now program.now)
             (MayMakeOpen (with_program user.now program.now)) }
         ensures refused { IsRefusedAs S.Store self.old self.new result IsFailure
-            (BlamesRow user.now (with_program user.now program.now)) }
+            (OnlyWhenNoRowFits user.now (with_program user.now program.now)) }
     {
         let mut tx = begin(&mut self.conn);
         put_program(&mut tx, user, program)?;
@@ -288,10 +288,10 @@ impl<S: Alter> PartStore<S> {
 
     /// The user's program, or none where he has none. Refuses `Memory` and `Database`.
     pub fn program_of(&mut self, user: &str) -> Result<Option<Vec<u8>>, StoreError>
-        ensures told { Tells S.Store self.old self.new result
+        ensures answer { Tells S.Store self.old self.new result
             (λ before found. option_map (λ v. v.items) found ≡ before.programs user.now) }
         ensures reads { ReadsStore S.Store self.old self.new result }
-        ensures refused { IsRefusedAs S.Store self.old self.new result IsFailure Blames }
+        ensures refused { IsRefusedAs S.Store self.old self.new result IsFailure OnlyWhenFailed }
     {
         let mut tx = begin(&mut self.conn);
         Ok(read_program(&mut tx, user)?)
@@ -300,10 +300,10 @@ impl<S: Alter> PartStore<S> {
     /// The users that have a program, in the order of their names, with their programs. Refuses `Memory`, and `Database` also where
     /// a user's name in the table isn't UTF-8.
     pub fn programs(&mut self) -> Result<Vec<(String, Vec<u8>)>, StoreError>
-        ensures told { Tells S.Store self.old self.new result
+        ensures answer { Tells S.Store self.old self.new result
             (λ before programs. AreProgramsOf before (map pair_of programs.items)) }
         ensures reads { ReadsStore S.Store self.old self.new result }
-        ensures refused { IsRefusedAs S.Store self.old self.new result IsFailure BlamesNamed }
+        ensures refused { IsRefusedAs S.Store self.old self.new result IsFailure OnlyWhenUnnamed }
     {
         let mut tx = begin(&mut self.conn);
         list_programs(&mut tx)
@@ -312,11 +312,11 @@ impl<S: Alter> PartStore<S> {
     /// All users, each with the last number and the program, in the order of their names. Refuses `Memory`, and `Database` also where
     /// a user's name in the table isn't UTF-8.
     pub fn users(&mut self) -> Result<Vec<UserRow>, StoreError>
-        ensures told { IfDone S.Store self.old self.new result
+        ensures answer { IfDone S.Store self.old self.new result
             (λ users old _. (before : _) → Stands old.now before
             → AreUsersOf (old.now.trees users_tree) before (map line_of users.items)) }
         ensures reads { ReadsStore S.Store self.old self.new result }
-        ensures refused { IsRefusedAs S.Store self.old self.new result IsFailure BlamesNamed }
+        ensures refused { IsRefusedAs S.Store self.old self.new result IsFailure OnlyWhenUnnamed }
     {
         let mut tx = begin(&mut self.conn);
         list_users(&mut tx)
@@ -325,12 +325,12 @@ impl<S: Alter> PartStore<S> {
     /// How many contents there are and how many octets they have; what several entries have is counted once. Refuses `Memory`, and
     /// `Database` also where the octets are more than 64 bits can count.
     pub fn contents(&mut self) -> Result<ContentTotal, StoreError>
-        ensures told { IfDone S.Store self.old self.new result
+        ensures answer { IfDone S.Store self.old self.new result
             (λ total old _. (before : _) → Stands old.now before
             → IsTotalOf (old.now.trees contents_tree) total) }
         ensures reads { ReadsStore S.Store self.old self.new result }
         ensures refused { IsRefusedAs S.Store self.old self.new result IsFailure
-            (BlamesOr (λ _ db. 2 ^ 64 ≤ octets_of (db contents_tree))) }
+            (OnlyWhenFailedOr (λ _ db. 2 ^ 64 ≤ octets_of (db contents_tree))) }
     {
         let mut tx = begin(&mut self.conn);
         count_contents(&mut tx)
@@ -344,7 +344,7 @@ impl<S: Alter> PartStore<S> {
             (λ old trees. (0 < length programs.now → IsTrue old.is_open)
             × MayMake (with_programs (map pair_of programs.now)) old trees) }
         ensures refused { IsRefusedAs S.Store self.old self.new result IsFailure
-            (BlamesPrograms (map pair_of programs.now)) }
+            (OnlyWhenNoProgramsFit (map pair_of programs.now)) }
     {
         let mut tx = begin(&mut self.conn);
         replace_all(&mut tx, programs)?;
@@ -365,7 +365,7 @@ impl<S: Alter> PartStore<S> {
             (with_entries user.now (map draft_of entries.now))
             (MayMakeOpen (with_entries user.now (map draft_of entries.now))) }
         ensures refused { IsRefusedAs S.Store self.old self.new result IsFailureOrObstacle
-            (BlamesEntries user.now (map draft_of entries.now)) }
+            (OnlyWhenNoEntriesFit user.now (map draft_of entries.now)) }
     {
         self.add_sharing_entries(user, entries, &mut [])
     }
@@ -386,7 +386,7 @@ impl<S: Alter> PartStore<S> {
             (with_entries user.now (map draft_of entries.now))
             (MayMakeOpen (with_entries user.now (map draft_of entries.now))) }
         ensures refused { IsRefusedAs S.Store self.old self.new result IsFailureOrObstacle
-            (BlamesEntries user.now (map draft_of entries.now)) }
+            (OnlyWhenNoEntriesFit user.now (map draft_of entries.now)) }
     {
         let mut tx = begin(&mut self.conn);
         let first = add_within(&mut tx, user, entries, shared)?;
@@ -396,10 +396,10 @@ impl<S: Alter> PartStore<S> {
 
     /// The user's entries, by their numbers. Refuses `Memory` and `Database`.
     pub fn entries_of(&mut self, user: &str) -> Result<Vec<EntryRow>, StoreError>
-        ensures told { Tells S.Store self.old self.new result
+        ensures answer { Tells S.Store self.old self.new result
             (λ before rows. map listed rows.items ≡ map listing_of (entries_of user.now before)) }
         ensures reads { ReadsStore S.Store self.old self.new result }
-        ensures refused { IsRefusedAs S.Store self.old self.new result IsFailure Blames }
+        ensures refused { IsRefusedAs S.Store self.old self.new result IsFailure OnlyWhenFailed }
     {
         let mut tx = begin(&mut self.conn);
         list_all(&mut tx, user)
@@ -408,7 +408,7 @@ impl<S: Alter> PartStore<S> {
     /// The octets of the user's entry of that number. Refuses `Memory`, `NoSuchEntry` exactly where
     /// he has none, and `Database`. A store that a failure has shut refuses `Memory` or `Database`.
     pub fn bytes_of(&mut self, user: &str, number: u32) -> Result<Vec<u8>, StoreError>
-        ensures told { Tells S.Store self.old self.new result
+        ensures answer { Tells S.Store self.old self.new result
             (λ before octets. (x : _) × IsEntryAt before user.now number x
             × (octets.items ≡ x.octets)) }
         ensures absent { RefusedWhere S.Store self.old self.new result NoSuchEntry
@@ -416,7 +416,7 @@ impl<S: Alter> PartStore<S> {
         ensures begun { IfRefused S.Store self.old self.new result
             (λ old _ e. e ≡ NoSuchEntry → IsTrue old.is_open) }
         ensures reads { ReadsStore S.Store self.old self.new result }
-        ensures refused { IsRefusedAs S.Store self.old self.new result IsFailureOrAbsence Blames }
+        ensures refused { IsRefusedAs S.Store self.old self.new result IsFailureOrAbsence OnlyWhenFailed }
     {
         let mut tx = begin(&mut self.conn);
         match read_bytes(&mut tx, user, number)? {
@@ -440,7 +440,7 @@ impl<S: Alter> PartStore<S> {
             (λ old trees. IsTrue old.is_open × ((before : _) → Stands old.now before
             → ((x : _) × IsEntryAt before user.now number x)
             × IsStored trees (without_entry user.now number before))) }
-        ensures refused { IsRefusedAs S.Store self.old self.new result IsFailureOrAbsence Blames }
+        ensures refused { IsRefusedAs S.Store self.old self.new result IsFailureOrAbsence OnlyWhenFailed }
     {
         let mut tx = begin(&mut self.conn);
         if !take_entry(&mut tx, user, number)? {

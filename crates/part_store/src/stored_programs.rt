@@ -9,10 +9,10 @@ ghost use Rattle.part_store.specs.Inside.{Brings, Stays, IsInside, KeepsStored, 
 ghost use Rattle.part_store.specs.Standing.{Stands, pair_of};
 ghost use Rattle.part_store.specs.Readings.{last_in, row_of, ShowsLast, ShowsProgram};
 ghost use Rattle.std.specs.List.{AllByRecursion};
-ghost use Rattle.part_store.specs.Refusals.{refusal_of, Blames, BlamesNamed, BlamesPrograms, BlamesRow};
+ghost use Rattle.part_store.specs.Refusals.{refusal_of, OnlyWhenFailed, OnlyWhenUnnamed, OnlyWhenNoProgramsFit, OnlyWhenNoRowFits};
 ghost use Rattle.part_store.specs.Causes.{RisesFrom};
 ghost use Rattle.part_store.specs.declared.error.StoreError.TheVariants.{Memory, Database};
-ghost use Rattle.part_store.specs.Calls.{Always, CommitsNothing, IfRefused, OnDone, StaysShut, Tells};
+ghost use Rattle.part_store.specs.Calls.{Always, CommitsNothing, IfRefused, OnDone, StaysClosed, Tells};
 
 use crate::error::StoreError;
 use crate::users;
@@ -41,7 +41,7 @@ pub(crate) fn put_program<S: Alter>(
     ensures inside { OnDone S.Store tx.old.conn.now tx.new.conn.now result IsInside }
     ensures schema { OnDone S.Store tx.old.conn.now tx.new.conn.now result KeepsTables }
     ensures cause { IfRefused S.Store tx.old.conn.now tx.new.conn.now result
-        (AsRefusalInside (BlamesRow user.now (with_program user.now program.now))) }
+        (AsRefusalInside (OnlyWhenNoRowFits user.now (with_program user.now program.now))) }
     ensures rowids { OnDone S.Store tx.old.conn.now tx.new.conn.now result
         (λ old new. (before : _) → Stands old.now before
         → RisesFrom 1 (old.now.trees users_tree) (new.now.trees users_tree)) }
@@ -60,13 +60,13 @@ pub(crate) fn read_program<S: Alter>(
     user: &str,
 ) -> Result<Option<Vec<u8>>, Error>
     ensures same_reference { tx.new.conn.ghost_name ≡ tx.old.conn.ghost_name }
-    ensures told { Tells S.Store tx.old.conn.now tx.new.conn.now result
+    ensures answer { Tells S.Store tx.old.conn.now tx.new.conn.now result
         (λ before found. option_map (λ v. v.items) found ≡ before.programs user.now) }
     ensures same { OnDone S.Store tx.old.conn.now tx.new.conn.now result Stays }
     ensures still { OnDone S.Store tx.old.conn.now tx.new.conn.now result
         (λ old new. old.now.schema ≡ store_schema → IsTrue new.is_open) }
     ensures inside { OnDone S.Store tx.old.conn.now tx.new.conn.now result StaysInside }
-    ensures cause { IfRefused S.Store tx.old.conn.now tx.new.conn.now result (AsRefusal Blames) }
+    ensures cause { IfRefused S.Store tx.old.conn.now tx.new.conn.now result (AsRefusal OnlyWhenFailed) }
     ensures within { InTransaction S.Store tx.old.conn.now tx.new.conn.now result }
 {
     match users::find(tx, user)? {
@@ -80,10 +80,10 @@ pub(crate) fn list_programs<S: Alter>(
     tx: &mut Transaction<'_, S>,
 ) -> Result<Vec<(String, Vec<u8>)>, StoreError>
     ensures same_reference { tx.new.conn.ghost_name ≡ tx.old.conn.ghost_name }
-    ensures told { Tells S.Store tx.old.conn.now tx.new.conn.now result
+    ensures answer { Tells S.Store tx.old.conn.now tx.new.conn.now result
         (λ before programs. AreProgramsOf before (map pair_of programs.items)) }
     ensures refused { IfErr result (λ e. (e ≡ Memory) ⊎ (e ≡ Database)) }
-    ensures cause { IfRefused S.Store tx.old.conn.now tx.new.conn.now result BlamesNamed }
+    ensures cause { IfRefused S.Store tx.old.conn.now tx.new.conn.now result OnlyWhenUnnamed }
     ensures within { InTransaction S.Store tx.old.conn.now tx.new.conn.now result }
 {
     let rows = users::list_programs(tx)?;
@@ -120,7 +120,7 @@ fn replace_program<S: Alter>(
         (λ old new. (before : _) → Stands old.now before
         → RisesFrom 1 (old.now.trees users_tree) (new.now.trees users_tree)) }
     ensures cause { IfRefused S.Store tx.old.conn.now tx.new.conn.now result
-        (AsRefusalInside (BlamesPrograms ((user.now, program.now) ∷ []))) }
+        (AsRefusalInside (OnlyWhenNoProgramsFit ((user.now, program.now) ∷ []))) }
     ensures within { InTransaction S.Store tx.old.conn.now tx.new.conn.now result }
 {
     let Some(_before) = read_program(tx, user)? else {
@@ -140,10 +140,10 @@ pub(crate) fn replace_all<S: Alter>(
     ensures open { OnDone S.Store tx.old.conn.now tx.new.conn.now result
         (λ old _. 0 < length programs.now → IsTrue old.is_open) }
     ensures inside { OnDone S.Store tx.old.conn.now tx.new.conn.now result StaysInside }
-    ensures shut { Always S.Store tx.old.conn.now tx.new.conn.now StaysShut }
+    ensures stays_closed { Always S.Store tx.old.conn.now tx.new.conn.now StaysClosed }
     ensures kept { Always S.Store tx.old.conn.now tx.new.conn.now KeepsStored }
     ensures cause { IfRefused S.Store tx.old.conn.now tx.new.conn.now result
-        (AsRefusalInside (BlamesPrograms (map pair_of programs.now))) }
+        (AsRefusalInside (OnlyWhenNoProgramsFit (map pair_of programs.now))) }
     ensures survives { CommitsNothing S.Store tx.old.conn.now tx.new.conn.now }
 {
     for (user, program) in programs {

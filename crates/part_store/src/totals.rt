@@ -7,7 +7,7 @@ ghost use Rattle.part_store.specs.Tables.{contents_tree};
 ghost use Rattle.part_store.specs.Standing.{Stands};
 ghost use Rattle.part_store.specs.Totals.{IsTotalOf, octets_of};
 ghost use Rattle.part_store.specs.Readings.{number_of, ShowsSize};
-ghost use Rattle.part_store.specs.Refusals.{BlamesOr};
+ghost use Rattle.part_store.specs.Refusals.{OnlyWhenFailedOr};
 ghost use Rattle.part_store.specs.declared.error.StoreError.TheVariants.{Memory, Database};
 ghost use Rattle.part_store.specs.Calls.{IfDone, IfRefused};
 
@@ -29,12 +29,12 @@ pub(crate) fn count_contents<S: Alter>(
     tx: &mut Transaction<'_, S>,
 ) -> Result<ContentTotal, StoreError>
     ensures same_reference { tx.new.conn.ghost_name ≡ tx.old.conn.ghost_name }
-    ensures told { IfDone S.Store tx.old.conn.now tx.new.conn.now result
+    ensures answer { IfDone S.Store tx.old.conn.now tx.new.conn.now result
         (λ total old _. (before : _) → Stands old.now before
         → IsTotalOf (old.now.trees contents_tree) total) }
     ensures refused { IfErr result (λ e. (e ≡ Memory) ⊎ (e ≡ Database)) }
     ensures cause { IfRefused S.Store tx.old.conn.now tx.new.conn.now result
-        (BlamesOr (λ _ db. 2 ^ 64 ≤ octets_of (db contents_tree))) }
+        (OnlyWhenFailedOr (λ _ db. 2 ^ 64 ≤ octets_of (db contents_tree))) }
     ensures within { InTransaction S.Store tx.old.conn.now tx.new.conn.now result }
 {
     let rows = contents::list(tx)?;

@@ -6,7 +6,7 @@ ghost use Rattle.part_store.specs.Access.{AddsEntries, InTransaction, IsFailure,
 ghost use Rattle.part_store.specs.Calls.{OnDone, Tells};
 ghost use Rattle.part_store.specs.Entries.{with_entries};
 ghost use Rattle.part_store.specs.Inside.{Brings, IfInside, IsInside, KeepsTables, Stays, StaysInside};
-ghost use Rattle.part_store.specs.Refusals.{Blames, BlamesEntries};
+ghost use Rattle.part_store.specs.Refusals.{OnlyWhenFailed, OnlyWhenNoEntriesFit};
 ghost use Rattle.part_store.specs.Sharing.{SharesContents, first_of};
 ghost use Rattle.part_store.specs.Standing.{draft_of};
 ghost use Rattle.part_store.specs.declared.error.StoreError.TheVariants.{Memory, NumberFull, Collision, Database};
@@ -48,11 +48,11 @@ pub fn program_within<S: Alter>(
     user: &str,
 ) -> Result<Option<Vec<u8>>, StoreError>
     ensures same_reference { tx.new.conn.ghost_name ≡ tx.old.conn.ghost_name }
-    ensures told { Tells S.Store tx.old.conn.now tx.new.conn.now result
+    ensures answer { Tells S.Store tx.old.conn.now tx.new.conn.now result
         (λ before found. option_map (λ v. v.items) found ≡ before.programs user.now) }
     ensures same { OnDone S.Store tx.old.conn.now tx.new.conn.now result Stays }
     ensures inside { OnDone S.Store tx.old.conn.now tx.new.conn.now result StaysInside }
-    ensures refused { IsRefusedAs S.Store tx.old.conn.now tx.new.conn.now result IsFailure Blames }
+    ensures refused { IsRefusedAs S.Store tx.old.conn.now tx.new.conn.now result IsFailure OnlyWhenFailed }
     ensures within { InTransaction S.Store tx.old.conn.now tx.new.conn.now result }
 {
     Ok(read_program(tx, user)?)
@@ -75,7 +75,7 @@ pub fn add_within<S: Alter>(
     ensures inside { OnDone S.Store tx.old.conn.now tx.new.conn.now result IsInside }
     ensures schema { OnDone S.Store tx.old.conn.now tx.new.conn.now result KeepsTables }
     ensures refused { IsRefusedAs S.Store tx.old.conn.now tx.new.conn.now result IsFailureOrObstacle
-        (IfInside (BlamesEntries user.now (map draft_of entries.now))) }
+        (IfInside (OnlyWhenNoEntriesFit user.now (map draft_of entries.now))) }
     ensures within { InTransaction S.Store tx.old.conn.now tx.new.conn.now result }
 {
     match put_entries(tx, user, entries, shared)? {

@@ -12,18 +12,19 @@ use Rattle.octets.specs.Limits.{max_loops, max_value}
 use Rattle.sieve_references.specs.References.{names_in}
 use Rattle.sieve_parser.specs.Tree.{ArgumentTree, text}
 use Rattle.sieve_check.specs.declared.names.Capability.TheVariants as capability
-use Rattle.sieve_check.specs.declared.names.CommandName.{CommandName}
-use Rattle.sieve_check.specs.declared.names.CommandName.TheVariants.{Require, If, Elsif, Else, Stop, Keep, Discard, FileInto, Set, ForEveryPart, Break, Store, Take}
+use Rattle.sieve_check.specs.declared.table.CommandName.{CommandName}
+use Rattle.sieve_check.specs.declared.table.CommandName.TheVariants.{Require, If, Elsif, Else, Set, ForEveryPart, Break, Take}
 use Rattle.sieve_check.specs.declared.signature.Positional.TheVariants as positional
 use Rattle.sieve_check.specs.declared.signature.Ending.TheVariants.{Semicolon, Block}
 use Rattle.sieve_check.specs.declared.typed.Act.{Act}
 use Rattle.sieve_check.specs.declared.typed.Act.TheVariants as act
-use Rattle.sieve_check.specs.Acts.{act_row, act_strings}
-use Rattle.sieve_check.specs.Bounded.{IsBoundedString, IsBoundedAct, IsBoundedCommand, AreBoundedCommands, AreBoundedBranches, IsCommandIn, AreCommandsIn, AreBranchesIn}
-use Rattle.sieve_check.specs.FormOf.{InnerForms, none, one, template_of, most_of, PartForm, action, with_text, setting_in, taking_in, act_of, action_at, simple_of, block_of, Forms, closed, closed_by, after_none, put}
+use Rattle.sieve_check.specs.Acts.{Acting, IsBoundedAct, act_row, act_strings, acting, bare, filing}
+use Rattle.sieve_check.specs.Bounded.{IsBoundedString, IsBoundedCommand, AreBoundedCommands, AreBoundedBranches, IsCommandIn, AreCommandsIn, AreBranchesIn}
+use Rattle.sieve_check.specs.FormOf.{InnerForms, none, one, template_of, most_of, PartForm, action, with_text, setting_in, taking_in, act_by, act_of, action_at, simple_of, block_of, Forms, closed, closed_by, after_none, put}
 use Rattle.sieve_check.specs.Rules.{ending_cause, may_stand, mentions_by, needs_of, opened_by, same_tests, strings_of}
 use Rattle.sieve_check.specs.Rows.{command_row}
 use Rattle.sieve_check.specs.declared.table.Place.TheVariants.{ToLeave}
+use Rattle.sieve_check.specs.declared.table.Role.{Role}
 use Rattle.sieve_check.specs.declared.table.Role.TheVariants.{Expanded, NameThenValue, NameAlone}
 use Rattle.sieve_check.specs.Arguments.{reading}
 use Rattle.sieve_check.specs.Signatures.{◌>>=◌, Read, is_positional, command_signature}
@@ -33,6 +34,7 @@ use Rattle.sieve_check.specs.Variables.{string_variables, strings_variables, tes
 use Rattle.sieve_check.proofs.Lists.{expands, has_long_string, is_large, texted, both_texted}
 use Rattle.sieve_check.proofs.TagSteps.{number_read}
 use Rattle.sieve_check.proofs.Options.{map_some, not_false, not_both, some_of}
+use Rattle.sieve_check.proofs.Regular.{IsRegularAct, is_common, loops_there, regular_act}
 use Rattle.sieve_check.proofs.Templates.{names_at, mentioned_at, expanding_names, nothing_mentioned, template_names, template_bounded}
 use Rattle.sieve_check.proofs.TestExistence.{IsInnerIn, inner_kind, IsBoundedInner, inner_variables, unnamed}
 
@@ -145,6 +147,21 @@ filed s act read bounded stringed unset around positional short few =
           ∙ sym (append-nil (names_at b folder.0)) ∙ sym (expanding_names b (folder.0 ∷ [])) ∙ ap (λ xs. mentioned_at b (mentions_by Expanded [] xs)) (sym folder.1);
     }
 
+-- an act that is made of no argument, or of one string
+common : (s : Context) (name : CommandName) (how : Acting) (read : Read) → acting name ≡ how → is_common how ≡ true → may_stand s (command_row name).place read.name ≡ true → is_positional (command_signature name).positional read.positional ≡ true → has_long_string read.positional ≡ false
+    → (expands s ≡ true → list_any is_large (mentions_by (command_row name).role [] read.positional).expanded ≡ false) → Acted s (own_names s name read) (act_by s how read)
+common s name (bare act) read is h stands positional short few =
+    let r = subst (λ (how : Acting). IsRegularAct how name) is (regular_act name) in
+    let nameless = bare_names (expands s) read.positional (ap (λ p. is_positional p read.positional) r.arguments ∙ positional) in
+    bare_act s (own_names s name read) act r.bounded r.string r.sets (omega (arith, r.loops, loops_there s (command_row name).place read.name stands))
+    (nameless ∙ ap (λ role. mentioned_at (expands s) (mentions_by role [] read.positional)) r.role)
+common s name (filing act) read is h stands positional short few =
+    let r = subst (λ (how : Acting). IsRegularAct how name) is (regular_act name) in
+    subst (λ (role : Role). Acted s (mentioned_at (expands s) (mentions_by role [] read.positional)) (with_text s.required act read.positional)) r.role
+    (filed s act read r.bounded r.string r.sets (omega (arith, r.loops, loops_there s (command_row name).place read.name stands)) (ap (λ p. is_positional p read.positional) r.arguments ∙ positional) short
+    (λ yes. ap (λ role. list_any is_large (mentions_by role [] read.positional).expanded) r.role ∙ few yes))
+common s name _ read is h stands positional short few = absurd (cc)
+
 -- what is needed first is there
 there : {A : Type 0} (b : Bool) (x : A) (others : Option A) → (if b then others else Some x) ≡ None → b ≡ true
 there true x others h = refl
@@ -243,14 +260,14 @@ simple_goes s Require at args read none rest is stands has positional ends same 
   bounded = record { branches = tt; commands = bounded.commands; branches_in = tt; commands_in = bounded.commands_in };
   variables = behind [] (own_names s Require read) rest (sym (nothing_mentioned (expands s))) (begins refl);
 }
-simple_goes s Stop at args read none rest is stands has positional ends same short few begins bounded = acted s Stop at read rest refl (bare_act s (own_names s Stop read) act.Stop tt refl refl (omega arith) (bare_names (expands s) read.positional positional)) (begins refl) bounded
-simple_goes s Keep at args read none rest is stands has positional ends same short few begins bounded = acted s Keep at read rest refl (bare_act s (own_names s Keep read) act.Keep tt refl refl (omega arith) (bare_names (expands s) read.positional positional)) (begins refl) bounded
-simple_goes s Discard at args read none rest is stands has positional ends same short few begins bounded = acted s Discard at read rest refl (bare_act s (own_names s Discard read) act.Discard tt refl refl (omega arith) (bare_names (expands s) read.positional positional)) (begins refl) bounded
-simple_goes s FileInto at args read none rest is stands has positional ends same short few begins bounded = acted s FileInto at read rest refl (filed s act.FileInto read tt refl refl (omega arith) positional short few) (begins refl) bounded
-simple_goes s Store at args read none rest is stands has positional ends same short few begins bounded = acted s Store at read rest refl (filed s act.Store read tt refl refl (ltb-true 0 (length s.loops) stands) positional short few) (begins refl) bounded
 simple_goes s Break at args read none rest is stands has positional ends same short few begins bounded = acted s Break at read rest refl (left s read stands positional) (begins refl) bounded
 simple_goes s Set at args read none rest is stands has positional ends same short few begins bounded = acted s Set at read rest refl (assigned s read has positional short few) (begins refl) bounded
 simple_goes s Take at args read none rest is stands has positional ends same short few begins bounded = acted s Take at read rest refl (taken s args read is has stands positional) (begins refl) bounded
+simple_goes s If at args read _ rest is stands has positional ends same short few begins bounded = absurd (cc)
+simple_goes s Elsif at args read _ rest is stands has positional ends same short few begins bounded = absurd (cc)
+simple_goes s Else at args read _ rest is stands has positional ends same short few begins bounded = absurd (cc)
+simple_goes s ForEveryPart at args read _ rest is stands has positional ends same short few begins bounded = absurd (cc)
+simple_goes s name at args read none rest is stands has positional ends same short few begins bounded = acted s name at read rest refl (common s name (acting name) read refl refl stands positional short few) (begins refl) bounded
 simple_goes s _ at args read _ rest is stands has positional ends same short few begins bounded = absurd (cc)
 
 -- variables of a branch before others

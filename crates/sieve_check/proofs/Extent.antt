@@ -13,15 +13,15 @@ use Rattle.sieve_parser.specs.Scripts.{IsTree}
 use Rattle.sieve_parser.proofs.Extent.{octets_of, octets-append, octets_fit}
 use Rattle.bytecode_format.specs.declared.modifiers.Modifiers.{Modifiers}
 use Rattle.sieve_check.specs.declared.names.Capability.TheVariants.{Variables}
-use Rattle.sieve_check.specs.declared.names.CommandName.{CommandName}
-use Rattle.sieve_check.specs.declared.names.CommandName.TheVariants.{Require, If, Elsif, Else, Stop, Keep, Discard, FileInto, Set, ForEveryPart, Break, Store, Take}
-use Rattle.sieve_check.specs.declared.names.TestName.{TestName}
-use Rattle.sieve_check.specs.declared.names.TestName.TheVariants.{Constant, Not, AllOf, AnyOf, Header, Exists, Size, String, PartSize, PartBody, PartDigest}
+use Rattle.sieve_check.specs.declared.table.CommandName.{CommandName}
+use Rattle.sieve_check.specs.declared.table.CommandName.TheVariants.{Require, If, Elsif, Else, ForEveryPart}
+use Rattle.sieve_check.specs.declared.table.TestName.{TestName}
+use Rattle.sieve_check.specs.declared.table.TestName.TheVariants.{Not, AllOf, AnyOf}
 use Rattle.sieve_check.specs.declared.typed.Act.{Act}
 use Rattle.sieve_check.specs.declared.typed.Act.TheVariants as act
 use Rattle.sieve_check.specs.declared.typed.Order.{Order}
+use Rattle.sieve_check.specs.declared.typed.Order.TheVariants.{Over}
 use Rattle.sieve_check.specs.declared.typed.Question.{Question}
-use Rattle.sieve_check.specs.declared.typed.Question.TheVariants as question
 use Rattle.sieve_check.specs.declared.typed.Takes.{Takes}
 use Rattle.sieve_check.specs.declared.names.Tag.{Tag}
 use Rattle.sieve_check.specs.declared.signature.Signature.{Signature}
@@ -32,11 +32,12 @@ use Rattle.sieve_check.specs.Signatures.{Read, Given, with_tag, with_argument, c
 use Rattle.sieve_check.specs.Rules.{after_invocation, invocation_of, loops_opened}
 use Rattle.sieve_check.specs.Surroundings.{Context, at_start, has_capability, inside, loops_left}
 use Rattle.sieve_check.specs.Typed.{Template, Strings, in_order, TestForm, asks, negation, all_of, any_of, TestForms, no_test as no_other, test, for_every_part, CommandForms, no_command, command, BranchForms, no_branch, otherwise}
-use Rattle.sieve_check.specs.Acts.{act_row, act_strings}
-use Rattle.sieve_check.specs.Questions.{row_of, no_list}
+use Rattle.sieve_check.specs.Acts.{Acting, act_row, act_strings, acting, bare, filing, setting, taking, leaving, inactive}
+use Rattle.sieve_check.specs.Questions.{Asking, asking, by_number, by_tags, no_list, row_of, unasked}
 use Rattle.sieve_check.specs.Extent.{string_extent, strings_extent, names_extent, test_extent, tests_extent, command_extent, commands_extent, branches_extent}
-use Rattle.sieve_check.specs.FormOf.{InnerForms, none, one, bracketed, number_in, template_of, text_in, list_in, list_taken, strings_in, size_of, question_of, test_of, test_form_of, inner_forms_of, more_forms_of, PartForm, nothing, action, first, next_branch, last, with_text, setting_in, taking_in, act_of, action_at, simple_of, block_of, simple_part, block_part, Forms, closed, closed_by, after_none, put, part_of, forms_of, IsFormOf}
+use Rattle.sieve_check.specs.FormOf.{InnerForms, none, one, bracketed, number_in, template_of, text_in, list_in, list_taken, strings_in, size_of, question_by, question_of, test_of, test_form_of, inner_forms_of, more_forms_of, PartForm, nothing, action, first, next_branch, last, with_text, setting_in, taking_in, act_by, act_of, action_at, simple_of, block_of, simple_part, block_part, Forms, closed, closed_by, after_none, put, part_of, forms_of, IsFormOf}
 use Rattle.sieve_check.proofs.Options.{step_some, map_some}
+use Rattle.sieve_check.proofs.Regular.{IsRegular, IsRegularAct, regular, regular_act}
 use Rattle.sieve_check.proofs.TagSteps.{argument_taken, IsKept, kept_by_reading}
 use Rattle.sieve_check.proofs.Templates.{written, template_fits, templates_fit}
 
@@ -125,11 +126,6 @@ amount_fits _ n h = absurd (cc)
 abbrev IsAskedWithin : Question → Strings → Read → Type 0
 IsAskedWithin q strings read = 2 * length (row_of q).numbers + strings_extent (in_order strings) ≤ given_order read.tags.order + arguments_extent read.params + arguments_extent read.positional
 
-numberless_fits : (s : Context) (read : Read) (o : Option Question) (p q : Question) (strings : Strings) → o ≡ Some p → (row_of p).numbers ≡ [] → o ≡ Some q → strings_in s.required (row_of q).takes read ≡ Some strings → IsAskedWithin q strings read
-numberless_fits s read o p q strings is unnumbered h taken =
-    let numbers : length (row_of q).numbers ≡ 0 = ap (λ (q : Question). length (row_of q).numbers) (same_Some q p (sym h ∙ is)) ∙ ap length unnumbered in
-    omega (arith, numbers, strings_fit s (row_of q).takes read strings taken)
-
 size_fits : (s : Context) (read : Read) (make : Order → ℕ → Question) (q : Question) (strings : Strings) → ((order : Order) (n : ℕ) → (row_of (make order n)).takes ≡ no_list) → ((order : Order) (n : ℕ) → (row_of (make order n)).numbers ≡ n ∷ [])
     → size_of make read ≡ Some q → strings_in s.required (row_of q).takes read ≡ Some strings → IsAskedWithin q strings read
 size_fits s read make q strings unlisted numbered h taken =
@@ -142,16 +138,16 @@ size_fits s read make q strings unlisted numbered h taken =
     let given : given_order read.tags.order ≡ 1 = ap given_order order.1 in
     omega (arith, numbers, empty, given, amount_fits read.positional n.0 n.1)
 
-asked_fits : (s : Context) (name : TestName) (read : Read) (q : Question) (strings : Strings) → question_of name read ≡ Some q → strings_in s.required (row_of q).takes read ≡ Some strings → IsAskedWithin q strings read
-asked_fits s Size read q strings h taken = size_fits s read question.Size q strings (λ order n. refl) (λ order n. refl) h taken
-asked_fits s PartSize read q strings h taken = size_fits s read question.PartSize q strings (λ order n. refl) (λ order n. refl) h taken
-asked_fits s (Constant b) read q strings h taken = numberless_fits s read (question_of (Constant b) read) _ q strings refl refl h taken
-asked_fits s Header read q strings h taken = numberless_fits s read (question_of Header read) _ q strings refl refl h taken
-asked_fits s Exists read q strings h taken = numberless_fits s read (question_of Exists read) _ q strings refl refl h taken
-asked_fits s String read q strings h taken = numberless_fits s read (question_of String read) _ q strings refl refl h taken
-asked_fits s PartBody read q strings h taken = numberless_fits s read (question_of PartBody read) _ q strings refl refl h taken
-asked_fits s PartDigest read q strings h taken = numberless_fits s read (question_of PartDigest read) _ q strings refl refl h taken
-asked_fits s _ read q strings h taken = absurd (cc)
+-- a question that is made so
+asked_fits : (s : Context) (name : TestName) (how : Asking) (read : Read) (q : Question) (strings : Strings) → asking name ≡ how → question_by how read ≡ Some q → strings_in s.required (row_of q).takes read ≡ Some strings → IsAskedWithin q strings read
+asked_fits s name (by_tags make) read q strings is h taken =
+    let r = subst (λ (how : Asking). IsRegular how name read.tags Over 0) is (regular name read.tags Over 0) in
+    let numbers : length (row_of q).numbers ≡ 0 = ap (λ (q : Question). length (row_of q).numbers) (sym (same_Some (make read.tags) q h)) ∙ ap length r.numbers in
+    omega (arith, numbers, strings_fit s (row_of q).takes read strings taken)
+asked_fits s name (by_number make) read q strings is h taken =
+    let r = λ (order : Order) (n : ℕ). subst (λ (how : Asking). IsRegular how name read.tags order n) is (regular name read.tags order n) in
+    size_fits s read make q strings (λ order n. (r order n).unlisted) (λ order n. (r order n).numbers) h taken
+asked_fits s name unasked read q strings is h taken = absurd (cc)
 
 more_strings_fit : (d : ℕ) (ss : List (List ℕ)) → written ss ≤ octets_of (more_strings_spelled d ss)
 more_strings_fit d [] = omega arith
@@ -179,7 +175,7 @@ test_of_fits s name at args read none f h is =
     let q = step_some (question_of name read) _ f is in
     let strings = map_some (strings_in s.required (row_of q.0).takes read) (λ strings. asks q.0 strings at) f q.2 in
     subst (λ x. test_extent x ≤ 1 + arguments_extent args + 0) (same_Some (asks q.0 strings.0 at) f strings.2)
-    (omega (arith, asked_fits s name read q.0 strings.0 q.1 strings.1, read_fits (test_signature name) args read h))
+    (omega (arith, asked_fits s name (asking name) read q.0 strings.0 refl q.1 strings.1, read_fits (test_signature name) args read h))
 test_of_fits s Not at args read (one t) f h is = subst (λ x. test_extent x ≤ 1 + arguments_extent args + test_extent t) (same_Some (negation t at) f is) (omega arith)
 test_of_fits s AllOf at args read (bracketed t ts) f h is = subst (λ x. test_extent x ≤ 1 + arguments_extent args + (2 + test_extent t + tests_extent ts)) (same_Some (all_of t ts at) f is) (omega arith)
 test_of_fits s AnyOf at args read (bracketed t ts) f h is = subst (λ x. test_extent x ≤ 1 + arguments_extent args + (2 + test_extent t + tests_extent ts)) (same_Some (any_of t ts at) f is) (omega arith)
@@ -239,8 +235,11 @@ part_extent (last body) = 3 + commands_extent body
 abbrev IsActWithin : Act × Template → ℕ → Type 0
 IsActWithin done most = names_extent (act_row done.0).sets + strings_extent (act_strings done.0 done.1) ≤ most
 
-bare_fits : (o : Option (Act × Template)) (bare done : Act × Template) (most : ℕ) → o ≡ Some bare → IsActWithin bare 0 → o ≡ Some done → IsActWithin done most
-bare_fits o bare done most is small h = subst (λ (done : Act × Template). IsActWithin done most) (same_Some bare done (sym is ∙ h)) (omega (arith, small))
+bare_fits : (act : Act) (done : Act × Template) (most : ℕ) → (act_row act).string ≡ false → (act_row act).sets ≡ [] → Some (act, []) ≡ Some done → IsActWithin done most
+bare_fits act done most plain unset h =
+    let string : strings_extent (act_strings act []) ≡ 0 = ap (λ b. strings_extent (if b then [] ∷ [] else [])) plain in
+    let names : names_extent (act_row act).sets ≡ 0 = ap names_extent unset in
+    subst (λ (done : Act × Template). IsActWithin done most) (same_Some (act, []) done h) (omega (arith, string, names))
 
 text_act_fits : (s : Context) (act : Act) (xs : List ArgumentTree) (done : Act × Template) → (act_row act).sets ≡ [] → with_text s.required act xs ≡ Some done → IsActWithin done (arguments_extent xs)
 text_act_fits s act xs done unset h =
@@ -267,24 +266,26 @@ taking_fits tags xs done h =
     subst (λ (done : Act × Template). IsActWithin done (arguments_extent xs)) (same_Some _ done name.2)
     (omega (arith, length-map name.0 to_ascii_lowercase, text_fits xs name.0 name.1))
 
-act_fits : (s : Context) (name : CommandName) (read : Read) (done : Act × Template) → act_of s name read ≡ Some done → IsActWithin done (arguments_extent read.positional)
-act_fits s Keep read done h = bare_fits (act_of s Keep read) _ done (arguments_extent read.positional) refl (omega arith) h
-act_fits s Discard read done h = bare_fits (act_of s Discard read) _ done (arguments_extent read.positional) refl (omega arith) h
-act_fits s Stop read done h = bare_fits (act_of s Stop read) _ done (arguments_extent read.positional) refl (omega arith) h
-act_fits s FileInto read done h = text_act_fits s act.FileInto read.positional done refl h
-act_fits s Store read done h = text_act_fits s act.Store read.positional done refl h
-act_fits s Set read done h = setting_fits s read.tags.modifiers read.positional done h
-act_fits s Take read done h = taking_fits read.tags read.positional done h
-act_fits s Break read done h =
+-- an act that is made so
+act_fits : (s : Context) (name : CommandName) (how : Acting) (read : Read) (done : Act × Template) → acting name ≡ how → act_by s how read ≡ Some done → IsActWithin done (arguments_extent read.positional)
+act_fits s name (bare act) read done is h =
+    let r = subst (λ (how : Acting). IsRegularAct how name) is (regular_act name) in
+    bare_fits act done (arguments_extent read.positional) r.string r.sets h
+act_fits s name (filing act) read done is h =
+    let r = subst (λ (how : Acting). IsRegularAct how name) is (regular_act name) in
+    text_act_fits s act read.positional done r.sets h
+act_fits s name setting read done is h = setting_fits s read.tags.modifiers read.positional done h
+act_fits s name taking read done is h = taking_fits read.tags read.positional done h
+act_fits s name leaving read done is h =
     let loops = map_some (loops_left read.name s.loops) _ done h in
     subst (λ (done : Act × Template). IsActWithin done (arguments_extent read.positional)) (same_Some _ done loops.2) (omega arith)
-act_fits s _ read done h = absurd (cc)
+act_fits s name inactive read done is h = absurd (cc)
 
 simple_fits : (s : Context) (name : CommandName) (at : ℕ) (args : List ArgumentTree) (read : Read) (inner : InnerForms) (p : PartForm) → reading (command_signature name) args ≡ Some read → simple_of s name at read inner ≡ Some p → part_extent p ≤ 2 + arguments_extent args
 simple_fits s Require at args read none p r h = subst (λ x. part_extent x ≤ 2 + arguments_extent args) (same_Some nothing p h) (omega arith)
 simple_fits s name at args read none p r h =
     let done = map_some (act_of s name read) (action_at at) p h in
-    subst (λ x. part_extent x ≤ 2 + arguments_extent args) (same_Some (action_at at done.0) p done.2) (omega (arith, act_fits s name read done.0 done.1, read_fits (command_signature name) args read r))
+    subst (λ x. part_extent x ≤ 2 + arguments_extent args) (same_Some (action_at at done.0) p done.2) (omega (arith, act_fits s name (acting name) read done.0 refl done.1, read_fits (command_signature name) args read r))
 simple_fits s _ at args read _ p r h = absurd (cc)
 
 block_fits : (name : CommandName) (at : ℕ) (inner : InnerForms) (body : CommandForms) (p : PartForm) → block_of name at inner body ≡ Some p → part_extent p ≤ 3 + inner_extent inner + commands_extent body

@@ -7,8 +7,8 @@ use Rattle.glob_match.specs.declared.match_type.Match.{Match}
 use Rattle.glob_match.specs.declared.match_type.MatchType.{MatchType}
 use Rattle.glob_match.specs.declared.match_type.MatchType.TheVariants.{Is, Contains, Matches}
 use Rattle.sieve_parser.specs.Tree.{ArgumentTree, amount, InvocationTree, CommandsTree, no_command}
-use Rattle.sieve_check.specs.declared.names.CommandName.TheVariants.{Set}
-use Rattle.sieve_check.specs.declared.names.TestName.TheVariants as test
+use Rattle.sieve_check.specs.declared.table.CommandName.TheVariants.{Set}
+use Rattle.sieve_check.specs.declared.table.TestName.TheVariants as test
 use Rattle.bytecode_format.specs.declared.selection.FieldTest.{FieldTest}
 use Rattle.bytecode_format.specs.declared.selection.Scope.{Scope}
 use Rattle.bytecode_format.specs.declared.selection.Selector.{Selector}

@@ -10,8 +10,8 @@ use Rattle.sieve_parser.specs.declared.tree.Command.{Command as Tree}
 use Rattle.sieve_parser.specs.declared.tree.Command.TheVariants as trees
 use Rattle.sieve_parser.proofs.TestSteps.{tree_test, tree_tests}
 use Rattle.sieve_parser.proofs.CommandSteps.{tree_block}
-use Rattle.sieve_check.specs.declared.names.CommandName.{CommandName}
-use Rattle.sieve_check.specs.declared.names.CommandName.TheVariants.{Require}
+use Rattle.sieve_check.specs.declared.table.CommandName.{CommandName}
+use Rattle.sieve_check.specs.declared.table.CommandName.TheVariants.{Require}
 use Rattle.sieve_check.specs.declared.sequence.Part.{Part}
 use Rattle.sieve_check.specs.declared.sequence.Sequence.{Sequence}
 use Rattle.sieve_check.specs.declared.surroundings.Capabilities.{Capabilities}

@@ -16,6 +16,7 @@ pub mod Unread
 pub mod Faultless
 pub mod TagSteps
 pub mod Templates
+pub mod Regular
 pub mod Extent
 pub mod Lists
 pub mod TestExistence

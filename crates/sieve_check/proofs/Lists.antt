@@ -13,12 +13,13 @@ use Rattle.sieve_parser.specs.Tree.{ArgumentTree, text, text_list}
 use Rattle.sieve_check.specs.declared.names.Capability.TheVariants.{Variables}
 use Rattle.sieve_check.specs.declared.names.Tag.{Tag}
 use Rattle.sieve_check.specs.declared.string_flaws.StringFlaw.TheVariants.{Long}
+use Rattle.sieve_check.specs.declared.signature.Positional.{Positional}
 use Rattle.sieve_check.specs.declared.signature.Positional.TheVariants as positional
 use Rattle.sieve_check.specs.declared.signature.Signature.{Signature}
 use Rattle.sieve_check.specs.Bounded.{IsBoundedString, IsAsTaken, AreBoundedStrings}
 use Rattle.sieve_check.specs.FormOf.{list_in, list_taken, template_of, strings_in as strings_taken}
 use Rattle.sieve_check.specs.declared.typed.Takes.{Takes}
-use Rattle.sieve_check.specs.Questions.{no_list, names_alone, keys_alone}
+use Rattle.sieve_check.specs.Questions.{no_list}
 use Rattle.sieve_check.specs.Rules.{is_long, string_has, strings_in, strings_of, lists_read}
 use Rattle.sieve_check.specs.Arguments.{reading}
 use Rattle.sieve_check.specs.Signatures.{◌>>=◌, Read, Given, with_argument, is_list, is_positional}
@@ -26,6 +27,7 @@ use Rattle.sieve_check.specs.Surroundings.{Context, has_capability}
 use Rattle.sieve_check.specs.Typed.{Template, Strings, in_order}
 use Rattle.sieve_check.specs.Variables.{strings_variables}
 use Rattle.sieve_check.proofs.Options.{both_true, either_false}
+use Rattle.sieve_check.proofs.Regular.{are_lists, is_number}
 use Rattle.sieve_check.proofs.TagSteps.{argument_taken, IsKept, kept_by_reading}
 use Rattle.sieve_check.proofs.Templates.{names_at, IsSound, templates_bounded, templates_names}
 
@@ -203,22 +205,37 @@ both_parts (x ∷ xs) = refl
 pub names_first : (takes : Takes) (read : Read) → IsGiven takes.names (take 1 read.positional) → IsGiven takes.params read.params → IsGiven takes.keys (drop 1 read.positional) → Split takes read
 names_first takes read named selected keyed = record { names = take 1 read.positional; keys = drop 1 read.positional; behind = both_parts read.positional; all = refl; named = named; selected = selected; keyed = keyed }
 
--- all are names
-pub names_only : (read : Read) → read.params ≡ [] → IsGiven true read.positional → Split names_alone read
-names_only read none (a, is, h) = names_first names_alone read (a, ap (take 1) is, h) none (ap (drop 1) is)
-
 -- all are keys
-pub keys_only : (read : Read) → read.params ≡ [] → IsGiven true read.positional → Split keys_alone read
-keys_only read none keyed = record {
+pub keys_only : (takes : Takes) (read : Read) → read.params ≡ [] → IsGiven takes.names [] → IsGiven takes.params read.params → IsGiven takes.keys read.positional → Split takes read
+keys_only takes read none named selected keyed = record {
   names = [];
   keys = read.positional;
   behind = refl;
   all = ap (λ params. take 1 read.positional ++ params ++ drop 1 read.positional) none ∙ ap (λ xs. xs ++ drop 1 read.positional) (append-nil (take 1 read.positional)) ∙ sym (both_parts read.positional)
       ∙ ap (λ params. params ++ read.positional) (sym none);
-  named = refl;
-  selected = none;
+  named = named;
+  selected = selected;
   keyed = keyed;
 }
+
+no_argument : (xs : List ArgumentTree) → is_positional positional.Nothing xs ≡ true → xs ≡ []
+no_argument [] h = refl
+no_argument (x ∷ xs) h = absurd (cc)
+
+-- as many lists as there are behind the tags, where these say whether names and keys are taken
+pub lists_behind : (p : Positional) (takes : Takes) (read : Read) (b c : Bool) → takes.names ≡ b → takes.keys ≡ c → are_lists p b c ≡ true → is_number p ≡ false → is_positional p read.positional ≡ true → IsGiven takes.params read.params → (b ≡ false → read.params ≡ []) → Split takes read
+lists_behind positional.Nothing takes read false false named keyed lists counted behind selected none =
+    let nothing = no_argument read.positional behind in
+    names_first takes read (subst (λ (b : Bool). IsGiven b (take 1 read.positional)) (sym named) (ap (take 1) nothing)) selected (subst (λ (b : Bool). IsGiven b (drop 1 read.positional)) (sym keyed) (ap (drop 1) nothing))
+lists_behind positional.OneList takes read true false named keyed lists counted behind selected none =
+    let one = one_given read.positional behind in
+    names_first takes read (subst (λ (b : Bool). IsGiven b (take 1 read.positional)) (sym named) (one.0, ap (take 1) one.1, one.2)) selected (subst (λ (b : Bool). IsGiven b (drop 1 read.positional)) (sym keyed) (ap (drop 1) one.1))
+lists_behind positional.OneList takes read false true named keyed lists counted behind selected none =
+    keys_only takes read (none refl) (subst (λ (b : Bool). IsGiven b []) (sym named) refl) selected (subst (λ (b : Bool). IsGiven b read.positional) (sym keyed) (one_given read.positional behind))
+lists_behind positional.TwoLists takes read true true named keyed lists counted behind selected none =
+    let two = two_given read.positional behind in
+    names_first takes read (subst (λ (b : Bool). IsGiven b (take 1 read.positional)) (sym named) two.0) selected (subst (λ (b : Bool). IsGiven b (drop 1 read.positional)) (sym keyed) two.1)
+lists_behind _ takes read _ _ named keyed lists counted behind selected none = absurd (cc)
 
 -- ---- strings without brackets
 

@@ -5,7 +5,7 @@ use Rattle.glob_match.specs.declared.comparator.Comparator.TheVariants.{Octet, C
 use Rattle.glob_match.specs.declared.match_type.MatchType.TheVariants.{Is, Contains}
 use Rattle.sieve_parser.specs.Tree.{ArgumentTree, amount, CommandsTree, no_command}
 use Rattle.sieve_check.specs.declared.error.CheckError.TheVariants.{MissingCapability, BadArguments, Limit}
-use Rattle.sieve_check.specs.declared.names.CommandName.TheVariants.{Break, ForEveryPart, Take}
+use Rattle.sieve_check.specs.declared.table.CommandName.TheVariants.{Break, ForEveryPart, Take}
 use Rattle.sieve_check.specs.declared.typed.Act.TheVariants as act
 use Rattle.sieve_check.specs.declared.typed.Act.TheVariants.{Keep, Store, Leave}
 use Rattle.sieve_check.specs.declared.typed.Order.TheVariants.{Under}

@@ -1,21 +1,22 @@
 -- A test of which nothing is wrong has a typed form, which is within the limits and has the variables that its visits bring.
-use Rattle.std.proofs.Common.{◌≡◌, ℕ, ◌≤◌, length, Bool, true, false, if◌then◌else◌, List, [], ◌∷◌, ◌++◌, All, Option, Some, None, option_map, refl, sym, ap, subst, ◌∙◌, arith}
+use Rattle.std.proofs.Common.{◌≡◌, ℕ, ◌≤◌, length, Bool, true, false, ◌||◌, not, if◌then◌else◌, List, [], ◌∷◌, ◌++◌, All, Option, Some, None, option_map, refl, sym, ap, subst, ◌∙◌, arith}
 use Rattle.std.specs.Prelude.{is_some}
 use Rattle.std.specs.List.{find, list_any}
 use Rattle.std.specs.Option.{option_and_then}
-use Rattle.std.proofs.lemmas.Bool.{ltb-false, ltb-true}
+use Rattle.std.proofs.lemmas.Bool.{ltb-false}
 use Rattle.std.proofs.lemmas.Grind.{flat_map-append}
 use Rattle.std.proofs.lemmas.List.{append-nil}
 use Rattle.octets.specs.Limits.{max_test_strings}
 use Rattle.sieve_parser.specs.Tree.{ArgumentTree, amount, InvocationTree, invocation, TestsTree, no_test, one_test, test_list, MoreTests, last as no_more, next}
 use Rattle.sieve_check.specs.declared.causes.ReasonKind.{ReasonKind}
 use Rattle.sieve_check.specs.declared.causes.ReasonKind.TheVariants.{UnknownTest, LongString, ManyLoops, ManyStrings, WrongTests}
-use Rattle.sieve_check.specs.declared.names.TestName.{TestName}
-use Rattle.sieve_check.specs.declared.names.TestName.TheVariants.{Constant, Not, AllOf, AnyOf, Header, Exists, Size, String, PartSize, PartBody, PartDigest}
+use Rattle.sieve_check.specs.declared.table.TestName.{TestName}
+use Rattle.sieve_check.specs.declared.table.TestName.TheVariants.{Constant, Not, AllOf, AnyOf}
+use Rattle.sieve_check.specs.declared.signature.Positional.{Positional}
 use Rattle.sieve_check.specs.declared.signature.Positional.TheVariants as positional
 use Rattle.sieve_check.specs.declared.typed.Order.{Order}
+use Rattle.sieve_check.specs.declared.typed.Order.TheVariants.{Over}
 use Rattle.sieve_check.specs.declared.typed.Question.{Question}
-use Rattle.sieve_check.specs.declared.typed.Question.TheVariants as question
 use Rattle.sieve_check.specs.declared.typed.Takes.{Takes}
 use Rattle.bytecode_format.specs.declared.selection.Selector.{Selector}
 use Rattle.bytecode_format.specs.declared.selection.Selector.TheVariants.{Param}
@@ -24,7 +25,7 @@ use Rattle.sieve_check.specs.declared.string_flaws.StringFlaw.TheVariants.{Long}
 use Rattle.sieve_check.specs.declared.signature.Tests.{Tests}
 use Rattle.sieve_check.specs.declared.signature.Tests.TheVariants.{Nothing, One, Bracketed}
 use Rattle.sieve_check.specs.Bounded.{IsBoundedTest, AreBoundedTests, IsTestIn, AreTestsIn}
-use Rattle.sieve_check.specs.FormOf.{InnerForms, none, one, bracketed, number_in, match_of, scope_of, size_of, question_of, strings_in, asking_of, test_of, test_form_of, inner_forms_of, more_forms_of}
+use Rattle.sieve_check.specs.FormOf.{InnerForms, none, one, bracketed, number_in, size_of, question_by, question_of, strings_in, asking_of, test_of, test_form_of, inner_forms_of, more_forms_of}
 use Rattle.sieve_check.specs.declared.table.Role.TheVariants.{Expanded}
 use Rattle.sieve_check.specs.declared.signature.Ending.{Ending}
 use Rattle.sieve_check.specs.declared.surroundings.Capabilities.{Capabilities}
@@ -32,16 +33,17 @@ use Rattle.sieve_check.specs.Names.{test_known, test_named}
 use Rattle.sieve_check.specs.Rows.{Row, test_row}
 use Rattle.sieve_check.specs.Arguments.{arguments_cause, reading}
 use Rattle.sieve_check.specs.Causes.{Cause, about, plain}
-use Rattle.sieve_check.specs.Questions.{row_of, no_list, names_alone, keys_alone, names_and_keys, takes_params}
+use Rattle.sieve_check.specs.Questions.{Asking, asking, by_number, by_tags, no_list, row_of, takes_params, unasked}
 use Rattle.sieve_check.specs.Rules.{Visit, are_many, cause_of, ending_cause, expanding, ill_formed, kind_of, known_cause, lacking, lacking_cause, large_cause, large_mention_cause, lists_read, long_string_cause, looks_inside, many_loops_cause, many_strings_cause, may_stand, mention_cause, Mentions, mentions_of, mentions_read, misplaced, more_visits, names_by, names_mentioned, needs_of, no_mention, opened_by, place_cause, read_cause, row_mentions, same_tests, string_has, strings_of, takes_tests, tests_cause, tests_visits, unknown_cause, visits_of, where_required}
 use Rattle.sieve_check.specs.Signatures.{◌>>=◌, Read, is_positional, test_signature}
 use Rattle.sieve_check.specs.Surroundings.{Context, first_lacking, opens_many}
 use Rattle.sieve_check.specs.Typed.{TestForm, asks, negation, all_of, any_of, TestForms, no_test as no_other, test}
 use Rattle.sieve_check.specs.Variables.{test_variables, tests_variables}
 use Rattle.sieve_check.proofs.Faultless.{AreFaultless, faultless_both, names_brought}
-use Rattle.sieve_check.proofs.Lists.{expands, has_long_string, is_large, read_short, all_sound, IsGiven, Listed, all_listed, none_listed, one_given, two_given, names_first, names_only, keys_only}
+use Rattle.sieve_check.proofs.Lists.{expands, has_long_string, is_large, read_short, all_sound, IsGiven, Listed, all_listed, lists_behind, none_listed}
 use Rattle.sieve_check.proofs.Finding.{none_where}
-use Rattle.sieve_check.proofs.Options.{all_taken, both_none, map_none, if_none, unless_none, not_false, some_of}
+use Rattle.sieve_check.proofs.Options.{all_taken, both_none, map_none, if_none, unless_none, not_both, not_false, some_of}
+use Rattle.sieve_check.proofs.Regular.{IsRegular, is_number, loops_there, regular}
 use Rattle.sieve_check.proofs.Unread.{IsComplete, complete_read, unread_either}
 use Rattle.sieve_check.proofs.TagSteps.{HasArgument, selecting_read, none_selected, only_behind}
 use Rattle.sieve_check.proofs.Templates.{IsSound, mentioned_at, expanding_names}
@@ -213,10 +215,6 @@ one_number : (xs : List ArgumentTree) → is_positional positional.Number xs ≡
 one_number (amount n ∷ []) h = (n, refl)
 one_number _ h = absurd (cc)
 
-no_argument : (xs : List ArgumentTree) → is_positional positional.Nothing xs ≡ true → xs ≡ []
-no_argument [] h = refl
-no_argument (x ∷ xs) h = absurd (cc)
-
 -- the names that a test brings by its own arguments
 abbrev own_names : Context → Read → List (List ℕ)
 own_names s read = mentioned_at (expands s) (expanding (strings_of (lists_read read)))
@@ -251,34 +249,54 @@ given_params : (selector : Selector) (params : List ArgumentTree) → HasArgumen
 given_params Param params h = h
 given_params _ params h = h
 
+-- those that the signature has
+params_given : (selecting : Bool) (selector : Selector) (params : List ArgumentTree) → HasArgument selector params → (selecting ≡ false → params ≡ []) → IsGiven (if selecting then takes_params selector else false) params
+params_given true selector params h unselected = given_params selector params h
+params_given false selector params h unselected = unselected refl
+
+unselecting : (b selecting : Bool) → (b || not selecting) ≡ true → b ≡ false → selecting ≡ false
+unselecting false false h k = refl
+unselecting _ _ h k = absurd (cc)
+
+required : (a b : Bool) → a ≡ true → (not a || b) ≡ true → b ≡ true
+required true b h k = k
+required false b h k = absurd (cc)
+
+number_behind : (p : Positional) (xs : List ArgumentTree) → is_number p ≡ true → is_positional p xs ≡ true → is_positional positional.Number xs ≡ true
+number_behind positional.Number xs h k = k
+number_behind _ xs h k = absurd (cc)
+
+-- a simple test, by how its question is made
+simple : (s : Context) (name : TestName) (how : Asking) (at : ℕ) (read : Read) → asking name ≡ how → IsComplete (test_signature name) read → ((test_signature name).selecting ≡ false → lists_read read ≡ read.positional) → ((test_signature name).selecting ≡ false → read.params ≡ [])
+    → same_tests (test_signature name).tests Nothing ≡ true → HasArgument read.tags.selector read.params → length (strings_of (lists_read read)) ≤ max_test_strings → All (IsSound (expands s)) (strings_of (lists_read read))
+    → may_stand s (test_row name).place None ≡ true → Made (length s.loops) (own_names s read ++ []) (asking_of s.required name at read)
+simple s name (by_tags make) at read is complete alone unselected same params few sound stands =
+    let q = make read.tags in
+    let takes = (row_of q).takes in
+    let signature = test_signature name in
+    let r = subst (λ (how : Asking). IsRegular how name read.tags Over 0) is (regular name read.tags Over 0) in
+    let selected : IsGiven takes.params read.params = subst (λ (b : Bool). IsGiven b read.params) (sym r.params) (params_given signature.selecting read.tags.selector read.params params unselected) in
+    let split = lists_behind signature.positional takes read takes.names takes.keys refl refl r.lists r.number complete.positional selected (λ unnamed. unselected (unselecting takes.names signature.selecting r.named unnamed)) in
+    asked s name at read q (ap (λ how. question_by how read) is) (all_listed s takes read split few sound) (omega (arith, r.loops, loops_there s (test_row name).place None stands))
+simple s name (by_number make) at read is complete alone unselected same params few sound stands =
+    let signature = test_signature name in
+    let r = λ (order : Order) (n : ℕ). subst (λ (how : Asking). IsRegular how name read.tags order n) is (regular name read.tags order n) in
+    let any = r Over 0 in
+    let unnamed : (row_of (make Over 0)).takes.names ≡ false = ap (λ (takes : Takes). takes.names) any.unlisted in
+    sized s make name at read (ap (λ how. question_by how read) is) (λ order n. (r order n).unlisted) (λ order n. omega (arith, (r order n).loops, loops_there s (test_row name).place None stands))
+    (required signature.order (is_some read.tags.order) any.ordered complete.ordered) (number_behind signature.positional read.positional any.number complete.positional)
+    (alone (unselecting (row_of (make Over 0)).takes.names signature.selecting any.named unnamed))
+simple s name unasked at read is complete alone unselected same params few sound stands =
+    let r = subst (λ (how : Asking). IsRegular how name read.tags Over 0) is (regular name read.tags Over 0) in
+    absurd (not_both (same_tests (test_signature name).tests Nothing) same r.asked)
+
 made : (s : Context) (name : TestName) (at : ℕ) (read : Read) (inner : InnerForms) → IsComplete (test_signature name) read → ((test_signature name).selecting ≡ false → lists_read read ≡ read.positional) → ((test_signature name).selecting ≡ false → read.params ≡ [])
     → same_tests (test_signature name).tests (inner_kind inner) ≡ true → HasArgument read.tags.selector read.params → length (strings_of (lists_read read)) ≤ max_test_strings → All (IsSound (expands s)) (strings_of (lists_read read)) → IsBoundedInner inner
     → may_stand s (test_row name).place None ≡ true → IsInnerIn (length s.loops) inner → Made (length s.loops) (own_names s read ++ inner_variables inner) (test_of s.required name at read inner)
-made s (Constant b) at read none complete alone unselected same params few sound inside stands around =
-    asked s (Constant b) at read (question.Constant b) refl (none_listed s read (ap strings_of (alone refl ∙ no_argument read.positional complete.positional))) (omega arith)
+made s name at read none complete alone unselected same params few sound inside stands around = simple s name (asking name) at read refl complete alone unselected same params few sound stands
 made s Not at read (one f) complete alone unselected same params few sound inside stands around = record { form = negation f at; is = refl; bounded = inside; around = around; variables = ap (λ names. names ++ test_variables f) (none_own s (test_signature Not) read refl complete (alone refl)) }
 made s AllOf at read (bracketed f fs) complete alone unselected same params few sound inside stands around = record { form = all_of f fs at; is = refl; bounded = inside; around = around; variables = ap (λ names. names ++ (test_variables f ++ tests_variables fs)) (none_own s (test_signature AllOf) read refl complete (alone refl)) }
 made s AnyOf at read (bracketed f fs) complete alone unselected same params few sound inside stands around = record { form = any_of f fs at; is = refl; bounded = inside; around = around; variables = ap (λ names. names ++ (test_variables f ++ tests_variables fs)) (none_own s (test_signature AnyOf) read refl complete (alone refl)) }
-made s Size at read none complete alone unselected same params few sound inside stands around =
-    sized s question.Size Size at read refl (λ order n. refl) (λ order n. omega arith) complete.ordered complete.positional (alone refl)
-made s PartSize at read none complete alone unselected same params few sound inside stands around =
-    sized s question.PartSize PartSize at read refl (λ order n. refl) (λ order n. ltb-true 0 (length s.loops) stands) complete.ordered complete.positional (alone refl)
-made s Header at read none complete alone unselected same params few sound inside stands around =
-    let q = question.Header (record { how = match_of read.tags; scope = scope_of read.tags; selector = read.tags.selector }) in
-    let given = two_given read.positional complete.positional in
-    asked s Header at read q refl (all_listed s (row_of q).takes read (names_first (row_of q).takes read given.0 (given_params read.tags.selector read.params params) given.1) few sound) (omega arith)
-made s Exists at read none complete alone unselected same params few sound inside stands around =
-    let one = one_given read.positional complete.positional in
-    asked s Exists at read (question.Exists (scope_of read.tags)) refl (all_listed s names_alone read (names_only read (unselected refl) one) few sound) (omega arith)
-made s PartBody at read none complete alone unselected same params few sound inside stands around =
-    let one = one_given read.positional complete.positional in
-    asked s PartBody at read (question.PartBody (match_of read.tags)) refl (all_listed s keys_alone read (keys_only read (unselected refl) one) few sound) (ltb-true 0 (length s.loops) stands)
-made s PartDigest at read none complete alone unselected same params few sound inside stands around =
-    let one = one_given read.positional complete.positional in
-    asked s PartDigest at read question.PartDigest refl (all_listed s keys_alone read (keys_only read (unselected refl) one) few sound) (ltb-true 0 (length s.loops) stands)
-made s String at read none complete alone unselected same params few sound inside stands around =
-    let given = two_given read.positional complete.positional in
-    asked s String at read (question.String (match_of read.tags)) refl (all_listed s names_and_keys read (names_first names_and_keys read given.0 (unselected refl) given.1) few sound) (omega arith)
 made s _ at read _ complete alone unselected same params few sound inside stands around = absurd (cc)
 
 -- ---- any test

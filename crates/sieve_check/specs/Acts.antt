@@ -1,5 +1,8 @@
 -- What differs from act to act.
-use Rattle.std.specs.Prelude.{ℕ, Bool, true, false, List, [], ◌∷◌, if◌then◌else◌}
+use Rattle.std.specs.Prelude.{ℕ, ◌<◌, ◌≤◌, Bool, true, false, List, [], ◌∷◌, if◌then◌else◌}
+use Rattle.octets.specs.Limits.{max_value}
+use Rattle.sieve_check.specs.declared.table.CommandName.{CommandName}
+use Rattle.sieve_check.specs.declared.table.CommandName.TheVariants as called
 use Rattle.sieve_check.specs.declared.typed.Act.{Act}
 use Rattle.sieve_check.specs.declared.typed.Act.TheVariants.{Keep, Discard, FileInto, Set, Take, Store, Leave, Stop}
 use Rattle.sieve_check.specs.Typed.{Template}
@@ -25,3 +28,39 @@ act_row Stop = record { string = false; sets = []; loops = 0 }
 -- the string, where the act takes one
 abbrev pub act_strings : Act → Template → List Template
 act_strings act string = if (act_row act).string then string ∷ [] else []
+
+-- some octets are taken, and no more than a value may have, and some loops are left
+abbrev pub IsBoundedAct : Act → Type 0
+IsBoundedAct Keep = Unit {0}
+IsBoundedAct Discard = Unit {0}
+IsBoundedAct FileInto = Unit {0}
+IsBoundedAct (Set modifiers name) = Unit {0}
+IsBoundedAct (Take most name) = (0 < most) × (most ≤ max_value)
+IsBoundedAct Store = Unit {0}
+IsBoundedAct (Leave left) = 0 < left
+IsBoundedAct Stop = Unit {0}
+
+-- how the act of an action is made: it is this one, without an argument; this one, with one string; that of `set`, of
+-- `take`, or of `break`; or the command is none
+pub data Acting : Type 0 where
+  bare : Act → Acting
+  filing : Act → Acting
+  setting : Acting
+  taking : Acting
+  leaving : Acting
+  inactive : Acting
+
+abbrev pub acting : CommandName → Acting
+acting called.Keep = bare Keep
+acting called.Discard = bare Discard
+acting called.FileInto = filing FileInto
+acting called.Set = setting
+acting called.Take = taking
+acting called.Store = filing Store
+acting called.Break = leaving
+acting called.Stop = bare Stop
+acting called.Require = inactive
+acting called.If = inactive
+acting called.Elsif = inactive
+acting called.Else = inactive
+acting called.ForEveryPart = inactive

@@ -4,33 +4,28 @@ use Rattle.octets.specs.Ascii.{lowercase_of}
 use Rattle.octets.specs.Limits.{max_value}
 use Rattle.sieve_references.specs.References as references
 use Rattle.sieve_parser.specs.Tree.{ArgumentTree, text, text_list, amount, InvocationTree, invocation, TestsTree, no_test, one_test, test_list, MoreTests, last as no_more, next, CommandTree, simple, block, CommandsTree, no_command as no_tree, command as tree}
-use Rattle.glob_match.specs.declared.comparator.Comparator.TheVariants.{Casemap}
-use Rattle.glob_match.specs.declared.match_type.Match.{Match}
-use Rattle.glob_match.specs.declared.match_type.MatchType.TheVariants.{Is}
-use Rattle.sieve_check.specs.declared.names.CommandName.{CommandName}
-use Rattle.sieve_check.specs.declared.names.CommandName.TheVariants.{Require, If, Elsif, Else, Stop, Keep, Discard, FileInto, Set, ForEveryPart, Break, Store, Take}
-use Rattle.sieve_check.specs.declared.names.TestName.{TestName}
-use Rattle.sieve_check.specs.declared.names.TestName.TheVariants.{Constant, Not, AllOf, AnyOf, Header, Exists, Size, String, PartSize, PartBody, PartDigest}
+use Rattle.sieve_check.specs.declared.table.CommandName.{CommandName}
+use Rattle.sieve_check.specs.declared.table.CommandName.TheVariants.{Require, If, Elsif, Else, ForEveryPart}
+use Rattle.sieve_check.specs.declared.table.TestName.{TestName}
+use Rattle.sieve_check.specs.declared.table.TestName.TheVariants.{Not, AllOf, AnyOf}
 use Rattle.sieve_check.specs.declared.names.Capability.TheVariants.{Variables}
 use Rattle.sieve_check.specs.declared.typed.Act.{Act}
 use Rattle.sieve_check.specs.declared.typed.Act.TheVariants as act
 use Rattle.sieve_check.specs.declared.typed.Order.{Order}
 use Rattle.sieve_check.specs.declared.typed.Question.{Question}
-use Rattle.sieve_check.specs.declared.typed.Question.TheVariants as question
 use Rattle.sieve_check.specs.declared.typed.Takes.{Takes}
 use Rattle.sieve_check.specs.declared.typed.Segment.{Segment}
 use Rattle.sieve_check.specs.declared.typed.Segment.TheVariants.{Text, Variable, Capture}
 use Rattle.bytecode_format.specs.declared.modifiers.Modifiers.{Modifiers}
 use Rattle.sieve_check.specs.declared.signature.Tags.{Tags}
 use Rattle.sieve_check.specs.declared.surroundings.Capabilities.{Capabilities}
-use Rattle.bytecode_format.specs.declared.selection.Scope.{Scope}
-use Rattle.bytecode_format.specs.declared.selection.Scope.TheVariants.{Message, Part, PartAndBelow}
 use Rattle.sieve_check.specs.Names.{command_named, test_named}
 use Rattle.sieve_check.specs.Arguments.{reading}
 use Rattle.sieve_check.specs.Signatures.{◌>>=◌, Read, command_signature, test_signature}
 use Rattle.sieve_check.specs.Rules.{after_invocation, invocation_of, loops_opened}
 use Rattle.sieve_check.specs.Surroundings.{Context, Loop, at_start, has_capability, inside, loops_left}
-use Rattle.sieve_check.specs.Questions.{row_of}
+use Rattle.sieve_check.specs.Acts.{Acting, acting, bare, filing, setting, taking, leaving, inactive}
+use Rattle.sieve_check.specs.Questions.{Asking, asking, by_number, by_tags, row_of, unasked}
 use Rattle.sieve_check.specs.Typed.{Template, Strings, TestForm, asks, negation, all_of, any_of, TestForms, no_test as no_other, test, CommandForm, does, for_every_part, choice, CommandForms, no_command, command, BranchForms, no_branch, otherwise, branch}
 
 -- the forms of the tests behind arguments: none, one, or a first and others in brackets
@@ -83,32 +78,19 @@ strings_in required takes read =
     >>= λ params. list_taken required takes.keys names.1
     >>= λ keys. Some (record { names = names.0; params = params.0; keys = keys.0 })
 
--- how values and keys are matched: without a tag by `:is`, and by `i;ascii-casemap`
-abbrev pub match_of : Tags → Match
-match_of tags = record { kind = unwrap_or tags.kind Is; comparator = unwrap_or tags.comparator Casemap }
-
--- where a test looks
-abbrev pub scope_of : Tags → Scope
-scope_of tags = if tags.mime then (if tags.any_child then PartAndBelow else Part) else Message
-
 -- the comparison of a size, that of the message or that of a part
 abbrev pub size_of : (Order → ℕ → Question) → Read → Option Question
 size_of make read = read.tags.order >>= λ order. option_map (make order) (number_in read.positional)
 
--- what a simple test of this name asks, by what was read
+-- what a simple test asks that is made so, by what was read
+abbrev pub question_by : Asking → Read → Option Question
+question_by (by_tags make) read = Some (make read.tags)
+question_by (by_number make) read = size_of make read
+question_by unasked read = None
+
+-- what a simple test of this name asks
 abbrev pub question_of : TestName → Read → Option Question
-question_of (Constant value) read = Some (question.Constant value)
-question_of Header read = Some (question.Header
-    (record { how = match_of read.tags; scope = scope_of read.tags; selector = read.tags.selector }))
-question_of Exists read = Some (question.Exists (scope_of read.tags))
-question_of Size read = size_of question.Size read
-question_of String read = Some (question.String (match_of read.tags))
-question_of PartSize read = size_of question.PartSize read
-question_of PartBody read = Some (question.PartBody (match_of read.tags))
-question_of PartDigest read = Some question.PartDigest
-question_of Not read = None
-question_of AllOf read = None
-question_of AnyOf read = None
+question_of name read = question_by (asking name) read
 
 -- a simple test, which begins at this token
 abbrev pub asking_of : Capabilities → TestName → ℕ → Read → Option TestForm
@@ -166,21 +148,18 @@ taking_in tags args = option_map (λ name. (act.Take (most_of tags) (lowercase_o
 abbrev pub leaving_in : Option (List ℕ) → List Loop → Option (Act × Template)
 leaving_in name loops = option_map (λ left. (act.Leave left, [])) (loops_left name loops)
 
--- what an action of this name does, with its string, by what was read
+-- what an action does that is made so, with its string, by what was read
+abbrev pub act_by : Context → Acting → Read → Option (Act × Template)
+act_by s (bare this) read = Some (this, [])
+act_by s (filing this) read = with_text s.required this read.positional
+act_by s setting read = setting_in s.required read.tags.modifiers read.positional
+act_by s taking read = taking_in read.tags read.positional
+act_by s leaving read = leaving_in read.name s.loops
+act_by s inactive read = None
+
+-- what an action of this name does
 abbrev pub act_of : Context → CommandName → Read → Option (Act × Template)
-act_of s Keep read = Some (act.Keep, [])
-act_of s Discard read = Some (act.Discard, [])
-act_of s FileInto read = with_text s.required act.FileInto read.positional
-act_of s Set read = setting_in s.required read.tags.modifiers read.positional
-act_of s Take read = taking_in read.tags read.positional
-act_of s Store read = with_text s.required act.Store read.positional
-act_of s Break read = leaving_in read.name s.loops
-act_of s Stop read = Some (act.Stop, [])
-act_of s Require read = None
-act_of s If read = None
-act_of s Elsif read = None
-act_of s Else read = None
-act_of s ForEveryPart read = None
+act_of s name read = act_by s (acting name) read
 
 -- an act with its string, which begins at this token
 abbrev pub action_at : ℕ → Act × Template → PartForm

@@ -4,8 +4,8 @@ use Rattle.sieve_parser.specs.Tree.{CommandsTree}
 use Rattle.sieve_parser.specs.declared.tree.Head.{Head}
 use Rattle.sieve_check.specs.declared.form_error.FormError.{FormError}
 use Rattle.sieve_check.specs.declared.form_error.FormError.TheVariants.{Malformed}
-use Rattle.sieve_check.specs.declared.names.CommandName.{CommandName}
-use Rattle.sieve_check.specs.declared.names.TestName.{TestName}
+use Rattle.sieve_check.specs.declared.table.CommandName.{CommandName}
+use Rattle.sieve_check.specs.declared.table.TestName.{TestName}
 use Rattle.sieve_check.specs.declared.signature.Reading.{Reading}
 use Rattle.sieve_check.specs.declared.surroundings.Capabilities.{Capabilities}
 use Rattle.sieve_check.specs.Names.{command_named, test_named}

@@ -4,8 +4,8 @@ use Rattle.std.specs.List.{find}
 use Rattle.octets.specs.Ascii.{is_word}
 use Rattle.glob_match.specs.declared.comparator.Comparator.{Comparator as ComparatorName}
 use Rattle.glob_match.specs.declared.comparator.Comparator.TheVariants.{Octet, Casemap}
-use Rattle.sieve_check.specs.declared.names.CommandName.{CommandName}
-use Rattle.sieve_check.specs.declared.names.TestName.{TestName}
+use Rattle.sieve_check.specs.declared.table.CommandName.{CommandName}
+use Rattle.sieve_check.specs.declared.table.TestName.{TestName}
 use Rattle.sieve_check.specs.declared.names.Tag.{Tag}
 use Rattle.sieve_check.specs.declared.signature.Ending.{Ending}
 use Rattle.sieve_check.specs.Rows.{Row, all_commands, all_tests, command_row, command_word, is_test, test_row, test_word}

@@ -3,8 +3,8 @@
 use Rattle.std.specs.Prelude.{ℕ, Bool, true, false, not, ◌&&◌, ◌||◌, ◌==◌, if◌then◌else◌, List, [], ◌∷◌, Option, Some, None, is_some, option_map}
 use Rattle.sieve_parser.specs.Tree.{ArgumentTree, text, text_list, amount}
 use Rattle.bytecode_format.specs.Modifiers.{no_modifiers}
-use Rattle.sieve_check.specs.declared.names.CommandName.{CommandName}
-use Rattle.sieve_check.specs.declared.names.TestName.{TestName}
+use Rattle.sieve_check.specs.declared.table.CommandName.{CommandName}
+use Rattle.sieve_check.specs.declared.table.TestName.{TestName}
 use Rattle.sieve_check.specs.declared.names.Tag.{Tag}
 use Rattle.sieve_check.specs.declared.names.Tag.TheVariants.{Order, Kind, Comparator, Letters, FirstLetter, QuoteWildcard, Length, Mime, AnyChild, Select, Name, First}
 use Rattle.bytecode_format.specs.declared.selection.Selector.{Selector}

@@ -12,12 +12,11 @@ ghost use Rattle.sieve_check.specs.Sequences.{part_form};
 ghost use Rattle.sieve_check.specs.TypedView.{commands_form, test_form};
 
 use crate::form_error::FormError;
-use crate::names::CommandName;
 use crate::sequence::{Part, Sequence};
 use crate::signature::{Reading, Tags};
 use crate::strings::template;
 use crate::surroundings::{Capabilities, Surroundings, command_in};
-use crate::table::command_signature;
+use crate::table::{CommandName, command_signature};
 use crate::test_forms::test;
 use crate::typed::{Act, Branch, Command, Segment, Test};
 use bytecode_format::Modifiers;

@@ -52,8 +52,11 @@ pub use checked::Checked;
 pub use checker::{check, reasons_of};
 pub use error::{CheckError, Fault};
 pub use findings::{MAX_FOUND, MAX_REASONS};
-pub use names::{Capability, CommandName, Tag, TestName};
+pub use names::{Capability, Tag};
 pub use references::MAX_NAME;
 pub use signature::{Ending, Positional, Tests};
-pub use table::{command_named, test_named};
+pub use table::{
+    CommandName, TestName, all_commands, all_tests, command_named, command_word, test_named,
+    test_word,
+};
 pub use typed::{Act, Branch, Command, Order, Question, Segment, Strings, Takes, Test};

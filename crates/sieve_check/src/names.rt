@@ -1,68 +1,10 @@
-// What commands, tests, tags, capabilities and comparators are called. ASCII case is ignored but in the last two.
+// What tags, capabilities and comparators are called. ASCII case is ignored but in the last two.
 ghost use Rattle.std.specs.Prelude.{◌≡◌};
 ghost use Rattle.sieve_check.specs.Names.{capability_named, comparator_named};
 
 use crate::typed::Order;
 use bytecode_format::{Case, Selector};
 use glob_match::{Comparator, MatchType};
-
-/// The commands that are known.
-#[derive(Clone, Copy, PartialEq, Eq)]
-pub enum CommandName {
-    /// `require` (RFC 5228, section 3.2).
-    Require,
-    /// `if` (RFC 5228, section 3.1).
-    If,
-    /// `elsif` (RFC 5228, section 3.1).
-    Elsif,
-    /// `else` (RFC 5228, section 3.1).
-    Else,
-    /// `stop` (RFC 5228, section 3.3).
-    Stop,
-    /// `keep` (RFC 5228, section 4.3).
-    Keep,
-    /// `discard` (RFC 5228, section 4.4).
-    Discard,
-    /// `fileinto` (RFC 5228, section 4.1).
-    FileInto,
-    /// `set` (RFC 5229, section 4).
-    Set,
-    /// `foreverypart` (RFC 5703, section 3).
-    ForEveryPart,
-    /// `break` (RFC 5703, section 3).
-    Break,
-    /// `store`, of our own.
-    Store,
-    /// `take`, of our own.
-    Take,
-}
-
-/// The tests that are known.
-#[derive(Clone, Copy)]
-pub enum TestName {
-    /// `true` and `false` (RFC 5228, sections 5.10 and 5.6).
-    Constant(bool),
-    /// `not` (RFC 5228, section 5.8).
-    Not,
-    /// `allof` (RFC 5228, section 5.2).
-    AllOf,
-    /// `anyof` (RFC 5228, section 5.3).
-    AnyOf,
-    /// `header` (RFC 5228, section 5.7).
-    Header,
-    /// `exists` (RFC 5228, section 5.5).
-    Exists,
-    /// `size` (RFC 5228, section 5.9).
-    Size,
-    /// `string` (RFC 5229, section 5).
-    String,
-    /// `partsize`, of our own, as the two that follow.
-    PartSize,
-    /// `partbody`.
-    PartBody,
-    /// `partdigest`.
-    PartDigest,
-}
 
 /// The tags that are known, by the group of which at most one may stand.
 #[derive(Clone, Copy)]

@@ -11,13 +11,13 @@ ghost use Rattle.sieve_check.specs.Refusing.{AreNoted, AreVisited, Finds, contex
 use crate::causes::{Cause, ReasonKind};
 use crate::findings::Findings;
 use crate::mentions::Mentions;
-use crate::names::{Capability, CommandName, Tag};
+use crate::names::{Capability, Tag};
 use crate::signature::{Ending, Reading, Signature, Tests};
 use crate::string_flaws::{StringFlaw, has_many_strings};
 use crate::surroundings::{
     Capabilities, Surroundings, command_in, invocation_in, looks_inside, test_in,
 };
-use crate::table::{Follows, Place, Row, is_test, known_command};
+use crate::table::{CommandName, Follows, Place, Row, is_test, known_command};
 use crate::tag_table::tag_named;
 use sieve_parser::{Argument, Command, Head, Invocation};
 

@@ -9,9 +9,11 @@ ghost use Rattle.sieve_check.specs.Rules.{invocation_of, loop_read, looks_inside
 ghost use Rattle.sieve_check.specs.Arguments.{reading};
 
 use crate::loops::{LoopName, Loops};
-use crate::names::{Capability, CommandName, capability_named};
+use crate::names::{Capability, capability_named};
 use crate::signature::{Signature, Tests};
-use crate::table::{Follows, Row, command_named, command_row, known_command, test_known};
+use crate::table::{
+    CommandName, Follows, Row, command_named, command_row, known_command, test_known,
+};
 use octets::Octets;
 use sieve_parser::{Argument, Command, Head, Invocation};
 

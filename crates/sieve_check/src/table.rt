@@ -1,16 +1,74 @@
-// What is known of each command and test, one row each (RFC 5228, sections 3 to 5; RFC 5229, sections 4 and 5; RFC 5703, sections 3 and
-// 4).
+// The names of commands and tests, and what is known of each, one row each (RFC 5228, sections 3 to 5; RFC 5229,
+// sections 4 and 5; RFC 5703, sections 3 and 4).
 ghost use Rattle.std.specs.Prelude.{◌≡◌, option_map};
 ghost use Rattle.std.specs.List.{find};
 ghost use Rattle.octets.specs.Ascii.{is_word};
 ghost use Rattle.sieve_check.specs.Private.{row_view};
-ghost use Rattle.sieve_check.specs.Rows.{bare, command_row, command_word, is_test, test_row, test_word};
+ghost use Rattle.sieve_check.specs.Rows.{all_commands, all_tests, bare, command_row, command_word, is_test, test_row, test_word};
 ghost use Rattle.sieve_check.specs.Names.{command_named, test_known, test_named};
 ghost use Rattle.sieve_check.specs.Signatures.{command_signature, test_signature};
 
-use crate::names::{Capability, CommandName, TestName};
+use crate::names::Capability;
 use crate::signature::{Ending, Positional, Signature, Tests};
 use octets::is_word;
+
+/// The commands that are known.
+#[derive(Clone, Copy, PartialEq, Eq)]
+pub enum CommandName {
+    /// `require` (RFC 5228, section 3.2).
+    Require,
+    /// `if` (RFC 5228, section 3.1).
+    If,
+    /// `elsif` (RFC 5228, section 3.1).
+    Elsif,
+    /// `else` (RFC 5228, section 3.1).
+    Else,
+    /// `stop` (RFC 5228, section 3.3).
+    Stop,
+    /// `keep` (RFC 5228, section 4.3).
+    Keep,
+    /// `discard` (RFC 5228, section 4.4).
+    Discard,
+    /// `fileinto` (RFC 5228, section 4.1).
+    FileInto,
+    /// `set` (RFC 5229, section 4).
+    Set,
+    /// `foreverypart` (RFC 5703, section 3).
+    ForEveryPart,
+    /// `break` (RFC 5703, section 3).
+    Break,
+    /// `store`, of our own.
+    Store,
+    /// `take`, of our own.
+    Take,
+}
+
+/// The tests that are known.
+#[derive(Clone, Copy)]
+pub enum TestName {
+    /// `true` and `false` (RFC 5228, sections 5.10 and 5.6).
+    Constant(bool),
+    /// `not` (RFC 5228, section 5.8).
+    Not,
+    /// `allof` (RFC 5228, section 5.2).
+    AllOf,
+    /// `anyof` (RFC 5228, section 5.3).
+    AnyOf,
+    /// `header` (RFC 5228, section 5.7).
+    Header,
+    /// `exists` (RFC 5228, section 5.5).
+    Exists,
+    /// `size` (RFC 5228, section 5.9).
+    Size,
+    /// `string` (RFC 5229, section 5).
+    String,
+    /// `partsize`, of our own, as the two that follow.
+    PartSize,
+    /// `partbody`.
+    PartBody,
+    /// `partdigest`.
+    PartDigest,
+}
 
 /// Where a command or test may stand.
 #[derive(Clone, Copy)]
@@ -54,7 +112,7 @@ pub enum Follows {
 #[derive(Clone, Copy)]
 pub struct Row {
     /// What it is called, in lower case.
-    pub word: &'static [u8],
+    pub word: &'static str,
     /// What has to be required for it; `:mime` needs its own capability besides.
     pub needs: &'static [Capability],
     /// The arguments and tests that it takes.
@@ -94,7 +152,7 @@ pub fn command_row(name: CommandName) -> Row
 {
     match name {
         CommandName::Require => Row {
-            word: b"require",
+            word: "require",
             needs: &[],
             signature: Signature {
                 positional: Positional::OneList,
@@ -108,7 +166,7 @@ pub fn command_row(name: CommandName) -> Row
             follows: Follows::Requires,
         },
         CommandName::If => Row {
-            word: b"if",
+            word: "if",
             needs: &[],
             signature: bare(Tests::One),
             ending: Some(Ending::Block),
@@ -119,7 +177,7 @@ pub fn command_row(name: CommandName) -> Row
             follows: Follows::Branches,
         },
         CommandName::Elsif => Row {
-            word: b"elsif",
+            word: "elsif",
             needs: &[],
             signature: bare(Tests::One),
             ending: Some(Ending::Block),
@@ -130,7 +188,7 @@ pub fn command_row(name: CommandName) -> Row
             follows: Follows::Branches,
         },
         CommandName::Else => Row {
-            word: b"else",
+            word: "else",
             needs: &[],
             signature: bare(Tests::Nothing),
             ending: Some(Ending::Block),
@@ -141,7 +199,7 @@ pub fn command_row(name: CommandName) -> Row
             follows: Follows::Others,
         },
         CommandName::Stop => Row {
-            word: b"stop",
+            word: "stop",
             needs: &[],
             signature: bare(Tests::Nothing),
             ending: Some(Ending::Semicolon),
@@ -152,7 +210,7 @@ pub fn command_row(name: CommandName) -> Row
             follows: Follows::Others,
         },
         CommandName::Keep => Row {
-            word: b"keep",
+            word: "keep",
             needs: &[],
             signature: bare(Tests::Nothing),
             ending: Some(Ending::Semicolon),
@@ -163,7 +221,7 @@ pub fn command_row(name: CommandName) -> Row
             follows: Follows::Others,
         },
         CommandName::Discard => Row {
-            word: b"discard",
+            word: "discard",
             needs: &[],
             signature: bare(Tests::Nothing),
             ending: Some(Ending::Semicolon),
@@ -174,7 +232,7 @@ pub fn command_row(name: CommandName) -> Row
             follows: Follows::Others,
         },
         CommandName::FileInto => Row {
-            word: b"fileinto",
+            word: "fileinto",
             needs: &[Capability::FileInto],
             signature: Signature {
                 positional: Positional::Text,
@@ -188,7 +246,7 @@ pub fn command_row(name: CommandName) -> Row
             follows: Follows::Others,
         },
         CommandName::Set => Row {
-            word: b"set",
+            word: "set",
             needs: &[Capability::Variables],
             signature: Signature {
                 modifying: true,
@@ -203,7 +261,7 @@ pub fn command_row(name: CommandName) -> Row
             follows: Follows::Others,
         },
         CommandName::ForEveryPart => Row {
-            word: b"foreverypart",
+            word: "foreverypart",
             needs: &[Capability::ForEveryPart],
             signature: Signature {
                 naming: true,
@@ -217,7 +275,7 @@ pub fn command_row(name: CommandName) -> Row
             follows: Follows::Others,
         },
         CommandName::Break => Row {
-            word: b"break",
+            word: "break",
             needs: &[Capability::ForEveryPart],
             signature: Signature {
                 naming: true,
@@ -231,7 +289,7 @@ pub fn command_row(name: CommandName) -> Row
             follows: Follows::Others,
         },
         CommandName::Store => Row {
-            word: b"store",
+            word: "store",
             needs: &[Capability::Depot],
             signature: Signature {
                 positional: Positional::Text,
@@ -245,7 +303,7 @@ pub fn command_row(name: CommandName) -> Row
             follows: Follows::Others,
         },
         CommandName::Take => Row {
-            word: b"take",
+            word: "take",
             needs: &[Capability::Variables, Capability::Depot],
             signature: Signature {
                 limiting: true,
@@ -269,7 +327,7 @@ pub fn test_row(name: TestName) -> Row
 {
     match name {
         TestName::Constant(value) => Row {
-            word: if value { b"true" } else { b"false" },
+            word: if value { "true" } else { "false" },
             needs: &[],
             signature: bare(Tests::Nothing),
             ending: None,
@@ -280,7 +338,7 @@ pub fn test_row(name: TestName) -> Row
             follows: Follows::Others,
         },
         TestName::Not => Row {
-            word: b"not",
+            word: "not",
             needs: &[],
             signature: bare(Tests::One),
             ending: None,
@@ -291,7 +349,7 @@ pub fn test_row(name: TestName) -> Row
             follows: Follows::Others,
         },
         TestName::AllOf => Row {
-            word: b"allof",
+            word: "allof",
             needs: &[],
             signature: bare(Tests::Bracketed),
             ending: None,
@@ -302,7 +360,7 @@ pub fn test_row(name: TestName) -> Row
             follows: Follows::Others,
         },
         TestName::AnyOf => Row {
-            word: b"anyof",
+            word: "anyof",
             needs: &[],
             signature: bare(Tests::Bracketed),
             ending: None,
@@ -313,7 +371,7 @@ pub fn test_row(name: TestName) -> Row
             follows: Follows::Others,
         },
         TestName::Header => Row {
-            word: b"header",
+            word: "header",
             needs: &[],
             signature: Signature {
                 matching: true,
@@ -330,7 +388,7 @@ pub fn test_row(name: TestName) -> Row
             follows: Follows::Others,
         },
         TestName::Exists => Row {
-            word: b"exists",
+            word: "exists",
             needs: &[],
             signature: Signature {
                 scoped: true,
@@ -345,7 +403,7 @@ pub fn test_row(name: TestName) -> Row
             follows: Follows::Others,
         },
         TestName::Size => Row {
-            word: b"size",
+            word: "size",
             needs: &[],
             signature: Signature {
                 order: true,
@@ -360,7 +418,7 @@ pub fn test_row(name: TestName) -> Row
             follows: Follows::Others,
         },
         TestName::String => Row {
-            word: b"string",
+            word: "string",
             needs: &[Capability::Variables],
             signature: Signature {
                 matching: true,
@@ -375,7 +433,7 @@ pub fn test_row(name: TestName) -> Row
             follows: Follows::Others,
         },
         TestName::PartSize => Row {
-            word: b"partsize",
+            word: "partsize",
             needs: &[Capability::Depot],
             signature: Signature {
                 order: true,
@@ -390,7 +448,7 @@ pub fn test_row(name: TestName) -> Row
             follows: Follows::Others,
         },
         TestName::PartBody => Row {
-            word: b"partbody",
+            word: "partbody",
             needs: &[Capability::Depot],
             signature: Signature {
                 matching: true,
@@ -405,7 +463,7 @@ pub fn test_row(name: TestName) -> Row
             follows: Follows::Others,
         },
         TestName::PartDigest => Row {
-            word: b"partdigest",
+            word: "partdigest",
             needs: &[Capability::Depot],
             signature: Signature {
                 positional: Positional::OneList,
@@ -454,12 +512,40 @@ const TESTS: &[TestName] = &[
     TestName::PartDigest,
 ];
 
+/// All commands.
+pub fn all_commands() -> &'static [CommandName]
+    ensures { result.now ≡ all_commands }
+{
+    COMMANDS
+}
+
+/// All tests.
+pub fn all_tests() -> &'static [TestName]
+    ensures { result.now ≡ all_tests }
+{
+    TESTS
+}
+
+/// What the command is called, in lower case.
+pub fn command_word(name: CommandName) -> &'static str
+    ensures { result.now ≡ command_word name }
+{
+    command_row(name).word
+}
+
+/// What the test is called, in lower case.
+pub fn test_word(name: TestName) -> &'static str
+    ensures { result.now ≡ test_word name }
+{
+    test_row(name).word
+}
+
 // The first of the commands that is called so.
 fn first_command(name: &[u8], commands: &[CommandName]) -> Option<CommandName>
     ensures { result ≡ find (λ known. is_word name.now (command_word known)) commands.now }
 {
     for known in commands {
-        if is_word(name, command_row(*known).word) {
+        if is_word(name, command_word(*known).as_bytes()) {
             return Some(*known);
         }
     }
@@ -471,7 +557,7 @@ fn first_test(name: &[u8], tests: &[TestName]) -> Option<TestName>
     ensures { result ≡ find (λ known. is_word name.now (test_word known)) tests.now }
 {
     for known in tests {
-        if is_word(name, test_row(*known).word) {
+        if is_word(name, test_word(*known).as_bytes()) {
             return Some(*known);
         }
     }

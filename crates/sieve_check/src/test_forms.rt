@@ -1,18 +1,18 @@
 // The typed form of tests.
 ghost use Rattle.std.specs.Prelude.{◌≡◌, map};
 ghost use Rattle.sieve_parser.specs.View.{argument_tree, invocation_tree, more_tests_of};
-ghost use Rattle.sieve_check.specs.FormOf.{none, one, bracketed, match_of, more_forms_of, number_in, question_of, scope_of, test_form_of};
+ghost use Rattle.sieve_check.specs.FormOf.{none, one, bracketed, more_forms_of, number_in, question_of, test_form_of};
+ghost use Rattle.sieve_check.specs.Questions.{match_of, scope_of};
 ghost use Rattle.sieve_check.specs.Forming.{Formed, IsTestRead, head_test};
 ghost use Rattle.sieve_check.specs.Reading.{read_of};
 ghost use Rattle.sieve_check.specs.declared.surroundings.Capabilities.{Capabilities};
 ghost use Rattle.sieve_check.specs.TypedView.{test_form, tests_of};
 
 use crate::form_error::FormError;
-use crate::names::TestName;
 use crate::signature::{Reading, Tags};
 use crate::strings::strings_in;
 use crate::surroundings::Capabilities;
-use crate::table::{test_named, test_signature};
+use crate::table::{TestName, test_named, test_signature};
 use crate::typed::{Question, Test};
 use bytecode_format::{FieldTest, Scope};
 use glob_match::{Comparator, Match, MatchType};

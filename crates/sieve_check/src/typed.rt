@@ -130,7 +130,23 @@ pub enum Act {
 
 impl Question {
     ghost use Rattle.std.specs.Prelude.{◌≡◌};
+    ghost use Rattle.std.specs.Option.{option_to_list};
     ghost use Rattle.sieve_check.specs.Questions.{row_of};
+
+    /// The number that it compares with, if it does.
+    pub fn number(self) -> Option<u64>
+        ensures { option_to_list result ≡ (row_of self).numbers }
+    {
+        match self {
+            Question::Size(_, number) | Question::PartSize(_, number) => Some(number),
+            Question::Constant(_)
+            | Question::Header(_)
+            | Question::Exists(_)
+            | Question::String(_)
+            | Question::PartBody(_)
+            | Question::PartDigest => None,
+        }
+    }
 
     /// Which lists of strings it takes.
     pub fn takes(self) -> Takes
@@ -167,8 +183,10 @@ impl Question {
 }
 
 impl Act {
-    ghost use Rattle.std.specs.Prelude.{◌≡◌};
-    ghost use Rattle.sieve_check.specs.Acts.{act_strings};
+    ghost use Rattle.std.specs.Prelude.{◌≡◌, ℕ, List, option_map};
+    ghost use Rattle.std.specs.Borrow.{Bor};
+    ghost use Rattle.std.specs.Option.{option_to_list};
+    ghost use Rattle.sieve_check.specs.Acts.{act_row, act_strings};
     ghost use Rattle.sieve_check.specs.TypedView.{templates_of};
 
     /// The strings of this with that one: it alone, or none, where it takes none.
@@ -178,6 +196,18 @@ impl Act {
         match self {
             Act::FileInto | Act::Set { .. } | Act::Store => slice::from_ref(string),
             Act::Keep | Act::Discard | Act::Take { .. } | Act::Leave(_) | Act::Stop => &[],
+        }
+    }
+
+    /// The name of the variable that it sets, if it sets one.
+    pub fn sets(&self) -> Option<&Octets>
+        ensures { option_to_list (option_map (λ (name : Bor (List ℕ)). name.now) result)
+            ≡ (act_row self.now).sets }
+    {
+        match self {
+            Act::Set { name, .. } | Act::Take { name, .. } => Some(name),
+            Act::Keep | Act::Discard | Act::FileInto | Act::Store | Act::Leave(_) | Act::Stop =>
+                None,
         }
     }
 }

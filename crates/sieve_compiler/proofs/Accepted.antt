@@ -32,7 +32,7 @@ use Rattle.sieve_compiler.proofs.Standing.{Stands, stands_right, stands_first}
 use Rattle.sieve_compiler.proofs.CodeLengths.{commands_code_length}
 use Rattle.sieve_compiler.proofs.Known.{tables_have}
 use Rattle.sieve_compiler.proofs.Sound.{standing, IsInTable, IsKnown, IsInside, KeepsLoops, IsSound, AreSound, sound_both}
-use Rattle.sieve_compiler.proofs.CommandsSound.{halt_sound, commands_end, commands_sound}
+use Rattle.sieve_compiler.proofs.PiecesSound.{halt_sound, commands_end, commands_sound}
 
 sound_at : (all : List Instruction) (tables : Tables) (last place : ℕ) (piece : List Instruction) (k : ℕ) (i : Instruction) → AreSound all tables last place piece → slice_get piece k ≡ Some i → IsSound all tables last (place + k) i
 sound_at all tables last place [] k i h e = absurd (cc)

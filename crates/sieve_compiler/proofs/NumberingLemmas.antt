@@ -26,6 +26,10 @@ use Rattle.sieve_compiler.proofs.Walks.{split, first_test, first_command, first_
 pub uses_after : (table : Tables) (ms ns : Uses) → with_uses table (joined ms ns) ≡ with_uses (with_uses table ms) ns
 uses_after table ms ns = rw (more_after nat_eq table.numbers ms.numbers ns.numbers, more_after bytes_eq table.strings ms.strings ns.strings, more_after bytes_eq table.variables ms.variables ns.variables) refl
 
+-- the same uses, said otherwise
+pub used_as : {T E : Type 0} (r : Result T E) (table new : Tables) (ms ns : Uses) → ms ≡ ns → OnOk r (new ≡ with_uses table ms) → OnOk r (new ≡ with_uses table ns)
+used_as r table new ms ns same h = subst (λ (l : Uses). OnOk r (new ≡ with_uses table l)) same h
+
 -- what one piece uses, then what is left
 then_left : (table next : Tables) (ms ns all : Uses) → next ≡ with_uses table ms → joined ms ns ≡ all → with_uses next ns ≡ with_uses table all
 then_left table next ms ns all e f = ap (λ l. with_uses l ns) e ∙ sym (uses_after table ms ns) ∙ ap (λ l. with_uses table l) f

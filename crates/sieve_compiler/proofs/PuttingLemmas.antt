@@ -26,7 +26,7 @@ after_piece out next piece tables later n rest len same e =
     ∙ append_assoc out piece (rest tables (length out + n))
 
 -- a piece of n instructions, then the rest
-puts_then : (a b c : Coder) (piece : List Instruction) (n : ℕ) (rest : Tables → ℕ → List Instruction) → length piece ≡ n → Puts a b piece → Puts b c (rest b.tables.now (length b.instructions.items)) → Puts a c (piece ++ rest a.tables.now (length a.instructions.items + n))
+pub puts_then : (a b c : Coder) (piece : List Instruction) (n : ℕ) (rest : Tables → ℕ → List Instruction) → length piece ≡ n → Puts a b piece → Puts b c (rest b.tables.now (length b.instructions.items)) → Puts a c (piece ++ rest a.tables.now (length a.instructions.items + n))
 puts_then a b c piece n rest len p q = record {
   tables = q.tables ∙ p.tables;
   instructions = q.instructions ∙ after_piece a.instructions.items b.instructions.items piece a.tables.now b.tables.now n rest len p.tables p.instructions;
@@ -72,7 +72,7 @@ list_put a b c deciding exit step list t first h1 h2 others o1 o2 o3 at form eh1
 -- ---- lists of strings
 
 -- one piece of code after another
-puts_both : (a b c : Coder) (p q : List Instruction) → Puts a b p → Puts b c q → Puts a c (p ++ q)
+pub puts_both : (a b c : Coder) (p q : List Instruction) → Puts a b p → Puts b c q → Puts a c (p ++ q)
 puts_both a b c p q first second = record {
   tables = second.tables ∙ first.tables;
   instructions = second.instructions ∙ ap (λ l. l ++ q) first.instructions ∙ append_assoc a.instructions.items p q;
@@ -91,7 +91,7 @@ pub all_right : {A : Type 0} (P : A → Type 0) (xs ys : List A) → All P (xs +
 all_right P [] ys h = h
 all_right P (x ∷ xs) ys h = all_right P xs ys (All-tail P x (xs ++ ys) h)
 
-on_ok : {T E : Type 0} {P Q : Type 0} (r : Result T E) → (P → Q) → OnOk r P → OnOk r Q
+pub on_ok : {T E : Type 0} {P Q : Type 0} (r : Result T E) → (P → Q) → OnOk r P → OnOk r Q
 on_ok (Ok x) step h = step h
 on_ok (Err e) step h = h
 

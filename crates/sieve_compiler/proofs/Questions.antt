@@ -16,7 +16,6 @@ use Rattle.bytecode_verifier.proofs.Open.{inside}
 use Rattle.mime_decode.specs.Mail.{Mail, size_of}
 use Rattle.mail_matching.specs.HeaderTests.{exists_in}
 use Rattle.mail_matching.specs.PartTests.{body_match, digest_match}
-use Rattle.mail_matching.specs.Selection.{scope_of}
 use Rattle.sieve_check.specs.declared.typed.Order.{Order}
 use Rattle.sieve_check.specs.declared.typed.Question.{Question}
 use Rattle.sieve_check.specs.declared.typed.Question.TheVariants.{Constant, Header, Exists, Size, String, PartSize, PartBody, PartDigest}
@@ -214,7 +213,7 @@ module _ (tables : Tables) where
     question_effect (Exists scope) e strings h has deep =
         let params : strings.params ≡ [] = h.params in
         let keys : strings.keys ≡ [] = h.keys in
-        rw (params, keys, on_top (length strings.names) (all_expanded e strings.names) [] (length-map strings.names (expanded e)), scope_again scope) (truth_tested (exists_in (scope_of scope) part (all_expanded e strings.names) mail))
+        rw (params, keys, on_top (length strings.names) (all_expanded e strings.names) [] (length-map strings.names (expanded e)), scope_again scope) (truth_tested (exists_in scope part (all_expanded e strings.names) mail))
     question_effect (Size order number) e strings h has deep = on_bare (Size order number) e strings h ∙ size_tested (code_for (Size order number) strings) order number (size_of mail) refl refl has
     question_effect (String how) e strings h has deep =
         let params : strings.params ≡ [] = h.params in

@@ -23,14 +23,14 @@ use Rattle.mail_matching.specs.FirstMatch.{after_comparison, first_key, first_ma
 use Rattle.mail_matching.specs.PartTests.{exactly}
 use Rattle.mime_decode.specs.Content.{digest_of}
 use Rattle.mime_decode.specs.Mail.{Mail, Part as MailPart}
-use Rattle.mime_decode.specs.Scope.{selected_values, visited}
+use Rattle.mime_decode.specs.Visited.{visited}
+use Rattle.mail_matching.specs.Selection.{selected_values}
 use Rattle.sieve_check.specs.declared.typed.Act.{Act}
 use Rattle.sieve_check.specs.declared.typed.Act.TheVariants.{Keep, Discard, FileInto, Set, Take, Store, Leave, Stop}
 use Rattle.sieve_check.specs.declared.typed.Question.{Question}
 use Rattle.sieve_check.specs.declared.typed.Question.TheVariants.{Constant, Header, Exists, Size, String, PartSize, PartBody, PartDigest}
 use Rattle.sieve_check.specs.Bounded.{IsBoundedAct, IsBoundedCommand, AreBoundedCommands, AreBoundedBranches}
 use Rattle.sieve_check.specs.Typed.{TestForm, asks, negation, all_of, any_of, TestForms, no_test, test, CommandForm, does, for_every_part, choice, CommandForms, no_command, command, BranchForms, no_branch, otherwise, branch}
-use Rattle.mail_matching.specs.Selection.{scope_of, selector_of}
 use Rattle.sieve_meaning.specs.Meaning.{Effects, no_effects, Texts, texts_of, expanded, with_taken, with_value, Verdict, verdict, matched, and_then, or_else, Ending, normal, stopped, broken, effects_of, followed_by, left, after_turn, turns, is_size, current, answer, test_does, all_do, any_do, act_does, command_does, commands_do, choice_does}
 
 -- ---- short values
@@ -163,7 +163,7 @@ of_part_short asked (Some p) h = h p
 module _ (mail : Mail) where
   answer_short : (part : Option ℕ) (q : Question) (texts : Texts) (captures : List (List ℕ)) → All IsShort captures → IfSome (answer mail part q texts captures) (All IsShort)
   answer_short part (Constant b) texts captures short = still_some b captures short
-  answer_short part (Header fields) texts captures short = after_values fields.how (selected_values (scope_of fields.scope) part (selector_of fields.selector texts.params) texts.names mail) texts.keys captures short
+  answer_short part (Header fields) texts captures short = after_values fields.how (selected_values fields.scope part fields.selector texts.params texts.names mail) texts.keys captures short
   answer_short part (Exists scope) texts captures short = still_some _ captures short
   answer_short part (Size order number) texts captures short = still_some _ captures short
   answer_short part (String how) texts captures short = after_values how texts.names texts.keys captures short

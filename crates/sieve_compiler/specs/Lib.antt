@@ -6,3 +6,4 @@ pub mod Coding
 -- private: how the code goes; no public contract names these
 pub mod Growing
 pub mod Putting
+pub mod Aiming

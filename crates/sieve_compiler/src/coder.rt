@@ -2,8 +2,10 @@
 ghost use Rattle.std.specs.Prelude.{◌≡◌, ◌<◌, ◌^◌, length};
 
 use crate::exits::{Exit, ListExit};
-use crate::instructions::{act_code, instruction, join_texts, jump_if, question_code};
-use crate::lengths::{command_length, commands_length, is_left, test_length, tests_length};
+use crate::instructions::{
+    NO_TARGET, act_code, aim_all, instruction, join_texts, jump_if, question_code,
+};
+use crate::lengths::{has_leaves, is_left, test_length, tests_length};
 use crate::tables::Tables;
 use bytecode_format::{Instruction, Operation};
 use sieve_check::{Branch, Command, Question, Segment, Strings, Test};
@@ -20,7 +22,8 @@ pub struct Coder<'t, 's> {
 }
 
 impl<'t, 's> Coder<'t, 's> {
-    ghost use Rattle.std.specs.Prelude.{◌≡◌, ◌+◌, ◌<◌, ◌^◌, false, [], ◌∷◌, ◌++◌, length, map, All, OnOk};
+    ghost use Rattle.std.specs.Prelude.{◌≡◌, ◌+◌, ◌<◌, ◌≤◌, ◌^◌, [], ◌∷◌, ◌++◌, List, length, map, All, OnOk};
+    ghost use Rattle.bytecode_format.specs.declared.instruction.Instruction.{Instruction};
     ghost use Rattle.sieve_check.specs.TypedView.{templates_of, strings_form, test_form, tests_of, command_form, commands_form};
     ghost use Rattle.sieve_check.specs.Private.{branch_forms, else_form};
     ghost use Rattle.sieve_compiler.specs.Lengths.{string_length, strings_length, test_length, tests_length, leave_length, command_length, commands_length};
@@ -28,6 +31,7 @@ impl<'t, 's> Coder<'t, 's> {
     ghost use Rattle.sieve_check.specs.Questions.{row_of};
     ghost use Rattle.sieve_check.specs.Bounded.{IsBoundedString, AreBoundedStrings, IsBoundedTest, AreBoundedTests, IsBoundedCommand, AreBoundedCommands};
     ghost use Rattle.sieve_compiler.specs.Coding.{jump_if, loop_code, question_code, push_text, push_segment, string_code, strings_code, test_code, tests_code, leave_code, command_code, commands_code};
+    ghost use Rattle.sieve_compiler.specs.Aiming.{aimed, with_target, branch_code, unaimed_code};
     ghost use Rattle.sieve_compiler.specs.Putting.{Puts};
 
     /// No code. Takes no memory.
@@ -60,6 +64,30 @@ impl<'t, 's> Coder<'t, 's> {
     {
         self.instructions.push(instruction)?;
         Ok(())
+    }
+
+    // Sets the target of the jumps from one place to another that wait for it.
+    fn aim(&mut self, from: u32, end: u32, target: u32)
+        requires from { from ≤ end }
+        requires end { end ≤ length self.now.instructions.items }
+        ensures tables { self.new.tables.now ≡ self.old.tables.now }
+        ensures code { (before piece after : List Instruction)
+            → self.old.instructions.items ≡ before ++ piece ++ after → from ≡ length before
+            → end ≡ length before + length piece
+            → self.new.instructions.items ≡ before ++ map (aimed target) piece ++ after }
+    {
+        aim_all(&mut self.instructions[from as usize..end as usize], target);
+    }
+
+    // Sets the target of the instruction at a place.
+    fn set_target(&mut self, place: u32, target: u32)
+        requires { place < length self.now.instructions.items }
+        ensures tables { self.new.tables.now ≡ self.old.tables.now }
+        ensures code { (before after : List Instruction) (one : Instruction)
+            → self.old.instructions.items ≡ before ++ one ∷ after → place ≡ length before
+            → self.new.instructions.items ≡ before ++ with_target target one ∷ after }
+    {
+        self.instructions[place as usize].c = target;
     }
 
     // Pushes a text.
@@ -242,7 +270,8 @@ impl<'t, 's> Coder<'t, 's> {
         }
     }
 
-    // Puts the code of a command.
+    // Puts the code of a command. The jumps of an `if` to its end are aimed when that is known: an instruction is
+    // looked at again for each `if` around it that has such jumps, and these have a limit.
     #[cycle(commands)]
     fn put_command(&mut self, command: &Command) -> Result<(), AllocError>
         requires room { length self.old.instructions.items + command_length
@@ -254,6 +283,27 @@ impl<'t, 's> Coder<'t, 's> {
         ensures room { OnOk result (length self.new.instructions.items
             ≡ length self.old.instructions.items + command_length (command_form command.now)) }
     {
+        let start = self.place();
+        self.put_unaimed(command)?;
+        if has_leaves(command) {
+            let end = self.place();
+            self.aim(start, end, end);
+        }
+        Ok(())
+    }
+
+    // Puts the code of a command. The jumps of an `if` to its end wait for it.
+    #[cycle(commands)]
+    fn put_unaimed(&mut self, command: &Command) -> Result<(), AllocError>
+        requires room { length self.old.instructions.items + command_length
+            (command_form command.now) < 2 ^ 32 }
+        requires bounded { IsBoundedCommand (command_form command.now) }
+        ensures code { OnOk result (Puts self.old self.new
+            (unaimed_code self.old.tables.now (length self.old.instructions.items)
+            (command_form command.now))) }
+        ensures room { OnOk result (length self.new.instructions.items
+            ≡ length self.old.instructions.items + command_length (command_form command.now)) }
+    {
         match command {
             Command::Does { act, string, .. } => {
                 self.put_strings(act.strings(string))?;
@@ -261,13 +311,8 @@ impl<'t, 's> Coder<'t, 's> {
             }
             Command::ForEveryPart { block, .. } => self.put_loop(block)?,
             Command::If(branches, otherwise) => {
-                let end = self.place() + command_length(command);
                 'branches: for (i, branch) in branches.iter().enumerate() {
-                    let after = &branches[i + 1..];
-                    let exit = self.branch_exit(branch, after, otherwise);
-                    self.put_test(&branch.test, exit)?;
-                    self.put_commands(&branch.block)?;
-                    self.put_leave(after, otherwise, end)?;
+                    self.put_branch(branch, &branches[i + 1..], otherwise)?;
                 }
                 if let Some(block) = otherwise {
                     self.put_commands(block)?;
@@ -293,9 +338,10 @@ impl<'t, 's> Coder<'t, 's> {
             (commands_form body.now) + 2)) }
     {
         let each = self.place();
-        let next = each + 1 + commands_length(body);
-        self.put(instruction(Operation::Each, 0, next))?;
+        self.put(instruction(Operation::Each, 0, NO_TARGET))?;
         self.put_commands(body)?;
+        let next = self.place();
+        self.set_target(each, next);
         self.put(instruction(Operation::Next, 0, each))
     }
 
@@ -318,47 +364,60 @@ impl<'t, 's> Coder<'t, 's> {
         Ok(())
     }
 
-    // Where the test of a branch goes to that begins here: where it is false, to what is after the branch.
-    fn branch_exit(
-        &self,
+    // Puts the code of a branch. Its test jumps behind its block, and is aimed when that stands.
+    #[cycle(commands)]
+    fn put_branch(
+        &mut self,
         branch: &Branch,
         after: &[Branch],
         otherwise: &Option<Vec<Command>>,
-    ) -> Exit
-        requires { length self.now.instructions.items + test_length
+    ) -> Result<(), AllocError>
+        requires room { length self.old.instructions.items + (test_length
             (test_form branch.now.test) + commands_length
             (commands_form branch.now.block.items) + leave_length
-            (branch_forms after.now (else_form otherwise.now)) < 2 ^ 32 }
-        ensures asked { result.asked ≡ false }
-        ensures target { result.target
-            ≡ length self.now.instructions.items + test_length
+            (branch_forms after.now (else_form otherwise.now))) < 2 ^ 32 }
+        requires test { IsBoundedTest (test_form branch.now.test) }
+        requires block { AreBoundedCommands (commands_form branch.now.block.items) }
+        ensures code { OnOk result (Puts self.old self.new
+            (branch_code self.old.tables.now (length self.old.instructions.items)
+            (test_form branch.now.test) (commands_form branch.now.block.items)
+            (branch_forms after.now (else_form otherwise.now)))) }
+        ensures room { OnOk result (length self.new.instructions.items
+            ≡ length self.old.instructions.items + (test_length
             (test_form branch.now.test) + commands_length
             (commands_form branch.now.block.items) + leave_length
-            (branch_forms after.now (else_form otherwise.now)) }
+            (branch_forms after.now (else_form otherwise.now)))) }
     {
-        let block = self.place() + test_length(&branch.test);
-        let following = block + commands_length(&branch.block);
-        Exit {
-            asked: false,
-            target: following + u32::from(is_left(after, otherwise)),
-        }
+        let test = self.place();
+        self.put_test(
+            &branch.test,
+            Exit {
+                asked: false,
+                target: NO_TARGET,
+            },
+        )?;
+        let block = self.place();
+        self.put_commands(&branch.block)?;
+        self.put_leave(after, otherwise)?;
+        let next = self.place();
+        self.aim(test, block, next);
+        Ok(())
     }
 
-    // Puts the jump after a block to the end of its `if`, where branches or an `else` are left.
+    // Puts the jump after a block, which waits for the end of its `if`, where branches or an `else` are left.
     fn put_leave(
         &mut self,
         after: &[Branch],
         otherwise: &Option<Vec<Command>>,
-        end: u32,
     ) -> Result<(), AllocError>
         ensures code { OnOk result (Puts self.old self.new
-            (leave_code (branch_forms after.now (else_form otherwise.now)) end)) }
+            (leave_code (branch_forms after.now (else_form otherwise.now)) 0)) }
         ensures room { OnOk result (length self.new.instructions.items
             ≡ length self.old.instructions.items + leave_length
             (branch_forms after.now (else_form otherwise.now))) }
     {
         if is_left(after, otherwise) {
-            self.put(instruction(Operation::Jump, 0, end))?;
+            self.put(instruction(Operation::Jump, 0, NO_TARGET))?;
         }
         Ok(())
     }

@@ -1,8 +1,9 @@
 // The instructions of which code is made.
-ghost use Rattle.std.specs.Prelude.{◌≡◌, ◌+◌, ◌<◌, ◌≤◌, ◌^◌, length};
+ghost use Rattle.std.specs.Prelude.{◌≡◌, ◌+◌, ◌<◌, ◌≤◌, ◌^◌, length, map};
 ghost use Rattle.octets.specs.Limits.{max_test_strings};
 ghost use Rattle.sieve_check.specs.TypedView.{strings_form};
 ghost use Rattle.sieve_compiler.specs.Coding.{instruction_with, instruction, jump_if, join_texts, order_number, question_code, act_code};
+ghost use Rattle.sieve_compiler.specs.Aiming.{is_jump, aimed};
 
 use crate::exits::Exit;
 use crate::tables::Tables;
@@ -114,4 +115,39 @@ pub fn join_texts(texts: u16) -> Instruction
     ensures { result ≡ join_texts texts }
 {
     instruction_with(Operation::Join, 0, texts, 0)
+}
+
+/// The target of a jump that waits for one: no jump leads to the first instruction.
+pub const NO_TARGET: u32 = 0;
+
+// Whether the octet names a jump.
+fn is_jump(octet: u8) -> bool
+    ensures { result ≡ is_jump octet }
+{
+    octet == Operation::Jump.octet()
+        || octet == Operation::JumpIfTrue.octet()
+        || octet == Operation::JumpIfFalse.octet()
+}
+
+// The instruction, with the target where it is a jump that waits for one.
+fn aimed(instruction: Instruction, target: u32) -> Instruction
+    ensures { result ≡ aimed target instruction }
+{
+    if is_jump(instruction.op) && instruction.c == NO_TARGET {
+        Instruction {
+            c: target,
+            ..instruction
+        }
+    } else {
+        instruction
+    }
+}
+
+/// Sets the target of the jumps that wait for one.
+pub fn aim_all(instructions: &mut [Instruction], target: u32)
+    ensures { instructions.new ≡ map (aimed target) instructions.old }
+{
+    for instruction in instructions.iter_mut() {
+        *instruction = aimed(*instruction, target);
+    }
 }

@@ -1,13 +1,13 @@
-// How many instructions the code of each piece has.
+// How many instructions the code of strings and tests has.
 //
-// Measuring goes down the whole piece. A piece is measured once for each list of tests and each loop around
-// it, and twice for each `if`; these are nested at most 32 deep in a script, so the time stays linear in the
-// script's length.
+// Measuring goes down the whole piece. A test is measured once for each list of tests around it, and these are
+// nested at most 32 deep in a script, so the time stays linear in the script's length.
 ghost use Rattle.std.specs.Prelude.{◌≡◌, ◌<◌, ◌^◌, map, if◌then◌else◌};
-ghost use Rattle.sieve_check.specs.TypedView.{templates_of, strings_form, test_form, tests_of, command_form, commands_form};
+ghost use Rattle.sieve_check.specs.TypedView.{templates_of, strings_form, test_form, tests_of, command_form};
 ghost use Rattle.sieve_check.specs.Private.{branch_forms, else_form};
 ghost use Rattle.sieve_check.specs.Typed.{in_order};
-ghost use Rattle.sieve_compiler.specs.Lengths.{string_length, strings_length, test_length, tests_length, leave_length, command_length, commands_length};
+ghost use Rattle.sieve_compiler.specs.Lengths.{string_length, strings_length, test_length, tests_length, leave_length};
+ghost use Rattle.sieve_compiler.specs.Aiming.{first_leave_length, leaves_length};
 
 use sieve_check::{Branch, Command, Segment, Strings, Test};
 
@@ -78,38 +78,23 @@ pub fn is_left(branches: &[Branch], otherwise: &Option<Vec<Command>>) -> bool
     !branches.is_empty() || otherwise.is_some()
 }
 
-/// How many instructions a command has.
-#[cycle(command_lengths)]
-pub fn command_length(command: &Command) -> u32
-    requires { command_length (command_form command.now) < 2 ^ 32 }
-    ensures { result ≡ command_length (command_form command.now) }
+// Whether the first of the blocks is left by a jump.
+fn is_first_left(branches: &[Branch], otherwise: &Option<Vec<Command>>) -> bool
+    ensures { first_leave_length (branch_forms branches.now (else_form otherwise.now))
+        ≡ (if result then 1 else 0) }
 {
-    match command {
-        Command::Does { act, string, .. } => strings_length(act.strings(string)) + 1,
-        Command::ForEveryPart { block, .. } => commands_length(block) + 2,
-        Command::If(branches, otherwise) => {
-            let mut total = 0;
-            'branches: for (i, branch) in branches.iter().enumerate() {
-                total += test_length(&branch.test) + commands_length(&branch.block);
-                total += u32::from(is_left(&branches[i + 1..], otherwise));
-            }
-            match otherwise {
-                Some(block) => total + commands_length(block),
-                None => total,
-            }
-        }
+    match branches {
+        [] => false,
+        [_, after @ ..] => is_left(after, otherwise),
     }
 }
 
-/// How many instructions commands have together.
-#[cycle(command_lengths)]
-pub fn commands_length(commands: &[Command]) -> u32
-    requires { commands_length (commands_form commands.now) < 2 ^ 32 }
-    ensures { result ≡ commands_length (commands_form commands.now) }
+/// Whether blocks of the command are left by jumps to its end: then its first block is.
+pub fn has_leaves(command: &Command) -> bool
+    ensures { leaves_length (command_form command.now) ≡ (if result then 1 else 0) }
 {
-    let mut total = 0;
-    'commands: for command in commands {
-        total += command_length(command);
+    match command {
+        Command::If(branches, otherwise) => is_first_left(branches, otherwise),
+        Command::Does { .. } | Command::ForEveryPart { .. } => false,
     }
-    total
 }

@@ -84,19 +84,21 @@ impl<'a> Tables<'a> {
         self.add_strings(&strings.keys)
     }
 
-    // Adds the number that a question compares, where it does.
+    // Adds a number.
+    fn add_number(&mut self, number: u64) -> Result<(), AllocError>
+        ensures { OnOk result (self.new ≡ with_uses self.old (uses_with (number ∷ []) [] [])) }
+    {
+        self.numbers.add(number)
+    }
+
+    // Adds the number that a question compares with, where it does.
     fn add_compared(&mut self, question: Question) -> Result<(), AllocError>
         ensures { OnOk result (self.new
             ≡ with_uses self.old (uses_with (row_of question).numbers [] [])) }
     {
-        match question {
-            Question::Size(_, number) | Question::PartSize(_, number) => self.numbers.add(number),
-            Question::Constant(_)
-            | Question::Header(_)
-            | Question::Exists(_)
-            | Question::String(_)
-            | Question::PartBody(_)
-            | Question::PartDigest => Ok(()),
+        match question.number() {
+            Some(number) => self.add_number(number),
+            None => Ok(()),
         }
     }
 
@@ -139,11 +141,9 @@ impl<'a> Tables<'a> {
         ensures { OnOk result (self.new
             ≡ with_uses self.old (uses_with [] [] (act_row act.now).sets)) }
     {
-        match act {
-            Act::Set { name, .. } | Act::Take { name, .. } => self.add_variable(name.as_slice()),
-            Act::Keep | Act::Discard | Act::FileInto | Act::Store | Act::Leave(_) | Act::Stop => {
-                Ok(())
-            }
+        match act.sets() {
+            Some(name) => self.add_variable(name.as_slice()),
+            None => Ok(()),
         }
     }
 

@@ -9,6 +9,9 @@ use Rattle.refusals.specs.declared.refusal.Refusal.TheVariants as refused
 use Rattle.sieve_explain.specs.Faults.{Beginning, beginning}
 use Rattle.sieve_explain.specs.Hints.{Vocabulary}
 use Rattle.sieve_explain.specs.declared.hints.Vocabulary as code
+use Rattle.sieve_explain.specs.declared.words.Names.{Names}
+use Rattle.sieve_explain.specs.declared.words.Names.TheVariants.{Commands, Tests, Words}
+use Rattle.sieve_check.specs.Rows.{all_commands, all_tests, command_word, test_word}
 use Rattle.sieve_lexer.specs.declared.token.Token.{Token}
 use Rattle.sieve_explain.specs.declared.sentence.Sentence.{Sentence}
 use Rattle.sieve_explain.specs.Sentences.{Blanks}
@@ -16,6 +19,12 @@ use Rattle.sieve_explain.specs.Sentences.{Blanks}
 -- texts of the code, and a row of a table
 abbrev pub texts_of : List (Bor (List ℕ)) → List (List ℕ)
 texts_of texts = map (λ (text : Bor (List ℕ)). text.now) texts
+
+-- names of one kind
+abbrev pub names_of : Names → List (List ℕ)
+names_of Commands = map command_word all_commands
+names_of Tests = map test_word all_tests
+names_of (Words words) = texts_of words.now
 
 abbrev pub hint_of : (Bor (List (Bor (List ℕ))) × Bor (List ℕ)) → Hint
 hint_of row = hint (texts_of row.0.now) row.1.now
@@ -33,7 +42,7 @@ beginning_of row = beginning row.0.now row.1.now
 abbrev pub vocabulary_of : code.Vocabulary → Vocabulary
 vocabulary_of known = record {
   elsewhere = map hint_of known.elsewhere.now;
-  names = texts_of known.names.now;
+  names = names_of known.names;
   lacks = known.lacks.now;
   hinting = known.hinting.now;
   hinting_two = known.hinting_two.now;

@@ -6,7 +6,7 @@ ghost use Rattle.sieve_explain.specs.Hints.{known_tags, lacking, meant, meant_to
 ghost use Rattle.sieve_explain.specs.Private.{vocabulary_of, blanks_of};
 
 use crate::sentence::{Sentence, plain};
-use crate::words::{Row, is_any, nearest, nearest_but, with_words, words_for};
+use crate::words::{Names, Row, is_any, nearest, nearest_but, with_words, words_for};
 use sieve_check::{command_named, test_named};
 
 /// The names of one kind, and the sentences for a name that is none of them.
@@ -14,7 +14,7 @@ pub struct Vocabulary {
     /// What stands elsewhere for some of the names.
     pub elsewhere: &'static [Row],
     /// The names.
-    pub names: &'static [&'static str],
+    pub names: Names,
     /// For a name that depot lacks.
     pub lacks: &'static str,
     /// For a name by which one of these is meant.
@@ -35,21 +35,7 @@ const COMMANDS: &Vocabulary = &Vocabulary {
         (&["save"], "store"),
         (&["exit", "return"], "stop"),
     ],
-    names: &[
-        "require",
-        "if",
-        "elsif",
-        "else",
-        "stop",
-        "keep",
-        "discard",
-        "fileinto",
-        "set",
-        "foreverypart",
-        "break",
-        "store",
-        "take",
-    ],
+    names: Names::Commands,
     lacks: "depot has no @: &",
     hinting: "unknown command @, did you mean `&`?",
     hinting_two: "unknown command @, did you mean `&` or `~`?",
@@ -67,51 +53,41 @@ const TESTS: &Vocabulary = &Vocabulary {
         ),
         (&["filesize"], "size"),
     ],
-    names: &[
-        "true",
-        "false",
-        "not",
-        "allof",
-        "anyof",
-        "header",
-        "exists",
-        "size",
-        "string",
-        "partsize",
-        "partbody",
-        "partdigest",
-    ],
+    names: Names::Tests,
     lacks: "depot has no @: &",
     hinting: "unknown test @, did you mean `&`?",
     hinting_two: "unknown test @, did you mean `&` or `~`?",
     alone: "unknown test @",
 };
 
+// What the tags are called.
+const TAG_WORDS: &[&str] = &[
+    "over",
+    "under",
+    "is",
+    "contains",
+    "matches",
+    "comparator",
+    "lower",
+    "upper",
+    "lowerfirst",
+    "upperfirst",
+    "quotewildcard",
+    "length",
+    "mime",
+    "anychild",
+    "type",
+    "subtype",
+    "contenttype",
+    "param",
+    "name",
+    "first",
+];
+
 // The tags.
 const TAGS: &Vocabulary = &Vocabulary {
     elsewhere: &[],
-    names: &[
-        "over",
-        "under",
-        "is",
-        "contains",
-        "matches",
-        "comparator",
-        "lower",
-        "upper",
-        "lowerfirst",
-        "upperfirst",
-        "quotewildcard",
-        "length",
-        "mime",
-        "anychild",
-        "type",
-        "subtype",
-        "contenttype",
-        "param",
-        "name",
-        "first",
-    ],
+    names: Names::Words(TAG_WORDS),
     lacks: "depot has no #: &",
     hinting: "depot knows no tag #, did you mean `:&`?",
     hinting_two: "depot knows no tag #, did you mean `:&` or `:~`?",
@@ -121,7 +97,7 @@ const TAGS: &Vocabulary = &Vocabulary {
 // The capabilities, all of which are listed where none comes near.
 const CAPABILITIES: &Vocabulary = &Vocabulary {
     elsewhere: &[],
-    names: &[
+    names: Names::Words(&[
         "fileinto",
         "variables",
         "mime",
@@ -129,7 +105,7 @@ const CAPABILITIES: &Vocabulary = &Vocabulary {
         "vnd.depot",
         "comparator-i;octet",
         "comparator-i;ascii-casemap",
-    ],
+    ]),
     lacks: "depot has no $: &",
     hinting: "depot knows no capability $, did you mean \"&\"?",
     hinting_two: "depot knows no capability $, did you mean \"&\" or \"~\"?",
@@ -231,7 +207,7 @@ fn meant(name: &[u8], known: &Vocabulary) -> &'static str
     ensures { result.now ≡ meant name.now (vocabulary_of known.now) }
 {
     let elsewhere = words_for(name, known.elsewhere);
-    with_words(elsewhere, elsewhere, nearest(name, known.names))
+    with_words(elsewhere, elsewhere, nearest(name, &known.names))
 }
 
 // Another name that may be meant, where one comes as near, or nothing.
@@ -240,8 +216,8 @@ fn meant_too(name: &[u8], known: &Vocabulary) -> &'static str
     ensures { result.now ≡ meant_too name.now (vocabulary_of known.now) }
 {
     let elsewhere = words_for(name, known.elsewhere);
-    let nearest = nearest(name, known.names);
-    with_words(elsewhere, "", nearest_but(name, nearest, known.names))
+    let nearest = nearest(name, &known.names);
+    with_words(elsewhere, "", nearest_but(name, nearest, &known.names))
 }
 
 // The sentence for a name that nothing has: with why it is lacking, else with what is meant by it, where there is either.
@@ -303,7 +279,7 @@ pub fn unknown_tag(tag: &[u8]) -> Sentence<'_>
 pub fn is_tag(name: &[u8]) -> bool
     ensures { result ≡ list_any (is_word name.now) known_tags.names }
 {
-    is_any(name, TAGS.names)
+    is_any(name, TAG_WORDS)
 }
 
 // The sentence for a capability.

@@ -3,10 +3,22 @@ ghost use Rattle.std.specs.Prelude.{◌≡◌, map};
 ghost use Rattle.std.specs.List.{list_any};
 ghost use Rattle.octets.specs.Ascii.{is_word};
 ghost use Rattle.sieve_explain.specs.Words.{begin_off, begin_swapped, differ_at, is_near, nearest, nearest_but, with_words, words_for};
-ghost use Rattle.sieve_explain.specs.Private.{hint_of, texts_of};
+ghost use Rattle.sieve_check.specs.Rows.{command_word, test_word};
+ghost use Rattle.sieve_explain.specs.Private.{hint_of, names_of, texts_of};
 
 use crate::places::around;
 use octets::is_word;
+use sieve_check::{CommandName, TestName, all_commands, all_tests, command_word, test_word};
+
+/// The names of one kind.
+pub enum Names {
+    /// Those of all commands.
+    Commands,
+    /// Those of all tests.
+    Tests,
+    /// These.
+    Words(&'static [&'static str]),
+}
 
 /// A row of a table: names, and the words for each of them.
 pub type Row = (&'static [&'static str], &'static str);
@@ -91,7 +103,7 @@ fn is_near(name: &[u8], word: &[u8]) -> bool
 }
 
 // The first of the words that is near and isn't a word that was found before, or nothing.
-pub fn nearest_but(name: &[u8], found: &str, words: &[&'static str]) -> &'static str
+fn nearest_word(name: &[u8], found: &str, words: &[&'static str]) -> &'static str
     ensures { result.now ≡ nearest_but name.now found.now (texts_of words.now) }
 {
     for word in words {
@@ -102,9 +114,46 @@ pub fn nearest_but(name: &[u8], found: &str, words: &[&'static str]) -> &'static
     ""
 }
 
-// The first of the words that is near, or nothing.
-pub fn nearest(name: &[u8], words: &[&'static str]) -> &'static str
-    ensures { result.now ≡ nearest name.now (texts_of words.now) }
+// The same of the words of commands.
+fn nearest_command(name: &[u8], found: &str, commands: &[CommandName]) -> &'static str
+    ensures { result.now ≡ nearest_but name.now found.now (map command_word commands.now) }
 {
-    nearest_but(name, "", words)
+    for known in commands {
+        let word = command_word(*known);
+        if is_near(name, word.as_bytes()) && !is_word(word.as_bytes(), found.as_bytes()) {
+            return word;
+        }
+    }
+    ""
+}
+
+// The same of the words of tests.
+fn nearest_test(name: &[u8], found: &str, tests: &[TestName]) -> &'static str
+    ensures { result.now ≡ nearest_but name.now found.now (map test_word tests.now) }
+{
+    for known in tests {
+        let word = test_word(*known);
+        if is_near(name, word.as_bytes()) && !is_word(word.as_bytes(), found.as_bytes()) {
+            return word;
+        }
+    }
+    ""
+}
+
+// The first of the names that is near and isn't a word that was found before, or nothing.
+pub fn nearest_but(name: &[u8], found: &str, names: &Names) -> &'static str
+    ensures { result.now ≡ nearest_but name.now found.now (names_of names.now) }
+{
+    match names {
+        Names::Commands => nearest_command(name, found, all_commands()),
+        Names::Tests => nearest_test(name, found, all_tests()),
+        Names::Words(words) => nearest_word(name, found, words),
+    }
+}
+
+// The first of the names that is near, or nothing.
+pub fn nearest(name: &[u8], names: &Names) -> &'static str
+    ensures { result.now ≡ nearest name.now (names_of names.now) }
+{
+    nearest_but(name, "", names)
 }

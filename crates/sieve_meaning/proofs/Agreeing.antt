@@ -5,11 +5,10 @@ use Rattle.glob_match.specs.declared.match_type.Match.{Match}
 use Rattle.mail_matching.specs.Findings.{finding_of, is_pair}
 use Rattle.mail_matching.specs.FirstMatch.{first_match}
 use Rattle.mail_matching.specs.PartTests.{exactly}
-use Rattle.mail_matching.specs.Selection.{scope_of, selector_of}
 use Rattle.mail_matching.proofs.Pairs.{finding_holds}
 use Rattle.mime_decode.specs.Content.{digest_of}
 use Rattle.mime_decode.specs.Mail.{Mail, Part}
-use Rattle.mime_decode.specs.Scope.{selected_values}
+use Rattle.mail_matching.specs.Selection.{selected_values}
 use Rattle.sieve_check.specs.declared.typed.Question.{Question}
 use Rattle.sieve_check.specs.declared.typed.Question.TheVariants.{Constant, Header, Exists, Size, String, PartSize, PartBody, PartDigest}
 use Rattle.sieve_meaning.specs.Meaning.{Texts, answer, current}
@@ -23,7 +22,7 @@ of_part how value keys captures (Some p) = finding_holds how (value p ∷ []) ke
 pub agrees : (mail : Mail) (part : Option ℕ) (question : Question) (texts : Texts) (captures : List (List ℕ)) → IfSome (found mail part question texts) (λ finding. is_pair finding ≡ is_some (answer mail part question texts captures))
 agrees mail part (Constant b) texts captures = tt
 agrees mail part (Header fields) texts captures =
-    finding_holds fields.how (selected_values (scope_of fields.scope) part (selector_of fields.selector texts.params) texts.names mail) texts.keys captures
+    finding_holds fields.how (selected_values fields.scope part fields.selector texts.params texts.names mail) texts.keys captures
 agrees mail part (Exists scope) texts captures = tt
 agrees mail part (Size order number) texts captures = tt
 agrees mail part (String how) texts captures = finding_holds how texts.names texts.keys captures

@@ -6,7 +6,7 @@ use Rattle.std.specs.Global.{Vec}
 use Rattle.std.proofs.Math.Seq.{drop-cons}
 use Rattle.std.proofs.lemmas.List.{drop_all}
 use Rattle.mime_decode.specs.Mail.{Mail}
-use Rattle.mime_decode.specs.Scope.{numbers_from, visited}
+use Rattle.mime_decode.specs.Visited.{numbers_from, visited}
 use Rattle.sieve_check.specs.Bounded.{IsBoundedTest, AreBoundedTests, AreBoundedCommands, AreBoundedBranches}
 use Rattle.sieve_check.specs.declared.typed.Branch.{Branch}
 use Rattle.sieve_check.specs.declared.typed.Test.{Test}

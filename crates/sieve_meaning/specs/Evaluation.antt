@@ -6,6 +6,7 @@ use Rattle.sieve_meaning.specs.declared.evaluator.Evaluator.{Evaluator}
 use Rattle.sieve_meaning.specs.declared.evaluator.Flow.{Flow}
 use Rattle.sieve_meaning.specs.declared.evaluator.Flow.TheVariants.{GoesOn, Stopped, Leaves}
 use Rattle.sieve_meaning.specs.declared.questions.Texts.{Texts as Lists}
+use Rattle.sieve_meaning.specs.Expanded.{items_of}
 use Rattle.sieve_meaning.specs.Values.{found_in}
 use Rattle.sieve_meaning.specs.Meaning.{Effects, Texts, Verdict, Ending, normal, stopped, broken}
 
@@ -29,4 +30,8 @@ StandsAt _ _ evaluator = ⊥
 
 -- the code's texts, as the meaning has them
 abbrev pub texts_in : Lists → Texts
-texts_in texts = record { names = texts.names.items; params = texts.params.items; keys = texts.keys.items }
+texts_in texts = record {
+  names = items_of texts.names;
+  params = items_of texts.params;
+  keys = items_of texts.keys;
+}

@@ -9,9 +9,8 @@ use Rattle.bytecode_format.specs.Modifiers.{modified}
 use Rattle.mail_matching.specs.FirstMatch.{first_match, no_captures}
 use Rattle.mail_matching.specs.HeaderTests.{exists_in, header_match}
 use Rattle.mail_matching.specs.PartTests.{body_match, digest_match}
-use Rattle.mail_matching.specs.Selection.{scope_of, selector_of}
 use Rattle.mime_decode.specs.Mail.{Mail, Part as MailPart, size_of}
-use Rattle.mime_decode.specs.Scope.{visited}
+use Rattle.mime_decode.specs.Visited.{visited}
 use Rattle.sieve_check.specs.declared.typed.Act.{Act}
 use Rattle.sieve_check.specs.declared.typed.Act.TheVariants.{Keep, Discard, FileInto, Set, Take, Store, Leave, Stop}
 use Rattle.sieve_check.specs.declared.typed.Order.{Order}
@@ -152,8 +151,8 @@ stored (Some number) folder = action.Store folder number ∷ []
 abbrev pub answer : Mail → Option ℕ → Question → Texts → List (List ℕ) → Option (List (List ℕ))
 answer mail part (Constant b) texts captures = then_some b captures
 answer mail part (Header fields) texts captures =
-    header_match fields.how (scope_of fields.scope) part (selector_of fields.selector texts.params) texts.names texts.keys mail captures
-answer mail part (Exists scope) texts captures = then_some (exists_in (scope_of scope) part texts.names mail) captures
+    header_match fields.how fields.scope part fields.selector texts.params texts.names texts.keys mail captures
+answer mail part (Exists scope) texts captures = then_some (exists_in scope part texts.names mail) captures
 answer mail part (Size order number) texts captures = then_some (is_size order number (size_of mail)) captures
 -- the values are those of its sources
 answer mail part (String how) texts captures = first_match how texts.names texts.keys captures

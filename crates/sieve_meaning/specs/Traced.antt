@@ -6,10 +6,9 @@ use Rattle.bytecode_format.specs.Actions.{final_actions}
 use Rattle.mail_matching.specs.Findings.{finding_of}
 use Rattle.mail_matching.specs.HeaderTests.{header_finding}
 use Rattle.mail_matching.specs.PartTests.{body_finding, digest_finding}
-use Rattle.mail_matching.specs.Selection.{scope_of, selector_of}
 use Rattle.mail_matching.specs.declared.finding.Finding.{Finding}
 use Rattle.mime_decode.specs.Mail.{Mail}
-use Rattle.mime_decode.specs.Scope.{visited}
+use Rattle.mime_decode.specs.Visited.{visited}
 use Rattle.sieve_check.specs.declared.typed.Act.{Act}
 use Rattle.sieve_check.specs.declared.typed.Act.TheVariants.{Keep, Discard, FileInto, Set, Take, Store, Leave, Stop}
 use Rattle.sieve_check.specs.declared.typed.Question.{Question}
@@ -22,7 +21,7 @@ use Rattle.sieve_meaning.specs.Meaning.{Effects, no_effects, expanded, Texts, te
 abbrev pub found : Mail → Option ℕ → Question → Texts → Option Finding
 found mail part (Constant b) texts = None
 found mail part (Header fields) texts = Some
-    (header_finding fields.how (scope_of fields.scope) part (selector_of fields.selector texts.params) texts.names texts.keys mail)
+    (header_finding fields.how fields.scope part fields.selector texts.params texts.names texts.keys mail)
 found mail part (Exists scope) texts = None
 found mail part (Size order number) texts = None
 -- the values are those of its sources

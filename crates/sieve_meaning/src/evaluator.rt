@@ -51,7 +51,7 @@ impl<'s, 'm> Evaluator<'s, 'm> {
     ghost use Rattle.bytecode_format.specs.Modifiers.{modified};
     ghost use Rattle.sieve_meaning.specs.Meaning.{Effects, no_effects, act_does, command_does, commands_do, current, stored, turns, with_taken, with_value};
     ghost use Rattle.sieve_meaning.specs.Evaluation.{HasEvaluated, StandsAt};
-    ghost use Rattle.mime_decode.specs.Scope.{visited};
+    ghost use Rattle.mime_decode.specs.Visited.{visited};
 
     /// Before the first command.
     pub fn new(alloc: Global) -> Evaluator<'s, 'm>

@@ -1,9 +1,10 @@
 // Strings, expanded (RFC 5229, section 3).
-ghost use Rattle.std.specs.Prelude.{◌≡◌, ◌≤◌, ◌++◌, length, take, OnOk};
+ghost use Rattle.std.specs.Prelude.{◌≡◌, ◌≤◌, ◌++◌, length, map, take, OnOk};
 ghost use Rattle.octets.specs.Limits.{max_stack, max_string, max_test_strings};
 ghost use Rattle.mail_matching.specs.Texts.{AreTexts};
 
 use crate::evaluator::Evaluator;
+use crate::expanded_list::{ExpandedList, ExpandedText, are_written, cut};
 use crate::questions::Texts;
 use octets::{MAX_STRING, Octets};
 use sieve_check::{Segment, Strings};
@@ -26,21 +27,18 @@ impl<'s, 'm> Evaluator<'s, 'm> {
     ghost use Rattle.sieve_check.specs.TypedView.{strings_form, templates_of};
     ghost use Rattle.sieve_meaning.specs.Meaning.{Effects, all_expanded, expanded, texts_of, value_of};
     ghost use Rattle.sieve_meaning.specs.Evaluation.{HasEvaluated, texts_in};
+    ghost use Rattle.sieve_meaning.specs.Expanded.{items_of, octets_of};
 
-    // Appends what stands for a segment, up to the limit of an expanded string.
-    fn append_segment(&self, segment: &Segment, text: &mut Vec<u8>) -> Result<(), AllocError>
-        requires { length text.old.items ≤ max_string }
-        ensures text { (e : Effects) → HasEvaluated e self.now
-            → OnOk result (text.new.items
-            ≡ take max_string (text.old.items ++ value_of e segment.now)) }
-        ensures room { OnOk result (length text.new.items ≤ max_string) }
+    // What stands for a segment.
+    fn value<'t>(&'t self, segment: &'t Segment) -> &'t [u8]
+        ensures { (e : Effects) → HasEvaluated e self.now → result.now ≡ value_of e segment.now }
     {
         match segment {
-            Segment::Text(octets) => append(octets.as_slice(), text),
-            Segment::Variable(name) => append(self.variables.value(name.as_slice()), text),
+            Segment::Text(octets) => octets.as_slice(),
+            Segment::Variable(name) => self.variables.value(name.as_slice()),
             Segment::Capture(number) => match &self.captures {
-                Some(captures) => append(captures.text(usize::from(*number)), text),
-                None => Ok(()),
+                Some(captures) => captures.text(usize::from(*number)),
+                None => &[],
             },
         }
     }
@@ -55,41 +53,76 @@ impl<'s, 'm> Evaluator<'s, 'm> {
     {
         let mut text = Vec::new(alloc);
         for segment in string {
-            self.append_segment(segment, &mut text)?;
+            // Lent again, as the value is lent by the segment too.
+            append((&*self).value(segment), &mut text)?;
         }
         Ok(Octets::from_vec(text))
     }
 
-    /// Each of the strings, expanded.
-    ///
-    /// An error comes only where memory was refused.
-    pub fn all_expanded(
-        &self,
+    // The same, where a string of a single segment is lent.
+    fn text<'t>(
+        &'t self,
         alloc: Global,
-        strings: &[Vec<Segment>],
-    ) -> Result<Vec<Octets>, AllocError>
+        string: &'t [Segment],
+    ) -> Result<ExpandedText<'t>, AllocError>
+        ensures text { (e : Effects) → HasEvaluated e self.now
+            → IfOk result (λ text. octets_of text ≡ expanded e string.now) }
+        ensures short { IfOk result (λ text. length (octets_of text) ≤ max_string) }
+    {
+        match string {
+            [segment] => Ok(ExpandedText::Lent(cut(self.value(segment)))),
+            _ => Ok(ExpandedText::Made(self.expanded(alloc, string)?)),
+        }
+    }
+
+    // Each of the strings, expanded.
+    fn each_expanded<'t>(
+        &'t self,
+        alloc: Global,
+        strings: &'t [Vec<Segment>],
+    ) -> Result<Vec<ExpandedText<'t>>, AllocError>
         requires { length strings.now ≤ max_stack }
         ensures expanded { (e : Effects) → HasEvaluated e self.now
-            → IfOk result (λ texts. texts.items ≡ all_expanded e (templates_of strings.now)) }
-        ensures texts { IfOk result (λ texts. AreTexts texts.items) }
+            → IfOk result (λ texts. map octets_of texts.items
+            ≡ all_expanded e (templates_of strings.now)) }
+        ensures texts { IfOk result (λ texts. AreTexts (map octets_of texts.items)) }
     {
-        let mut texts = Vec::new(alloc);
+        let mut texts = Vec::with_capacity(alloc, strings.len())?;
         for string in strings {
-            texts.push(self.expanded(alloc, string)?)?;
+            texts.push(self.text(alloc, string)?)?;
         }
         Ok(texts)
+    }
+
+    /// Each of the strings, expanded. Takes no memory where none has references.
+    ///
+    /// An error comes only where memory was refused.
+    pub fn all_expanded<'t>(
+        &'t self,
+        alloc: Global,
+        strings: &'t [Vec<Segment>],
+    ) -> Result<ExpandedList<'t>, AllocError>
+        requires { length strings.now ≤ max_stack }
+        ensures expanded { (e : Effects) → HasEvaluated e self.now
+            → IfOk result (λ list. items_of list ≡ all_expanded e (templates_of strings.now)) }
+        ensures texts { IfOk result (λ list. AreTexts (items_of list)) }
+    {
+        if are_written(strings) {
+            return Ok(ExpandedList::Written(strings));
+        }
+        Ok(ExpandedList::Expanded(self.each_expanded(alloc, strings)?))
     }
 
     /// The strings of a test, each expanded.
     ///
     /// An error comes only where memory was refused.
-    pub fn texts(&self, alloc: Global, strings: &Strings) -> Result<Texts, AllocError>
+    pub fn texts<'t>(&'t self, alloc: Global, strings: &'t Strings) -> Result<Texts<'t>, AllocError>
         requires { length (in_order (strings_form strings.now)) ≤ max_test_strings }
         ensures expanded { (e : Effects) → HasEvaluated e self.now
             → IfOk result (λ texts. texts_in texts ≡ texts_of e (strings_form strings.now)) }
-        ensures names { IfOk result (λ texts. AreTexts texts.names.items) }
-        ensures params { IfOk result (λ texts. AreTexts texts.params.items) }
-        ensures keys { IfOk result (λ texts. AreTexts texts.keys.items) }
+        ensures names { IfOk result (λ texts. AreTexts (items_of texts.names)) }
+        ensures params { IfOk result (λ texts. AreTexts (items_of texts.params)) }
+        ensures keys { IfOk result (λ texts. AreTexts (items_of texts.keys)) }
     {
         let names = self.all_expanded(alloc, &strings.names)?;
         let params = self.all_expanded(alloc, &strings.params)?;

@@ -9,6 +9,7 @@
 #![tactic(auto)]
 
 mod evaluator;
+mod expanded_list;
 mod expansion;
 pub mod laws;
 mod questions;

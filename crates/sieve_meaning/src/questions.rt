@@ -6,12 +6,13 @@ ghost use Rattle.mail_matching.specs.FirstMatch.{first_match};
 ghost use Rattle.mail_matching.specs.HeaderTests.{header_finding, header_match};
 ghost use Rattle.mail_matching.specs.Outcomes.{after};
 ghost use Rattle.mail_matching.specs.PartTests.{body_finding, body_match, digest_finding, digest_match};
-ghost use Rattle.mail_matching.specs.Selection.{scope_of, selector_of};
 ghost use Rattle.mail_matching.specs.Texts.{AreTexts};
 ghost use Rattle.sieve_meaning.specs.Evaluation.{texts_in};
+ghost use Rattle.sieve_meaning.specs.Expanded.{items_of};
 ghost use Rattle.sieve_meaning.specs.Meaning.{answer, current, is_size};
 ghost use Rattle.sieve_meaning.specs.Traced.{found};
 
+use crate::expanded_list::ExpandedList;
 use crate::subject::Subject;
 use bytecode_format::FieldTest;
 use glob_match::Match;
@@ -19,16 +20,15 @@ use mail_matching::{
     Answer, Finding, HeaderTest, Outcome, exists, find_body, find_digest, find_header, find_string,
 };
 use mime_decode::digest_of;
-use octets::Octets;
 use sieve_check::{Order, Question};
 use std::alloc::{AllocError, Global};
 
 /// The strings of a test, expanded.
 #[derive(Drop)]
-pub struct Texts {
-    pub names: Vec<Octets>,
-    pub params: Vec<Octets>,
-    pub keys: Vec<Octets>,
+pub struct Texts<'t> {
+    pub names: ExpandedList<'t>,
+    pub params: ExpandedList<'t>,
+    pub keys: ExpandedList<'t>,
 }
 
 /// What a question comes to.
@@ -81,23 +81,23 @@ fn is_size(order: Order, number: u64, octets: u64) -> bool
 fn fields<'m>(
     alloc: Global,
     test: FieldTest,
-    texts: &Texts,
+    texts: &Texts<'_>,
     subject: Subject<'_, 'm>,
     most: usize,
 ) -> Result<Reply<'m>, AllocError>
-    requires names { AreTexts texts.now.names.items }
-    requires params { AreTexts texts.now.params.items }
-    requires keys { AreTexts texts.now.keys.items }
+    requires names { AreTexts (items_of texts.now.names) }
+    requires params { AreTexts (items_of texts.now.params) }
+    requires keys { AreTexts (items_of texts.now.keys) }
     ensures outcome { IfOk result
         (λ reply. (captures : List (List ℕ))
         → after reply.outcome captures
-        ≡ header_match test.how (scope_of test.scope) subject.entry.part
-        (selector_of test.selector texts.now.params.items) texts.now.names.items
-        texts.now.keys.items subject.entry.message.now captures) }
+        ≡ header_match test.how test.scope subject.entry.part
+        test.selector (items_of texts.now.params) (items_of texts.now.names)
+        (items_of texts.now.keys) subject.entry.message.now captures) }
     ensures found { IfOk result (λ reply. reply.found
-        ≡ Some (shortened most (header_finding test.how (scope_of test.scope) subject.entry.part
-        (selector_of test.selector texts.now.params.items) texts.now.names.items
-        texts.now.keys.items subject.entry.message.now))) }
+        ≡ Some (shortened most (header_finding test.how test.scope subject.entry.part
+        test.selector (items_of texts.now.params) (items_of texts.now.names)
+        (items_of texts.now.keys) subject.entry.message.now))) }
 {
     let Texts {
         names,
@@ -117,17 +117,17 @@ fn fields<'m>(
 fn sources<'m>(
     alloc: Global,
     how: Match,
-    texts: &Texts,
+    texts: &Texts<'_>,
     most: usize,
 ) -> Result<Reply<'m>, AllocError>
-    requires names { AreTexts texts.now.names.items }
-    requires keys { AreTexts texts.now.keys.items }
+    requires names { AreTexts (items_of texts.now.names) }
+    requires keys { AreTexts (items_of texts.now.keys) }
     ensures outcome { IfOk result
         (λ reply. (captures : List (List ℕ))
         → after reply.outcome captures
-        ≡ first_match how texts.now.names.items texts.now.keys.items captures) }
+        ≡ first_match how (items_of texts.now.names) (items_of texts.now.keys) captures) }
     ensures found { IfOk result (λ reply. reply.found
-        ≡ Some (shortened most (finding_of how texts.now.names.items texts.now.keys.items))) }
+        ≡ Some (shortened most (finding_of how (items_of texts.now.names) (items_of texts.now.keys)))) }
 {
     let (answer, finding) = find_string(alloc, &texts.names, &texts.keys, how, most)?;
     Ok(found(answer, finding))
@@ -160,18 +160,18 @@ fn part_size<'m>(
 fn part_body<'m>(
     alloc: Global,
     how: Match,
-    keys: &Vec<Octets>,
+    keys: &ExpandedList<'_>,
     subject: Subject<'_, 'm>,
     most: usize,
 ) -> Result<Reply<'m>, AllocError>
-    requires { AreTexts keys.now.items }
+    requires { AreTexts (items_of keys.now) }
     ensures outcome { IfOk result
         (λ reply. (captures : List (List ℕ))
         → after reply.outcome captures
-        ≡ option_and_then (λ p. body_match how p keys.now.items captures)
+        ≡ option_and_then (λ p. body_match how p (items_of keys.now) captures)
         (current subject.entry.message.now subject.entry.part)) }
     ensures found { IfOk result (λ reply. reply.found
-        ≡ option_map (λ p. shortened most (body_finding how p keys.now.items))
+        ≡ option_map (λ p. shortened most (body_finding how p (items_of keys.now)))
         (current subject.entry.message.now subject.entry.part)) }
 {
     let Some(content) = subject.content(alloc)? else {
@@ -184,18 +184,18 @@ fn part_body<'m>(
 // Whether the digest of the part's content is one of the keys.
 fn part_digest<'m>(
     alloc: Global,
-    keys: &Vec<Octets>,
+    keys: &ExpandedList<'_>,
     subject: Subject<'_, 'm>,
     most: usize,
 ) -> Result<Reply<'m>, AllocError>
-    requires { AreTexts keys.now.items }
+    requires { AreTexts (items_of keys.now) }
     ensures outcome { IfOk result
         (λ reply. (captures : List (List ℕ))
         → after reply.outcome captures
-        ≡ option_and_then (λ p. digest_match p keys.now.items captures)
+        ≡ option_and_then (λ p. digest_match p (items_of keys.now) captures)
         (current subject.entry.message.now subject.entry.part)) }
     ensures found { IfOk result (λ reply. reply.found
-        ≡ option_map (λ p. shortened most (digest_finding p keys.now.items))
+        ≡ option_map (λ p. shortened most (digest_finding p (items_of keys.now)))
         (current subject.entry.message.now subject.entry.part)) }
 {
     let Some(content) = subject.content(alloc)? else {
@@ -212,13 +212,13 @@ fn part_digest<'m>(
 pub fn answer<'m>(
     alloc: Global,
     question: Question,
-    texts: &Texts,
+    texts: &Texts<'_>,
     subject: Subject<'_, 'm>,
     most: usize,
 ) -> Result<Reply<'m>, AllocError>
-    requires names { AreTexts texts.now.names.items }
-    requires params { AreTexts texts.now.params.items }
-    requires keys { AreTexts texts.now.keys.items }
+    requires names { AreTexts (items_of texts.now.names) }
+    requires params { AreTexts (items_of texts.now.params) }
+    requires keys { AreTexts (items_of texts.now.keys) }
     ensures outcome { IfOk result
         (λ reply. (captures : List (List ℕ))
         → after reply.outcome captures

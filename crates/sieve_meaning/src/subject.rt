@@ -3,7 +3,7 @@ ghost use Rattle.std.specs.Prelude.{◌≡◌, ◌<◌, ◌≤◌, ◌-◌, None
 ghost use Rattle.std.proofs.Props.{props};
 ghost use Rattle.std.specs.Cow.{cow_slice_items};
 ghost use Rattle.octets.specs.Limits.{max_message};
-ghost use Rattle.mime_decode.specs.Scope.{numbers_from, visited};
+ghost use Rattle.mime_decode.specs.Visited.{numbers_from, visited};
 ghost use Rattle.sieve_meaning.specs.Meaning.{current};
 
 use bytecode_format::Scope;

@@ -7,7 +7,7 @@ use sieve_check::{Question, Strings, Test};
 use std::alloc::{AllocError, Global};
 
 impl<'s, 'm> Evaluator<'s, 'm> {
-    ghost use Rattle.std.specs.Prelude.{◌≡◌, IfOk, map, option_map};
+    ghost use Rattle.std.specs.Prelude.{◌≡◌, ℕ, List, IfOk, map, option_map};
     ghost use Rattle.mail_matching.specs.Findings.{shortened};
     ghost use Rattle.mail_matching.specs.Outcomes.{after};
     ghost use Rattle.sieve_check.specs.Bounded.{AreBoundedStrings, AreBoundedTests, IsBoundedTest};
@@ -141,9 +141,32 @@ impl<'s, 'm> Evaluator<'s, 'm> {
             ≡ option_map (shortened most) (found subject.entry.message.now subject.entry.part
             question (texts_of e (strings_form strings.now)))) }
     {
-        let texts = self.texts(alloc, strings)?;
-        let Reply { outcome, found } = answer(alloc, question, &texts, subject, most)?;
+        let Reply { outcome, found } = self.reply(alloc, question, strings, subject, most)?;
         Ok((self.settle(outcome), found))
+    }
+
+    // What the question comes to, with the strings of its test, expanded.
+    fn reply(
+        &self,
+        alloc: Global,
+        question: Question,
+        strings: &Strings,
+        subject: Subject<'_, 'm>,
+        most: usize,
+    ) -> Result<Reply<'m>, AllocError>
+        requires { AreBoundedStrings (row_of question).takes (strings_form strings.now) }
+        ensures outcome { (e : Effects) → HasEvaluated e self.now
+            → IfOk result (λ reply. (captures : List (List ℕ)) → after reply.outcome captures
+            ≡ answer subject.entry.message.now subject.entry.part question
+            (texts_of e (strings_form strings.now)) captures) }
+        ensures found { (e : Effects) → HasEvaluated e self.now
+            → IfOk result (λ reply. reply.found
+            ≡ option_map (shortened most) (found subject.entry.message.now subject.entry.part
+            question (texts_of e (strings_form strings.now)))) }
+    {
+        // Both are lent again, for as long as the texts are.
+        let texts = (&*self).texts(alloc, &*strings)?;
+        answer(alloc, question, &texts, subject, most)
     }
 
     /// Keeps the captures that a test has set, and says whether it has matched.

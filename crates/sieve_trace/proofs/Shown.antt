@@ -2,6 +2,7 @@
 use Rattle.std.proofs.Common.{◌≡◌, IfSome, OnOk, Result, Ok, Err, is_ok, is_some, ℕ, Bool, true, false, List, [], ◌∷◌, ◌++◌, slice_get, nat_le, length, take, Option, None, Some, option_map, refl, sym, ◌∙◌, ap, subst, inl, inr, arith, codes, if◌then◌else◌}
 use Rattle.std.proofs.lemmas.Bool.{cases_Bool, leb-false, leb-true}
 use Rattle.std.proofs.lemmas.List.{length-take, take-take, take_all}
+use Rattle.bytecode_listing.specs.Quoted.{max_start, quoted, quoted_start}
 use Rattle.encodings.specs.Device.{HasTaken, Output}
 use Rattle.mail_matching.specs.Findings.{shortened}
 use Rattle.mail_matching.specs.declared.finding.Finding.{Finding}
@@ -9,11 +10,11 @@ use Rattle.mail_matching.specs.declared.finding.Finding.TheVariants.{Pair, NoneO
 use Rattle.mime_decode.specs.Mail.{Mail}
 use Rattle.sieve_check.specs.declared.typed.Question.{Question}
 use Rattle.sieve_meaning.specs.Traced.{asked, event, turned}
-use Rattle.sieve_trace.specs.Printed.{Sheet, comparison_word, escaped, event_line, event_text, finding_text, max_shown, occurrence_text, part_text, place_text, question_word, quoted, told, value_text}
+use Rattle.sieve_trace.specs.Printed.{Sheet, event_line, event_text, finding_text, occurrence_text, part_text, place_text, told, value_text}
 use Rattle.sieve_trace.specs.Private.{occurrence_of}
+use Rattle.sieve_trace.specs.Words.{comparison_word, question_word}
 use Rattle.sieve_trace.specs.Written.{HasStopped}
 use Rattle.sieve_trace.specs.declared.error.TraceError.{TraceError}
-use Rattle.sieve_trace.specs.declared.line.Setting.TheVariants.{Quotes}
 use Rattle.sieve_trace.specs.declared.line.Told.{Told}
 use Rattle.sieve_trace.specs.declared.line.Told.TheVariants.{Asked, Not, AllOf, AnyOf, Acted, Turn}
 use Rattle.sieve_trace.proofs.SoFar.{stopped_one, told_one}
@@ -22,28 +23,28 @@ use Rattle.sieve_trace.proofs.SoFar.{stopped_one, told_one}
 abbrev kept : ℕ
 kept = 81
 
-long_kept : (text : List ℕ) → nat_le (length text) max_shown ≡ false → nat_le (length (take kept text)) max_shown ≡ false
-long_kept text long = elim (cases_Bool (nat_le (length (take kept text)) max_shown)) [
-  | inl short ↦ absurd (omega (arith, leb-false (length text) max_shown long, leb-true (length (take kept text)) max_shown short, length-take kept text))
+long_kept : (text : List ℕ) → nat_le (length text) max_start ≡ false → nat_le (length (take kept text)) max_start ≡ false
+long_kept text long = elim (cases_Bool (nat_le (length (take kept text)) max_start)) [
+  | inl short ↦ absurd (omega (arith, leb-false (length text) max_start long, leb-true (length (take kept text)) max_start short, length-take kept text))
   | inr so ↦ so
 ]
 
-cut : (text : List ℕ) → nat_le (length text) max_shown ≡ false → quoted (take kept text) ≡ quoted text
-unfolding quoted
-cut text long = rw (long_kept text long, long) (ap (λ t. codes "\"" ++ escaped Quotes t ++ codes "\"..") (take-take max_shown kept text (omega arith)))
+same_long : (text : List ℕ) → nat_le (length text) max_start ≡ false → quoted_start (take kept text) ≡ quoted_start text
+unfolding quoted_start
+same_long text long = rw (long_kept text long, long) (ap (λ t. quoted t ++ codes "..") (take-take max_start kept text (omega arith)))
 
-same_quoted : (text : List ℕ) → quoted (take kept text) ≡ quoted text
-same_quoted text = elim (cases_Bool (nat_le (length text) max_shown)) [
-  | inl short ↦ ap quoted (take_all kept text (omega (arith, leb-true (length text) max_shown short)))
-  | inr long ↦ cut text long
+same_quoted : (text : List ℕ) → quoted_start (take kept text) ≡ quoted_start text
+same_quoted text = elim (cases_Bool (nat_le (length text) max_start)) [
+  | inl short ↦ ap quoted_start (take_all kept text (omega (arith, leb-true (length text) max_start short)))
+  | inr long ↦ same_long text long
 ]
 
 same_finding : (question : Question) (finding : Option Finding) → finding_text question (option_map (shortened kept) finding) ≡ finding_text question finding
 unfolding finding_text
 same_finding question None = refl
 same_finding question (Some (Pair value key)) =
-    ap (λ t. codes " " ++ t ++ codes " " ++ comparison_word question ++ codes " " ++ quoted (take kept key)) (same_quoted value)
-    ∙ ap (λ t. codes " " ++ quoted value ++ codes " " ++ comparison_word question ++ codes " " ++ t) (same_quoted key)
+    ap (λ t. codes " " ++ t ++ codes " " ++ comparison_word question ++ codes " " ++ quoted_start (take kept key)) (same_quoted value)
+    ∙ ap (λ t. codes " " ++ quoted_start value ++ codes " " ++ comparison_word question ++ codes " " ++ t) (same_quoted key)
 same_finding question (Some (NoneOf number)) = refl
 
 same_occurrence : (question : Question) (value : Bool) (finding : Option Finding) → occurrence_text (asked question value (option_map (shortened kept) finding)) ≡ occurrence_text (asked question value finding)

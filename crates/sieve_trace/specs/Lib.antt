@@ -1,5 +1,7 @@
 -- where the tokens of a script stand
 pub mod Places
+-- tests and actions in words
+pub mod Words
 -- the line of an event
 pub mod Printed
 -- what is written of a trace

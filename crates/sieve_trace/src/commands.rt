@@ -1,13 +1,12 @@
 // Commands, done and told.
-ghost use Rattle.std.specs.Prelude.{◌≡◌, ◌∷◌, ℕ, List, IfErr, IfOk, option_map};
-ghost use Rattle.std.specs.Borrow.{Bor};
-ghost use Rattle.mime_decode.specs.Scope.{visited};
+ghost use Rattle.std.specs.Prelude.{◌∷◌, IfErr, IfOk};
+ghost use Rattle.mime_decode.specs.Visited.{visited};
 ghost use Rattle.sieve_check.specs.Bounded.{AreBoundedCommands, IsBoundedCommand};
 ghost use Rattle.sieve_check.specs.TypedView.{command_form, commands_form};
 ghost use Rattle.sieve_meaning.specs.Evaluation.{HasEvaluated};
 ghost use Rattle.sieve_meaning.specs.Meaning.{Effects, act_does, command_does, commands_do, turns};
 ghost use Rattle.sieve_meaning.specs.Traced.{act_event, command_events, commands_events, event};
-ghost use Rattle.sieve_meaning.specs.Traced.{turned, turns_events, variable_of};
+ghost use Rattle.sieve_meaning.specs.Traced.{turned, turns_events};
 ghost use Rattle.sieve_trace.specs.Printed.{event_line, told};
 ghost use Rattle.sieve_trace.specs.Private.{AreTold, sheet_of, turn_does, turn_events};
 ghost use Rattle.sieve_trace.specs.Written.{HasStopped};
@@ -17,20 +16,11 @@ use crate::line::{Page, Told, part_of};
 use crate::scene::Scene;
 use crate::telling::tell;
 use crate::tests_told::is_true;
+use crate::words::variable_of;
 use encodings::Sink;
 use octets::Octets;
 use sieve_check::{Act, Command};
 use sieve_meaning::{Evaluator, Flow, Subject};
-
-// The variable that an action sets, by its name, if it sets one.
-fn variable_of(act: &Act) -> Option<&Octets>
-    ensures { option_map (λ (name : Bor (List ℕ)). name.now) result ≡ variable_of act.now }
-{
-    match act {
-        Act::Set { name, .. } | Act::Take { name, .. } => Some(name),
-        Act::Keep | Act::Discard | Act::FileInto | Act::Store | Act::Leave(_) | Act::Stop => None,
-    }
-}
 
 // Does what an action does with its string, expanded. Of one that sets a variable the value is told that this has
 // then.

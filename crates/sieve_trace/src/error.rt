@@ -1,10 +1,8 @@
 // Why a trace isn't written to its end.
 ghost use Rattle.std.specs.Prelude.{◌≡◌};
-ghost use Rattle.refusals.specs.declared.refusal.Refusal.TheVariants as refusals;
 ghost use Rattle.sieve_trace.specs.declared.error.TraceError.TheVariants.{Memory, Write};
 
 use encodings::DeviceFailed;
-use refusals::Refusal;
 use std::alloc::AllocError;
 use thiserror::Error;
 

@@ -1,45 +1,26 @@
 // The line of an event.
-ghost use Rattle.std.specs.Prelude.{◌≡◌, ◌<◌, ◌++◌, IfOk, IfSome, OnOk, codes, false, length};
+ghost use Rattle.std.specs.Prelude.{◌≡◌, ◌<◌, ◌++◌, IfOk, IfSome, OnOk, codes, length};
 ghost use Rattle.std.specs.Prelude.{option_map, slice_get};
 ghost use Rattle.std.specs.Borrow.{Bor};
-ghost use Rattle.std.specs.Fmt.{decimal, digit_glyph};
+ghost use Rattle.bytecode_listing.specs.Quoted.{quoted_start};
 ghost use Rattle.mail_matching.specs.declared.finding.Finding.{Finding};
-ghost use Rattle.mime_decode.specs.Mail.{Mail};
 ghost use Rattle.sieve_meaning.specs.Traced.{event};
-ghost use Rattle.sieve_trace.specs.Printed as Printed;
-ghost use Rattle.sieve_trace.specs.Printed.{act_text, comparison_word, escaped, escaped_octet, event_line};
-ghost use Rattle.sieve_trace.specs.Printed.{event_text, finding_text, kind_word, media_of, occurrence_text};
-ghost use Rattle.sieve_trace.specs.Printed.{part_text, place_text, question_word, quoted, value_text, values_text};
+ghost use Rattle.sieve_trace.specs.Printed.{event_line, event_text, finding_text, media_of, occurrence_text};
+ghost use Rattle.sieve_trace.specs.Printed.{part_text, place_text, value_text, values_text};
 ghost use Rattle.sieve_trace.specs.Private.{occurrence_of, sheet_of};
-ghost use Rattle.sieve_trace.specs.declared.line.Setting.TheVariants.{Name};
 
 use crate::places::Place;
 use crate::scene::Scene;
-use glob_match::MatchType;
-use itoa::Buffer;
+use crate::words::{comparison_word, push_act, push_number, push_with_text, question_word};
+use bytecode_listing::quoting::MAX_START;
 use mail_matching::Finding;
 use mime_decode::Message;
 use sieve_check::{Act, Question};
 use sieve_meaning::Subject;
 use std::alloc::{AllocError, Global};
 
-/// How many octets are printed of a text.
-const MAX_SHOWN: usize = 80;
-
 /// How many octets are kept of a text that is to be printed: one more shows that it goes on.
-pub(crate) const MAX_KEPT: usize = MAX_SHOWN + 1;
-
-// The last octet of ASCII, a control character.
-const DELETE: u8 = 127;
-
-/// Where octets are printed, on which depends which ones are printed as they are.
-#[derive(Clone, Copy)]
-pub enum Setting {
-    /// Between quotes.
-    Quotes,
-    /// As the name of a file.
-    Name,
-}
+pub(crate) const MAX_KEPT: usize = MAX_START + 1;
 
 /// What lines are printed by; and where memory comes from.
 #[derive(Clone, Copy)]
@@ -68,122 +49,11 @@ pub enum Told<'a> {
     Turn,
 }
 
-// Appends a number in decimal digits.
-fn push_number(out: &mut Vec<u8>, number: u64) -> Result<(), AllocError>
-    ensures { OnOk result (out.new.items ≡ out.old.items ++ decimal number) }
-{
-    out.extend_from_slice(Buffer::new().format(number as u128).as_bytes())
-}
-
-// Whether an octet is printed as it is.
-fn is_plain(setting: Setting, octet: u8) -> bool
-    ensures { result ≡ Printed.is_plain setting octet }
-{
-    match setting {
-        Setting::Quotes => matches!(octet, 32..=126) && !matches!(octet, b'"' | b'\\'),
-        Setting::Name => octet >= b' ' && octet != DELETE,
-    }
-}
-
-// A hexadecimal digit.
-fn digit(n: u8) -> u8
-    requires { n < 16 }
-    ensures { result ≡ digit_glyph false n }
-{
-    if n < 10 { b'0' + n } else { b'a' - 10 + n }
-}
-
-// Appends an octet among others.
-#[tactic(auto, unfolding(crate::specs::Printed::escaped_octet))]
-fn push_octet(out: &mut Vec<u8>, setting: Setting, octet: u8) -> Result<(), AllocError>
-    ensures { OnOk result (out.new.items ≡ out.old.items ++ escaped_octet setting octet) }
-{
-    if is_plain(setting, octet) {
-        out.extend_from_slice(&[octet])
-    } else {
-        out.extend_from_slice(&[b'\\', digit(octet / 16), digit(octet % 16)])
-    }
-}
-
-// Appends octets among others.
-fn push_escaped(out: &mut Vec<u8>, setting: Setting, octets: &[u8]) -> Result<(), AllocError>
-    ensures { OnOk result (out.new.items ≡ out.old.items ++ escaped setting octets.now) }
-{
-    for octet in octets {
-        push_octet(out, setting, *octet)?;
-    }
-    Ok(())
-}
-
-// Appends the first octets of a text between quotes, and two dots where there are more.
-#[tactic(auto, unfolding(crate::specs::Printed::quoted))]
-fn push_quoted(out: &mut Vec<u8>, text: &[u8]) -> Result<(), AllocError>
-    ensures { OnOk result (out.new.items ≡ out.old.items ++ quoted text.now) }
-{
-    out.extend_from_slice(b"\"")?;
-    if text.len() <= MAX_SHOWN {
-        push_escaped(out, Setting::Quotes, text)?;
-        return out.extend_from_slice(b"\"");
-    }
-    let (start, _) = text.split_at(MAX_SHOWN);
-    push_escaped(out, Setting::Quotes, start)?;
-    out.extend_from_slice(b"\"..")
-}
-
 // Whether a test is true, in a word.
 fn value_text(value: bool) -> &'static [u8]
     ensures { result.now ≡ value_text value }
 {
     if value { b" yes" } else { b" no" }
-}
-
-// The word of a question.
-fn question_word(question: Question) -> &'static [u8]
-    ensures { result.now ≡ question_word question }
-{
-    match question {
-        Question::Constant(true) => b"true",
-        Question::Constant(false) => b"false",
-        Question::Header(_) => b"header",
-        Question::Exists(_) => b"exists",
-        Question::Size(..) => b"size",
-        Question::String(_) => b"string",
-        Question::PartSize(..) => b"partsize",
-        Question::PartBody(_) => b"partbody",
-        Question::PartDigest => b"partdigest",
-    }
-}
-
-// How a value is compared with a key, in a word.
-fn kind_word(kind: MatchType) -> &'static [u8]
-    ensures { result.now ≡ kind_word kind }
-{
-    match kind {
-        MatchType::Is => b"is",
-        MatchType::Contains => b"contains",
-        MatchType::Matches => b"matches",
-    }
-}
-
-// How the values of a question are compared with its keys, in a word.
-fn comparison_word(question: Question) -> &'static [u8]
-    ensures { result.now ≡ comparison_word question }
-{
-    match question {
-        Question::Header(test) => kind_word(test.how.kind),
-        Question::String(how) | Question::PartBody(how) => kind_word(how.kind),
-        Question::PartDigest => b"is",
-        Question::Constant(_) | Question::Exists(_) | Question::Size(..) | Question::PartSize(..) =>
-            b"",
-    }
-}
-
-// Appends a word and a text between quotes.
-fn push_with_text(out: &mut Vec<u8>, word: &[u8], text: &[u8]) -> Result<(), AllocError>
-    ensures { OnOk result (out.new.items ≡ out.old.items ++ (word.now ++ quoted text.now)) }
-{
-    out.extend_from_slice(word)?;
-    push_quoted(out, text)
 }
 
 // Appends a number of values.
@@ -197,7 +67,7 @@ fn push_values(out: &mut Vec<u8>, number: u64) -> Result<(), AllocError>
 // Appends a value and a key that match, and how they were compared.
 fn push_pair(out: &mut Vec<u8>, value: &[u8], word: &[u8], key: &[u8]) -> Result<(), AllocError>
     ensures { OnOk result (out.new.items ≡ out.old.items
-        ++ (codes " " ++ quoted value.now ++ codes " " ++ word.now ++ codes " " ++ quoted key.now)) }
+        ++ (codes " " ++ quoted_start value.now ++ codes " " ++ word.now ++ codes " " ++ quoted_start key.now)) }
 {
     push_with_text(out, b" ", value)?;
     out.extend_from_slice(b" ")?;
@@ -229,32 +99,6 @@ fn push_finding(
             push_values(out, *number)
         }
         None => Ok(()),
-    }
-}
-
-// Appends an action with what is told of it.
-#[tactic(auto, unfolding(crate::specs::Printed::act_text))]
-fn push_act(out: &mut Vec<u8>, act: &Act, text: &[u8]) -> Result<(), AllocError>
-    ensures { OnOk result (out.new.items ≡ out.old.items ++ act_text act.now text.now) }
-{
-    match act {
-        Act::Keep => out.extend_from_slice(b"keep"),
-        Act::Discard => out.extend_from_slice(b"discard"),
-        Act::FileInto => push_with_text(out, b"fileinto ", text),
-        Act::Set { name, .. } => {
-            push_with_text(out, b"set ", name.as_slice())?;
-            push_with_text(out, b" ", text)
-        }
-        Act::Take { name, .. } => {
-            push_with_text(out, b"take ", name.as_slice())?;
-            push_with_text(out, b" ", text)
-        }
-        Act::Store => push_with_text(out, b"store ", text),
-        Act::Leave(loops) => {
-            out.extend_from_slice(b"break ")?;
-            push_number(out, u64::from(*loops))
-        }
-        Act::Stop => out.extend_from_slice(b"stop"),
     }
 }
 
@@ -352,15 +196,6 @@ fn push_place(out: &mut Vec<u8>, place: Option<Place>) -> Result<(), AllocError>
     push_number(out, place.line as u64)?;
     out.extend_from_slice(b":")?;
     push_number(out, place.column as u64)
-}
-
-/// The name of a script, as lines begin with it.
-pub fn label_of(alloc: Global, name: &str) -> Result<Vec<u8>, AllocError>
-    ensures { IfOk result (λ label. label.items ≡ escaped Name name.now) }
-{
-    let mut label = Vec::new(alloc);
-    push_escaped(&mut label, Setting::Name, name.as_bytes())?;
-    Ok(label)
 }
 
 /// Makes a line that of an event. What it held is gone, but for the memory.

@@ -10,7 +10,8 @@ ghost use Rattle.sieve_trace.specs.Written.{HasStopped, trace_text};
 
 use crate::commands::commands;
 use crate::error::TraceError;
-use crate::line::{Page, label_of};
+use crate::label::label_of;
+use crate::line::Page;
 use crate::places::Place;
 use crate::scene::Scene;
 use bytecode_format::Action;

@@ -4,7 +4,7 @@ use Rattle.std.proofs.lemmas.List.Elements.{All-cons, All-nil}
 use Rattle.std.specs.Option.{option_map_or}
 use Rattle.bytecode_verifier.specs.Loops.{Loop}
 use Rattle.mime_decode.specs.Mail.{Mail, Part}
-use Rattle.mime_decode.specs.Scope.{numbers_from}
+use Rattle.mime_decode.specs.Visited.{numbers_from}
 use Rattle.sieve_vm.specs.State.{Frame}
 use Rattle.sieve_vm.specs.Chained.{IsAt, AreChained}
 use Rattle.sieve_vm.proofs.Falls.{numbers-length}

@@ -2,7 +2,7 @@
 use Rattle.std.proofs.Common.{◌≡◌, ℕ, suc, ◌+◌, ◌-◌, ◌≤◌, List, [], ◌∷◌, Option, Some, None, length, slice_get, refl, sym, ap, ◌∙◌, arith}
 use Rattle.std.specs.Option.{option_map_or}
 use Rattle.mime_decode.specs.Mail.{Mail, Part, IsMail}
-use Rattle.mime_decode.specs.Scope.{numbers_from, visited}
+use Rattle.mime_decode.specs.Visited.{numbers_from, visited}
 use Rattle.sieve_vm.specs.Plain.{IsChain}
 use Rattle.sieve_vm.specs.State.{Frame}
 use Rattle.sieve_vm.proofs.Falls.{numbers-length}

@@ -18,7 +18,7 @@ use Rattle.bytecode_format.specs.declared.selection.Selector.TheVariants as sele
 use Rattle.bytecode_format.specs.Selection.{scope_numbered, field_test_numbered, keys_in, params_in}
 use Rattle.mime_decode.specs.Mail.{Mail, Part, IsMail, size_of}
 use Rattle.mail_matching.specs.PartTests.{body_cost, digest_cost}
-use Rattle.mail_matching.specs.Selection.{scope_of, selector_of, values_of_a_field}
+use Rattle.mail_matching.specs.Selection.{values_of_a_field}
 use Rattle.mail_matching.specs.Costs.{extent_of}
 use Rattle.mail_matching.proofs.Extents.{names_cost-within, values_cost-within, values_cost-product, body_cost-within, digest_cost-is}
 use Rattle.sieve_vm.specs.State.{Value, truth, text, State, current_part}
@@ -43,7 +43,7 @@ names_within n extent bounds cost most less =
     omega arith
 
 -- what is selected of a field for each name and key
-values_few : (selector : field.Selector) (params : List (List ℕ)) (most : ℕ) → length params ≡ most → values_of_a_field (selector_of selector params) ≤ max most 1
+values_few : (selector : field.Selector) (params : List (List ℕ)) (most : ℕ) → length params ≡ most → values_of_a_field selector params ≤ max most 1
 values_few selectors.Value params most same = omega arith
 values_few selectors.Main params most same = omega arith
 values_few selectors.Sub params most same = omega arith
@@ -83,7 +83,7 @@ module _ (code : Code) (mail : Mail) (known : IsMail mail) (i : Instruction) (s 
       go None h f = absurd cc
       go (Some bounds) h f =
           let names = on_top i.b entries bounds s.stack h d in
-          let cost = names_cost-within mail known (scope_of scope) (current_part s.frames) names.top.texts in
+          let cost = names_cost-within mail known scope (current_part s.frames) names.top.texts in
           rw names.is (record {
             some = omega arith;
             most = names_within (size_of mail) (extent_of names.top.texts) (one_more_each bounds.texts) (cost_of_names scope (current_part s.frames) mail names.top) cost names.extent;
@@ -108,15 +108,13 @@ module _ (code : Code) (mail : Mail) (known : IsMail mail) (i : Instruction) (s 
       go None h f = absurd cc
       go (Some bounds) h f =
           let lists = lists_are_on_top i.b (params_in i.c) (keys_in i.c) entries bounds s.stack h d in
-          let scope = scope_of test.scope in
           let current = current_part s.frames in
-          let selector = selector_of test.selector lists.top.params in
-          let named = names_cost-within mail known scope current lists.top.names in
-          let compared = values_cost-within mail known scope current selector lists.top.names lists.top.keys in
+          let named = names_cost-within mail known test.scope current lists.top.names in
+          let compared = values_cost-within mail known test.scope current test.selector lists.top.params lists.top.names lists.top.keys in
           let few = values_few test.selector lists.top.params (length bounds.params) lists.params_number in
           rw lists.is (record {
             some = omega arith;
-            most = matching_within (size_of mail) (extent_of lists.top.names) (extent_of lists.top.keys) (length lists.top.names) (values_of_a_field selector) (one_more_each bounds.names) (one_more_each bounds.keys) (length bounds.names) (max (length bounds.params) 1) _ _ named compared lists.names_extent lists.keys_extent lists.names_number few;
+            most = matching_within (size_of mail) (extent_of lists.top.names) (extent_of lists.top.keys) (length lists.top.names) (values_of_a_field test.selector lists.top.params) (one_more_each bounds.names) (one_more_each bounds.keys) (length bounds.names) (max (length bounds.params) 1) _ _ named compared lists.names_extent lists.keys_extent lists.names_number few;
           })
 
   -- a number that says no test of fields costs nothing

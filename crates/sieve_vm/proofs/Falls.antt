@@ -12,7 +12,7 @@ use Rattle.bytecode_verifier.specs.Counting.{counted_at, number_inside, times_at
 use Rattle.bytecode_verifier.specs.declared.counting.Counted.{Counted}
 use Rattle.bytecode_verifier.proofs.Nesting.{Nesting}
 use Rattle.mime_decode.specs.Mail.{Mail, size_of}
-use Rattle.mime_decode.specs.Scope.{numbers_from, visited}
+use Rattle.mime_decode.specs.Visited.{numbers_from, visited}
 use Rattle.sieve_vm.specs.State.{Frame, start, current_part}
 use Rattle.sieve_vm.specs.Potential.{charge_at, weight_at, stretch, visits_now, left_from, potential, limit_of}
 

@@ -6,7 +6,7 @@ use Rattle.bytecode_cost.specs.Sums.{chains, turns_left}
 use Rattle.bytecode_cost.proofs.Chains.{chains_more}
 use Rattle.bytecode_format.specs.Code.{Code}
 use Rattle.mime_decode.specs.Mail.{Mail}
-use Rattle.mime_decode.specs.Scope.{visited}
+use Rattle.mime_decode.specs.Visited.{visited}
 use Rattle.sieve_vm.specs.State.{Frame, current_part}
 use Rattle.sieve_vm.specs.Potential.{weight_at, stretch, visits_now, potential_from}
 use Rattle.sieve_vm.proofs.Falls.{from, counted, uncounted, from-none, from-first, depth_at, cap_there, weights, weight-here, end_of, potential-split}

@@ -24,11 +24,10 @@ use Rattle.bytecode_verifier.specs.declared.counting.Counted.{Counted}
 use Rattle.bytecode_verifier.specs.declared.counting.Counted.TheVariants.{Actions, Stores}
 use Rattle.bytecode_verifier.proofs.Nesting.{nesting}
 use Rattle.mime_decode.specs.Mail.{Mail, Part, IsMail, size_of}
-use Rattle.mime_decode.specs.Scope.{visited}
+use Rattle.mime_decode.specs.Visited.{visited}
 use Rattle.mail_matching.specs.FirstMatch.{first_match}
 use Rattle.mail_matching.specs.HeaderTests.{exists_in}
 use Rattle.mail_matching.specs.PartTests.{body_match, digest_match}
-use Rattle.mail_matching.specs.Selection.{scope_of}
 use Rattle.sieve_vm.specs.State.{Value, truth, text, Frame, State, current_part, Turn, goes, ends, traps, start}
 use Rattle.sieve_vm.specs.Stack.{OnTop, Lists, texts_on_top, lists_on_top}
 use Rattle.sieve_vm.specs.Charge.{charge_of}
@@ -215,7 +214,7 @@ module _ (counted : Counted) where
         (λ test. has_lists (test_values mail test) s (lists_on_top i.b (params_in i.c) (keys_in i.c) s.stack) (λ texts t. has_tested t (found_in mail test texts t))))
     lists Exists =
         before Exists (has_meant s.actions (λ scope. with_texts (test_names mail scope) s (texts_on_top i.b s.stack)) (scope_numbered i.a)
-        (λ scope. has_texts (test_names mail scope) s (texts_on_top i.b s.stack) (λ names t. has_push (truth (exists_in (scope_of scope) (current_part t.frames) names mail)) t)))
+        (λ scope. has_texts (test_names mail scope) s (texts_on_top i.b s.stack) (λ names t. has_push (truth (exists_in scope (current_part t.frames) names mail)) t)))
     lists String =
         before String (has_meant s.actions (λ how. with_lists (test_sources how) s (lists_on_top i.b 0 i.c s.stack)) (match_numbered i.a)
         (λ how. has_lists (test_sources how) s (lists_on_top i.b 0 i.c s.stack) (λ texts t. has_tested t (first_match how texts.names texts.keys t.captures))))

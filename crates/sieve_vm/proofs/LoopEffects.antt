@@ -16,7 +16,7 @@ use Rattle.mime_decode.specs.Mail.{Mail, IsMail}
 use Rattle.sieve_vm.specs.State.{Frame, State, current_part}
 use Rattle.sieve_vm.specs.Machine.{fails, are_partners, open_loop, next_part, next, close, effect, referred_in}
 use Rattle.sieve_vm.specs.Potential.{left_from}
-use Rattle.mime_decode.specs.Scope.{visited}
+use Rattle.mime_decode.specs.Visited.{visited}
 use Rattle.bytecode_verifier.proofs.Nesting.{nesting}
 use Rattle.sieve_vm.proofs.Falls.{depth_at, end_of, potential-forward, potential-enter, potential-again, potential-leave, potential-break}
 use Rattle.sieve_vm.proofs.Opened.{loop_of, IsPart, AreOpen, open-length, last_of_both, is_among, some_left, close-is, AreVisited, are_visited, first_inside, IsUnderWay, visited-inside, under_way, below-left, inside}

@@ -9,7 +9,7 @@ use Rattle.bytecode_verifier.specs.Loops.{open_loops}
 use Rattle.bytecode_verifier.specs.Acceptance.{IsAccepted}
 use Rattle.bytecode_verifier.proofs.Consequences.{break_known}
 use Rattle.bytecode_format.specs.Spelling.{IsProgram}
-use Rattle.mime_decode.specs.Scope.{visited}
+use Rattle.mime_decode.specs.Visited.{visited}
 use Rattle.mime_decode.specs.Mail.{Mail, IsMail}
 use Rattle.sieve_vm.specs.declared.machine.Machine.{Machine}
 use Rattle.sieve_vm.specs.declared.machine.Position.{Position}

@@ -7,7 +7,7 @@ use Rattle.bytecode_format.specs.Code.{Code}
 use Rattle.bytecode_verifier.specs.Loops.{Loop, open_loops}
 use Rattle.bytecode_verifier.proofs.Nesting.{Nesting}
 use Rattle.mime_decode.specs.Mail.{Mail, Part, IsMail}
-use Rattle.mime_decode.specs.Scope.{numbers_from, visited}
+use Rattle.mime_decode.specs.Visited.{numbers_from, visited}
 use Rattle.sieve_vm.specs.State.{Frame, State, current_part}
 use Rattle.sieve_vm.specs.Machine.{jumps, close}
 use Rattle.sieve_vm.proofs.Falls.{end_of, numbers-length}

@@ -24,7 +24,7 @@ use Rattle.bytecode_verifier.specs.Acceptance.{IsAccepted}
 use Rattle.bytecode_verifier.proofs.Consequences.{left_by, shape_next}
 use Rattle.bytecode_verifier.proofs.Nesting.{Nesting, nesting}
 use Rattle.mime_decode.specs.Mail.{Mail, Part, IsMail}
-use Rattle.mime_decode.specs.Scope.{visited}
+use Rattle.mime_decode.specs.Visited.{visited}
 use Rattle.sieve_vm.specs.Plain.{IsChain, IsPlain, is_plain}
 use Rattle.sieve_vm.specs.State.{Value, truth, text, Frame, State, current_part, Turn, goes, ends, traps, start}
 use Rattle.sieve_vm.specs.Stack.{OnTop, length_on_top}

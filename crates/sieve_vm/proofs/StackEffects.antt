@@ -28,13 +28,12 @@ use Rattle.sieve_vm.specs.Stack.{OnTop, Lists, texts_on_top, lists_on_top}
 use Rattle.sieve_vm.specs.Stores.{NamesPart}
 use Rattle.sieve_vm.specs.Machine as machine
 use Rattle.sieve_vm.specs.Machine.{on, jumps, fails, branch, with_truth, with_text, with_texts, with_lists, with_number, with_meant, file, test_names, test_values, test_sources, next, is_sound_jump, compares, effect, referred_in}
-use Rattle.mime_decode.specs.Scope.{selected_values}
+use Rattle.mail_matching.specs.Selection.{selected_values}
 use Rattle.glob_match.specs.declared.match_type.Match.{Match}
 use Rattle.octets.specs.Limits.{max_string, max_value}
 use Rattle.bytecode_format.specs.declared.modifiers.Modifiers.{Modifiers}
 use Rattle.bytecode_format.specs.Modifiers.{modified, modifiers_numbered}
 use Rattle.mail_matching.specs.HeaderTests.{exists_in}
-use Rattle.mail_matching.specs.Selection.{scope_of, selector_of}
 use Rattle.sieve_vm.proofs.Taking.{Describes, on_top, lists_are_on_top, octets_within}
 use Rattle.sieve_vm.proofs.Reached.{HoldsTexts, set_one, cut_at, IsReached, Leads, empty-some, top_truth, no_stack, has_truth-some, without_truth-some}
 use Rattle.sieve_vm.proofs.Leading.{is_plain, leads_on, leads_target, sound_jump, after_of, left, pushes, leads_tested}
@@ -87,7 +86,7 @@ module _ (code : Code) (mail : Mail) (is : IsAccepted code) (known : IsMail mail
         go scope after leaves (Some bounds) h f =
             let names = on_top i.b entries bounds s.stack h d in
             subst (λ (o : Option OnTop). Leads code mail s (with_texts (test_names mail scope) s o)) (sym names.is)
-            (pushes code mail is known s i here from Exists (record s { stack = names.top.below }) (truth (exists_in (scope_of scope) (current_part s.frames) names.top.texts mail)) Truth bounds.below after e refl leaves f refl refl refl held from.stores names.below names.below)
+            (pushes code mail is known s i here from Exists (record s { stack = names.top.below }) (truth (exists_in scope (current_part s.frames) names.top.texts mail)) Truth bounds.below after e refl leaves f refl refl refl held from.stores names.below names.below)
 
     pub leads_header : operation_of i.op ≡ Some Header → Leads code mail s (effect (referred_in code) mail Header i s)
     leads_header e =
@@ -101,7 +100,7 @@ module _ (code : Code) (mail : Mail) (is : IsAccepted code) (known : IsMail mail
         go test after leaves (Some bounds) h f =
             let lists = lists_are_on_top i.b (params_in i.c) (keys_in i.c) entries bounds s.stack h d in
             subst (λ (o : Option Lists). Leads code mail s (with_lists (test_values mail test) s o)) (sym lists.is)
-            (leads_tested code mail is known s i here from Header (record s { stack = lists.top.below }) bounds.below after test.how (selected_values (scope_of test.scope) (current_part s.frames) (selector_of test.selector lists.top.params) lists.top.names mail) lists.top.keys e refl leaves f refl refl refl held from.stores lists.below)
+            (leads_tested code mail is known s i here from Header (record s { stack = lists.top.below }) bounds.below after test.how (selected_values test.scope (current_part s.frames) test.selector lists.top.params lists.top.names mail) lists.top.keys e refl leaves f refl refl refl held from.stores lists.below)
 
     pub leads_string : operation_of i.op ≡ Some String → Leads code mail s (effect (referred_in code) mail String i s)
     leads_string e =

@@ -21,7 +21,6 @@ use Rattle.bytecode_verifier.proofs.Consequences.{left_by, number_known, string_
 use Rattle.bytecode_format.specs.Spelling.{IsProgram}
 use Rattle.bytecode_verifier.proofs.Short.{shape_small}
 use Rattle.mail_matching.specs.HeaderTests.{exists_in}
-use Rattle.mail_matching.specs.Selection.{scope_of}
 use Rattle.mail_matching.specs.Texts.{AreTexts}
 use Rattle.mime_decode.specs.Mail.{Mail, IsMail, size_of}
 use Rattle.sieve_vm.specs.declared.machine.Machine.{Machine}
@@ -222,14 +221,14 @@ module _ (code : Code) (mail : Mail) (is : IsAccepted code) (known : IsMail mail
 
     pub had_exists : operation_of i.op ≡ Some Exists → (scope : Scope) → scope_numbered i.a ≡ Some scope → (done : Done) (m' : Machine)
         → ((t : State) (top : OnTop) → Represents mail t m → texts_on_top i.b t.stack ≡ Some top
-        → (done ≡ charged_at (cost_of_names scope (current_part t.frames) mail top)) × Represents mail (record t { stack = truth (exists_in (scope_of scope) (current_part t.frames) top.texts mail) ∷ top.below }) m')
+        → (done ≡ charged_at (cost_of_names scope (current_part t.frames) mail top)) × Represents mail (record t { stack = truth (exists_in scope (current_part t.frames) top.texts mail) ∷ top.below }) m')
         → HasHad mail (effect (referred_in code) mail Exists i s) (charge_of mail Exists i s) done m'
     had_exists e scope says done m' tests =
         let n = names_top e in
         let tested_now = tests s n.0 at.stands.holds n.1 in
         let meant : Leads code mail s (with_texts (test_names mail scope) s (texts_on_top i.b s.stack)) = subst (λ (o : Option Scope). Leads code mail s (with_meant (λ x. with_texts (test_names mail x) s (texts_on_top i.b s.stack)) o)) says (fine code mail is known pos m s at i here Exists e) in
         let fits : Leads code mail s (test_names mail scope n.0.texts (record s { stack = n.0.below })) = subst (λ (o : Option OnTop). Leads code mail s (with_texts (test_names mail scope) s o)) n.1 meant in
-        rw (says, n.1, pushed code mail s (truth (exists_in (scope_of scope) (current_part s.frames) n.0.texts mail)) (record s { stack = n.0.below }) fits, tested_now.0) (tested_now.1, refl)
+        rw (says, n.1, pushed code mail s (truth (exists_in scope (current_part s.frames) n.0.texts mail)) (record s { stack = n.0.below }) fits, tested_now.0) (tested_now.1, refl)
 
     -- names, parameters and keys are on top of a state that the machine stands for
     abbrev HasLists : Type 0

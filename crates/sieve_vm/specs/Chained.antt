@@ -1,7 +1,7 @@
 -- How the parts of the open loops stand to each other.
 use Rattle.std.specs.Prelude.{◌<◌, List, [], ◌∷◌, Some, All, Contains}
 use Rattle.mime_decode.specs.Mail.{Mail}
-use Rattle.mime_decode.specs.Scope.{visited}
+use Rattle.mime_decode.specs.Visited.{visited}
 use Rattle.sieve_vm.specs.State.{Frame, current_part}
 
 -- a loop inside of these has come to a part that such a loop visits: one below the current part of

@@ -11,18 +11,17 @@ use Rattle.mime_decode.specs.Mail.{Mail, Part}
 use Rattle.mail_matching.specs.Costs.{values_cost}
 use Rattle.mail_matching.specs.HeaderTests.{exists_cost, header_cost}
 use Rattle.mail_matching.specs.PartTests.{body_cost, digest_cost}
-use Rattle.mail_matching.specs.Selection.{scope_of, selector_of}
 use Rattle.sieve_vm.specs.State.{State, current_part}
 use Rattle.sieve_vm.specs.Stack.{OnTop, Lists, texts_on_top, lists_on_top, length_on_top}
 
 -- looking for the fields of these names in a scope, as it is seen from the current part
 abbrev pub cost_of_names : Scope → Option ℕ → Mail → OnTop → ℕ
-cost_of_names scope current mail names = exists_cost (scope_of scope) current names.texts mail
+cost_of_names scope current mail names = exists_cost scope current names.texts mail
 
 -- the same, and comparing each value that is selected with each key
 abbrev pub cost_of_matching : FieldTest → Option ℕ → Mail → Lists → ℕ
 cost_of_matching test current mail lists =
-    header_cost (scope_of test.scope) current (selector_of test.selector lists.params) lists.names lists.keys mail
+    header_cost test.scope current test.selector lists.params lists.names lists.keys mail
 
 -- comparing each source with each key
 abbrev pub cost_of_comparing : Lists → ℕ

@@ -20,11 +20,10 @@ use Rattle.bytecode_verifier.specs.Places.{holds_at}
 use Rattle.bytecode_verifier.specs.Loops.{opens, closes, same_loops}
 use Rattle.glob_match.specs.declared.match_type.Match.{Match}
 use Rattle.mime_decode.specs.Mail.{Mail, Part, size_of}
-use Rattle.mime_decode.specs.Scope.{visited}
+use Rattle.mime_decode.specs.Visited.{visited}
 use Rattle.mail_matching.specs.FirstMatch.{first_match}
 use Rattle.mail_matching.specs.HeaderTests.{exists_in, header_match}
 use Rattle.mail_matching.specs.PartTests.{body_match, digest_match}
-use Rattle.mail_matching.specs.Selection.{scope_of, selector_of}
 use Rattle.sieve_vm.specs.State.{Value, truth, text, Frame, State, current_part, Turn, goes, ends, traps}
 use Rattle.sieve_vm.specs.Stack.{OnTop, Lists, texts_on_top, lists_on_top}
 use Rattle.sieve_vm.specs.Charge.{charge_of}
@@ -128,7 +127,7 @@ with_meant go (Some meant) = go meant
 -- whether the parts in scope have a field of each name
 abbrev pub test_names : Mail → Scope → List (List ℕ) → State → Effect
 test_names mail scope names state = push
-    (truth (exists_in (scope_of scope) (current_part state.frames) names mail)) state
+    (truth (exists_in scope (current_part state.frames) names mail)) state
 
 -- whether a test has matched, with the captures after it; one that hasn't leaves them
 abbrev pub tested : State → Option (List (List ℕ)) → Effect
@@ -138,8 +137,8 @@ tested state (Some captures) = push (truth true) (record state { captures = capt
 -- what a test of fields finds: the captures after the first value that is selected and matches a key
 abbrev pub found_in : Mail → FieldTest → Lists → State → Option (List (List ℕ))
 found_in mail test lists state =
-    header_match test.how (scope_of test.scope) (current_part state.frames)
-    (selector_of test.selector lists.params) lists.names lists.keys mail state.captures
+    header_match test.how test.scope (current_part state.frames)
+    test.selector lists.params lists.names lists.keys mail state.captures
 
 -- whether a value that is selected matches a key
 abbrev pub test_values : Mail → FieldTest → Lists → State → Effect

@@ -7,7 +7,7 @@ use Rattle.bytecode_verifier.specs.declared.cap.Cap.{Cap}
 use Rattle.bytecode_verifier.specs.Budget.{cap_at, budget_of}
 use Rattle.bytecode_cost.specs.Sums.{turns_left, budget_at}
 use Rattle.mime_decode.specs.Mail.{Mail, size_of}
-use Rattle.mime_decode.specs.Scope.{visited}
+use Rattle.mime_decode.specs.Visited.{visited}
 use Rattle.sieve_vm.specs.State.{Frame, State, current_part}
 
 -- what an instruction may charge each time, at a message

@@ -4,7 +4,7 @@ ghost use Rattle.std.specs.Cow.{cow_slice_items};
 ghost use Rattle.octets.specs.Limits.{max_loops, max_parts, max_value};
 ghost use Rattle.mime_decode.specs.Content.{digest_of, is_decoded};
 ghost use Rattle.mime_decode.specs.Mail.{Part};
-ghost use Rattle.mime_decode.specs.Scope.{numbers_from, visited};
+ghost use Rattle.mime_decode.specs.Visited.{numbers_from, visited};
 ghost use Rattle.sieve_vm.specs.State;
 ghost use Rattle.sieve_vm.specs.State.{current_part};
 ghost use Rattle.sieve_vm.specs.Visits.{Continues, HasSameLoops, Learns, Opens, holding, holds, known_of, part_in};

@@ -117,7 +117,7 @@ impl<'p, 's, 'm> Machine<'p, 's, 'm> {
     ghost use Rattle.bytecode_verifier.specs.Acceptance.{IsAccepted};
     ghost use Rattle.mime_decode.specs.Mail.{Mail, Part, IsMail};
     ghost use Rattle.sieve_vm.specs.Visits.{part_in};
-    ghost use Rattle.mime_decode.specs.Scope.{visited};
+    ghost use Rattle.mime_decode.specs.Visited.{visited};
     ghost use Rattle.mail_matching.specs.Outcomes.{after};
     ghost use Rattle.mail_matching.specs.Texts.{AreTexts};
     ghost use Rattle.sieve_vm.specs.Going.{StandsFor};

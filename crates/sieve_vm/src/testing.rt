@@ -19,7 +19,6 @@ impl<'p, 's, 'm> Machine<'p, 's, 'm> {
     ghost use Rattle.mime_decode.specs.Mail.{Mail, Part};
     ghost use Rattle.mail_matching.specs.HeaderTests.{exists_in};
     ghost use Rattle.mail_matching.specs.PartTests.{body_cost, body_match, digest_cost, digest_match};
-    ghost use Rattle.mail_matching.specs.Selection.{scope_of};
     ghost use Rattle.bytecode_format.specs.Selection.{keys_in, params_in};
     ghost use Rattle.sieve_vm.specs.Visits.{holding, part_in};
     ghost use Rattle.mail_matching.specs.Outcomes.{after};
@@ -52,7 +51,7 @@ impl<'p, 's, 'm> Machine<'p, 's, 'm> {
             })
             × Represents message.now (record
             s {
-              stack = truth (exists_in (scope_of scope)
+              stack = truth (exists_in scope
                   (current_part s.frames) top.texts message.now) ∷ top.below;
             }) self.new) }
     {

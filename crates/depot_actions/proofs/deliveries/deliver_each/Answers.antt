@@ -68,5 +68,5 @@ loop-delivery-preserved g c =
       so_far = subst (λ commands. Delivering commands (map reply_of c.push.new.self.items) old new) (deliveries_more ds index nothing lt)
           (subst (λ more. Delivering (before ++ command_of (get_or ds index nothing) ∷ []) more old new) (sym (replies_more c.loop-delivery.replies.items c.push.new.self.items c.in-Ok.rows pushed))
           (one_more before replies old mid new c.loop-delivery.invariant.so_far c.deliver_within.ensures.within.survives (command_of (get_or ds index nothing)) (reply_of c.in-Ok.rows)
-          c.in-Ok.ensures.done c.in-Ok.ensures.within.was_open c.in-Ok.ensures.inside c.in-Ok.ensures.schema c.deliver_within.ensures.within.shut c.deliver_within.ensures.within.kept));
+          c.in-Ok.ensures.done c.in-Ok.ensures.within.was_open c.in-Ok.ensures.inside c.in-Ok.ensures.schema c.deliver_within.ensures.within.stays_closed c.deliver_within.ensures.within.kept));
     }

@@ -28,7 +28,7 @@ returns-then-is_empty-clause-done g c clean =
     let zero : length actions ≡ 0 = grind (arith, common_steps) in
     let are = rw c.in_ok-mail.ensures.read.1 at c.in_ok-actions.ensures.actions in
     let found = ok_before c.program_within.result c.map_err.result _ c.in_ok-program.program c.map_err.ensures.cases c.map_err.ensures.variant c.in_ok-program.was in
-    let told = IfOk-at_ok _ found (c.program_within.ensures.told clean) in
+    let told = IfOk-at_ok _ found (c.program_within.ensures.answer clean) in
     let stays = subst (λ r. OnOk r (Stays old mid)) found (c.program_within.ensures.same clean) in
     rw c.new.ensures.items
     (nothing_delivered old mid mid user message (option_map (λ v. v.items) c.in_ok-program.program) actions named c.in_ok-mail.ensures.read.0 are told stays (no_actions actions zero))
@@ -46,7 +46,7 @@ returns-clause-done g c clean =
     let early : HasCleanDisk mid = omega (arith, c.file_all.ensures.within.survives.clean) in
     let are = rw (c.in_ok-mail.ensures.read.1, ← c.deref.ensures.value) at c.in_ok-actions.ensures.actions in
     let found = ok_before c.program_within.result c.map_err.result _ c.in_ok-program.program c.map_err.ensures.cases c.map_err.ensures.variant c.in_ok-program.was in
-    let told = IfOk-at_ok _ found (c.program_within.ensures.told early) in
+    let told = IfOk-at_ok _ found (c.program_within.ensures.answer early) in
     let stays = subst (λ r. OnOk r (Stays old mid)) found (c.program_within.ensures.same early) in
     let added = rw c.in_ok-mail.ensures.read.1 at (c.file_all.ensures.added clean) in
     IfOk-weaker c.file_all.result _ _ (λ rows h.
@@ -64,11 +64,11 @@ returns-clause-refused g c clean =
     let early : HasCleanDisk mid = omega (arith, c.file_all.ensures.within.survives.clean) in
     let are = rw (c.in_ok-mail.ensures.read.1, ← c.deref.ensures.value) at c.in_ok-actions.ensures.actions in
     let found = ok_before c.program_within.result c.map_err.result _ c.in_ok-program.program c.map_err.ensures.cases c.map_err.ensures.variant c.in_ok-program.was in
-    let told = IfOk-at_ok _ found (c.program_within.ensures.told early) in
+    let told = IfOk-at_ok _ found (c.program_within.ensures.answer early) in
     let stays = subst (λ r. OnOk r (Stays old mid)) found (c.program_within.ensures.same early) in
     let unfiled = rw c.in_ok-mail.ensures.read.1 at (c.file_all.ensures.refused clean) in
     IfErr-weaker c.file_all.result _ _ (λ e h.
-    unfiled_cause old mid new user message (option_map (λ v. v.items) c.in_ok-program.program) actions named c.in_ok-mail.ensures.read.0 are told stays (c.program_within.ensures.within.shut early) e h) unfiled
+    unfiled_cause old mid new user message (option_map (λ v. v.items) c.in_ok-program.program) actions named c.in_ok-mail.ensures.read.0 are told stays (c.program_within.ensures.within.stays_closed early) e h) unfiled
 
 pub returns-in_err-program-clause-cause : goal.returns-in_err-program-clause-cause
 returns-in_err-program-clause-cause g c clean =
@@ -82,7 +82,7 @@ returns-in_err-program-clause-cause g c clean =
 pub returns-in_err-actions-clause-cause : goal.returns-in_err-actions-clause-cause
 returns-in_err-actions-clause-cause g c clean =
     let found = ok_before c.program_within.result c.map_err.result _ c.in_ok-program.program c.map_err.ensures.cases c.map_err.ensures.variant c.in_ok-program.was in
-    let told = IfOk-at_ok _ found (c.program_within.ensures.told clean) in
+    let told = IfOk-at_ok _ found (c.program_within.ensures.answer clean) in
     passed_on c.from_residual-in_err-actions.result _ _ c.from_residual-in_err-actions.ensures.1 (λ inside is before stands. inr (inl (subst IsSpoilt (told before stands) (c.in_err-actions.ensures.cause is))))
 
 pub returns-clause-cause : goal.returns-clause-cause
@@ -97,7 +97,7 @@ returns-clause-cause g c clean =
     let early : HasCleanDisk mid = omega (arith, clean, c.file_all.ensures.within.survives.clean) in
     let are = rw (c.in_ok-mail.ensures.read.1, ← c.deref.ensures.value) at c.in_ok-actions.ensures.actions in
     let found = ok_before c.program_within.result c.map_err.result _ c.in_ok-program.program c.map_err.ensures.cases c.map_err.ensures.variant c.in_ok-program.was in
-    let told = IfOk-at_ok _ found (c.program_within.ensures.told early) in
+    let told = IfOk-at_ok _ found (c.program_within.ensures.answer early) in
     let stays = subst (λ r. OnOk r (Stays old mid)) found (c.program_within.ensures.same early) in
     let still = subst (λ r. OnOk r (StaysInside old mid)) found (c.program_within.ensures.inside early) in
     let fault = rw c.in_ok-mail.ensures.read.1 at (c.file_all.ensures.cause clean) in

@@ -8,4 +8,4 @@ pub returns-clause-cause : goal.returns-clause-cause
 returns-clause-cause g c clean =
     let user = c.as_str.result.now in
     IfErr-weaker c.summary_of.result _ _ (λ e more is before stands.
-    inr (inr (user, subst (λ ls. 2 ^ 64 ≤ sum_by (λ (x : Listing). x.octets) ls) (ap (map listed) c.deref.ensures.value ∙ c.in_ok-entries.ensures.told clean before stands) (more is)))) c.summary_of.ensures.cause
+    inr (inr (user, subst (λ ls. 2 ^ 64 ≤ sum_by (λ (x : Listing). x.octets) ls) (ap (map listed) c.deref.ensures.value ∙ c.in_ok-entries.ensures.answer clean before stands) (more is)))) c.summary_of.ensures.cause

@@ -11,4 +11,4 @@ returns-in-Err-clause-refused g c =
     (λ is. let broke = all.stopped is in let broken = broke.1 in broken.faults)
     (λ is. elim (all.begun is) [ inl same ↦ ap (λ (o : Output). o.faults) same | inr begun ↦ let some = begun.1 in some.taken.faults ])
     (λ write memory. ap (λ (o : Output). o.faults) (all.unwritten write memory))
-    (all.which, λ clean. (all.refused clean, all.cause clean, all.spared clean)) all.spared)
+    (all.which, λ clean. (all.refused clean, all.cause clean, all.unchanged clean)) all.unchanged)

@@ -1,7 +1,7 @@
 use Rattle.std.proofs.Common.{subst, List, ℕ}
 use Rattle.encodings.specs.Device.{HasBroken, HasTaken, Output}
 use Rattle.encodings.specs.Supply.{Supply}
-use Rattle.depot_batch.specs.Batch.{IsAnsweredBy, office}
+use Rattle.depot_batch.specs.Batch.{IsAnsweredBy, depot_and_output}
 use Rattle.depot_batch.specs.Private.{HasServedLast, HasTakenNext}
 use Rattle.depot_batch.specs.Turns.{Alone}
 use Rattle.depot_batch.specs.declared.outcome.Outcome.{Outcome}
@@ -21,8 +21,8 @@ returns-in-Ok-Unfinished g c =
     let left : Supply = record { left = g.R.Read.remaining c.next_line.new.input.inner; given = c.next_line.new.input.given; has_ended = c.next_line.new.input.has_ended; faults = c.next_line.new.input.faults } in
     let out : Output = record { written = g.W.Write.contents c.args.out.now.inner; faults = c.args.out.now.faults } in
     let out2 : Output = record { written = g.W.Write.contents c.serve_last.new.out.inner; faults = c.serve_last.new.out.faults } in
-    let old = office g.S.Store c.args.depot.now (g.H.Host.state c.args.host.now) out in
-    let new = office g.S.Store c.serve_last.new.depot (g.H.Host.state c.serve_last.new.host) out2 in
+    let old = depot_and_output g.S.Store c.args.depot.now (g.H.Host.state c.args.host.now) out in
+    let new = depot_and_output g.S.Store c.serve_last.new.depot (g.H.Host.state c.serve_last.new.host) out2 in
     let taken = subst (λ t. HasTakenNext t c.next_line.new.line.items rest left) c.in-Ok-Unfinished.field-0-is c.in-Ok-Unfinished.ensures.taken in
     turned_within g.S.Store c.args.name.now c.serve_last.result c.next_line.new.line.items rest left old new _ _ taken
     (subst (λ (octets : List ℕ). HasServedLast g.S.Store c.args.name.now c.serve_last.result octets old new (g.E.Sink.output c.args.err.now) (g.E.Sink.output c.serve_last.new.err)) c.deref-in-Ok-Unfinished.ensures.value c.serve_last.ensures)
@@ -33,8 +33,8 @@ returns-then-is_shut_by g c =
     let left : Supply = record { left = g.R.Read.remaining c.next_line.new.input.inner; given = c.next_line.new.input.given; has_ended = c.next_line.new.input.has_ended; faults = c.next_line.new.input.faults } in
     let out : Output = record { written = g.W.Write.contents c.args.out.now.inner; faults = c.args.out.now.faults } in
     let out2 : Output = record { written = g.W.Write.contents c.serve.new.out.inner; faults = c.serve.new.out.faults } in
-    let old = office g.S.Store c.args.depot.now (g.H.Host.state c.args.host.now) out in
-    let new = office g.S.Store c.serve.new.depot (g.H.Host.state c.serve.new.host) out2 in
+    let old = depot_and_output g.S.Store c.args.depot.now (g.H.Host.state c.args.host.now) out in
+    let new = depot_and_output g.S.Store c.serve.new.depot (g.H.Host.state c.serve.new.host) out2 in
     let taken = subst (λ t. HasTakenNext t c.next_line.new.line.items rest left) c.in-Ok-Line.field-0-is c.in-Ok-Line.ensures.taken in
     turned_shut g.S.Store c.args.name.now c.next_line.new.line.items rest left old new _ taken
     (subst (λ (o : Outcome). IsAnsweredBy g.S.Store HasTaken c.args.name.now c.next_line.new.line.items o old new) (c.is_shut_by.ensures.shut c.if-is_shut_by.true)
@@ -46,8 +46,8 @@ returns-in-Ok g c =
     let left : Supply = record { left = g.R.Read.remaining c.next_line.new.input.inner; given = c.next_line.new.input.given; has_ended = c.next_line.new.input.has_ended; faults = c.next_line.new.input.faults } in
     let out : Output = record { written = g.W.Write.contents c.args.out.now.inner; faults = c.args.out.now.faults } in
     let out2 : Output = record { written = g.W.Write.contents c.serve.new.out.inner; faults = c.serve.new.out.faults } in
-    let old = office g.S.Store c.args.depot.now (g.H.Host.state c.args.host.now) out in
-    let new = office g.S.Store c.serve.new.depot (g.H.Host.state c.serve.new.host) out2 in
+    let old = depot_and_output g.S.Store c.args.depot.now (g.H.Host.state c.args.host.now) out in
+    let new = depot_and_output g.S.Store c.serve.new.depot (g.H.Host.state c.serve.new.host) out2 in
     let taken = subst (λ t. HasTakenNext t c.next_line.new.line.items rest left) c.in-Ok-Line.field-0-is c.in-Ok-Line.ensures.taken in
     turned_on g.S.Store c.args.name.now c.next_line.new.line.items c.in-Ok.outcome rest left old new _ taken
     (subst (λ (octets : List ℕ). IsAnsweredBy g.S.Store HasTaken c.args.name.now octets c.in-Ok.outcome old new) c.deref.ensures.value c.in-Ok.ensures.answered)
@@ -59,8 +59,8 @@ returns-in-Ok-Line g c =
     let left : Supply = record { left = g.R.Read.remaining c.next_line.new.input.inner; given = c.next_line.new.input.given; has_ended = c.next_line.new.input.has_ended; faults = c.next_line.new.input.faults } in
     let out : Output = record { written = g.W.Write.contents c.args.out.now.inner; faults = c.args.out.now.faults } in
     let out2 : Output = record { written = g.W.Write.contents c.serve.new.out.inner; faults = c.serve.new.out.faults } in
-    let old = office g.S.Store c.args.depot.now (g.H.Host.state c.args.host.now) out in
-    let new = office g.S.Store c.serve.new.depot (g.H.Host.state c.serve.new.host) out2 in
+    let old = depot_and_output g.S.Store c.args.depot.now (g.H.Host.state c.args.host.now) out in
+    let new = depot_and_output g.S.Store c.serve.new.depot (g.H.Host.state c.serve.new.host) out2 in
     let taken = subst (λ t. HasTakenNext t c.next_line.new.line.items rest left) c.in-Ok-Line.field-0-is c.in-Ok-Line.ensures.taken in
     let broken = c.in-Err-serve.ensures.broken in
     turned_broken g.S.Store c.args.name.now (Alone c.next_line.new.line.items broken.0) c.tell.result rest left old new _ _ taken

@@ -2,7 +2,7 @@ use Rattle.std.proofs.Common.{◌<◌, ◌^◌, length, refl, subst, sym, ℕ, L
 use Rattle.std.specs.List.{concat}
 use Rattle.encodings.specs.Device.{Output}
 use Rattle.encodings.specs.Supply.{Supply}
-use Rattle.depot_batch.specs.Batch.{office}
+use Rattle.depot_batch.specs.Batch.{depot_and_output}
 use Rattle.depot_batch.specs.Private.{HasTried, lines_of}
 use Rattle.depot_batch.specs.Turns.{Together, Withdrawn}
 use Rattle.depot_batch.specs.declared.together.Tried.{Tried}
@@ -30,8 +30,8 @@ returns-in-Ok-Done g c before can shown =
     let rest : Supply = record { left = g.R.Read.remaining c.take_lines.new.input.inner; given = c.take_lines.new.input.given; has_ended = c.take_lines.new.input.has_ended; faults = c.take_lines.new.input.faults } in
     let out : Output = record { written = g.W.Write.contents c.args.out.now.inner; faults = c.args.out.now.faults } in
     let out2 : Output = record { written = g.W.Write.contents c.serve_together.new.out.inner; faults = c.serve_together.new.out.faults } in
-    let old = office g.S.Store c.args.depot.now (g.H.Host.state c.args.host.now) out in
-    let new = office g.S.Store c.serve_together.new.depot (g.H.Host.state c.serve_together.new.host) out2 in (
+    let old = depot_and_output g.S.Store c.args.depot.now (g.H.Host.state c.args.host.now) out in
+    let new = depot_and_output g.S.Store c.serve_together.new.depot (g.H.Host.state c.serve_together.new.host) out2 in (
       Together (lines_of cut),
       (
         first_whole c.args.lines.items cut first.0 first.1 c.requires.whole,
@@ -49,8 +49,8 @@ returns-in-Ok-Withdrawn g c before can shown =
     let input : Supply = record { left = g.R.Read.remaining c.args.input.now.inner; given = c.args.input.now.given; has_ended = c.args.input.now.has_ended; faults = c.args.input.now.faults } in
     let out : Output = record { written = g.W.Write.contents c.args.out.now.inner; faults = c.args.out.now.faults } in
     let out2 : Output = record { written = g.W.Write.contents c.serve_together.new.out.inner; faults = c.serve_together.new.out.faults } in
-    let old = office g.S.Store c.args.depot.now (g.H.Host.state c.args.host.now) out in
-    let new = office g.S.Store c.serve_together.new.depot (g.H.Host.state c.serve_together.new.host) out2 in (
+    let old = depot_and_output g.S.Store c.args.depot.now (g.H.Host.state c.args.host.now) out in
+    let new = depot_and_output g.S.Store c.serve_together.new.depot (g.H.Host.state c.serve_together.new.host) out2 in (
       Withdrawn (lines_of cut),
       (first_whole c.args.lines.items cut first.0 first.1 c.requires.whole, first_shown c.args.lines.items cut first.0 first.1 before input shown),
       subst (λ (t : Tried). HasTried g.S.Store t (lines_of cut) old new) c.in-Ok-Withdrawn.field-0-is c.in-Ok-Withdrawn.ensures.tried,
@@ -66,8 +66,8 @@ returns g c before can shown =
     let rest : Supply = record { left = g.R.Read.remaining c.take_lines-in-Err.new.input.inner; given = c.take_lines-in-Err.new.input.given; has_ended = c.take_lines-in-Err.new.input.has_ended; faults = c.take_lines-in-Err.new.input.faults } in
     let out : Output = record { written = g.W.Write.contents c.args.out.now.inner; faults = c.args.out.now.faults } in
     let out2 : Output = record { written = g.W.Write.contents c.serve_together.new.out.inner; faults = c.serve_together.new.out.faults } in
-    let old = office g.S.Store c.args.depot.now (g.H.Host.state c.args.host.now) out in
-    let new = office g.S.Store c.serve_together.new.depot (g.H.Host.state c.serve_together.new.host) out2 in
+    let old = depot_and_output g.S.Store c.args.depot.now (g.H.Host.state c.args.host.now) out in
+    let new = depot_and_output g.S.Store c.serve_together.new.depot (g.H.Host.state c.serve_together.new.host) out2 in
     turned_broken g.S.Store c.args.name.now (Together (lines_of cut)) c.tell.result before rest old new _ _ (
       first_whole c.args.lines.items cut first.0 first.1 c.requires.whole,
       first_taken c.args.lines.items cut first.0 first.1 c.deref-in-Err.result.now before input rest (g.R.BufRead.consumable_len c.args.input.now.inner) c.deref-in-Err.ensures.value can shown (c.take_lines-in-Err.ensures before),

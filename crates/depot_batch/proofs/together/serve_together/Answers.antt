@@ -7,7 +7,7 @@ use Rattle.encodings.specs.Device.{HasBroken, HasTaken, Output}
 use Rattle.encodings.proofs.Outputs.{on_err}
 use Rattle.depot_actions.specs.Deliveries.{DoesAll, MayLeaveAll}
 use Rattle.depot_actions.specs.DepotState.{Listed}
-use Rattle.depot_batch.specs.Batch.{AreDeliveries, most_together, office}
+use Rattle.depot_batch.specs.Batch.{AreDeliveries, most_together, depot_and_output}
 use Rattle.depot_batch.specs.Private.{command_of, filed_by, lines_of}
 use Rattle.depot_batch.specs.declared.mails.Mail.{Mail}
 use Rattle.depot_batch.proofs.Grouping.{answered_together, cut_lines, cut_rest, withdrawn_late}
@@ -36,8 +36,8 @@ returns-in_err-put_filed-in-Some-deliver_mails-clause-broken g c =
     let filed = map filed_by c.in-Some-deliver_mails.replies.items in
     let out : Output = record { written = g.W.Write.contents c.args.out.now.inner; faults = c.args.out.now.faults } in
     let out2 : Output = record { written = g.W.Write.contents c.put_filed.new.out.inner; faults = c.put_filed.new.out.faults } in
-    let old = office g.S.Store c.args.depot.now (g.H.Host.state c.args.host.now) out in
-    let new = office g.S.Store c.deliver_mails.new.depot (g.H.Host.state c.read_mails.new.host) out2 in
+    let old = depot_and_output g.S.Store c.args.depot.now (g.H.Host.state c.args.host.now) out in
+    let new = depot_and_output g.S.Store c.deliver_mails.new.depot (g.H.Host.state c.read_mails.new.host) out2 in
     let count : c.len.result ≡ length mails = search rules in
     let files = subst (λ (ls : List (List ℕ)). AreDeliveries ls (map command_of mails) (g.H.Host.state c.args.host.now) (g.H.Host.state c.read_mails.new.host))
     (cut_lines lines c.deref.result.now cut c.len.result (length mails) c.truncate.ensures.items count c.deref.ensures.value) c.in-Some.ensures.read in
@@ -58,8 +58,8 @@ returns-in-Some-deliver_mails-clause-tried g c =
     let filed = map filed_by c.in-Some-deliver_mails.replies.items in
     let out : Output = record { written = g.W.Write.contents c.args.out.now.inner; faults = c.args.out.now.faults } in
     let out2 : Output = record { written = g.W.Write.contents c.put_filed.new.out.inner; faults = c.put_filed.new.out.faults } in
-    let old = office g.S.Store c.args.depot.now (g.H.Host.state c.args.host.now) out in
-    let new = office g.S.Store c.deliver_mails.new.depot (g.H.Host.state c.read_mails.new.host) out2 in
+    let old = depot_and_output g.S.Store c.args.depot.now (g.H.Host.state c.args.host.now) out in
+    let new = depot_and_output g.S.Store c.deliver_mails.new.depot (g.H.Host.state c.read_mails.new.host) out2 in
     let count : c.len.result ≡ length mails = search rules in
     let files = subst (λ (ls : List (List ℕ)). AreDeliveries ls (map command_of mails) (g.H.Host.state c.args.host.now) (g.H.Host.state c.read_mails.new.host))
     (cut_lines lines c.deref.result.now cut c.len.result (length mails) c.truncate.ensures.items count c.deref.ensures.value) c.in-Some.ensures.read in
@@ -77,8 +77,8 @@ returns-clause-tried g c =
     let cut = c.truncate.new.self.items in
     let mails = c.in-Some.mails.items in
     let out : Output = record { written = g.W.Write.contents c.args.out.now.inner; faults = c.args.out.now.faults } in
-    let old = office g.S.Store c.args.depot.now (g.H.Host.state c.args.host.now) out in
-    let new = office g.S.Store c.deliver_mails.new.depot (g.H.Host.state c.read_mails.new.host) out in
+    let old = depot_and_output g.S.Store c.args.depot.now (g.H.Host.state c.args.host.now) out in
+    let new = depot_and_output g.S.Store c.deliver_mails.new.depot (g.H.Host.state c.read_mails.new.host) out in
     let count : c.len.result ≡ length mails = search rules in
     let files = subst (λ (ls : List (List ℕ)). AreDeliveries ls (map command_of mails) (g.H.Host.state c.args.host.now) (g.H.Host.state c.read_mails.new.host))
     (cut_lines lines c.deref.result.now cut c.len.result (length mails) c.truncate.ensures.items count c.deref.ensures.value) c.in-Some.ensures.read in
@@ -86,4 +86,4 @@ returns-clause-tried g c =
     (λ (trees : Trees). MayLeaveAll (map command_of ms) (state g.S.Store c.args.depot.now) trees)) c.deref-2.ensures.value c.deliver_mails.ensures.survives in
     let some : 0 < length (map command_of mails) = rw (length-map mails command_of) c.in-Some.ensures.some in
     withdrawn_late g.S.Store (lines_of cut) (map command_of mails) old new some
-    (first_few lines cut (drop c.len.result lines) (cut_rest lines cut c.len.result c.truncate.ensures.items) most_together c.requires.few) files c.in-None.ensures.spared survives refl
+    (first_few lines cut (drop c.len.result lines) (cut_rest lines cut c.len.result c.truncate.ensures.items) most_together c.requires.few) files c.in-None.ensures.unchanged survives refl

@@ -16,4 +16,4 @@ returns-in-Err-clause-performed g c =
     rw c.in-Export.is (stopped c.in-Err.refusal command c.tell.result _ _ tt
     (λ is. let broke = all.stopped is in (Text broke.0, broke.2, broke.1))
     (λ is. elim (all.begun is) [ inl same ↦ inl same | inr begun ↦ inr (Text begun.0, begun.2, begun.1) ])
-    all.unwritten (all.which, λ clean. (all.refused clean, all.cause clean, all.spared clean)) c.tell.ensures.status c.tell.ensures.told)
+    all.unwritten (all.which, λ clean. (all.refused clean, all.cause clean, all.unchanged clean)) c.tell.ensures.status c.tell.ensures.told)

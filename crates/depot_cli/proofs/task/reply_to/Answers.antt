@@ -15,4 +15,4 @@ returns-in-Ok-migrate-clause-done g c = rw c.in-Migrate.is (Migrated c.in-Ok-mig
 pub returns-in-Err-migrate-clause-refused : goal.returns-in-Err-migrate-clause-refused
 returns-in-Err-migrate-clause-refused g c =
     let all = c.in-Err-migrate.ensures in
-    rw c.in-Migrate.is (all.which, λ clean. (all.refused clean, all.cause clean, all.spared clean))
+    rw c.in-Migrate.is (all.which, λ clean. (all.refused clean, all.cause clean, all.unchanged clean))

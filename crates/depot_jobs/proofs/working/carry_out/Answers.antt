@@ -1,5 +1,5 @@
 use Rattle.std.proofs.Common.{◌∙◌, inl, subst}
-use Rattle.depot_jobs.specs.Jobs.{world}
+use Rattle.depot_jobs.specs.Jobs.{host_and_outputs}
 use Rattle.depot_jobs.specs.Inputs.{HaveRead}
 use Rattle.depot_jobs.proofs.WorkingLemmas.{outcome}
 use Rattle.depot_jobs.proofs.working.carry_out.Goals as goal
@@ -9,8 +9,8 @@ returns-in-Ok g c =
     let read = c.in-Ok.ensures.read in
     let before = g.H.Host.state c.args.host.now in
     let mid = g.H.Host.state c.read_inputs.new.host in
-    let old = world mid (g.O.Sink.output c.args.out.now) (g.E.Sink.output c.args.err.now) in
-    let new = world (g.H.Host.state c.answer.new.host) (g.O.Sink.output c.answer.new.out) (g.E.Sink.output c.answer.new.err) in
+    let old = host_and_outputs mid (g.O.Sink.output c.args.out.now) (g.E.Sink.output c.args.err.now) in
+    let new = host_and_outputs (g.H.Host.state c.answer.new.host) (g.O.Sink.output c.answer.new.out) (g.E.Sink.output c.answer.new.err) in
     inl (record {
       inputs = read.0;
       mid = mid;

@@ -1,7 +1,6 @@
 use Rattle.std.proofs.Common.{flat_map, take}
 use Rattle.mail_matching.specs.Headers.{selected_among}
 use Rattle.mail_matching.specs.Private.{GoesOn}
-use Rattle.mail_matching.specs.Selection.{selector_of}
 use Rattle.mail_matching.specs.declared.outcome.Outcome.TheVariants.{Fails}
 use Rattle.mail_matching.proofs.header_test.compared.Given as goal
 
@@ -10,7 +9,7 @@ invariant-loop-place g l =
     GoesOn
     g.T.Telling.knows
     l.test.how
-    (flat_map (selected_among (selector_of l.test.selector (g.P.Texts.texts l.test.params.now)) (g.N.Texts.texts l.names)) (take l.place l.headers))
+    (flat_map (selected_among l.test.selector (g.P.Texts.texts l.test.params.now) (g.N.Texts.texts l.names)) (take l.place l.headers))
     (g.K.Texts.texts l.test.keys.now)
     (record { outcome = Fails; extent = 0; told = l.fn.told })
     l.progress

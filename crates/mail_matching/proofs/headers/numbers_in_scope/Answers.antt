@@ -1,6 +1,6 @@
 use Rattle.std.proofs.Common.{◌≡◌, ◌<◌, ◌∙◌, ap, arith, length, drop}
 use Rattle.mime_decode.specs.Mail.{Part}
-use Rattle.mime_decode.specs.Scope.{current_or_root, first_and_below}
+use Rattle.mail_matching.specs.Selection.{current_or_root, first_and_below}
 use Rattle.mime_decode.proofs.MailLemmas.{at_part, tree_number}
 use Rattle.mail_matching.proofs.Scopes.{below_within, current_is, first_below}
 use Rattle.mail_matching.proofs.headers.numbers_in_scope.Goals as goal

@@ -5,8 +5,8 @@ use Rattle.part_store.proofs.Runs.{passed}
 use Rattle.part_store.proofs.Programs.{number_read}
 use Rattle.part_store.proofs.adding.last_of.Goals as goal
 
-pub returns-in_ok-get-in-Some-clause-told : goal.returns-in_ok-get-in-Some-clause-told
-returns-in_ok-get-in-Some-clause-told g c clean =
+pub returns-in_ok-get-in-Some-clause-answer : goal.returns-in_ok-get-in-Some-clause-answer
+returns-in_ok-get-in-Some-clause-answer g c clean =
     number_read (state g.S.Store c.args.tx.now.conn.now) (state g.S.Store c.find_last.new.tx.conn.now) c.args.user.now c.in-Some.row c.in_ok-get-in-Some.field-0
     (rw c.in-Some.is at (c.in_ok-row.ensures.step clean)) c.in_ok-get-in-Some.ensures.ok.1
 

@@ -16,7 +16,7 @@ returns-then-branch-clause-adds g c clean before stands =
     let mid = state g.S.Store c.last_of.new.tx.conn.now in
     let early : HasCleanDisk mid = omega (arith, c.claim_and_file.ensures.survives.clean) in
     let entries = c.args.entries.now in
-    let told = c.in_ok-last.ensures.told early before stands in
+    let told = c.in_ok-last.ensures.answer early before stands in
     let still = c.in_ok-last.ensures.same early in
     let done : c.in_ok-claim_and_file.field-0 ≡ true = search rules in
     let enters = c.in_ok-claim_and_file.ensures.filed clean done before (stands_still old mid before still stands) told.0 (subst (λ t. TellsOfRow c.args.user.now t c.in_ok-last.is_known) (sym (still stands.schema).1) told.1) in
@@ -34,7 +34,7 @@ returns-else-branch-clause-adds g c clean before stands =
     let mid = state g.S.Store c.last_of.new.tx.conn.now in
     let early : HasCleanDisk mid = omega (arith, c.claim_and_file.ensures.survives.clean) in
     let entries = c.args.entries.now in
-    let told = c.in_ok-last.ensures.told early before stands in
+    let told = c.in_ok-last.ensures.answer early before stands in
     let still = c.in_ok-last.ensures.same early in
     let failed : c.in_ok-claim_and_file.field-0 ≡ false = search rules in
     let other = c.in_ok-claim_and_file.ensures.other clean failed before (stands_still old mid before still stands) told.0 (subst (λ t. TellsOfRow c.args.user.now t c.in_ok-last.is_known) (sym (still stands.schema).1) told.1) in (
@@ -59,7 +59,7 @@ returns-in_err-claim_and_file-clause-cause g c clean =
     let still = c.in_ok-last.ensures.same early in
     passed c.from_residual-in_err-claim_and_file.result _ _ c.from_residual-in_err-claim_and_file.ensures.1 (λ inside.
     entries_after old mid new user drafts _ c.last_of.ensures.within.survives c.claim_and_file.ensures.survives clean still
-    (λ before stands. omega (arith, (c.in_ok-last.ensures.told early before stands).0, c.if-entries-last.false, length-map c.args.entries.now draft_of)) (λ before stands.
+    (λ before stands. omega (arith, (c.in_ok-last.ensures.answer early before stands).0, c.if-entries-last.false, length-map c.args.entries.now draft_of)) (λ before stands.
     c.in_err-claim_and_file.ensures.cause clean (c.in_ok-last.ensures.inside early stands.schema inside) (λ other there.
-    let told = c.in_ok-last.ensures.told early other (stood old mid before other still stands there) in
+    let told = c.in_ok-last.ensures.answer early other (stood old mid before other still stands there) in
     (told.0, subst (λ t. TellsOfRow user t c.in_ok-last.is_known) (sym (still stands.schema).1) told.1))))

@@ -6,8 +6,8 @@ use Rattle.part_store.proofs.Runs.{err_then, if_ok}
 use Rattle.part_store.proofs.Shown.{users_show}
 use Rattle.part_store.proofs.all_users.list_users.Goals as goal
 
-pub returns-clause-told : goal.returns-clause-told
-returns-clause-told g c clean =
+pub returns-clause-answer : goal.returns-clause-answer
+returns-clause-answer g c clean =
     if_ok c.users_in.result _ _ (λ users shown before stands.
     are_users (state g.S.Store c.args.tx.now.conn.now) (state g.S.Store c.list.new.tx.conn.now) c.in_ok-rows.rows.items (map line_of users.items)
     (c.in_ok-rows.ensures.step clean) (lines_shown users.items ∙ shown) before stands) c.users_in.ensures.shown

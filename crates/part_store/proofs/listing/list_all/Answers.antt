@@ -15,11 +15,11 @@ loop-row-preserved g c =
     record {
       same_reference = c.read_row.ensures.same_reference ∙ c.loop-row.invariant.same_reference;
       so_far = one_read rows c.loop-row.row-index c.row-item.result c.loop-row.listed.items c.push.new.self.items c.in_ok-entry.entry old mid new c.loop-row-test.true c.row-item.is c.in_ok-push.ensures.items c.loop-row.invariant.so_far
-          c.read_row.ensures.survives c.in_ok-entry.ensures.same c.read_row.ensures.kept c.in_ok-entry.ensures.told;
+          c.read_row.ensures.survives c.in_ok-entry.ensures.same c.read_row.ensures.kept c.in_ok-entry.ensures.answer;
     }
 
-pub returns-clause-told : goal.returns-clause-told
-returns-clause-told g c clean before stands =
+pub returns-clause-answer : goal.returns-clause-answer
+returns-clause-answer g c clean before stands =
     let old = state g.S.Store c.args.tx.now.conn.now in
     let mid = state g.S.Store c.list.new.tx.conn.now in
     let new = state g.S.Store c.loop-row.tx.conn.now in

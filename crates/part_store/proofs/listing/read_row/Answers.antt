@@ -5,12 +5,12 @@ use Rattle.part_store.specs.Standing.{HasContent}
 use Rattle.part_store.proofs.Runs.{passed}
 use Rattle.part_store.proofs.listing.read_row.Goals as goal
 
-pub returns-clause-told : goal.returns-clause-told
-returns-clause-told g c clean before stands x shows =
+pub returns-clause-answer : goal.returns-clause-answer
+returns-clause-answer g c clean before stands x shows =
     let old = state g.S.Store c.args.tx.now.conn.now in
     let parts = c.in_ok-number.ensures.parts x shows.0 shows.1 in
     let named : shows.0 ≡ c.deref.result.now = sym (c.deref.ensures.value ∙ parts.digest) in
-    let size : c.in_ok-octets.octets ≡ length x.octets = c.in_ok-octets.ensures.told clean before stands x.octets (subst (λ d. HasContent (old.now.trees contents_tree) d x.octets) named shows.2) in
+    let size : c.in_ok-octets.octets ≡ length x.octets = c.in_ok-octets.ensures.answer clean before stands x.octets (subst (λ d. HasContent (old.now.trees contents_tree) d x.octets) named shows.2) in
     rw (parts.number, parts.kind, parts.folder, parts.name, parts.media, size) refl
 
 pub returns-in_err-octets-clause-cause : goal.returns-in_err-octets-clause-cause

@@ -5,8 +5,8 @@ use Rattle.part_store.proofs.Runs.{err_then, if_ok}
 use Rattle.part_store.proofs.Finding.{content_there}
 use Rattle.part_store.proofs.store.content_of.Goals as goal
 
-pub returns-in-Some-clause-told : goal.returns-in-Some-clause-told
-returns-in-Some-clause-told g c clean =
+pub returns-in-Some-clause-answer : goal.returns-in-Some-clause-answer
+returns-in-Some-clause-answer g c clean =
     if_ok c.get.result _ _ (λ octets got. content_there (state g.S.Store c.args.tx.now.conn.now) (state g.S.Store c.find.new.tx.conn.now) c.args.digest.now c.in-Some.row octets.items
     (rw c.in-Some.is at (c.in_ok-row.ensures.step clean)) got.1) c.get.ensures.ok
 

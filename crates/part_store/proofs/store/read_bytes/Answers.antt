@@ -11,14 +11,14 @@ use Rattle.part_store.proofs.Reading.{bytes_read}
 use Rattle.part_store.proofs.Runs.{passed}
 use Rattle.part_store.proofs.store.read_bytes.Goals as goal
 
-pub returns-clause-told : goal.returns-clause-told
-returns-clause-told g c clean =
+pub returns-clause-answer : goal.returns-clause-answer
+returns-clause-answer g c clean =
     let old = state g.S.Store c.args.tx.now.conn.now in
     let mid = state g.S.Store c.digest_of.new.tx.conn.now in
     let early : HasCleanDisk mid = omega (arith, c.content_of.ensures.survives.clean) in
-    let told = rw c.in-Some.is at (c.in_ok-digest.ensures.told early) in
+    let told = rw c.in-Some.is at (c.in_ok-digest.ensures.answer early) in
     bytes_read old mid c.args.user.now c.args.number c.in-Some.digest.items c.in_ok-content_of.field-0.items told (c.in_ok-digest.ensures.same early)
-    (rw c.deref.ensures.value at (c.in_ok-content_of.ensures.told clean))
+    (rw c.deref.ensures.value at (c.in_ok-content_of.ensures.answer clean))
 
 pub returns-in_err-content_of-clause-cause : goal.returns-in_err-content_of-clause-cause
 returns-in_err-content_of-clause-cause g c clean =
@@ -27,7 +27,7 @@ returns-in_err-content_of-clause-cause g c clean =
     let new = state g.S.Store c.content_of.new.tx.conn.now in
     let digest = c.in-Some.digest.items in
     let early : HasCleanDisk mid = omega (arith, clean, c.content_of.ensures.survives.clean) in
-    let told = rw c.in-Some.is at (c.in_ok-digest.ensures.told early) in
+    let told = rw c.in-Some.is at (c.in_ok-digest.ensures.answer early) in
     let stays = c.in_ok-digest.ensures.same early in
     let cause = rw c.deref.ensures.value at (c.in_err-content_of.ensures.cause clean) in
     passed c.from_residual-in_err-content_of.result _ _ c.from_residual-in_err-content_of.ensures.1 (λ is before stands.

@@ -15,7 +15,7 @@ returns-clause-taken g c clean _ =
     let new = state g.S.Store c.remove_unnamed.new.tx.conn.now in
     let late : HasCleanDisk two = omega (arith, c.remove_unnamed.ensures.survives.clean) in
     let early : HasCleanDisk one = omega (arith, late, c.remove.ensures.survives.clean) in
-    let told = rw c.in-Some.is at (c.in_ok-digest.ensures.told early) in
+    let told = rw c.in-Some.is at (c.in_ok-digest.ensures.answer early) in
     entry_taken_out old one two new c.args.user.now c.args.number c.in-Some.digest.items told (c.in_ok-digest.ensures.same early) (c.digest_of.ensures.within.kept early) (c.in_ok-remove.ensures.step late)
     (rw c.deref.ensures.value at (c.in_ok-remove_unnamed.ensures.tidied clean))
 
@@ -26,7 +26,7 @@ returns-clause-there g c clean _ before stands =
     let two = state g.S.Store c.remove.new.tx.conn.now in
     let late : HasCleanDisk two = omega (arith, c.remove_unnamed.ensures.survives.clean) in
     let early : HasCleanDisk one = omega (arith, late, c.remove.ensures.survives.clean) in
-    let told = rw c.in-Some.is at (c.in_ok-digest.ensures.told early) in
+    let told = rw c.in-Some.is at (c.in_ok-digest.ensures.answer early) in
     let x = entry_there old.now.trees before c.args.user.now c.args.number c.in-Some.digest.items stands.tables (told before stands) in
     (x.0, x.1)
 

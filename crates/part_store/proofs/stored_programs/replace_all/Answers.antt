@@ -18,7 +18,7 @@ loop-user-preserved g c =
     record {
       same_reference = c.replace_program.ensures.same_reference ∙ c.loop-user.invariant.same_reference;
       so_far = subst (λ pairs. Replacing pairs old new) whole (replaced_more (map pair_of (take place programs)) (user, program) old mid new c.loop-user.invariant.so_far
-          c.replace_program.ensures.within.survives c.in_ok-replace_program.ensures.step c.in_ok-replace_program.ensures.inside c.in_ok-replace_program.ensures.schema c.in_ok-replace_program.ensures.within.was_open c.replace_program.ensures.within.shut c.replace_program.ensures.within.kept c.in_ok-replace_program.ensures.rowids);
+          c.replace_program.ensures.within.survives c.in_ok-replace_program.ensures.step c.in_ok-replace_program.ensures.inside c.in_ok-replace_program.ensures.schema c.in_ok-replace_program.ensures.within.was_open c.replace_program.ensures.within.stays_closed c.replace_program.ensures.within.kept c.in_ok-replace_program.ensures.rowids);
     }
 
 pub returns-in_err-replace_program-clause-cause : goal.returns-in_err-replace_program-clause-cause

@@ -15,7 +15,7 @@ pub returns-in_default-clause-step : goal.returns-in_default-clause-step
 returns-in_default-clause-step g c clean =
     let old = state g.S.Store c.args.tx.now.conn.now in
     let new = state g.S.Store c.read_program.new.tx.conn.now in
-    let told = rw c.in_default.is at (c.in_ok-_before.ensures.told clean) in
+    let told = rw c.in_default.is at (c.in_ok-_before.ensures.answer clean) in
     passed_over old new c.args.user.now c.args.program.now told (c.in_ok-_before.ensures.same clean) (c.read_program.ensures.within.kept clean) (c.in_ok-_before.ensures.still clean)
 
 pub returns-clause-step : goal.returns-clause-step
@@ -24,7 +24,7 @@ returns-clause-step g c clean =
     let mid = state g.S.Store c.read_program.new.tx.conn.now in
     let new = state g.S.Store c.put_program.new.tx.conn.now in
     let early : HasCleanDisk mid = omega (arith, c.put_program.ensures.within.survives.clean) in
-    let told = rw c.in-Some.is at (c.in_ok-_before.ensures.told early) in
+    let told = rw c.in-Some.is at (c.in_ok-_before.ensures.answer early) in
     on_ok_weaker c.put_program.result (replaced_one old mid new c.args.user.now c.args.program.now _ told (c.in_ok-_before.ensures.same early) (c.read_program.ensures.within.kept early) (c.in_ok-_before.ensures.still early))
     (c.put_program.ensures.step clean)
 

@@ -5,8 +5,8 @@ use Rattle.part_store.proofs.Sums.{is_total, octets_shown}
 use Rattle.part_store.proofs.Shown.{sizes_show}
 use Rattle.part_store.proofs.totals.count_contents.Goals as goal
 
-pub returns-clause-told : goal.returns-clause-told
-returns-clause-told g c clean =
+pub returns-clause-answer : goal.returns-clause-answer
+returns-clause-answer g c clean =
     if_ok c.total_of.result _ _ (λ total shown before stands. is_total (state g.S.Store c.args.tx.now.conn.now) (state g.S.Store c.list.new.tx.conn.now) c.in_ok-rows.rows.items total
     (c.in_ok-rows.ensures.step clean) shown.0 shown.1 before stands) c.total_of.ensures.total
 

@@ -22,5 +22,5 @@ returns-in-Collision-clause-adds g c = record {
       (subst (HasRoom before c.args.user.now) (length-map c.args.entries.now draft_of) found.0, found.1);
   was_open = λ _. tt;
   begun = λ clean _. c.in_ok-first.ensures.within.was_open clean;
-  shut = c.put_entries.ensures.within.shut;
+  stays_closed = c.put_entries.ensures.within.stays_closed;
 }

@@ -1,7 +1,7 @@
 use Rattle.std.proofs.Common.{◌≡◌, ◌∙◌, ap, false, sym}
 use Rattle.std.specs.Prelude.{Option, is_some}
 use Rattle.sieve_check.specs.Names.{test_named}
-use Rattle.sieve_check.specs.declared.names.TestName.{TestName}
+use Rattle.sieve_check.specs.declared.table.TestName.{TestName}
 use Rattle.sieve_explain.specs.Hints.{unknown_command}
 use Rattle.sieve_explain.proofs.hints.unknown_command.Goals as goal
 

@@ -1,7 +1,7 @@
 use Rattle.std.proofs.Common.{◌≡◌, ◌∙◌, ap, false, sym}
 use Rattle.std.specs.Prelude.{Option, is_some}
 use Rattle.sieve_check.specs.Names.{command_named}
-use Rattle.sieve_check.specs.declared.names.CommandName.{CommandName}
+use Rattle.sieve_check.specs.declared.table.CommandName.{CommandName}
 use Rattle.sieve_explain.specs.Hints.{unknown_test}
 use Rattle.sieve_explain.proofs.hints.unknown_test.Goals as goal
 

@@ -1,7 +1,7 @@
 use Rattle.std.proofs.Common.{◌≡◌, ◌∙◌, ◌+◌, ap, sym, subst, refl, drop, [], ◌∷◌, IfOk, IfErr, rules, ◌≤◌, arith}
 use Rattle.std.proofs.lemmas.List.{drop_all}
 use Rattle.std.proofs.lemmas.Result.{IfErr-weaker, IfOk-weaker, err_from_is_err_and}
-use Rattle.mime_decode.specs.Scope.{visited}
+use Rattle.mime_decode.specs.Visited.{visited}
 use Rattle.sieve_check.specs.Bounded.{AreBoundedBranches, AreBoundedCommands, IsBoundedCommand}
 use Rattle.sieve_check.specs.Extent.{branches_extent, command_extent, commands_extent}
 use Rattle.sieve_check.specs.Private.{branch_forms, else_form}

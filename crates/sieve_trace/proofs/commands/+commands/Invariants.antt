@@ -1,5 +1,5 @@
 use Rattle.std.proofs.Common.{◌≤◌, ◌-◌, ◌+◌, ◌*◌, drop, length}
-use Rattle.mime_decode.specs.Scope.{numbers_from, visited}
+use Rattle.mime_decode.specs.Visited.{numbers_from, visited}
 use Rattle.sieve_check.specs.Bounded.{AreBoundedCommands, AreBoundedBranches}
 use Rattle.sieve_check.specs.Extent.{command_extent, commands_extent}
 use Rattle.sieve_check.specs.TypedView.{command_form, commands_form}

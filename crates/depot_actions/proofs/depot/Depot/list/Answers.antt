@@ -3,11 +3,11 @@ use Rattle.depot_actions.proofs.StoreFaults.{failure_told}
 use Rattle.std.proofs.Common.{IfErr, subst}
 use Rattle.depot_actions.specs.Causes.{IsFault, IsHindered}
 use Rattle.sqlite.specs.Held.{state}
-use Rattle.depot_actions.proofs.Commands.{spares_self}
+use Rattle.depot_actions.proofs.Commands.{unchanged_self}
 use Rattle.depot_actions.proofs.depot.Depot.list.Goals as goal
 
-pub returns-then-not-is_user_name-clause-spared : goal.returns-then-not-is_user_name-clause-spared
-returns-then-not-is_user_name-clause-spared g c clean = spares_self (state g.S.Store c.args.self.now)
+pub returns-then-not-is_user_name-clause-unchanged : goal.returns-then-not-is_user_name-clause-unchanged
+returns-then-not-is_user_name-clause-unchanged g c clean = unchanged_self (state g.S.Store c.args.self.now)
 
 pub returns-clause-cause : goal.returns-clause-cause
 returns-clause-cause g c clean =

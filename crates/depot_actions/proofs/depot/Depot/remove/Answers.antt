@@ -5,7 +5,7 @@ use Rattle.sqlite.specs.Held.{state}
 use Rattle.sqlite.specs.State.{Survives}
 use Rattle.depot_actions.specs.DepotState.{MayLeave, Remove}
 use Rattle.depot_actions.specs.Users.{is_user_name}
-use Rattle.depot_actions.proofs.Commands.{spares_self, removal_left, survives_more}
+use Rattle.depot_actions.proofs.Commands.{unchanged_self, removal_left, survives_more}
 use Rattle.depot_actions.proofs.depot.Depot.remove.Goals as goal
 
 pub returns-clause-survives : goal.returns-clause-survives
@@ -17,8 +17,8 @@ returns-clause-survives g c =
     subst (λ h. Survives (state g.S.Store h) new (MayLeave (Remove user c.args.number) (state g.S.Store h))) c.self.view_is
     (survives_more old new _ _ (λ trees left. removal_left old new user named c.args.number trees left) c.remove_entry.ensures.writes.survives)
 
-pub returns-then-not-is_user_name-clause-spared : goal.returns-then-not-is_user_name-clause-spared
-returns-then-not-is_user_name-clause-spared g c clean = spares_self (state g.S.Store c.args.self.now)
+pub returns-then-not-is_user_name-clause-unchanged : goal.returns-then-not-is_user_name-clause-unchanged
+returns-then-not-is_user_name-clause-unchanged g c clean = unchanged_self (state g.S.Store c.args.self.now)
 
 pub returns-clause-cause : goal.returns-clause-cause
 returns-clause-cause g c clean =

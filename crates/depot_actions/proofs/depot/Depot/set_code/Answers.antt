@@ -3,15 +3,15 @@ use Rattle.depot_actions.proofs.StoreFaults.{fault_told}
 use Rattle.std.proofs.Common.{IfErr, subst}
 use Rattle.depot_actions.specs.Causes.{IsFault, IsHindered}
 use Rattle.sqlite.specs.Held.{state}
-use Rattle.depot_actions.proofs.Commands.{spares_self}
+use Rattle.depot_actions.proofs.Commands.{unchanged_self}
 use Rattle.encodings.proofs.Outputs.{on_err}
 use Rattle.depot_actions.proofs.depot.Depot.set_code.Goals as goal
 
-pub returns-then-not-is_user_name-clause-spared : goal.returns-then-not-is_user_name-clause-spared
-returns-then-not-is_user_name-clause-spared g c clean = spares_self (state g.S.Store c.args.self.now)
+pub returns-then-not-is_user_name-clause-unchanged : goal.returns-then-not-is_user_name-clause-unchanged
+returns-then-not-is_user_name-clause-unchanged g c clean = unchanged_self (state g.S.Store c.args.self.now)
 
-pub returns-in_err-check_code-clause-spared : goal.returns-in_err-check_code-clause-spared
-returns-in_err-check_code-clause-spared g c clean = on_err c.from_residual.result (spares_self (state g.S.Store c.args.self.now))
+pub returns-in_err-check_code-clause-unchanged : goal.returns-in_err-check_code-clause-unchanged
+returns-in_err-check_code-clause-unchanged g c clean = on_err c.from_residual.result (unchanged_self (state g.S.Store c.args.self.now))
 
 pub returns-clause-cause : goal.returns-clause-cause
 returns-clause-cause g c clean =

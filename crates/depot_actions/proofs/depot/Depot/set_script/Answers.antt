@@ -9,7 +9,7 @@ use Rattle.sqlite.specs.Held.{state}
 use Rattle.sqlite.specs.State.{Survives}
 use Rattle.depot_actions.specs.DepotState.{Does, Done, MayLeave, SetScript}
 use Rattle.depot_actions.specs.Users.{is_user_name}
-use Rattle.depot_actions.proofs.Commands.{spares_self, ok_as, script_done, script_left, survives_more}
+use Rattle.depot_actions.proofs.Commands.{unchanged_self, ok_as, script_done, script_left, survives_more}
 use Rattle.encodings.proofs.Outputs.{on_err}
 use Rattle.depot_actions.proofs.depot.Depot.set_script.Goals as goal
 
@@ -37,11 +37,11 @@ returns-clause-survives g c =
     (survives_more old new _ _ (λ trees left. script_left old new user named script c.deref.result.now found.0 found.1 (c.deref.ensures.value ∙ found.2) trees left)
     c.set_program.ensures.writes.survives)
 
-pub returns-then-not-is_user_name-clause-spared : goal.returns-then-not-is_user_name-clause-spared
-returns-then-not-is_user_name-clause-spared g c clean = spares_self (state g.S.Store c.args.self.now)
+pub returns-then-not-is_user_name-clause-unchanged : goal.returns-then-not-is_user_name-clause-unchanged
+returns-then-not-is_user_name-clause-unchanged g c clean = unchanged_self (state g.S.Store c.args.self.now)
 
-pub returns-in_err-octets-clause-spared : goal.returns-in_err-octets-clause-spared
-returns-in_err-octets-clause-spared g c clean = on_err c.from_residual.result (spares_self (state g.S.Store c.args.self.now))
+pub returns-in_err-octets-clause-unchanged : goal.returns-in_err-octets-clause-unchanged
+returns-in_err-octets-clause-unchanged g c clean = on_err c.from_residual.result (unchanged_self (state g.S.Store c.args.self.now))
 
 pub returns-clause-cause : goal.returns-clause-cause
 returns-clause-cause g c clean =

@@ -1,6 +1,5 @@
 use Rattle.std.proofs.Common.{flat_map, take}
 use Rattle.mail_matching.specs.Private.{GoesOn}
-use Rattle.mail_matching.specs.Selection.{selector_of}
 use Rattle.mail_matching.proofs.Extents.{where_named}
 use Rattle.mail_matching.proofs.progress.Progress.take_named.Given as goal
 
@@ -9,7 +8,7 @@ invariant-loop-place g l =
     GoesOn
     g.T.Telling.knows
     l.test.how
-    (flat_map (where_named (selector_of l.test.selector (g.P.Texts.texts l.test.params.now)) l.name) (take l.place l.fields))
+    (flat_map (where_named l.test.selector (g.P.Texts.texts l.test.params.now) l.name) (take l.place l.fields))
     (g.K.Texts.texts l.test.keys.now)
     l.initial.self
     l.self

@@ -2,7 +2,7 @@ use Rattle.std.proofs.Common.{◌<◌, ◌≤◌, [], arith, ap, length, subst, 
 use Rattle.std.specs.Prelude.{IfSome}
 use Rattle.mail_matching.specs.Private.{GoesOn}
 use Rattle.mime_params.specs.MediaValue.{value_named}
-use Rattle.mime_decode.specs.Scope.{given, params_of, reading_of}
+use Rattle.mail_matching.specs.Selection.{given, params_of, reading_of}
 use Rattle.octets.specs.Limits.{max_message}
 use Rattle.mail_matching.specs.Costs.{extent_of}
 use Rattle.mail_matching.proofs.AskedFor.{asked_is}

@@ -1,5 +1,5 @@
 use Rattle.std.proofs.Common.{take}
-use Rattle.mime_decode.specs.Scope.{params_of, reading_of}
+use Rattle.mail_matching.specs.Selection.{params_of, reading_of}
 use Rattle.mail_matching.specs.Headers.{values_of_params}
 use Rattle.mail_matching.specs.Private.{GoesOn}
 use Rattle.mail_matching.proofs.progress.Progress.take_params.Given as goal

@@ -1,6 +1,6 @@
 use Rattle.std.proofs.Common.{◌≡◌, ◌<◌, ℕ, Option, Some, IfSome, length, ◌∙◌, sym, ap, arith, subst}
 use Rattle.mime_decode.specs.Mail.{Mail, Part}
-use Rattle.mime_decode.specs.Scope.{visited}
+use Rattle.mime_decode.specs.Visited.{visited}
 use Rattle.mime_decode.proofs.MailLemmas.{Holds, holds_at, holds_mail, holds_number}
 use Rattle.mime_decode.proofs.Visited.{below_few, below_visited}
 use Rattle.mime_decode.proofs.message.Message.visited.Goals as goal

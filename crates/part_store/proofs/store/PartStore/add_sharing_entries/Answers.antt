@@ -4,7 +4,7 @@ use Rattle.sqlite.specs.State.{HasCleanDisk, Survives}
 use Rattle.part_store.specs.Access.{AddsEntries, MayMakeOpen}
 use Rattle.part_store.specs.Entries.{with_entries}
 use Rattle.part_store.specs.Inside.{Brings}
-use Rattle.part_store.specs.Refusals.{BlamesEntries, LackRoom}
+use Rattle.part_store.specs.Refusals.{OnlyWhenNoEntriesFit, LackRoom}
 use Rattle.part_store.specs.Standing.{draft_of}
 use Rattle.part_store.proofs.Failing.{dropped}
 use Rattle.part_store.proofs.RefusedAdding.{refused_adds}
@@ -21,8 +21,8 @@ returns-in_err-first-clause-refused g c = record {
       let user = c.args.user.now in
       let drafts = map draft_of c.args.entries.now in
       let early : HasCleanDisk mid = omega (arith, clean, c.drop-tx.ensures.survives.clean) in
-      let cause = subst (λ h. IsTrue (state g.S.Store h).in_transaction → BlamesEntries user drafts (state g.S.Store h) mid c.in_err-first.field-0.0) c.begin-tx.ensures.begun (c.in_err-first.ensures.refused.cause early) in
-      subst (λ h. IfErr c.from_residual.result (BlamesEntries user drafts (state g.S.Store h) new)) c.self.view_is
+      let cause = subst (λ h. IsTrue (state g.S.Store h).in_transaction → OnlyWhenNoEntriesFit user drafts (state g.S.Store h) mid c.in_err-first.field-0.0) c.begin-tx.ensures.begun (c.in_err-first.ensures.refused.cause early) in
+      subst (λ h. IfErr c.from_residual.result (OnlyWhenNoEntriesFit user drafts (state g.S.Store h) new)) c.self.view_is
       (passed c.from_residual.result _ _ c.from_residual.ensures.1 (dropped g.S.Store c.self.inside.conn mid new (LackRoom user drafts) c.in_err-first.field-0.0 c.drop-tx.ensures.survives cause));
 }
 
@@ -36,7 +36,7 @@ returns-in_err-commit-clause-writes g c =
     (committed_change g.S.Store c.self.inside.conn mid new change (subst (λ h. Survives (state g.S.Store h) mid (λ _. ⊥)) begun c.add_within.ensures.within.survives)
     (λ clean. subst (λ h. IsTrue (state g.S.Store h).is_open) begun (c.in_ok-first.ensures.within.was_open clean))
     (λ clean. subst (λ h. Brings change (state g.S.Store h) mid) begun (c.in_ok-first.ensures.made clean)) c.commit.ensures.survives) in
-    record { made = search rules; spared = search rules; survives = survives }
+    record { made = search rules; unchanged = search rules; survives = survives }
 
 pub returns-clause-writes : goal.returns-clause-writes
 returns-clause-writes g c =
@@ -48,7 +48,7 @@ returns-clause-writes g c =
     (committed_change g.S.Store c.self.inside.conn mid new change (subst (λ h. Survives (state g.S.Store h) mid (λ _. ⊥)) begun c.add_within.ensures.within.survives)
     (λ clean. subst (λ h. IsTrue (state g.S.Store h).is_open) begun (c.in_ok-first.ensures.within.was_open clean))
     (λ clean. subst (λ h. Brings change (state g.S.Store h) mid) begun (c.in_ok-first.ensures.made clean)) c.commit.ensures.survives) in
-    record { made = search rules; spared = search rules; survives = survives }
+    record { made = search rules; unchanged = search rules; survives = survives }
 
 pub returns-in_err-first-clause-adds : goal.returns-in_err-first-clause-adds
 returns-in_err-first-clause-adds g c =

@@ -16,11 +16,11 @@ invariant-put_commands-commands l = record {
       (λ tables place. commands_code tables place (commands_form l.commands));
 }
 
-abbrev pub invariant-put_command-branches : goal.invariant-put_command-branches
-invariant-put_command-branches l = record {
+abbrev pub invariant-put_unaimed-branches : goal.invariant-put_unaimed-branches
+invariant-put_unaimed-branches l = record {
   bounded : AreBoundedBranches (branch_forms (drop l.i l.branch-items) (else_form l.otherwise));
   room : length l.self.instructions.items + branches_length (branch_forms (drop l.i l.branch-items) (else_form l.otherwise)) ≡ length l.initial.self.instructions.items + branches_length (branch_forms l.branch-items (else_form l.otherwise));
   code : Left l.initial.self l.self
-      (λ tables place. branches_code tables place (branch_forms (drop l.i l.branch-items) (else_form l.otherwise)) l.end)
-      (λ tables place. branches_code tables place (branch_forms l.branch-items (else_form l.otherwise)) l.end);
+      (λ tables place. branches_code tables place (branch_forms (drop l.i l.branch-items) (else_form l.otherwise)) 0)
+      (λ tables place. branches_code tables place (branch_forms l.branch-items (else_form l.otherwise)) 0);
 }

@@ -1,5 +1,5 @@
 use Rattle.std.proofs.Common.{◌≡◌, sym, ap, subst, ◌∙◌, drop, IfOk}
-use Rattle.mime_decode.specs.Scope.{visited}
+use Rattle.mime_decode.specs.Visited.{visited}
 use Rattle.sieve_check.specs.Typed.{does}
 use Rattle.sieve_check.specs.TypedView.{command_form, commands_form}
 use Rattle.sieve_check.specs.Private.{branch_forms, else_form}

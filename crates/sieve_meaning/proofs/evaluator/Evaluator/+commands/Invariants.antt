@@ -1,5 +1,5 @@
 use Rattle.std.proofs.Common.{◌≡◌, ◌≤◌, ◌-◌, drop, length, Some}
-use Rattle.mime_decode.specs.Scope.{numbers_from, visited}
+use Rattle.mime_decode.specs.Visited.{numbers_from, visited}
 use Rattle.sieve_check.specs.Bounded.{AreBoundedCommands, AreBoundedBranches}
 use Rattle.sieve_check.specs.TypedView.{commands_form}
 use Rattle.sieve_check.specs.Private.{branch_forms, else_form}

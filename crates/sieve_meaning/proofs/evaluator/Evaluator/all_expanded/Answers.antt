@@ -1,31 +1,16 @@
-use Rattle.std.proofs.Common.{◌≡◌, ◌≤◌, ◌<◌, ◌+◌, ℕ, All, List, [], ◌∷◌, ◌++◌, ap, sym, subst, ◌∙◌, arith, length, take}
-use Rattle.std.proofs.lemmas.List.{length-append, length-take-le}
-use Rattle.std.proofs.lemmas.List.Elements.{All-nil, All-cons, All-append}
-use Rattle.octets.specs.Limits.{max_string}
-use Rattle.sieve_check.specs.TypedView.{templates_of}
-use Rattle.sieve_meaning.specs.Meaning.{all_expanded, expanded}
-use Rattle.sieve_meaning.proofs.Joining.{one_more_string}
+use Rattle.std.proofs.Common.{sym, ◌∙◌, arith}
+use Rattle.std.specs.Global.{Vec}
+use Rattle.std.proofs.lemmas.List.{length-map}
+use Rattle.sieve_check.specs.declared.typed.Segment.{Segment}
+use Rattle.sieve_meaning.specs.Expanded.{written}
+use Rattle.sieve_meaning.proofs.Joining.{as_written, written_short}
 use Rattle.sieve_meaning.proofs.evaluator.Evaluator.all_expanded.Goals as goal
 
-abbrev IsShort : List ℕ → Type 0
-IsShort text = length text ≤ max_string
+pub returns-then-are_written-clause-expanded : goal.returns-then-are_written-clause-expanded
+returns-then-are_written-clause-expanded c = λ e stands. as_written e c.args.strings.now (sym c.are_written.ensures ∙ c.if-are_written.true)
 
-pub loop-string-preserved : goal.loop-string-preserved
-loop-string-preserved c =
-    let i = c.loop-string.string-index in
-    let strings = c.args.strings.now in
-    let texts = c.loop-string.texts.items in
-    let text = c.in_ok-expanded.field-0 in
-    let so_far = c.loop-string.invariant in
-    let made : c.push.new.self.items ≡ texts ++ text ∷ [] = c.in_ok-push.ensures.items in
-    let lt : i < length strings = c.loop-string-test.true in
-    let before : length (take i strings) ≡ i = length-take-le i strings (omega arith) in
-    let after : length (take (i + 1) strings) ≡ i + 1 = length-take-le (i + 1) strings (omega arith) in
-    record {
-      texts_are = λ e stands.
-          made ∙ ap (λ ts. ts ++ text ∷ []) (so_far.texts_are e stands)
-          ∙ ap (λ t. all_expanded e (templates_of (take i strings)) ++ t ∷ []) (c.in_ok-expanded.ensures.text e stands ∙ ap (expanded e) c.deref.ensures.value)
-          ∙ one_more_string e strings i c.string-item.result lt c.string-item.is;
-      count = omega (arith, ap length made, length-append texts (text ∷ []), so_far.count, before, after);
-      short = subst (All IsShort) (sym made) (All-append IsShort texts (text ∷ []) so_far.short (All-cons IsShort text [] c.in_ok-expanded.ensures.short (All-nil IsShort)));
-    }
+pub returns-then-are_written-clause-texts : goal.returns-then-are_written-clause-texts
+returns-then-are_written-clause-texts c = record {
+  few = omega (arith, c.requires, length-map c.args.strings.now (λ (s : Vec Segment). written s.items));
+  short = written_short c.args.strings.now;
+}

@@ -8,10 +8,11 @@ use Rattle.sieve_meaning.proofs.evaluator.Evaluator.expanded.Goals as goal
 pub loop-segment-preserved : goal.loop-segment-preserved
 loop-segment-preserved c = record {
   text_is = λ e stands.
-      c.in_ok-append_segment.ensures.text e stands
+      c.in_ok-append.ensures.text
+      ∙ ap (λ v. take max_string (c.loop-segment.text.items ++ v)) (c.value.ensures e stands)
       ∙ ap (λ t. take max_string (t ++ value_of e c.segment-item.result)) (c.loop-segment.invariant.text_is e stands)
       ∙ one_more_segment e c.args.string.now c.loop-segment.segment-index c.segment-item.result c.loop-segment-test.true c.segment-item.is;
-  room = c.in_ok-append_segment.ensures.room;
+  room = c.in_ok-append.ensures.room;
 }
 
 pub returns-clause-text : goal.returns-clause-text

@@ -1,6 +1,5 @@
 use Rattle.std.proofs.Common.{◌≡◌, ◌∷◌, Bool, subst, ap, ◌∙◌}
 use Rattle.mail_matching.specs.HeaderTests.{exists_in, exists_cost}
-use Rattle.mail_matching.specs.Selection.{scope_of}
 use Rattle.sieve_vm.specs.State.{truth, current_part}
 use Rattle.sieve_vm.specs.Standing.{Held, Represents, texts_of}
 use Rattle.sieve_vm.proofs.Steps.{charged_at}
@@ -10,7 +9,7 @@ use Rattle.sieve_vm.proofs.machine.Machine.exists.Goals as goal
 pub returns : goal.returns
 returns c = λ s top stands e.
     let mail = c.args.message.now in
-    let scope = scope_of c.args.scope in
+    let scope = c.args.scope in
     let there = texts_there mail s c.args.self.now stands c.args.instruction.now.b top e in
     let same = c.texts-names.ensures top there in
     let current = c.current.ensures ∙ ap current_part stands.frames in

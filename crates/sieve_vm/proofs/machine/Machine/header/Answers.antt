@@ -3,7 +3,6 @@ use Rattle.std.proofs.lemmas.Result.{IfOk-weaker}
 use Rattle.bytecode_format.specs.Selection.{keys_in, params_in}
 use Rattle.mail_matching.specs.HeaderTests.{header_match, header_cost}
 use Rattle.mail_matching.specs.Outcomes.{after}
-use Rattle.mail_matching.specs.Selection.{scope_of, selector_of}
 use Rattle.sieve_vm.specs.declared.workspace.Counts.{Counts}
 use Rattle.sieve_vm.specs.Standing.{held_of, texts_of}
 use Rattle.mail_matching.specs.declared.selection.HeaderTest.{HeaderTest}
@@ -33,18 +32,18 @@ returns c =
     let current = c.current.ensures ∙ ap current_part stands.frames in
     let right : after answer.outcome s.captures ≡ found_in mail test top s =
     c.in_ok-answer.ensures.outcome s.captures
-    ∙ ap (λ (h : HeaderTest). header_match h.how (scope_of h.reach.scope) h.reach.current (selector_of h.selector (texts_of lists.params)) (texts_of lists.names) (texts_of lists.keys) mail s.captures) tested
-    ∙ ap (λ x. header_match test.how (scope_of test.scope) x (selector_of test.selector (texts_of lists.params)) (texts_of lists.names) (texts_of lists.keys) mail s.captures) current
-    ∙ ap (λ ts. header_match test.how (scope_of test.scope) (current_part s.frames) (selector_of test.selector ts) (texts_of lists.names) (texts_of lists.keys) mail s.captures) params
-    ∙ ap (λ ts. header_match test.how (scope_of test.scope) (current_part s.frames) (selector_of test.selector top.params) ts (texts_of lists.keys) mail s.captures) names
-    ∙ ap (λ ts. header_match test.how (scope_of test.scope) (current_part s.frames) (selector_of test.selector top.params) top.names ts mail s.captures) keys in
+    ∙ ap (λ (h : HeaderTest). header_match h.how h.reach.scope h.reach.current h.selector (texts_of lists.params) (texts_of lists.names) (texts_of lists.keys) mail s.captures) tested
+    ∙ ap (λ x. header_match test.how test.scope x test.selector (texts_of lists.params) (texts_of lists.names) (texts_of lists.keys) mail s.captures) current
+    ∙ ap (λ ts. header_match test.how test.scope (current_part s.frames) test.selector ts (texts_of lists.names) (texts_of lists.keys) mail s.captures) params
+    ∙ ap (λ ts. header_match test.how test.scope (current_part s.frames) test.selector top.params ts (texts_of lists.keys) mail s.captures) names
+    ∙ ap (λ ts. header_match test.how test.scope (current_part s.frames) test.selector top.params top.names ts mail s.captures) keys in
     let spent : answer.cost ≡ cost_of_matching test (current_part s.frames) mail top =
     c.in_ok-answer.ensures.cost
-    ∙ ap (λ (h : HeaderTest). header_cost (scope_of h.reach.scope) h.reach.current (selector_of h.selector (texts_of lists.params)) (texts_of lists.names) (texts_of lists.keys) mail) tested
-    ∙ ap (λ x. header_cost (scope_of test.scope) x (selector_of test.selector (texts_of lists.params)) (texts_of lists.names) (texts_of lists.keys) mail) current
-    ∙ ap (λ ts. header_cost (scope_of test.scope) (current_part s.frames) (selector_of test.selector ts) (texts_of lists.names) (texts_of lists.keys) mail) params
-    ∙ ap (λ ts. header_cost (scope_of test.scope) (current_part s.frames) (selector_of test.selector top.params) ts (texts_of lists.keys) mail) names
-    ∙ ap (λ ts. header_cost (scope_of test.scope) (current_part s.frames) (selector_of test.selector top.params) top.names ts mail) keys in
+    ∙ ap (λ (h : HeaderTest). header_cost h.reach.scope h.reach.current h.selector (texts_of lists.params) (texts_of lists.names) (texts_of lists.keys) mail) tested
+    ∙ ap (λ x. header_cost test.scope x test.selector (texts_of lists.params) (texts_of lists.names) (texts_of lists.keys) mail) current
+    ∙ ap (λ ts. header_cost test.scope (current_part s.frames) test.selector ts (texts_of lists.names) (texts_of lists.keys) mail) params
+    ∙ ap (λ ts. header_cost test.scope (current_part s.frames) test.selector top.params ts (texts_of lists.keys) mail) names
+    ∙ ap (λ ts. header_cost test.scope (current_part s.frames) test.selector top.params top.names ts mail) keys in
     settled mail s c.args.self.now stands top.below c.drop_lists.new.self answer.outcome answer.cost (cost_of_matching test (current_part s.frames) mail top) (found_in mail test top s) done c.settle.new.self
     (c.drop_lists.ensures top there) right spent h)
     c.settle.ensures.done

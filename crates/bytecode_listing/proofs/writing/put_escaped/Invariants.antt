@@ -1,7 +1,0 @@
-use Rattle.std.proofs.Common.{◌≡◌, ◌++◌, take}
-use Rattle.std.specs.List.{flat_map}
-use Rattle.bytecode_listing.specs.Listing.{escaped_octet}
-use Rattle.bytecode_listing.proofs.writing.put_escaped.Given as goal
-
-abbrev pub invariant-octets : goal.invariant-octets
-invariant-octets l = l.out.items ≡ l.initial.out.items ++ flat_map escaped_octet (take l.octet-index l.octets)

@@ -1,0 +1,66 @@
+//! Tasks, from the open of their depot to its close.
+//!
+//! The promises hold for any type that stands for what the files held. The program passes the one of which nothing is known (`Unknown`),
+//! since what a file of the system holds no contract can say: what it runs is the same code. So it is with batches, with programs that
+//! are saved, and with looks.
+ghost use Rattle.sqlite.specs.Recovery.{Image};
+ghost use Rattle.sqlite.specs.WalFiles.{image_at};
+ghost use Rattle.depot_cli.specs.Requests.{command_of};
+ghost use Rattle.depot.specs.Ending.{IsToldAs};
+ghost use Rattle.depot.specs.Private.{IsFound, IsLeftOf};
+ghost use Rattle.depot.specs.Tasks.{HasEnded, answer};
+
+use crate::closing::{Left, close};
+use depot_actions::Depot;
+use depot_cli::{PendingTask, carry};
+use encodings::Sink;
+use refusals::Refusal;
+use sqlite::{FileFrom, FileStore, Start};
+use sqlite_disk::Disk;
+use std::alloc::Global;
+
+/// Opens the depot that a task names, has the task carried to it, and closes it. Gives the status, and what is left of the files;
+/// none where the depot wasn't opened.
+///
+/// `B` stands for what the two files held. Where they stood for a state and no lie of the disk was taken for true, a status of 0 means
+/// that the depot accepted the command, that its reply is written whole, and that the files hold the state after it, also after a crash.
+/// A status of 1 means that the command was refused, that this was told, and that the state is as it was; or that its reply broke off,
+/// and the files hold the state after it. Where the close fails or a crash comes before its end, the files hold what was answered; where
+/// the answer changed nothing, they may hold what the command makes. No clause ties `B` to the name: that the file there is opened is seen
+/// in the body.
+pub fn carry_from<B: Start, O: Sink, E: Sink>(
+    rt: &HostRuntime,
+    pending: &PendingTask<'_>,
+    start: B,
+    out: &mut O,
+    err: &mut E,
+) -> (u8, Option<Left<FileFrom<B>>>)
+    ensures ended { HasEnded
+        (answer (command_of pending.now.task) result.0 (O.output out.old) (E.output err.old)
+        (O.output out.new) (E.output err.new))
+        (image_at B.Start) result.1 }
+{
+    let opened = Depot::open_from(rt, pending.name, start);
+    carry_and_close(rt.alloc(), pending, opened, out, err)
+}
+
+// Carries a task to what opening gave, and closes that.
+fn carry_and_close<D: Disk + Drop, O: Sink, E: Sink>(
+    alloc: Global,
+    pending: &PendingTask<'_>,
+    opened: Result<Depot<FileStore<D>>, Refusal>,
+    out: &mut O,
+    err: &mut E,
+) -> (u8, Option<Left<D>>)
+    ensures ended { (image : Image) → IsFound image opened → HasEnded
+        (answer (command_of pending.now.task) result.0 (O.output out.old) (E.output err.old)
+        (O.output out.new) (E.output err.new))
+        image result.1 }
+    ensures told { IsLeftOf (λ e. IsToldAs e result.0 (O.output out.old) (E.output err.old)
+        (O.output out.new) (E.output err.new)) opened result.1 }
+{
+    let mut opened = opened;
+    let status = carry(alloc, pending, &mut opened, out, err);
+    let left = close(opened);
+    (status, left)
+}

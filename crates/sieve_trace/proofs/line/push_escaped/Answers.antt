@@ -1,6 +1,0 @@
-use Rattle.std.proofs.Common.{arith}
-use Rattle.std.proofs.lemmas.Grind.{common_steps}
-use Rattle.sieve_trace.proofs.line.push_escaped.Goals as goal
-
-pub loop-octet-preserved : goal.loop-octet-preserved
-loop-octet-preserved c = grind (arith, common_steps)

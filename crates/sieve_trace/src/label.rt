@@ -1,0 +1,47 @@
+// The name of a script, as lines begin with it.
+ghost use Rattle.std.specs.Prelude.{◌≡◌, ◌++◌, IfOk, OnOk};
+ghost use Rattle.sieve_trace.specs.Printed.{is_plain, named, named_octet};
+
+use bytecode_listing::quoting::escape;
+use std::alloc::{AllocError, Global};
+
+// The last octet of ASCII, a control character.
+const DELETE: u8 = 127;
+
+// Whether an octet of a name is printed as it is.
+fn is_plain(octet: u8) -> bool
+    ensures { result ≡ is_plain octet }
+{
+    octet >= b' ' && octet != DELETE
+}
+
+// Appends an octet of a name.
+#[tactic(auto, unfolding(crate::specs::Printed::named_octet))]
+fn push_octet(out: &mut Vec<u8>, octet: u8) -> Result<(), AllocError>
+    ensures { OnOk result (out.new.items ≡ out.old.items ++ named_octet octet) }
+{
+    if is_plain(octet) {
+        out.extend_from_slice(&[octet])
+    } else {
+        out.extend_from_slice(&escape(octet))
+    }
+}
+
+// Appends a name.
+fn push_name(out: &mut Vec<u8>, name: &[u8]) -> Result<(), AllocError>
+    ensures { OnOk result (out.new.items ≡ out.old.items ++ named name.now) }
+{
+    for octet in name {
+        push_octet(out, *octet)?;
+    }
+    Ok(())
+}
+
+/// The name of a script, as lines begin with it.
+pub fn label_of(alloc: Global, name: &str) -> Result<Vec<u8>, AllocError>
+    ensures { IfOk result (λ label. label.items ≡ named name.now) }
+{
+    let mut label = Vec::new(alloc);
+    push_name(&mut label, name.as_bytes())?;
+    Ok(label)
+}
