@@ -32,7 +32,7 @@ use Rattle.sieve_vm.specs.Stack.{OnTop, texts_on_top, length_on_top}
 use Rattle.sieve_vm.specs.Visits.{part_in}
 use Rattle.sieve_vm.specs.Charge.{cost_with_part, octets_taken, charge_of}
 use Rattle.sieve_vm.specs.Machine.{Effect, on, fails, push, with_texts, with_number, with_meant, tested, test_body, with_part, set_content, with_text, store, store_part, compares, effect, referred_in}
-use Rattle.sieve_vm.specs.Standing.{once, Represents, IsIn, HasHad}
+use Rattle.sieve_vm.specs.Standing.{once, Represents, IsIn, HasDone}
 use Rattle.mail_matching.specs.FirstMatch.{first_match}
 use Rattle.sieve_vm.proofs.Taking.{names_there, folder_there}
 use Rattle.sieve_vm.proofs.Pushed.{texts_are}
@@ -105,7 +105,7 @@ module _ (code : Code) (mail : Mail) (is : IsAccepted code) (known : IsMail mail
           → ((t : State) (top : OnTop) (part : Part) → Represents mail t m → texts_on_top i.c t.stack ≡ Some top → part_in m.loops ≡ Some part
           → (done ≡ charged_at (cost part top.texts))
           × Represents mail (record t { stack = truth (is_some (first_match how (value part ∷ []) top.texts t.captures)) ∷ top.below; captures = unwrap_or (first_match how (value part ∷ []) top.texts t.captures) t.captures }) m')
-          → HasHad mail (effect (referred_in code) mail o i s) (charge_of mail o i s) done m'
+          → HasDone mail (effect (referred_in code) mail o i s) (charge_of mail o i s) done m'
       had_keys takes how value cost does charges done m' tests =
           let n = keys_top takes in
           let p = part_here.part in
@@ -119,7 +119,7 @@ module _ (code : Code) (mail : Mail) (is : IsAccepted code) (known : IsMail mail
 
     pub had_part_size : (e : operation_of i.op ≡ Some PartSize) (number : ℕ) (done : Done) (m' : Machine) → number ≡ get_or code.numbers i.c 0
         → ((t : State) (part : Part) → Represents mail t m → part_in m.loops ≡ Some part → (done ≡ once On) × Represents mail (record t { stack = truth (compares i number (length part.content)) ∷ t.stack }) m')
-        → HasHad mail (effect (referred_in code) mail PartSize i s) 1 done m'
+        → HasDone mail (effect (referred_in code) mail PartSize i s) 1 done m'
     had_part_size e number done m' right tests =
         let p = part_here PartSize e refl in
         let now = tests s p.part at.stands.holds (part_is PartSize e refl) in
@@ -136,7 +136,7 @@ module _ (code : Code) (mail : Mail) (is : IsAccepted code) (known : IsMail mail
         → ((t : State) (top : OnTop) (part : Part) → Represents mail t m → texts_on_top i.c t.stack ≡ Some top → part_in m.loops ≡ Some part
         → (done ≡ charged_at (body_cost part top.texts))
         × Represents mail (record t { stack = truth (is_some (body_match how part top.texts t.captures)) ∷ top.below; captures = unwrap_or (body_match how part top.texts t.captures) t.captures }) m')
-        → HasHad mail (effect (referred_in code) mail PartBody i s) (charge_of mail PartBody i s) done m'
+        → HasDone mail (effect (referred_in code) mail PartBody i s) (charge_of mail PartBody i s) done m'
     had_part_body e how says done m' tests =
         had_keys PartBody e refl (λ es. refl) how (λ part. part.content) body_cost
         (ap (with_meant (λ x. with_part (λ number part t. with_texts (test_body x part) t (texts_on_top i.c t.stack)) mail s s.frames)) says)
@@ -146,7 +146,7 @@ module _ (code : Code) (mail : Mail) (is : IsAccepted code) (known : IsMail mail
         → ((t : State) (top : OnTop) (part : Part) → Represents mail t m → texts_on_top i.c t.stack ≡ Some top → part_in m.loops ≡ Some part
         → (done ≡ charged_at (digest_cost part top.texts))
         × Represents mail (record t { stack = truth (is_some (digest_match part top.texts t.captures)) ∷ top.below; captures = unwrap_or (digest_match part top.texts t.captures) t.captures }) m')
-        → HasHad mail (effect (referred_in code) mail PartDigest i s) (charge_of mail PartDigest i s) done m'
+        → HasDone mail (effect (referred_in code) mail PartDigest i s) (charge_of mail PartDigest i s) done m'
     had_part_digest e done m' tests = had_keys PartDigest e refl (λ es. refl) exactly (λ part. digest_of part.content) digest_cost refl refl done m' tests
 
     store_top : operation_of i.op ≡ Some Store → (folder : List ℕ) × ((rest : List Value) × (s.stack ≡ text folder ∷ rest))
@@ -158,7 +158,7 @@ module _ (code : Code) (mail : Mail) (is : IsAccepted code) (known : IsMail mail
     pub had_store : operation_of i.op ≡ Some Store → (done : Done) (m' : Machine)
         → ((t : State) (folder : List ℕ) (rest : List Value) (part : ℕ) → Represents mail t m → t.stack ≡ text folder ∷ rest → current_part t.frames ≡ Some part
         → (done ≡ charged_at (length folder)) × Represents mail (record t { stack = rest; actions = t.actions ++ action.Store folder part ∷ [] }) m')
-        → HasHad mail (effect (referred_in code) mail Store i s) (charge_of mail Store i s) done m'
+        → HasDone mail (effect (referred_in code) mail Store i s) (charge_of mail Store i s) done m'
     had_store e done m' stores =
         let f = store_top e in
         let p = part_here Store e refl in
@@ -176,7 +176,7 @@ module _ (code : Code) (mail : Mail) (is : IsAccepted code) (known : IsMail mail
     pub had_take : operation_of i.op ≡ Some Take → (done : Done) (m' : Machine)
         → ((t : State) (part : Part) → Represents mail t m → part_in m.loops ≡ Some part
         → (done ≡ charged_at (min i.b (length part.content))) × Represents mail (record t { variables = slice_set t.variables i.c (take i.b part.content) }) m')
-        → HasHad mail (effect (referred_in code) mail Take i s) (charge_of mail Take i s) done m'
+        → HasDone mail (effect (referred_in code) mail Take i s) (charge_of mail Take i s) done m'
     had_take e done m' takes =
         let p = part_here Take e (take_needs_part code is s.place i here_is e) in
         let now = takes s p.part at.stands.holds (part_is Take e (take_needs_part code is s.place i here_is e)) in

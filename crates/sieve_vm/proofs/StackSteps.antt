@@ -31,7 +31,7 @@ use Rattle.sieve_vm.specs.State.{Value, truth, text, State, current_part}
 use Rattle.sieve_vm.specs.Stack.{OnTop, texts_on_top, Lists, lists_on_top}
 use Rattle.sieve_vm.specs.Charge.{cost_of_names, cost_of_matching, cost_of_comparing, octets_on_top, charge_of}
 use Rattle.sieve_vm.specs.Machine.{fails, push, branch, with_truth, with_texts, with_lists, with_number, with_string, with_meant, join, test_names, tested, test_values, test_sources, found_in, is_sound_jump, compares, effect, referred_in}
-use Rattle.sieve_vm.specs.Standing.{once, Represents, IsIn, HasHad}
+use Rattle.sieve_vm.specs.Standing.{once, Represents, IsIn, HasDone}
 use Rattle.mail_matching.specs.FirstMatch.{first_match}
 use Rattle.std.specs.List.{concat}
 use Rattle.octets.specs.Limits.{max_string, max_value}
@@ -79,19 +79,19 @@ module _ (code : Code) (mail : Mail) (is : IsAccepted code) (known : IsMail mail
     abbrev Pushes : Value → Done → Machine → Machine → Type 0
     Pushes value done before after = (done ≡ once On) × ((t : State) → Represents mail t before → Represents mail (record t { stack = value ∷ t.stack }) after)
 
-    had_push : (value : Value) (done : Done) (m' : Machine) → Leads code mail s (push value s) → Pushes value done m m' → HasHad mail (push value s) 1 done m'
+    had_push : (value : Value) (done : Done) (m' : Machine) → Leads code mail s (push value s) → Pushes value done m m' → HasDone mail (push value s) 1 done m'
     had_push value done m' fits pushes = rw (pushed code mail s value s fits, pushes.0) (pushes.1 s at.stands.holds, refl)
 
-    pub had_bool : operation_of i.op ≡ Some BoolOp → (done : Done) (m' : Machine) → Pushes (truth (i.a == 1)) done m m' → HasHad mail (effect (referred_in code) mail BoolOp i s) 1 done m'
+    pub had_bool : operation_of i.op ≡ Some BoolOp → (done : Done) (m' : Machine) → Pushes (truth (i.a == 1)) done m m' → HasDone mail (effect (referred_in code) mail BoolOp i s) 1 done m'
     had_bool e done m' pushes = had_push (truth (i.a == 1)) done m' (fine code mail is known pos m s at i here BoolOp e) pushes
 
-    pub had_size : operation_of i.op ≡ Some Size → (answer : Bool) (done : Done) (m' : Machine) → answer ≡ compares i (get_or code.numbers i.c 0) (size_of mail) → Pushes (truth answer) done m m' → HasHad mail (effect (referred_in code) mail Size i s) 1 done m'
+    pub had_size : operation_of i.op ≡ Some Size → (answer : Bool) (done : Done) (m' : Machine) → answer ≡ compares i (get_or code.numbers i.c 0) (size_of mail) → Pushes (truth answer) done m m' → HasDone mail (effect (referred_in code) mail Size i s) 1 done m'
     had_size e answer done m' right pushes =
         let number : slice_get code.numbers i.c ≡ Some (get_or code.numbers i.c 0) = slice_get-get_or code.numbers i.c 0 (number_known code is s.place i here_is e) in
         let fits : Leads code mail s (push (truth (compares i (get_or code.numbers i.c 0) (size_of mail))) s) = subst (λ (o : Option ℕ). Leads code mail s (with_number i (size_of mail) s o)) number (fine code mail is known pos m s at i here Size e) in
         rw number (rw (← right) (had_push (truth answer) done m' (rw right fits) pushes))
 
-    pub had_literal : operation_of i.op ≡ Some Literal → (octets : List ℕ) (done : Done) (m' : Machine) → octets ≡ get_or code.strings i.c [] → Pushes (text octets) done m m' → HasHad mail (effect (referred_in code) mail Literal i s) 1 done m'
+    pub had_literal : operation_of i.op ≡ Some Literal → (octets : List ℕ) (done : Done) (m' : Machine) → octets ≡ get_or code.strings i.c [] → Pushes (text octets) done m m' → HasDone mail (effect (referred_in code) mail Literal i s) 1 done m'
     had_literal e octets done m' right pushes =
         let string : slice_get code.strings i.c ≡ Some (get_or code.strings i.c []) = slice_get-get_or code.strings i.c [] (string_known code is s.place i here_is e) in
         let fits : Leads code mail s (push (text (get_or code.strings i.c [])) s) = subst (λ (o : Option (List ℕ)). Leads code mail s (with_string s o)) string (fine code mail is known pos m s at i here Literal e) in
@@ -101,10 +101,10 @@ module _ (code : Code) (mail : Mail) (is : IsAccepted code) (known : IsMail mail
     abbrev PushesHere : Value → Done → Machine → Type 0
     PushesHere value done after = (done ≡ once On) × Represents mail (record s { stack = value ∷ s.stack }) after
 
-    had_push_here : (value : Value) (done : Done) (m' : Machine) → Leads code mail s (push value s) → PushesHere value done m' → HasHad mail (push value s) 1 done m'
+    had_push_here : (value : Value) (done : Done) (m' : Machine) → Leads code mail s (push value s) → PushesHere value done m' → HasDone mail (push value s) 1 done m'
     had_push_here value done m' fits pushes = rw (pushed code mail s value s fits, pushes.0) (pushes.1, refl)
 
-    pub had_variable : operation_of i.op ≡ Some Variable → (done : Done) (m' : Machine) → PushesHere (text (get_or s.variables i.c [])) done m' → HasHad mail (effect (referred_in code) mail Variable i s) 1 done m'
+    pub had_variable : operation_of i.op ≡ Some Variable → (done : Done) (m' : Machine) → PushesHere (text (get_or s.variables i.c [])) done m' → HasDone mail (effect (referred_in code) mail Variable i s) 1 done m'
     had_variable e done m' pushes =
         let number = there.texts.number in
         let within : i.c < length s.variables = omega (arith, number, variable_known code is s.place i here_is e) in
@@ -112,14 +112,14 @@ module _ (code : Code) (mail : Mail) (is : IsAccepted code) (known : IsMail mail
         let fits : Leads code mail s (push (text (get_or s.variables i.c [])) s) = subst (λ (o : Option (List ℕ)). Leads code mail s (with_string s o)) value (fine code mail is known pos m s at i here Variable e) in
         rw value (had_push_here (text (get_or s.variables i.c [])) done m' fits pushes)
 
-    pub had_capture : operation_of i.op ≡ Some Capture → (done : Done) (m' : Machine) → PushesHere (text (get_or s.captures i.a [])) done m' → HasHad mail (effect (referred_in code) mail Capture i s) 1 done m'
+    pub had_capture : operation_of i.op ≡ Some Capture → (done : Done) (m' : Machine) → PushesHere (text (get_or s.captures i.a [])) done m' → HasDone mail (effect (referred_in code) mail Capture i s) 1 done m'
     had_capture e done m' pushes = had_push_here (text (get_or s.captures i.a [])) done m' (fine code mail is known pos m s at i here Capture e) pushes
 
     -- what taking a truth value does to the machine
     abbrev Takes : Bool → Machine → Type 0
     Takes value after = (t : State) (b : Bool) (rest : List Value) → Represents mail t m → t.stack ≡ truth b ∷ rest → (value ≡ b) × Represents mail (record t { stack = rest }) after
 
-    pub had_not : operation_of i.op ≡ Some Not → (value : Bool) (taken : Machine) (done : Done) (m' : Machine) → Takes value taken → Pushes (truth (not value)) done taken m' → HasHad mail (effect (referred_in code) mail Not i s) 1 done m'
+    pub had_not : operation_of i.op ≡ Some Not → (value : Bool) (taken : Machine) (done : Done) (m' : Machine) → Takes value taken → Pushes (truth (not value)) done taken m' → HasDone mail (effect (referred_in code) mail Not i s) 1 done m'
     had_not e value taken done m' takes pushes =
         let top = (not_top e).1 in
         let took = takes s top.value top.rest at.stands.holds top.is in
@@ -127,8 +127,8 @@ module _ (code : Code) (mail : Mail) (is : IsAccepted code) (known : IsMail mail
         rw (top.is, pushes.0) (stands, refl)
 
     pub had_branch : (o : Operation) (wanted : Bool) → operation_of i.op ≡ Some o → is_jump (row_in_version code.version o) ≡ true → left_by code (Some o) i there.entries ≡ without_truth there.entries → (done : Done) (m' : Machine)
-        → ((t : State) (b : Bool) (rest : List Value) → Represents mail t m → t.stack ≡ truth b ∷ rest → HasHad mail (branch i.c wanted b (record t { stack = rest })) 1 done m')
-        → HasHad mail (cond (is_sound_jump (referred_in code) s i) (with_truth (branch i.c wanted) s s.stack) fails) 1 done m'
+        → ((t : State) (b : Bool) (rest : List Value) → Represents mail t m → t.stack ≡ truth b ∷ rest → HasDone mail (branch i.c wanted b (record t { stack = rest })) 1 done m')
+        → HasDone mail (cond (is_sound_jump (referred_in code) s i) (with_truth (branch i.c wanted) s s.stack) fails) 1 done m'
     had_branch o wanted e jump takes done m' had =
         let top = (branch_top code mail is known pos m s at i here o e takes).1 in
         rw (jumps_soundly code mail is known pos m s at i here o e jump, top.is) (had s top.value top.rest at.stands.holds top.is)
@@ -154,7 +154,7 @@ module _ (code : Code) (mail : Mail) (is : IsAccepted code) (known : IsMail mail
     pub had_file : operation_of i.op ≡ Some File → (done : Done) (m' : Machine)
         → ((t : State) (folder : List ℕ) (rest : List Value) → Represents mail t m → t.stack ≡ text folder ∷ rest
         → (done ≡ charged_at (length folder)) × Represents mail (record t { stack = rest; actions = t.actions ++ action.File folder ∷ []; implicit_keep = false }) m')
-        → HasHad mail (effect (referred_in code) mail File i s) (charge_of mail File i s) done m'
+        → HasDone mail (effect (referred_in code) mail File i s) (charge_of mail File i s) done m'
     had_file e done m' files =
         let f = folder_top e in
         let filed = files s f.0 f.1.0 at.stands.holds f.1.1 in
@@ -182,7 +182,7 @@ module _ (code : Code) (mail : Mail) (is : IsAccepted code) (known : IsMail mail
     pub had_set : operation_of i.op ≡ Some Set → (done : Done) (m' : Machine)
         → ((t : State) (value : List ℕ) (rest : List Value) (modifiers : Modifiers) → Represents mail t m → t.stack ≡ text value ∷ rest → modifiers_numbered i.a ≡ Some modifiers
         → (done ≡ charged_at (length value)) × Represents mail (record t { stack = rest; variables = slice_set t.variables i.c (take max_value (modified modifiers value)) }) m')
-        → HasHad mail (effect (referred_in code) mail Set i s) (charge_of mail Set i s) done m'
+        → HasDone mail (effect (referred_in code) mail Set i s) (charge_of mail Set i s) done m'
     had_set e done m' sets =
         let v = value_top e in
         let k = modifiers_there e in
@@ -199,7 +199,7 @@ module _ (code : Code) (mail : Mail) (is : IsAccepted code) (known : IsMail mail
     pub had_join : operation_of i.op ≡ Some Join → (done : Done) (m' : Machine)
         → ((t : State) (top : OnTop) → Represents mail t m → texts_on_top i.b t.stack ≡ Some top
         → (done ≡ charged_at (octets_on_top top)) × Represents mail (record t { stack = text (take max_string (concat top.texts)) ∷ top.below }) m')
-        → HasHad mail (effect (referred_in code) mail Join i s) (charge_of mail Join i s) done m'
+        → HasDone mail (effect (referred_in code) mail Join i s) (charge_of mail Join i s) done m'
     had_join e done m' joins =
         let n = parts_top e in
         let joined = joins s n.0 at.stands.holds n.1 in
@@ -222,7 +222,7 @@ module _ (code : Code) (mail : Mail) (is : IsAccepted code) (known : IsMail mail
     pub had_exists : operation_of i.op ≡ Some Exists → (scope : Scope) → scope_numbered i.a ≡ Some scope → (done : Done) (m' : Machine)
         → ((t : State) (top : OnTop) → Represents mail t m → texts_on_top i.b t.stack ≡ Some top
         → (done ≡ charged_at (cost_of_names scope (current_part t.frames) mail top)) × Represents mail (record t { stack = truth (exists_in scope (current_part t.frames) top.texts mail) ∷ top.below }) m')
-        → HasHad mail (effect (referred_in code) mail Exists i s) (charge_of mail Exists i s) done m'
+        → HasDone mail (effect (referred_in code) mail Exists i s) (charge_of mail Exists i s) done m'
     had_exists e scope says done m' tests =
         let n = names_top e in
         let tested_now = tests s n.0 at.stands.holds n.1 in
@@ -244,7 +244,7 @@ module _ (code : Code) (mail : Mail) (is : IsAccepted code) (known : IsMail mail
         (mail, (s, (l.0, (at.stands.holds, l.1, are.names, are.params, are.keys))))
 
     pub had_tested : (t : State) (found : Option (List (List ℕ))) (cost : ℕ) (done : Done) (m' : Machine) → Leads code mail s (tested t found) → done ≡ charged_at cost
-        → Represents mail (record t { stack = truth (is_some found) ∷ t.stack; captures = unwrap_or found t.captures }) m' → HasHad mail (tested t found) (1 + cost) done m'
+        → Represents mail (record t { stack = truth (is_some found) ∷ t.stack; captures = unwrap_or found t.captures }) m' → HasDone mail (tested t found) (1 + cost) done m'
     had_tested t None cost done m' fits e stands = rw (pushed code mail s (truth false) t fits, e) (stands, refl)
     had_tested t (Some captures) cost done m' fits e stands = rw (pushed code mail s (truth true) (record t { captures = captures }) fits, e) (stands, refl)
 
@@ -254,7 +254,7 @@ module _ (code : Code) (mail : Mail) (is : IsAccepted code) (known : IsMail mail
     pub had_header : operation_of i.op ≡ Some Header → (test : FieldTest) → field_test_numbered i.a ≡ Some test → (done : Done) (m' : Machine)
         → ((t : State) (top : Lists) → Represents mail t m → lists_on_top i.b (params_in i.c) (keys_in i.c) t.stack ≡ Some top
         → (done ≡ charged_at (cost_of_matching test (current_part t.frames) mail top)) × Represents mail (record t { stack = truth (is_some (found_in mail test top t)) ∷ top.below; captures = unwrap_or (found_in mail test top t) t.captures }) m')
-        → HasHad mail (effect (referred_in code) mail Header i s) (charge_of mail Header i s) done m'
+        → HasDone mail (effect (referred_in code) mail Header i s) (charge_of mail Header i s) done m'
     had_header e test says done m' tests =
         let l = lists_top e in
         let tested_now = tests s l.0 at.stands.holds l.1 in
@@ -282,7 +282,7 @@ module _ (code : Code) (mail : Mail) (is : IsAccepted code) (known : IsMail mail
     pub had_string : operation_of i.op ≡ Some String → (how : Match) → match_numbered i.a ≡ Some how → (done : Done) (m' : Machine)
         → ((t : State) (top : Lists) → Represents mail t m → lists_on_top i.b 0 i.c t.stack ≡ Some top
         → (done ≡ charged_at (cost_of_comparing top)) × Represents mail (record t { stack = truth (is_some (matched_by how top t)) ∷ top.below; captures = unwrap_or (matched_by how top t) t.captures }) m')
-        → HasHad mail (effect (referred_in code) mail String i s) (charge_of mail String i s) done m'
+        → HasDone mail (effect (referred_in code) mail String i s) (charge_of mail String i s) done m'
     had_string e how says done m' tests =
         let l = sources_top e in
         let tested_now = tests s l.0 at.stands.holds l.1 in

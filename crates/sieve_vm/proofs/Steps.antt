@@ -25,7 +25,7 @@ use Rattle.sieve_vm.specs.declared.machine.Flow.TheVariants.{On, To, Ends}
 use Rattle.sieve_vm.specs.State.{Value, State, Turn, goes, ends, traps, start}
 use Rattle.sieve_vm.specs.Charge.{charge_of}
 use Rattle.sieve_vm.specs.Machine.{Effect, on, jumps, halts, fails, push, is_sound_jump, effect, turn, turn_of, turn_at, step, referred_in}
-use Rattle.sieve_vm.specs.Standing.{Represents, Stands, IsIn, GoesFrom, HasHad}
+use Rattle.sieve_vm.specs.Standing.{Represents, Stands, IsIn, GoesFrom, HasDone}
 use Rattle.sieve_vm.specs.Ending.{IsOutcome}
 use Rattle.sieve_vm.specs.Going.{StandsFor, gone}
 use Rattle.sieve_vm.specs.Runs.{RunEnds}
@@ -143,7 +143,7 @@ module _ (code : Code) (mail : Mail) (is : IsAccepted code) (known : IsMail mail
           (omega (arith, dearer, h.1.charge, at.stands.charge), omega (arith, all, h.1.charge))
       go traps one h = absurd h
 
-  module _ (i : Instruction) (here : slice_get code.instructions pos.place ≡ Some i) (o : Operation) (named : operation_of i.op ≡ Some o) (done : Done) (m' : Machine) (had : HasHad mail (effect (referred_in code) mail o i s) (charge_of mail o i s) done m') where
+  module _ (i : Instruction) (here : slice_get code.instructions pos.place ≡ Some i) (o : Operation) (named : operation_of i.op ≡ Some o) (done : Done) (m' : Machine) (had : HasDone mail (effect (referred_in code) mail o i s) (charge_of mail o i s) done m') where
     -- with the effect of its instruction the machine stands for what the step comes to
     pub steps_to : StandsFor mail (step code mail s) (gone pos (1 + done.cost) done.flow) m'
     steps_to =

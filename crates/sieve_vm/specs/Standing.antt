@@ -102,5 +102,5 @@ GoesFrom mail (halts state) Ends machine = Represents mail state machine
 GoesFrom mail _ _ machine = ⊥
 
 -- the same, and it answers what that is charged beyond one
-abbrev pub HasHad : Mail → Effect → ℕ → Done → Machine → Type 0
-HasHad mail effect charge done machine = GoesFrom mail effect done.flow machine × (1 + done.cost ≡ charge)
+abbrev pub HasDone : Mail → Effect → ℕ → Done → Machine → Type 0
+HasDone mail effect charge done machine = GoesFrom mail effect done.flow machine × (1 + done.cost ≡ charge)

@@ -125,7 +125,7 @@ impl<'p, 's, 'm> Machine<'p, 's, 'm> {
     ghost use Rattle.sieve_vm.specs.Stack.{OnTop, texts_on_top};
     ghost use Rattle.sieve_vm.specs.Charge.{octets_on_top, charge_of};
     ghost use Rattle.sieve_vm.specs.Machine.{branch, effect, jumps, next_part, open_loop, referred_in, step};
-    ghost use Rattle.sieve_vm.specs.Standing.{IsNewMachine, Represents, IsIn, IsRunning, HasHad};
+    ghost use Rattle.sieve_vm.specs.Standing.{IsNewMachine, Represents, IsIn, IsRunning, HasDone};
 
     /// Goes before the first instruction of the program.
     ///
@@ -180,7 +180,7 @@ impl<'p, 's, 'm> Machine<'p, 's, 'm> {
         requires named { operation_of instruction.now.op ≡ Some operation }
         requires running { IsRunning program.now message.now position self.old }
         ensures { IfOk result (λ done. (s : State) → IsIn program.now message.now s position self.old
-            → HasHad message.now (effect (referred_in program.now) message.now operation instruction.now s)
+            → HasDone message.now (effect (referred_in program.now) message.now operation instruction.now s)
             (charge_of message.now operation instruction.now s) done self.new) }
     {
         match operation {
@@ -296,7 +296,7 @@ impl<'p, 's, 'm> Machine<'p, 's, 'm> {
             × (Represents mail s self.old × (s.stack ≡ truth b ∷ rest))))) }
         ensures { (mail : Mail) (s : State) (b : Bool) (rest : List Value)
             → Represents mail s self.old → s.stack ≡ truth b ∷ rest
-            → HasHad mail (branch target wanted b (record s { stack = rest })) 1 result self.new }
+            → HasDone mail (branch target wanted b (record s { stack = rest })) 1 result self.new }
     {
         if self.take() == wanted {
             once(Flow::To(target as usize))
@@ -393,7 +393,7 @@ impl<'p, 's, 'm> Machine<'p, 's, 'm> {
         requires current { IfSome (current_part self.old.loops.frames)
             (λ part. part < length self.old.loops.mail.parts) }
         ensures { (mail : Mail) (s : State) → Represents mail s self.old → place ≡ s.place
-            → HasHad mail (open_loop next (visited (current_part s.frames) mail) s) 1 result
+            → HasDone mail (open_loop next (visited (current_part s.frames) mail) s) 1 result
             self.new }
     {
         if self.loops.open(place, next as usize) {
@@ -410,7 +410,7 @@ impl<'p, 's, 'm> Machine<'p, 's, 'm> {
             × ((self.old.loops.frames ≡ frame ∷ frames) × (frame.each < max_instructions))) }
         ensures { (mail : Mail) (s : State) (frame : Frame) (frames : List Frame)
             → Represents mail s self.old → s.frames ≡ frame ∷ frames
-            → HasHad mail (next_part frame frames frame.rest s) 1 result self.new }
+            → HasDone mail (next_part frame frames frame.rest s) 1 result self.new }
     {
         match self.loops.next_part() {
             Some(each) => once(Flow::To(each + 1)),
@@ -426,7 +426,7 @@ impl<'p, 's, 'm> Machine<'p, 's, 'm> {
             × (frame.next < max_instructions))) }
         ensures { (mail : Mail) (s : State) (frame : Frame) (frames : List Frame)
             → Represents mail s self.old → drop (number - 1) s.frames ≡ frame ∷ frames
-            → HasHad mail (jumps (suc frame.next) (record s { frames = frames })) 1 result
+            → HasDone mail (jumps (suc frame.next) (record s { frames = frames })) 1 result
             self.new }
     {
         let next = self.loops.close(number);
