@@ -21,7 +21,6 @@ pub mod Versions
 pub mod Bounds
 pub mod Listed
 pub mod Steps
-pub mod Went
 pub mod Moments
 pub mod StackSteps
 pub mod PartSteps

@@ -1,17 +1,18 @@
 -- What a run has come to after so many steps, and how the machine stands for it.
-use Rattle.std.proofs.Common.{◌≡◌, ℕ, zero, suc, ◌+◌, ◌^◌, ◌<◌, ◌≤◌, Bool, true, false, Some, refl, sym, ap, subst, ◌∙◌, arith}
+use Rattle.std.proofs.Common.{◌≡◌, ℕ, zero, suc, ◌+◌, ◌^◌, ◌<◌, ◌≤◌, true, false, Some, refl, sym, ap, subst, ◌∙◌, arith}
 use Rattle.bytecode_format.specs.Code.{Code}
 use Rattle.bytecode_format.specs.Spelling.{IsProgram}
 use Rattle.bytecode_verifier.specs.Acceptance.{IsAccepted}
 use Rattle.mime_decode.specs.Mail.{Mail, IsMail}
 use Rattle.sieve_vm.specs.declared.machine.Machine.{Machine}
+use Rattle.sieve_vm.specs.declared.machine.Turn as machine
 use Rattle.sieve_vm.specs.State.{State, Turn, goes, ends, traps, start}
 use Rattle.sieve_vm.specs.Machine.{step}
 use Rattle.sieve_vm.specs.Moment.{further, come_to, goes_on, state_in}
 use Rattle.sieve_vm.specs.Runs.{Run, RunEnds}
 use Rattle.sieve_vm.specs.Potential.{limit_of}
-use Rattle.sieve_vm.specs.Standing.{Represents, IsIn}
-use Rattle.sieve_vm.specs.Going.{StandsFor}
+use Rattle.sieve_vm.specs.Standing.{Represents, Stands, IsIn}
+use Rattle.sieve_vm.specs.Going.{StandsFor, at_start}
 use Rattle.sieve_vm.proofs.Bounds.{Run-push, spent, last_step, never_traps}
 use Rattle.sieve_vm.proofs.Steps.{limit_small}
 
@@ -51,56 +52,48 @@ module _ (code : Code) (mail : Mail) (is : IsAccepted code) (known : IsMail mail
       go traps one = absurd (never_traps code mail is known n s run one)
 
 -- how the machine stands for a turn
-pub stands_going : (mail : Mail) (turn : Turn) (m : Machine) → StandsFor mail turn true m → (s : State) × (turn ≡ goes s) × Represents mail s m
-stands_going mail (goes s) m stands = (s, refl, stands)
-stands_going mail (ends s) m stands = absurd stands
-stands_going mail traps m stands = absurd stands
+pub stands_as : (mail : Mail) (t : Turn) (turn : machine.Turn) (m : Machine) → StandsFor mail t turn m → turn.goes_on ≡ goes_on t
+stands_as mail (goes s) turn m stands = stands.0
+stands_as mail (ends s) turn m stands = stands.0
+stands_as mail traps turn m stands = absurd stands
 
-pub stands_over : (mail : Mail) (turn : Turn) (m : Machine) → StandsFor mail turn false m → (s : State) × (turn ≡ ends s) × Represents mail s m
-stands_over mail (goes s) m stands = absurd stands
-stands_over mail (ends s) m stands = (s, refl, stands)
-stands_over mail traps m stands = absurd stands
-
-pub stands_as : (mail : Mail) (turn : Turn) (b : Bool) (m : Machine) → StandsFor mail turn b m → b ≡ goes_on turn
-stands_as mail (goes s) true m stands = refl
-stands_as mail (goes s) false m stands = absurd stands
-stands_as mail (ends s) true m stands = absurd stands
-stands_as mail (ends s) false m stands = refl
-stands_as mail traps true m stands = absurd stands
-stands_as mail traps false m stands = absurd stands
-
-pub stands_at : (mail : Mail) (turn : Turn) (b : Bool) (m : Machine) → StandsFor mail turn b m → (s : State) × (state_in turn ≡ Some s) × Represents mail s m
-stands_at mail (goes s) true m stands = (s, refl, stands)
-stands_at mail (goes s) false m stands = absurd stands
-stands_at mail (ends s) true m stands = absurd stands
-stands_at mail (ends s) false m stands = (s, refl, stands)
-stands_at mail traps true m stands = absurd stands
-stands_at mail traps false m stands = absurd stands
+pub stands_at : (mail : Mail) (t : Turn) (turn : machine.Turn) (m : Machine) → StandsFor mail t turn m → (s : State) × (state_in t ≡ Some s) × Stands mail s turn.position m
+stands_at mail (goes s) turn m stands = (s, refl, stands.1)
+stands_at mail (ends s) turn m stands = (s, refl, stands.1)
+stands_at mail traps turn m stands = absurd stands
 
 -- it stands for the state that the turn has
-pub stands_in : (mail : Mail) (turn : Turn) (b : Bool) (m : Machine) (s : State) → StandsFor mail turn b m → state_in turn ≡ Some s → Represents mail s m
-stands_in mail turn b m s stands e =
-    let at = stands_at mail turn b m stands in
+pub stands_in : (mail : Mail) (t : Turn) (turn : machine.Turn) (m : Machine) (s : State) → StandsFor mail t turn m → state_in t ≡ Some s → Stands mail s turn.position m
+stands_in mail t turn m s stands e =
+    let at = stands_at mail t turn m stands in
     let same : at.0 ≡ s = (let both : Some at.0 ≡ Some s = sym at.1 ∙ e in cc) in
-    subst (λ t. Represents mail t m) same at.2
+    subst (λ x. Stands mail x turn.position m) same at.2
 
 -- where it goes on, the machine is in a state of the run
-pub going_at : (code : Code) (mail : Mail) (n : ℕ) (b : Bool) (m : Machine) → StandsFor mail (come_to code mail n) b m → goes_on (come_to code mail n) ≡ true → (s : State) × (come_to code mail n ≡ goes s) × IsIn code mail s m
-going_at code mail n b m stands on =
-    let same : b ≡ true = stands_as mail (come_to code mail n) b m stands ∙ on in
-    let at = stands_going mail (come_to code mail n) m (subst (λ x. StandsFor mail (come_to code mail n) x m) same stands) in
-    (at.0, at.1, record { steps = n; run = run_to code mail n at.0 at.1; stands = at.2 })
+pub going_at : (code : Code) (mail : Mail) (n : ℕ) (turn : machine.Turn) (m : Machine) → StandsFor mail (come_to code mail n) turn m → goes_on (come_to code mail n) ≡ true → (s : State) × (come_to code mail n ≡ goes s) × IsIn code mail s turn.position m
+going_at code mail n turn m = go (come_to code mail n) refl
+  where
+    go : (t : Turn) → come_to code mail n ≡ t → StandsFor mail t turn m → goes_on t ≡ true → (s : State) × (t ≡ goes s) × IsIn code mail s turn.position m
+    go (goes s) is h on = (s, refl, record { steps = n; run = run_to code mail n s is; stands = h.1 })
+    go (ends s) is h on = absurd (cc)
+    go traps is h on = absurd h
 
 -- and where it doesn't, at the run's end
-pub over_at : (code : Code) (mail : Mail) (n : ℕ) (b : Bool) (m : Machine) → StandsFor mail (come_to code mail n) b m → goes_on (come_to code mail n) ≡ false → (s : State) × RunEnds code mail s × Represents mail s m
-over_at code mail n b m stands over =
-    let same : b ≡ false = stands_as mail (come_to code mail n) b m stands ∙ over in
-    let at = stands_over mail (come_to code mail n) m (subst (λ x. StandsFor mail (come_to code mail n) x m) same stands) in
-    (at.0, run_ends code mail n at.0 at.1, at.2)
+pub over_at : (code : Code) (mail : Mail) (n : ℕ) (turn : machine.Turn) (m : Machine) → StandsFor mail (come_to code mail n) turn m → goes_on (come_to code mail n) ≡ false → (s : State) × RunEnds code mail s × Stands mail s turn.position m
+over_at code mail n turn m = go (come_to code mail n) refl
+  where
+    go : (t : Turn) → come_to code mail n ≡ t → StandsFor mail t turn m → goes_on t ≡ false → (s : State) × RunEnds code mail s × Stands mail s turn.position m
+    go (goes s) is h over = absurd (cc)
+    go (ends s) is h over = (s, run_ends code mail n s is, h.1)
+    go traps is h over = absurd h
+
+-- before the first step it stands for the start
+pub stands_first : (code : Code) (mail : Mail) (turn : machine.Turn) (m : Machine) → turn ≡ at_start → Represents mail (start code) m → StandsFor mail (come_to code mail 0) turn m
+stands_first code mail turn m is there = subst (λ x. StandsFor mail (goes (start code)) x m) (sym is) (refl, record { place = refl; charge = refl; holds = there })
 
 -- so after a step the machine stands for what the run has come to with it
-pub stands_next : (code : Code) (mail : Mail) (n : ℕ) (s : State) (b : Bool) (m : Machine) → come_to code mail n ≡ goes s → StandsFor mail (step code mail s) b m → StandsFor mail (come_to code mail (suc n)) b m
-stands_next code mail n s b m at stands = subst (λ t. StandsFor mail t b m) (sym (ap (further code mail) at)) stands
+pub stands_next : (code : Code) (mail : Mail) (n : ℕ) (s : State) (turn : machine.Turn) (m : Machine) → come_to code mail n ≡ goes s → StandsFor mail (step code mail s) turn m → StandsFor mail (come_to code mail (suc n)) turn m
+stands_next code mail n s turn m at stands = subst (λ t. StandsFor mail t turn m) (sym (ap (further code mail) at)) stands
 
 -- the number of steps fits the machine's counter
 pub counts : (code : Code) (mail : Mail) (n : ℕ) (s : State) → IsProgram code → IsAccepted code → IsMail mail → come_to code mail n ≡ goes s → n + 1 < 2 ^ 128

@@ -24,6 +24,7 @@ use Rattle.mail_matching.specs.PartTests.{exactly, body_cost, body_match, digest
 use Rattle.mail_matching.specs.Texts.{AreTexts}
 use Rattle.mime_decode.specs.Mail.{Mail, Part, IsMail}
 use Rattle.sieve_vm.specs.declared.machine.Machine.{Machine}
+use Rattle.sieve_vm.specs.declared.machine.Position.{Position}
 use Rattle.sieve_vm.specs.declared.machine.Done.{Done}
 use Rattle.sieve_vm.specs.declared.machine.Flow.TheVariants.{On}
 use Rattle.sieve_vm.specs.State.{Value, truth, text, State, current_part}
@@ -31,7 +32,7 @@ use Rattle.sieve_vm.specs.Stack.{OnTop, texts_on_top, length_on_top}
 use Rattle.sieve_vm.specs.Visits.{part_in}
 use Rattle.sieve_vm.specs.Charge.{cost_with_part, octets_taken, charge_of}
 use Rattle.sieve_vm.specs.Machine.{Effect, on, fails, push, with_texts, with_number, with_meant, tested, test_body, with_part, set_content, with_text, store, store_part, compares, effect, referred_in}
-use Rattle.sieve_vm.specs.Standing.{once, Represents, IsIn, HasHad}
+use Rattle.sieve_vm.specs.Standing.{once, Represents, IsIn, HasDone}
 use Rattle.mail_matching.specs.FirstMatch.{first_match}
 use Rattle.sieve_vm.proofs.Taking.{names_there, folder_there}
 use Rattle.sieve_vm.proofs.Pushed.{texts_are}
@@ -42,20 +43,20 @@ use Rattle.sieve_vm.proofs.Bounds.{reached}
 use Rattle.sieve_vm.proofs.Steps.{charged_at, pushed, after, fine}
 use Rattle.sieve_vm.proofs.StackSteps.{few, short, HasFolder, had_tested}
 
-module _ (code : Code) (mail : Mail) (is : IsAccepted code) (known : IsMail mail) (m : Machine) (s : State) (at : IsIn code mail s m) where
+module _ (code : Code) (mail : Mail) (is : IsAccepted code) (known : IsMail mail) (pos : Position) (m : Machine) (s : State) (at : IsIn code mail s pos m) where
   abbrev there : IsReached code mail s
   there = reached code mail is known at.steps s at.run
 
-  module _ (i : Instruction) (here : slice_get code.instructions m.place ≡ Some i) where
+  module _ (i : Instruction) (here : slice_get code.instructions pos.place ≡ Some i) where
     here_is : slice_get code.instructions s.place ≡ Some i
     here_is = ap (slice_get code.instructions) (sym at.stands.place) ∙ here
 
     -- it is one of the message
     pub current_there : IfSome (current_part m.loops.frames) (λ part. part < length mail.parts)
-    current_there = rw at.stands.frames (open-current mail s.frames (open_loops code s.place) there.opened)
+    current_there = rw at.stands.holds.frames (open-current mail s.frames (open_loops code s.place) there.opened)
 
     pub current_in_loops : IfSome (current_part m.loops.frames) (λ part. part < length m.loops.mail.parts)
-    current_in_loops = rw at.stands.mail_is current_there
+    current_in_loops = rw at.stands.holds.mail_is current_there
 
     module _ (o : Operation) (e : operation_of i.op ≡ Some o) (needs : needs_part (row_in_version code.version o) ≡ true) where
       part_here : HasPart mail s
@@ -63,8 +64,8 @@ module _ (code : Code) (mail : Mail) (is : IsAccepted code) (known : IsMail mail
 
       part_is : part_in m.loops ≡ Some part_here.part
       part_is =
-          ap (λ (l : Mail). option_and_then (slice_get l.parts) (current_part m.loops.frames)) at.stands.mail_is
-          ∙ ap (λ fs. option_and_then (slice_get mail.parts) (current_part fs)) (at.stands.frames ∙ part_here.is) ∙ part_here.there
+          ap (λ (l : Mail). option_and_then (slice_get l.parts) (current_part m.loops.frames)) at.stands.holds.mail_is
+          ∙ ap (λ fs. option_and_then (slice_get mail.parts) (current_part fs)) (at.stands.holds.frames ∙ part_here.is) ∙ part_here.there
 
       current_is : current_part s.frames ≡ Some part_here.frame.part
       current_is = ap current_part part_here.is
@@ -73,7 +74,7 @@ module _ (code : Code) (mail : Mail) (is : IsAccepted code) (known : IsMail mail
       part_some = rw part_is refl
 
       pub current_some : IsSome (current_part m.loops.frames)
-      current_some = rw (at.stands.frames, part_here.is) refl
+      current_some = rw (at.stands.holds.frames, part_here.is) refl
 
       -- a part's content is no longer than a message
       pub part_small : (part : Part) × ((part_in m.loops ≡ Some part) × (length part.content ≤ max_message))
@@ -90,11 +91,11 @@ module _ (code : Code) (mail : Mail) (is : IsAccepted code) (known : IsMail mail
 
       -- keys are on top
       keys_top : ((es : Entries) → left_by code (Some o) i es ≡ option_and_then (λ (keys : Texts). with_entry Truth keys.below) (take_texts i.c es)) → (top : OnTop) × (texts_on_top i.c s.stack ≡ Some top)
-      keys_top takes = let a = after code mail is known m s at i here o e in names_there i.c there.entries a.0 s.stack (sym (takes there.entries) ∙ a.1) there.describes
+      keys_top takes = let a = after code mail is known pos m s at i here o e in names_there i.c there.entries a.0 s.stack (sym (takes there.entries) ∙ a.1) there.describes
 
       pub keys_some : ((es : Entries) → left_by code (Some o) i es ≡ option_and_then (λ (keys : Texts). with_entry Truth keys.below) (take_texts i.c es)) → IsProgram code
           → (w : Mail) × ((t : State) × ((top : OnTop) × (Represents w t m × (texts_on_top i.c t.stack ≡ Some top) × AreTexts top.texts)))
-      keys_some takes fits = let n = keys_top takes in (mail, (s, (n.0, (at.stands, n.1, texts_are i.c s.stack n.0 (few code mail is known m s at i here fits) (short code mail is known m s at i here fits) n.1))))
+      keys_some takes fits = let n = keys_top takes in (mail, (s, (n.0, (at.stands.holds, n.1, texts_are i.c s.stack n.0 (few code mail is known pos m s at i here fits) (short code mail is known pos m s at i here fits) n.1))))
 
       -- a test of the current part with keys
       had_keys : (takes : (es : Entries) → left_by code (Some o) i es ≡ option_and_then (λ (keys : Texts). with_entry Truth keys.below) (take_texts i.c es)) (how : Match) (value : Part → List ℕ) (cost : Part → List (List ℕ) → ℕ)
@@ -104,28 +105,28 @@ module _ (code : Code) (mail : Mail) (is : IsAccepted code) (known : IsMail mail
           → ((t : State) (top : OnTop) (part : Part) → Represents mail t m → texts_on_top i.c t.stack ≡ Some top → part_in m.loops ≡ Some part
           → (done ≡ charged_at (cost part top.texts))
           × Represents mail (record t { stack = truth (is_some (first_match how (value part ∷ []) top.texts t.captures)) ∷ top.below; captures = unwrap_or (first_match how (value part ∷ []) top.texts t.captures) t.captures }) m')
-          → HasHad mail (effect (referred_in code) mail o i s) (charge_of mail o i s) done m'
+          → HasDone mail (effect (referred_in code) mail o i s) (charge_of mail o i s) done m'
       had_keys takes how value cost does charges done m' tests =
           let n = keys_top takes in
           let p = part_here.part in
-          let now = tests s n.0 p at.stands n.1 part_is in
+          let now = tests s n.0 p at.stands.holds n.1 part_is in
           let found = first_match how (value p ∷ []) n.0.texts s.captures in
           let test : (part : Part) → State → Option OnTop → Effect = λ part t top. with_texts (λ keys u. tested u (first_match how (value part ∷ []) keys u.captures)) t top in
           let same : effect (referred_in code) mail o i s ≡ tested (record s { stack = n.0.below }) found = does ∙ does_is (λ number part t. test part t (texts_on_top i.c t.stack)) ∙ ap (test p s) n.1 in
           let price : charge_of mail o i s ≡ 1 + cost p n.0.texts = charges ∙ ap (λ (x : Option OnTop). 1 + option_map_or (cost_with_part cost mail (current_part s.frames)) x 0) n.1 ∙ ap (λ x. 1 + x) (cost_is cost n.0) in
-          let fits : Leads code mail s (tested (record s { stack = n.0.below }) found) = subst (Leads code mail s) same (fine code mail is known m s at i here o e) in
-          rw (same, price) (had_tested code mail is known m s at i here (record s { stack = n.0.below }) found (cost p n.0.texts) done m' fits now.0 now.1)
+          let fits : Leads code mail s (tested (record s { stack = n.0.below }) found) = subst (Leads code mail s) same (fine code mail is known pos m s at i here o e) in
+          rw (same, price) (had_tested code mail is known pos m s at i here (record s { stack = n.0.below }) found (cost p n.0.texts) done m' fits now.0 now.1)
 
     pub had_part_size : (e : operation_of i.op ≡ Some PartSize) (number : ℕ) (done : Done) (m' : Machine) → number ≡ get_or code.numbers i.c 0
         → ((t : State) (part : Part) → Represents mail t m → part_in m.loops ≡ Some part → (done ≡ once On) × Represents mail (record t { stack = truth (compares i number (length part.content)) ∷ t.stack }) m')
-        → HasHad mail (effect (referred_in code) mail PartSize i s) 1 done m'
+        → HasDone mail (effect (referred_in code) mail PartSize i s) 1 done m'
     had_part_size e number done m' right tests =
         let p = part_here PartSize e refl in
-        let now = tests s p.part at.stands (part_is PartSize e refl) in
+        let now = tests s p.part at.stands.holds (part_is PartSize e refl) in
         let known_number : slice_get code.numbers i.c ≡ Some number = slice_get-get_or code.numbers i.c 0 (part_number_known code is s.place i here_is e) ∙ ap (λ n. Some n) (sym right) in
         let same : effect (referred_in code) mail PartSize i s ≡ push (truth (compares i number (length p.part.content))) s =
         does_is PartSize e refl (λ place part t. with_number i (length part.content) t (slice_get code.numbers i.c)) ∙ ap (with_number i (length p.part.content) s) known_number in
-        let fits : Leads code mail s (push (truth (compares i number (length p.part.content))) s) = subst (Leads code mail s) same (fine code mail is known m s at i here PartSize e) in
+        let fits : Leads code mail s (push (truth (compares i number (length p.part.content))) s) = subst (Leads code mail s) same (fine code mail is known pos m s at i here PartSize e) in
         rw (same, pushed code mail s (truth (compares i number (length p.part.content))) s fits, now.0) (now.1, refl)
 
     pub body_match_some : operation_of i.op ≡ Some PartBody → IsSome (match_numbered i.a)
@@ -135,7 +136,7 @@ module _ (code : Code) (mail : Mail) (is : IsAccepted code) (known : IsMail mail
         → ((t : State) (top : OnTop) (part : Part) → Represents mail t m → texts_on_top i.c t.stack ≡ Some top → part_in m.loops ≡ Some part
         → (done ≡ charged_at (body_cost part top.texts))
         × Represents mail (record t { stack = truth (is_some (body_match how part top.texts t.captures)) ∷ top.below; captures = unwrap_or (body_match how part top.texts t.captures) t.captures }) m')
-        → HasHad mail (effect (referred_in code) mail PartBody i s) (charge_of mail PartBody i s) done m'
+        → HasDone mail (effect (referred_in code) mail PartBody i s) (charge_of mail PartBody i s) done m'
     had_part_body e how says done m' tests =
         had_keys PartBody e refl (λ es. refl) how (λ part. part.content) body_cost
         (ap (with_meant (λ x. with_part (λ number part t. with_texts (test_body x part) t (texts_on_top i.c t.stack)) mail s s.frames)) says)
@@ -145,23 +146,23 @@ module _ (code : Code) (mail : Mail) (is : IsAccepted code) (known : IsMail mail
         → ((t : State) (top : OnTop) (part : Part) → Represents mail t m → texts_on_top i.c t.stack ≡ Some top → part_in m.loops ≡ Some part
         → (done ≡ charged_at (digest_cost part top.texts))
         × Represents mail (record t { stack = truth (is_some (digest_match part top.texts t.captures)) ∷ top.below; captures = unwrap_or (digest_match part top.texts t.captures) t.captures }) m')
-        → HasHad mail (effect (referred_in code) mail PartDigest i s) (charge_of mail PartDigest i s) done m'
+        → HasDone mail (effect (referred_in code) mail PartDigest i s) (charge_of mail PartDigest i s) done m'
     had_part_digest e done m' tests = had_keys PartDigest e refl (λ es. refl) exactly (λ part. digest_of part.content) digest_cost refl refl done m' tests
 
     store_top : operation_of i.op ≡ Some Store → (folder : List ℕ) × ((rest : List Value) × (s.stack ≡ text folder ∷ rest))
-    store_top e = let a = after code mail is known m s at i here Store e in folder_there there.entries a.0 s.stack a.1 there.describes
+    store_top e = let a = after code mail is known pos m s at i here Store e in folder_there there.entries a.0 s.stack a.1 there.describes
 
-    pub store_some : operation_of i.op ≡ Some Store → HasFolder code mail is known m s at i here
-    store_some e = let f = store_top e in (mail, (s, (f.0, (f.1.0, (at.stands, f.1.1)))))
+    pub store_some : operation_of i.op ≡ Some Store → HasFolder code mail is known pos m s at i here
+    store_some e = let f = store_top e in (mail, (s, (f.0, (f.1.0, (at.stands.holds, f.1.1)))))
 
     pub had_store : operation_of i.op ≡ Some Store → (done : Done) (m' : Machine)
         → ((t : State) (folder : List ℕ) (rest : List Value) (part : ℕ) → Represents mail t m → t.stack ≡ text folder ∷ rest → current_part t.frames ≡ Some part
         → (done ≡ charged_at (length folder)) × Represents mail (record t { stack = rest; actions = t.actions ++ action.Store folder part ∷ [] }) m')
-        → HasHad mail (effect (referred_in code) mail Store i s) (charge_of mail Store i s) done m'
+        → HasDone mail (effect (referred_in code) mail Store i s) (charge_of mail Store i s) done m'
     had_store e done m' stores =
         let f = store_top e in
         let p = part_here Store e refl in
-        let now = stores s f.0 f.1.0 p.frame.part at.stands f.1.1 (current_is Store e refl) in
+        let now = stores s f.0 f.1.0 p.frame.part at.stands.holds f.1.1 (current_is Store e refl) in
         let same : effect (referred_in code) mail Store i s ≡ on (record s { stack = f.1.0; actions = s.actions ++ action.Store f.0 p.frame.part ∷ [] }) = does_is Store e refl store_part ∙ ap (with_text (store p.frame.part) s) f.1.1 in
         let price : charge_of mail Store i s ≡ 1 + length f.0 = ap (λ (v : List Value). 1 + length_on_top v) f.1.1 in
         rw (same, price, now.0) (now.1, refl)
@@ -170,15 +171,15 @@ module _ (code : Code) (mail : Mail) (is : IsAccepted code) (known : IsMail mail
     taken_within e = omega (arith, take_variable_known code is s.place i here_is e, there.texts.number)
 
     pub take_some : operation_of i.op ≡ Some Take → (w : Mail) × ((t : State) × (Represents w t m × (i.c < length t.variables)))
-    take_some e = (mail, (s, (at.stands, taken_within e)))
+    take_some e = (mail, (s, (at.stands.holds, taken_within e)))
 
     pub had_take : operation_of i.op ≡ Some Take → (done : Done) (m' : Machine)
         → ((t : State) (part : Part) → Represents mail t m → part_in m.loops ≡ Some part
         → (done ≡ charged_at (min i.b (length part.content))) × Represents mail (record t { variables = slice_set t.variables i.c (take i.b part.content) }) m')
-        → HasHad mail (effect (referred_in code) mail Take i s) (charge_of mail Take i s) done m'
+        → HasDone mail (effect (referred_in code) mail Take i s) (charge_of mail Take i s) done m'
     had_take e done m' takes =
         let p = part_here Take e (take_needs_part code is s.place i here_is e) in
-        let now = takes s p.part at.stands (part_is Take e (take_needs_part code is s.place i here_is e)) in
+        let now = takes s p.part at.stands.holds (part_is Take e (take_needs_part code is s.place i here_is e)) in
         let next : State = record s { variables = slice_set s.variables i.c (take i.b p.part.content) } in
         let same : effect (referred_in code) mail Take i s ≡ on next = does_is Take e (take_needs_part code is s.place i here_is e) (set_content i) ∙ ap (λ (b : Bool). cond b (on next) fails) (lt-ltb _ _ (taken_within e)) in
         let price : charge_of mail Take i s ≡ 1 + min i.b (length p.part.content) =

@@ -96,7 +96,7 @@ pub record LeadsTo (code : Code) (mail : Mail) (from : State) (target : ℕ) (to
 abbrev pub Leads : Code → Mail → State → Effect → Type 0
 Leads code mail from (on to) = (to.place ≡ from.place) × LeadsTo code mail from (suc from.place) to
 Leads code mail from (jumps target to) = LeadsTo code mail from target to
-Leads code mail from (halts to) = (to.charge ≡ from.charge) × EndsWell mail to
+Leads code mail from (halts to) = (to.charge ≡ from.charge) × EndsWell mail to × (to.place ≡ from.place)
 Leads code mail from fails = ⊥
 
 pub length-described : (entries : Entries) (stack : List Value) → Describes entries stack → length entries ≡ length stack

@@ -73,7 +73,7 @@ module _ (code : Code) (mail : Mail) (is : IsAccepted code) (known : IsMail mail
 
     -- every operation's effect
     pub leads : (o : Operation) → operation_of i.op ≡ Some o → Leads code mail s (effect (referred_in code) mail o i s)
-    leads Halt e = (refl, from.stores)
+    leads Halt e = (refl, from.stores, refl)
     leads Literal e = leads_literal code mail is known s i here from e
     leads Variable e = leads_variable code mail is known s i here from e
     leads Capture e = leads_capture code mail is known s i here from e

@@ -17,17 +17,20 @@ use Rattle.bytecode_format.specs.Spelling.{IsProgram}
 use Rattle.bytecode_verifier.proofs.Budgets.{budget_small}
 use Rattle.mime_decode.specs.Mail.{Mail, IsMail, size_of}
 use Rattle.sieve_vm.specs.declared.machine.Machine.{Machine}
+use Rattle.sieve_vm.specs.declared.machine.Position.{Position}
+use Rattle.sieve_vm.specs.declared.machine.Turn as machine
 use Rattle.sieve_vm.specs.declared.machine.Done.{Done}
 use Rattle.sieve_vm.specs.declared.machine.Flow.{Flow}
 use Rattle.sieve_vm.specs.declared.machine.Flow.TheVariants.{On, To, Ends}
-use Rattle.sieve_vm.specs.State.{Value, State, goes, ends, traps, start}
-use Rattle.sieve_vm.specs.Visits.{Visits}
+use Rattle.sieve_vm.specs.State.{Value, State, Turn, goes, ends, traps, start}
 use Rattle.sieve_vm.specs.Charge.{charge_of}
 use Rattle.sieve_vm.specs.Machine.{Effect, on, jumps, halts, fails, push, is_sound_jump, effect, turn, turn_of, turn_at, step, referred_in}
-use Rattle.sieve_vm.specs.Standing.{held_of, Represents, IsIn, IsRunning, GoesFrom, StepsOn, IsOver}
+use Rattle.sieve_vm.specs.Standing.{Represents, Stands, IsIn, GoesFrom, HasDone}
 use Rattle.sieve_vm.specs.Ending.{IsOutcome}
+use Rattle.sieve_vm.specs.Going.{StandsFor, gone}
+use Rattle.sieve_vm.specs.Runs.{RunEnds}
 use Rattle.sieve_vm.proofs.Taking.{Describes}
-use Rattle.sieve_vm.proofs.Reached.{IsReached, IsSound, Costs, Leads, TopTruth, top_truth, without_truth-some}
+use Rattle.sieve_vm.proofs.Reached.{IsReached, IsSound, Leads, TopTruth, top_truth, without_truth-some}
 use Rattle.sieve_vm.proofs.SoundSteps.{leads, step_is_sound}
 use Rattle.sieve_vm.proofs.Leading.{after_of, sound_jump}
 use Rattle.sieve_vm.specs.Potential.{limit_of}
@@ -49,15 +52,15 @@ pushed code mail from value t fits = go (nat_lt (length t.stack) max_stack) fits
     go true h = refl
     go false h = absurd h
 
-module _ (code : Code) (mail : Mail) (is : IsAccepted code) (known : IsMail mail) (m : Machine) (s : State) (at : IsIn code mail s m) where
+module _ (code : Code) (mail : Mail) (is : IsAccepted code) (known : IsMail mail) (pos : Position) (m : Machine) (s : State) (at : IsIn code mail s pos m) where
   abbrev there : IsReached code mail s
   there = reached code mail is known at.steps s at.run
 
   -- the machine is at an instruction
-  pub place_within : m.place < length code.instructions
+  pub place_within : pos.place < length code.instructions
   place_within = rw at.stands.place there.within
 
-  module _ (i : Instruction) (here : slice_get code.instructions m.place ≡ Some i) where
+  module _ (i : Instruction) (here : slice_get code.instructions pos.place ≡ Some i) where
     pub here_is : slice_get code.instructions s.place ≡ Some i
     here_is = ap (slice_get code.instructions) (sym at.stands.place) ∙ here
 
@@ -97,128 +100,71 @@ module _ (code : Code) (mail : Mail) (is : IsAccepted code) (known : IsMail mail
           let w = without_truth-some there.entries after.0 (sym takes ∙ after.1) in
           ([], top_truth [] s.stack (subst (λ (x : Entries). Describes x s.stack) w.0 there.describes))
 
--- what the machine stands for when it has had an effect
-on_of : (mail : Mail) (e : Effect) (m : Machine) → GoesFrom mail e On m → (s : State) × ((e ≡ on s) × Represents mail s m)
-on_of mail (on s) m h = (s, (refl, h))
-on_of mail (jumps target s) m h = absurd h
-on_of mail (halts s) m h = absurd h
-on_of mail fails m h = absurd h
+-- of the place and the charge of a state the machine says nothing
+elsewhere : (mail : Mail) (s : State) (m : Machine) (place charge : ℕ) → Represents mail s m → Represents mail (record s { place = place; charge = charge }) m
+elsewhere mail s m place charge h = record { work = h.work; mail_is = h.mail_is; frames = h.frames; actions = h.actions; implicit_keep = h.implicit_keep }
 
-to_of : (mail : Mail) (e : Effect) (place : ℕ) (m : Machine) → GoesFrom mail e (To place) m → (s : State) × ((e ≡ jumps place s) × Represents mail s m)
-to_of mail (on s) place m h = absurd h
-to_of mail (jumps target s) place m h = (s, (ap (λ t. jumps t s) (sym h.0), h.1))
-to_of mail (halts s) place m h = absurd h
-to_of mail fails place m h = absurd h
+-- with the effect of an instruction the machine stands for the turn of the effect
+stands_after : (code : Code) (mail : Mail) (s : State) (pos : Position) (cost : ℕ) (m : Machine) → pos.place ≡ s.place → pos.charged ≡ s.charge
+    → (e : Effect) (flow : Flow) → Leads code mail s e → GoesFrom mail e flow m → StandsFor mail (turn cost e) (gone pos cost flow) m
+stands_after code mail s pos cost m place charge (on to) On fine had =
+    (refl, record { place = omega (arith, place, fine.0); charge = omega (arith, charge, fine.1.charge_is); holds = elsewhere mail to m (suc to.place) (to.charge + cost) had })
+stands_after code mail s pos cost m place charge (jumps target to) (To there) fine had =
+    (refl, record { place = had.0; charge = omega (arith, charge, fine.charge_is); holds = elsewhere mail to m target (to.charge + cost) had.1 })
+stands_after code mail s pos cost m place charge (halts to) Ends fine had =
+    (refl, record { place = place ∙ sym fine.2; charge = omega (arith, charge, fine.0); holds = elsewhere mail to m to.place (to.charge + cost) had })
+stands_after code mail s pos cost m place charge _ _ fine had = absurd had
 
-ends_of : (mail : Mail) (e : Effect) (m : Machine) → GoesFrom mail e Ends m → (s : State) × ((e ≡ halts s) × Represents mail s m)
-ends_of mail (on s) m h = absurd h
-ends_of mail (jumps target s) m h = absurd h
-ends_of mail (halts s) m h = (s, (refl, h))
-ends_of mail fails m h = absurd h
-
--- the machine has had the effect of the instruction at its place
-module _ (code : Code) (mail : Mail) (is : IsAccepted code) (known : IsMail mail) (m : Machine) (s : State) (at : IsIn code mail s m) (cost : ℕ) (e : Effect) (stepped : step code mail s ≡ turn cost e) (m' : Machine) where
-  sound_turn : IsSound code mail s (turn cost e)
-  sound_turn = subst (IsSound code mail s) stepped (step_is_sound code mail is known s (reached code mail is known at.steps s at.run))
-
-  continues : (to : State) (after : Machine) → step code mail s ≡ goes to → Costs code mail s to.charge → Represents mail to after → StepsOn code mail m after
-  continues to after one costs stands =
-      let dearer = costs.dearer in
-      record {
-        running = (to, record { steps = suc at.steps; run = Run-push code mail at.steps (start code) s to at.run one; stands = stands });
-        dearer = omega (arith, stands.charge, at.stands.charge);
-      }
-
-  pub goes_on : GoesFrom mail e On m' → (after : Machine) → after.place ≡ m'.place + 1 → after.work ≡ m'.work → after.loops ≡ m'.loops → after.actions ≡ m'.actions → after.implicit_keep ≡ m'.implicit_keep → after.charged ≡ m'.charged + cost → StepsOn code mail m after
-  goes_on had after place work loops actions keep charged =
-      let h = on_of mail e m' had in
-      let to : State = record h.0 { place = suc h.0.place; charge = h.0.charge + cost } in
-      let one : step code mail s ≡ goes to = stepped ∙ ap (turn cost) h.1.0 in
-      let sound : IsSound code mail s (goes to) = subst (IsSound code mail s) (ap (turn cost) h.1.0) sound_turn in
-      continues to after one sound.1 (record {
-        place = omega (arith, place, h.1.1.place);
-        work = ap held_of work ∙ h.1.1.work;
-        mail_is = ap (λ (l : Visits). l.mail) loops ∙ h.1.1.mail_is;
-        frames = ap (λ (l : Visits). l.frames) loops ∙ h.1.1.frames;
-        actions = actions ∙ h.1.1.actions;
-        implicit_keep = keep ∙ h.1.1.implicit_keep;
-        charge = omega (arith, charged, h.1.1.charge);
-      })
-
-  pub goes_to : (place : ℕ) → GoesFrom mail e (To place) m' → (after : Machine) → after.place ≡ place → after.work ≡ m'.work → after.loops ≡ m'.loops → after.actions ≡ m'.actions → after.implicit_keep ≡ m'.implicit_keep → after.charged ≡ m'.charged + cost → StepsOn code mail m after
-  goes_to place had after there work loops actions keep charged =
-      let h = to_of mail e place m' had in
-      let to : State = record h.0 { place = place; charge = h.0.charge + cost } in
-      let one : step code mail s ≡ goes to = stepped ∙ ap (turn cost) h.1.0 in
-      let sound : IsSound code mail s (goes to) = subst (IsSound code mail s) (ap (turn cost) h.1.0) sound_turn in
-      continues to after one sound.1 (record {
-        place = there;
-        work = ap held_of work ∙ h.1.1.work;
-        mail_is = ap (λ (l : Visits). l.mail) loops ∙ h.1.1.mail_is;
-        frames = ap (λ (l : Visits). l.frames) loops ∙ h.1.1.frames;
-        actions = actions ∙ h.1.1.actions;
-        implicit_keep = keep ∙ h.1.1.implicit_keep;
-        charge = omega (arith, charged, h.1.1.charge);
-      })
-
-  pub comes_to_end : GoesFrom mail e Ends m' → (after : Machine) → after.place ≡ m'.place → after.work ≡ m'.work → after.loops ≡ m'.loops → after.actions ≡ m'.actions → after.implicit_keep ≡ m'.implicit_keep → after.charged ≡ m'.charged + cost → IsOver code mail after
-  comes_to_end had after place work loops actions keep charged =
-      let h = ends_of mail e m' had in
-      let end : State = record h.0 { charge = h.0.charge + cost } in
-      let one : step code mail s ≡ ends end = stepped ∙ ap (turn cost) h.1.0 in
-      record {
-        end = end;
-        over = record { steps = at.steps; last = s; run = at.run; halts = one };
-        stands = record {
-          place = place ∙ h.1.1.place;
-          work = ap held_of work ∙ h.1.1.work;
-          mail_is = ap (λ (l : Visits). l.mail) loops ∙ h.1.1.mail_is;
-          frames = ap (λ (l : Visits). l.frames) loops ∙ h.1.1.frames;
-          actions = actions ∙ h.1.1.actions;
-          implicit_keep = keep ∙ h.1.1.implicit_keep;
-          charge = omega (arith, charged, h.1.1.charge);
-        };
-      }
-
-  -- with the charge of the step it is within the budget
-  pub charged_within : (flow : Flow) → GoesFrom mail e flow m' → m'.charged + cost ≤ limit_of code mail
-  charged_within On had =
-      let h = on_of mail e m' had in
-      let to : State = record h.0 { place = suc h.0.place; charge = h.0.charge + cost } in
-      let all = spent code mail is known (suc at.steps) to (Run-push code mail at.steps (start code) s to at.run (stepped ∙ ap (turn cost) h.1.0)) in
-      omega (arith, all.0, h.1.1.charge)
-  charged_within (To place) had =
-      let h = to_of mail e place m' had in
-      let to : State = record h.0 { place = place; charge = h.0.charge + cost } in
-      let all = spent code mail is known (suc at.steps) to (Run-push code mail at.steps (start code) s to at.run (stepped ∙ ap (turn cost) h.1.0)) in
-      omega (arith, all.0, h.1.1.charge)
-  charged_within Ends had =
-      let h = ends_of mail e m' had in
-      let end : State = record h.0 { charge = h.0.charge + cost } in
-      omega (arith, ends_within code mail is known end (record { steps = at.steps; last = s; run = at.run; halts = stepped ∙ ap (turn cost) h.1.0 }), h.1.1.charge)
-
-  -- it is still at its place
-  pub still_there : GoesFrom mail e On m' → m'.place + 1 < length code.instructions
-  still_there had =
-      let h = on_of mail e m' had in
-      let sound : IsSound code mail s (goes (record h.0 { place = suc h.0.place; charge = h.0.charge + cost })) = subst (IsSound code mail s) (ap (turn cost) h.1.0) sound_turn in
-      omega (arith, sound.0.within, h.1.1.place)
-
--- what a machine that is running has charged is within the budget
-pub running_within : (code : Code) (mail : Mail) → IsAccepted code → IsMail mail → (m : Machine) → IsRunning code mail m → m.charged ≤ limit_of code mail
-running_within code mail is known m running =
-    omega (arith, (spent code mail is known running.1.steps running.0 running.1.run).0, running.1.stands.charge)
+gone_charged : (pos : Position) (cost : ℕ) (flow : Flow) → (gone pos cost flow).position.charged ≡ pos.charged + cost
+gone_charged pos cost On = refl
+gone_charged pos cost (To place) = refl
+gone_charged pos cost Ends = refl
 
 -- the budget fits the machine's number
 pub limit_small : (code : Code) (mail : Mail) → IsProgram code → IsMail mail → limit_of code mail < 2 ^ 128
 limit_small code mail fits is = budget_small code fits (size_of mail) (length mail.parts) is.small is.few_parts
 
+module _ (code : Code) (mail : Mail) (is : IsAccepted code) (known : IsMail mail) (pos : Position) (m : Machine) (s : State) (at : IsIn code mail s pos m) where
+  -- a step is charged, and with it all that was charged is within the budget
+  pub charged_on : (turn : machine.Turn) (m' : Machine) → StandsFor mail (step code mail s) turn m' → (pos.charged < turn.position.charged) × (turn.position.charged ≤ limit_of code mail)
+  charged_on turn m' stands = go (step code mail s) refl stands
+    where
+      sound : (t : Turn) → step code mail s ≡ t → IsSound code mail s t
+      sound t one = subst (IsSound code mail s) one (step_is_sound code mail is known s (reached code mail is known at.steps s at.run))
+
+      go : (t : Turn) → step code mail s ≡ t → StandsFor mail t turn m' → (pos.charged < turn.position.charged) × (turn.position.charged ≤ limit_of code mail)
+      go (goes to) one h =
+          let dearer = (sound (goes to) one).1.dearer in
+          let all = spent code mail is known (suc at.steps) to (Run-push code mail at.steps (start code) s to at.run one) in
+          (omega (arith, dearer, h.1.charge, at.stands.charge), omega (arith, all.0, h.1.charge))
+      go (ends end) one h =
+          let dearer = (sound (ends end) one).0.dearer in
+          let all = ends_within code mail is known end (record { steps = at.steps; last = s; run = at.run; halts = one }) in
+          (omega (arith, dearer, h.1.charge, at.stands.charge), omega (arith, all, h.1.charge))
+      go traps one h = absurd h
+
+  module _ (i : Instruction) (here : slice_get code.instructions pos.place ≡ Some i) (o : Operation) (named : operation_of i.op ≡ Some o) (done : Done) (m' : Machine) (had : HasDone mail (effect (referred_in code) mail o i s) (charge_of mail o i s) done m') where
+    -- with the effect of its instruction the machine stands for what the step comes to
+    pub steps_to : StandsFor mail (step code mail s) (gone pos (1 + done.cost) done.flow) m'
+    steps_to =
+        let e : Effect = effect (referred_in code) mail o i s in
+        subst (λ t. StandsFor mail t (gone pos (1 + done.cost) done.flow) m')
+        (ap (λ n. turn n e) had.1 ∙ sym (stepped code mail is known pos m s at i here o named))
+        (stands_after code mail s pos (1 + done.cost) m' at.stands.place at.stands.charge e done.flow (fine code mail is known pos m s at i here o named) had.0)
+
+    -- what it is charged fits
+    pub charge_fits_in : IsProgram code → pos.charged + (1 + done.cost) < 2 ^ 128
+    charge_fits_in fits =
+        let within = (charged_on (gone pos (1 + done.cost) done.flow) m' steps_to).1 in
+        omega (arith, within, gone_charged pos (1 + done.cost) done.flow, limit_small code mail fits known)
+
 -- a machine at the end of a run holds its outcome
-pub outcome_of : (code : Code) (mail : Mail) (m : Machine) (actions : List Action) → IsOver code mail m → actions ≡ with_implicit_keep m.actions m.implicit_keep → IsOutcome code mail actions m.charged
-outcome_of code mail m actions over e =
+pub outcome_of : (code : Code) (mail : Mail) (end : State) (pos : Position) (m : Machine) (actions : List Action) → RunEnds code mail end → Stands mail end pos m
+    → actions ≡ with_implicit_keep m.actions m.implicit_keep → IsOutcome code mail actions pos.charged
+outcome_of code mail end pos m actions over stands e =
     record {
-      end = over.end;
-      over = over.over;
-      actions_are = e ∙ ap (λ l. with_implicit_keep l m.implicit_keep) over.stands.actions ∙ ap (λ k. with_implicit_keep (first_occurrences over.end.actions) k) over.stands.implicit_keep;
-      charge_is = over.stands.charge;
+      end = end;
+      over = over;
+      actions_are = e ∙ ap (λ l. with_implicit_keep l m.implicit_keep) stands.holds.actions ∙ ap (λ k. with_implicit_keep (first_occurrences end.actions) k) stands.holds.implicit_keep;
+      charge_is = stands.charge;
     }

@@ -31,39 +31,33 @@ module _ (mail : Mail) (s : State) (m : Machine) (stands : Represents mail s m) 
       → Represents mail (record s { stack = (change (held_by s)).stack; variables = (change (held_by s)).variables; captures = (change (held_by s)).captures }) (record m { work = work })
   holds_now work change now =
       record {
-        place = stands.place;
         work = now ∙ ap change stands.work;
         mail_is = stands.mail_is;
         frames = stands.frames;
         actions = stands.actions;
         implicit_keep = stands.implicit_keep;
-        charge = stands.charge;
       }
 
   -- the open loops are as they were
   pub same_loops : (loops : Visits) → HasSameLoops m.loops loops → Represents mail s (record m { loops = loops })
   same_loops loops same =
       record {
-        place = stands.place;
         work = stands.work;
         mail_is = same.mail ∙ stands.mail_is;
         frames = same.frames ∙ stands.frames;
         actions = stands.actions;
         implicit_keep = stands.implicit_keep;
-        charge = stands.charge;
       }
 
   -- the open loops have changed
   pub loops_now : (loops : Visits) (frames : List Frame) (held : List Bool) → loops ≡ record m.loops { frames = frames; held = held } → Represents mail (record s { frames = frames }) (record m { loops = loops })
   loops_now loops frames held now =
       record {
-        place = stands.place;
         work = stands.work;
         mail_is = ap (λ (l : Visits). l.mail) now ∙ stands.mail_is;
         frames = ap (λ (l : Visits). l.frames) now;
         actions = stands.actions;
         implicit_keep = stands.implicit_keep;
-        charge = stands.charge;
       }
 
   -- the innermost loop was closed

@@ -1,5 +1,5 @@
 -- Private: how the machine's fields stand for a state of a run.
-use Rattle.std.specs.Prelude.{◌≡◌, ◌<◌, ◌+◌, ℕ, Bool, true, List, [], ◌∷◌, Option, Some, None, map, reverse}
+use Rattle.std.specs.Prelude.{◌≡◌, ◌+◌, ℕ, Bool, true, List, [], ◌∷◌, Option, Some, None, map, reverse}
 use Rattle.bytecode_format.specs.Actions.{first_occurrences}
 use Rattle.bytecode_format.specs.Code.{Code}
 use Rattle.mail_matching.specs.FirstMatch.{no_captures}
@@ -11,11 +11,12 @@ use Rattle.sieve_vm.specs.declared.machine.Done.{Done}
 use Rattle.sieve_vm.specs.declared.machine.Flow.{Flow}
 use Rattle.sieve_vm.specs.declared.machine.Flow.TheVariants.{On, To, Ends}
 use Rattle.sieve_vm.specs.declared.machine.Machine.{Machine}
+use Rattle.sieve_vm.specs.declared.machine.Position.{Position}
 use Rattle.sieve_vm.specs.declared.workspace.Pushed.{Pushed}
 use Rattle.sieve_vm.specs.declared.workspace.Workspace.{Workspace}
 use Rattle.sieve_vm.specs.State.{Value, truth, text, State, start}
 use Rattle.sieve_vm.specs.Machine.{Effect, on, jumps, halts}
-use Rattle.sieve_vm.specs.Runs.{Run, RunEnds}
+use Rattle.sieve_vm.specs.Runs.{Run}
 
 -- an entry of the stack as the value that it is
 abbrev pub value_of : Entry → Value
@@ -62,36 +63,38 @@ texts_of pushed = map octets_of pushed.entries.now
 abbrev pub once : Flow → Done
 once flow = record { flow = flow; cost = 0 }
 
--- the machine stands for the state of a run on the message
+-- the machine stands for the state of a run on the message, but for its place and charge
 pub record Represents (mail : Mail) (state : State) (machine : Machine) : Type 0 where
-  pub place : machine.place ≡ state.place
   pub work : held_of machine.work ≡ held_by state
   pub mail_is : machine.loops.mail ≡ mail
   pub frames : machine.loops.frames ≡ state.frames
   pub actions : machine.actions ≡ first_occurrences state.actions
   pub implicit_keep : machine.implicit_keep ≡ state.implicit_keep
-  pub charge : machine.charged ≡ state.charge
+
+-- with its position it stands for all of the state
+pub record Stands (mail : Mail) (state : State) (position : Position) (machine : Machine) : Type 0 where
+  pub place : position.place ≡ state.place
+  pub charge : position.charged ≡ state.charge
+  pub holds : Represents mail state machine
 
 -- a machine with which nothing was done
 pub record IsNewMachine (machine : Machine) : Type 0 where
-  pub place : machine.place ≡ 0
   pub work : IsNew machine.work
   pub frames : machine.loops.frames ≡ []
   pub actions : machine.actions ≡ []
   pub implicit_keep : machine.implicit_keep ≡ true
-  pub charge : machine.charged ≡ 0
 
--- the machine stands for this state of the program's run
-pub record IsIn (code : Code) (mail : Mail) (state : State) (machine : Machine) : Type 0 where
+-- the machine and its position stand for this state of the program's run
+pub record IsIn (code : Code) (mail : Mail) (state : State) (position : Position) (machine : Machine) : Type 0 where
   pub steps : ℕ
   pub run : Run code mail steps (start code) state
-  pub stands : Represents mail state machine
+  pub stands : Stands mail state position machine
 
--- the machine stands for a state of the program's run
-abbrev pub IsRunning : Code → Mail → Machine → Type 0
-IsRunning code mail machine = (state : State) × IsIn code mail state machine
+-- they stand for a state of the program's run
+abbrev pub IsRunning : Code → Mail → Position → Machine → Type 0
+IsRunning code mail position machine = (state : State) × IsIn code mail state position machine
 
--- the machine has had the effect, but for its place and charge, and answers where the run goes
+-- the machine has had the effect, and answers where the run goes
 abbrev pub GoesFrom : Mail → Effect → Flow → Machine → Type 0
 GoesFrom mail (on state) On machine = Represents mail state machine
 GoesFrom mail (jumps target state) (To place) machine = (place ≡ target) × Represents mail state machine
@@ -99,16 +102,5 @@ GoesFrom mail (halts state) Ends machine = Represents mail state machine
 GoesFrom mail _ _ machine = ⊥
 
 -- the same, and it answers what that is charged beyond one
-abbrev pub HasHad : Mail → Effect → ℕ → Done → Machine → Type 0
-HasHad mail effect charge done machine = GoesFrom mail effect done.flow machine × (1 + done.cost ≡ charge)
-
--- the machine goes from one state of the run to a later one
-pub record StepsOn (code : Code) (mail : Mail) (before after : Machine) : Type 0 where
-  pub running : IsRunning code mail after
-  pub dearer : before.charged < after.charged
-
--- the machine stands for the end of the program's run
-pub record IsOver (code : Code) (mail : Mail) (machine : Machine) : Type 0 where
-  pub end : State
-  pub over : RunEnds code mail end
-  pub stands : Represents mail end machine
+abbrev pub HasDone : Mail → Effect → ℕ → Done → Machine → Type 0
+HasDone mail effect charge done machine = GoesFrom mail effect done.flow machine × (1 + done.cost ≡ charge)

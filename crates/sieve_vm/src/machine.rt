@@ -11,14 +11,20 @@ use bytecode_format::{Action, ActionList, Instruction, Modifiers, Operation, Pro
 use mime_decode::Message;
 use std::alloc::{AllocError, Global};
 
-/// What a run carries from one instruction to the next. Texts are lent by the program and the message.
+/// What a run works on, from one instruction to the next. Texts are lent by the program and the message.
 #[derive(Drop)]
 pub struct Machine<'p, 's, 'm> {
-    pub place: usize,
     pub work: Workspace<'p, 'm>,
     pub loops: Loops<'s, 'm>,
     pub actions: ActionList,
     pub implicit_keep: bool,
+}
+
+/// Where a run is: the place of its instruction, and what was charged before it. It isn't part of the machine, so that a loop can keep
+/// it in registers.
+#[derive(Clone, Copy)]
+pub struct Position {
+    pub place: usize,
     pub charged: u128,
 }
 
@@ -40,23 +46,62 @@ pub struct Done {
     pub cost: u128,
 }
 
-/// Whether the run goes on.
+/// What a step has come to: where the run is after it, and whether it goes on from there.
 #[derive(Clone, Copy)]
-pub enum Turn {
-    GoesOn,
-    Ends,
+pub struct Turn {
+    pub position: Position,
+    pub goes_on: bool,
 }
 
 impl Turn {
-    ghost use Rattle.sieve_vm.specs.Going.{is_on};
+    ghost use Rattle.sieve_vm.specs.Going.{at_start};
 
-    /// Whether it does.
-    pub fn goes_on(self) -> bool
-        ensures { result ≡ is_on self }
+    /// Before the first instruction.
+    pub fn start() -> Turn
+        ensures { result ≡ at_start }
     {
-        match self {
-            Turn::GoesOn => true,
-            Turn::Ends => false,
+        Turn {
+            position: Position {
+                place: 0,
+                charged: 0,
+            },
+            goes_on: true,
+        }
+    }
+}
+
+impl Position {
+    ghost use Rattle.std.specs.Prelude.{◌≡◌, ◌<◌, ◌+◌, ◌^◌};
+    ghost use Rattle.octets.specs.Limits.{max_instructions};
+    ghost use Rattle.sieve_vm.specs.Going.{gone};
+
+    // What the step comes to whose instruction was done here.
+    #[inline(always)]
+    fn after(self, done: Done) -> Turn
+        requires place { self.place < max_instructions }
+        requires charged { self.charged + (1 + done.cost) < 2 ^ 128 }
+        ensures { result ≡ gone self (1 + done.cost) done.flow }
+    {
+        let charged = self.charged + (1 + done.cost);
+        match done.flow {
+            Flow::On => Turn {
+                position: Position {
+                    place: self.place + 1,
+                    charged,
+                },
+                goes_on: true,
+            },
+            Flow::To(place) => Turn {
+                position: Position { place, charged },
+                goes_on: true,
+            },
+            Flow::Ends => Turn {
+                position: Position {
+                    place: self.place,
+                    charged,
+                },
+                goes_on: false,
+            },
         }
     }
 }
@@ -75,24 +120,24 @@ impl<'p, 's, 'm> Machine<'p, 's, 'm> {
     ghost use Rattle.mime_decode.specs.Visited.{visited};
     ghost use Rattle.mail_matching.specs.Outcomes.{after};
     ghost use Rattle.mail_matching.specs.Texts.{AreTexts};
-    ghost use Rattle.sieve_vm.specs.Going.{StandsFor, is_on};
+    ghost use Rattle.sieve_vm.specs.Going.{StandsFor};
     ghost use Rattle.sieve_vm.specs.State.{Frame, State, Value, truth, text, current_part, start};
-    ghost use Rattle.sieve_vm.specs.Stack.{OnTop, Lists, texts_on_top};
+    ghost use Rattle.sieve_vm.specs.Stack.{OnTop, texts_on_top};
     ghost use Rattle.sieve_vm.specs.Charge.{octets_on_top, charge_of};
     ghost use Rattle.sieve_vm.specs.Machine.{branch, effect, jumps, next_part, open_loop, referred_in, step};
-    ghost use Rattle.sieve_vm.specs.Standing.{IsNewMachine, Represents, IsIn, IsRunning, HasHad, StepsOn, IsOver};
+    ghost use Rattle.sieve_vm.specs.Standing.{IsNewMachine, Represents, IsIn, IsRunning, HasDone};
 
     /// Goes before the first instruction of the program.
     ///
     /// An error comes only where memory was refused.
     pub fn begin(&mut self, program: &Program) -> Result<(), AllocError>
         requires { IsNewMachine self.old }
-        ensures { OnOk result (IsIn program.now self.old.loops.mail (start program.now) self.new) }
+        ensures { OnOk result (Represents self.old.loops.mail (start program.now) self.new) }
     {
         self.work.begin(program.variables())
     }
 
-    /// Takes the step of the instruction at the machine's place.
+    /// Takes the step of the instruction at the position.
     ///
     /// An error comes only where memory was refused.
     #[inline(always)]
@@ -101,53 +146,41 @@ impl<'p, 's, 'm> Machine<'p, 's, 'm> {
         alloc: Global,
         program: &'p Program,
         message: &Message<'m>,
+        position: Position,
     ) -> Result<Turn, AllocError>
         requires accepted { IsAccepted program.now }
         requires mail { IsMail message.now }
-        requires running { IsRunning program.now message.now self.old }
-        ensures goes_on { IfOk result
-            (λ turn. turn ≡ Turn.GoesOn → StepsOn program.now message.now self.old self.new) }
-        ensures ends { IfOk result (λ turn. turn ≡ Turn.Ends
-            → IsOver program.now message.now self.new) }
-        ensures stepped { IfOk result (λ turn. (s : State)
-            → IsIn program.now message.now s self.old
-            → StandsFor message.now (step program.now message.now s) (is_on turn) self.new) }
+        requires running { IsRunning program.now message.now position self.old }
+        ensures { IfOk result (λ turn. (s : State)
+            → IsIn program.now message.now s position self.old
+            → StandsFor message.now (step program.now message.now s) turn self.new) }
     {
-        let instruction = program.instructions()[self.place];
+        let instruction = program.instructions()[position.place];
         let operation = Operation::of(instruction.op).unwrap();
-        let done = self.act(alloc, program, message, operation, &instruction)?;
-        self.charged += 1 + done.cost;
-        Ok(match done.flow {
-            Flow::On => {
-                self.place += 1;
-                Turn::GoesOn
-            }
-            Flow::To(place) => {
-                self.place = place;
-                Turn::GoesOn
-            }
-            Flow::Ends => Turn::Ends,
-        })
+        let done = self.act(alloc, program, message, position, operation, &instruction)?;
+        Ok(position.after(done))
     }
 
-    // What the instruction at the machine's place does, where the run goes then, and what is charged.
+    // What the instruction at the position does, where the run goes then, and what is charged. What a call answers that isn't inlined is
+    // taken out of its result, since the answer of all arms would else stand in memory for it, and not in registers.
     #[inline(always)]
     fn act(
         &mut self,
         alloc: Global,
         program: &'p Program,
         message: &Message<'m>,
+        position: Position,
         operation: Operation,
         instruction: &Instruction,
     ) -> Result<Done, AllocError>
         requires program { IsProgram program.now }
         requires accepted { IsAccepted program.now }
         requires mail { IsMail message.now }
-        requires here { slice_get program.now.instructions self.old.place ≡ Some instruction.now }
+        requires here { slice_get program.now.instructions position.place ≡ Some instruction.now }
         requires named { operation_of instruction.now.op ≡ Some operation }
-        requires running { IsRunning program.now message.now self.old }
-        ensures { IfOk result (λ done. (s : State) → IsIn program.now message.now s self.old
-            → HasHad message.now (effect (referred_in program.now) message.now operation instruction.now s)
+        requires running { IsRunning program.now message.now position self.old }
+        ensures { IfOk result (λ done. (s : State) → IsIn program.now message.now s position self.old
+            → HasDone message.now (effect (referred_in program.now) message.now operation instruction.now s)
             (charge_of message.now operation instruction.now s) done self.new) }
     {
         match operation {
@@ -157,8 +190,8 @@ impl<'p, 's, 'm> Machine<'p, 's, 'm> {
             }
             Operation::Variable => self.push_variable(instruction.c as usize),
             Operation::Capture => self.push_capture(alloc, instruction.a),
-            Operation::Join => self.join(alloc, instruction.b as usize),
-            Operation::Set => self.set(alloc, instruction),
+            Operation::Join => Ok(self.join(alloc, instruction.b as usize)?),
+            Operation::Set => Ok(self.set(alloc, instruction)?),
             Operation::Bool => self.push(instruction.a == 1),
             Operation::Not => {
                 let value = self.take();
@@ -168,28 +201,28 @@ impl<'p, 's, 'm> Machine<'p, 's, 'm> {
             Operation::JumpIfTrue => Ok(self.branch(instruction.c, true)),
             Operation::JumpIfFalse => Ok(self.branch(instruction.c, false)),
             Operation::Header => {
-                self.header(alloc, message, instruction, field_test_in(instruction))
+                Ok(self.header(alloc, message, instruction, field_test_in(instruction))?)
             }
-            Operation::Exists => self.exists(message, instruction, scope_in(instruction)),
-            Operation::String => self.string(alloc, instruction, match_in(instruction)),
+            Operation::Exists => Ok(self.exists(message, instruction, scope_in(instruction))?),
+            Operation::String => Ok(self.string(alloc, instruction, match_in(instruction))?),
             Operation::Size => {
                 let number = program.numbers()[instruction.c as usize];
                 self.push(compares(instruction, number, message.size() as u64))
             }
             Operation::PartSize => {
                 let number = program.numbers()[instruction.c as usize];
-                self.part_size(alloc, instruction, number)
+                Ok(self.part_size(alloc, instruction, number)?)
             }
-            Operation::PartBody => self.part_body(alloc, instruction, match_in(instruction)),
-            Operation::PartDigest => self.part_digest(alloc, instruction.c as usize),
+            Operation::PartBody => Ok(self.part_body(alloc, instruction, match_in(instruction))?),
+            Operation::PartDigest => Ok(self.part_digest(alloc, instruction.c as usize)?),
             Operation::Keep => self.keep(),
             Operation::Discard => Ok(self.discard()),
-            Operation::File => self.file(alloc),
-            Operation::Store => self.store(alloc),
-            Operation::Each => Ok(self.each(instruction.c)),
+            Operation::File => Ok(self.file(alloc)?),
+            Operation::Store => Ok(self.store(alloc)?),
+            Operation::Each => Ok(self.each(position.place, instruction.c)),
             Operation::Next => Ok(self.next()),
             Operation::Break => Ok(self.close(instruction.a as usize)),
-            Operation::Take => self.set_content(alloc, instruction),
+            Operation::Take => Ok(self.set_content(alloc, instruction)?),
         }
     }
 
@@ -263,7 +296,7 @@ impl<'p, 's, 'm> Machine<'p, 's, 'm> {
             × (Represents mail s self.old × (s.stack ≡ truth b ∷ rest))))) }
         ensures { (mail : Mail) (s : State) (b : Bool) (rest : List Value)
             → Represents mail s self.old → s.stack ≡ truth b ∷ rest
-            → HasHad mail (branch target wanted b (record s { stack = rest })) 1 result self.new }
+            → HasDone mail (branch target wanted b (record s { stack = rest })) 1 result self.new }
     {
         if self.take() == wanted {
             once(Flow::To(target as usize))
@@ -354,16 +387,16 @@ impl<'p, 's, 'm> Machine<'p, 's, 'm> {
         })
     }
 
-    // Opens the loop of this Each, whose Next stands at the place, on its first part; or goes on after it.
-    fn each(&mut self, next: u32) -> Done
+    // Opens the loop of the Each at the place on its first part; or goes on after its Next.
+    fn each(&mut self, place: usize, next: u32) -> Done
         requires room { length self.old.loops.frames < max_loops }
         requires current { IfSome (current_part self.old.loops.frames)
             (λ part. part < length self.old.loops.mail.parts) }
-        ensures { (mail : Mail) (s : State) → Represents mail s self.old
-            → HasHad mail (open_loop next (visited (current_part s.frames) mail) s) 1 result
+        ensures { (mail : Mail) (s : State) → Represents mail s self.old → place ≡ s.place
+            → HasDone mail (open_loop next (visited (current_part s.frames) mail) s) 1 result
             self.new }
     {
-        if self.loops.open(self.place, next as usize) {
+        if self.loops.open(place, next as usize) {
             once(Flow::On)
         } else {
             once(Flow::To(next as usize + 1))
@@ -377,7 +410,7 @@ impl<'p, 's, 'm> Machine<'p, 's, 'm> {
             × ((self.old.loops.frames ≡ frame ∷ frames) × (frame.each < max_instructions))) }
         ensures { (mail : Mail) (s : State) (frame : Frame) (frames : List Frame)
             → Represents mail s self.old → s.frames ≡ frame ∷ frames
-            → HasHad mail (next_part frame frames frame.rest s) 1 result self.new }
+            → HasDone mail (next_part frame frames frame.rest s) 1 result self.new }
     {
         match self.loops.next_part() {
             Some(each) => once(Flow::To(each + 1)),
@@ -393,7 +426,7 @@ impl<'p, 's, 'm> Machine<'p, 's, 'm> {
             × (frame.next < max_instructions))) }
         ensures { (mail : Mail) (s : State) (frame : Frame) (frames : List Frame)
             → Represents mail s self.old → drop (number - 1) s.frames ≡ frame ∷ frames
-            → HasHad mail (jumps (suc frame.next) (record s { frames = frames })) 1 result
+            → HasDone mail (jumps (suc frame.next) (record s { frames = frames })) 1 result
             self.new }
     {
         let next = self.loops.close(number);

@@ -31,22 +31,18 @@ pub fn run(alloc: Global, verified: &Verified, message: &Message<'_>) -> Result<
     // What holds of every message is known where it is asked.
     let _size = message.size();
     let mut machine = Machine {
-        place: 0,
         work: Workspace::new(alloc),
         loops: Loops::new(alloc, message),
         actions: ActionList::new(alloc),
         implicit_keep: true,
-        charged: 0,
     };
     machine.begin(program)?;
-    'steps: loop {
-        match machine.advance(alloc, program, message)? {
-            Turn::GoesOn => {}
-            Turn::Ends => break 'steps,
-        }
+    let mut turn = Turn::start();
+    'steps: while turn.goes_on {
+        turn = machine.advance(alloc, program, message, turn.position)?;
     }
     Ok(Outcome {
         actions: machine.actions.into_final(machine.implicit_keep)?,
-        charged: machine.charged,
+        charged: turn.position.charged,
     })
 }

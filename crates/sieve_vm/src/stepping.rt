@@ -2,7 +2,7 @@
 ghost use Rattle.std.specs.Prelude.{◌≡◌, ◌<◌, ℕ, suc, true, false, List, Some, IfOk, IsSome, option_map, slice_get};
 
 use crate::loops::Loops;
-use crate::machine::Machine;
+use crate::machine::{Machine, Turn};
 use crate::outcome::Outcome;
 use crate::value::StackValue;
 use crate::workspace::Workspace;
@@ -21,8 +21,8 @@ pub struct Stepping<'p, 's, 'm> {
     machine: Machine<'p, 's, 'm>,
     // How many steps were taken.
     steps: u128,
-    // Whether there is a step to take.
-    goes_on: bool,
+    // What they have come to.
+    turn: Turn,
 }
 
 impl<'p, 's, 'm> Model for Stepping<'p, 's, 'm> {
@@ -38,7 +38,7 @@ impl<'p, 's, 'm> Model for Stepping<'p, 's, 'm> {
 
     ghost invariant = { λ p. IsProgram p.program.now × IsAccepted p.program.now
         × IsMail p.message.now
-        × StandsFor p.message.now (come_to p.program.now p.message.now p.steps) p.goes_on p.machine };
+        × StandsFor p.message.now (come_to p.program.now p.message.now p.steps) p.turn p.machine };
 }
 
 impl<'p, 's, 'm> Stepping<'p, 's, 'm> {
@@ -66,12 +66,10 @@ impl<'p, 's, 'm> Stepping<'p, 's, 'm> {
         let _instructions = program.instructions();
         let _size = message.size();
         let mut machine = Machine {
-            place: 0,
             work: Workspace::new(alloc),
             loops: Loops::new(alloc, message),
             actions: ActionList::new(alloc),
             implicit_keep: true,
-            charged: 0,
         };
         machine.begin(program)?;
         Ok(Stepping {
@@ -79,7 +77,7 @@ impl<'p, 's, 'm> Stepping<'p, 's, 'm> {
             message,
             machine,
             steps: 0,
-            goes_on: true,
+            turn: Turn::start(),
         })
     }
 
@@ -89,7 +87,7 @@ impl<'p, 's, 'm> Stepping<'p, 's, 'm> {
         ensures reached { IsSome (state_at self.now) }
         ensures within { result ≡ true → self.now.steps < limit_of self.now.code self.now.mail }
     {
-        self.goes_on
+        self.turn.goes_on
     }
 
     /// Takes a step.
@@ -104,15 +102,15 @@ impl<'p, 's, 'm> Stepping<'p, 's, 'm> {
             message,
             mut machine,
             steps,
-            ..
+            turn,
         } = self;
-        let turn = machine.advance(alloc, program, message)?;
+        let next = machine.advance(alloc, program, message, turn.position)?;
         Ok(Stepping {
             program,
             message,
             machine,
             steps: steps + 1,
-            goes_on: turn.goes_on(),
+            turn: next,
         })
     }
 
@@ -122,21 +120,21 @@ impl<'p, 's, 'm> Stepping<'p, 's, 'm> {
         ensures { (state : State) → state_at self.now ≡ Some state
             → slice_get self.now.code.instructions state.place ≡ Some result }
     {
-        self.program.instructions()[self.machine.place]
+        self.program.instructions()[self.turn.position.place]
     }
 
     /// The place of the instruction that comes next; at the end of the run, that of the last one.
     pub fn place(&self) -> usize
         ensures { option_map (λ (state : State). state.place) (state_at self.now) ≡ Some result }
     {
-        self.machine.place
+        self.turn.position.place
     }
 
     /// What the steps so far have charged.
     pub fn charged(&self) -> u128
         ensures { option_map (λ (state : State). state.charge) (state_at self.now) ≡ Some result }
     {
-        self.machine.charged
+        self.turn.position.charged
     }
 
     /// The number of the current part, that of the innermost open loop; none where no loop is open.
@@ -168,10 +166,10 @@ impl<'p, 's, 'm> Stepping<'p, 's, 'm> {
         requires { goes_on (turn_at self) ≡ false }
         ensures { IfOk result (λ outcome. IsOutcome self.entry.code self.entry.mail outcome.actions.items outcome.charged) }
     {
-        let Stepping { machine, .. } = self;
+        let Stepping { machine, turn, .. } = self;
         Ok(Outcome {
             actions: machine.actions.into_final(machine.implicit_keep)?,
-            charged: machine.charged,
+            charged: turn.position.charged,
         })
     }
 }

@@ -12,197 +12,200 @@ use Rattle.sieve_vm.proofs.machine.Machine.act.Goals as goal
 
 pub take-value-requires : goal.take-value-requires
 take-value-requires c =
-    not_some c.args.program.now c.args.message.now c.requires.accepted c.requires.mail c.args.self.now c.requires.running.0 c.requires.running.1 c.args.instruction.now c.requires.here (c.requires.named ∙ ap (λ o. Some o) c.in-Not.is)
+    not_some c.args.program.now c.args.message.now c.requires.accepted c.requires.mail c.args.position c.args.self.now c.requires.running.0 c.requires.running.1 c.args.instruction.now c.requires.here (c.requires.named ∙ ap (λ o. Some o) c.in-Not.is)
 
 pub branch-self-requires : goal.branch-self-requires
 branch-self-requires c =
-    if_true_some c.args.program.now c.args.message.now c.requires.accepted c.requires.mail c.args.self.now c.requires.running.0 c.requires.running.1 c.args.instruction.now c.requires.here (c.requires.named ∙ ap (λ o. Some o) c.in-JumpIfTrue.is)
+    if_true_some c.args.program.now c.args.message.now c.requires.accepted c.requires.mail c.args.position c.args.self.now c.requires.running.0 c.requires.running.1 c.args.instruction.now c.requires.here (c.requires.named ∙ ap (λ o. Some o) c.in-JumpIfTrue.is)
 
 pub branch-self-requires-in-JumpIfFalse : goal.branch-self-requires-in-JumpIfFalse
 branch-self-requires-in-JumpIfFalse c =
-    if_false_some c.args.program.now c.args.message.now c.requires.accepted c.requires.mail c.args.self.now c.requires.running.0 c.requires.running.1 c.args.instruction.now c.requires.here (c.requires.named ∙ ap (λ o. Some o) c.in-JumpIfFalse.is)
+    if_false_some c.args.program.now c.args.message.now c.requires.accepted c.requires.mail c.args.position c.args.self.now c.requires.running.0 c.requires.running.1 c.args.instruction.now c.requires.here (c.requires.named ∙ ap (λ o. Some o) c.in-JumpIfFalse.is)
 
 pub file-requires : goal.file-requires
 file-requires c =
-    folder_some c.args.program.now c.args.message.now c.requires.accepted c.requires.mail c.args.self.now c.requires.running.0 c.requires.running.1 c.args.instruction.now c.requires.here (c.requires.named ∙ ap (λ o. Some o) c.in-File.is)
+    folder_some c.args.program.now c.args.message.now c.requires.accepted c.requires.mail c.args.position c.args.self.now c.requires.running.0 c.requires.running.1 c.args.instruction.now c.requires.here (c.requires.named ∙ ap (λ o. Some o) c.in-File.is)
 
 pub join-requires : goal.join-requires
 join-requires c =
-    parts_some c.args.program.now c.args.message.now c.requires.accepted c.requires.mail c.args.self.now c.requires.running.0 c.requires.running.1 c.args.instruction.now c.requires.here c.requires.program (c.requires.named ∙ ap (λ o. Some o) c.in-Join.is)
+    parts_some c.args.program.now c.args.message.now c.requires.accepted c.requires.mail c.args.position c.args.self.now c.requires.running.0 c.requires.running.1 c.args.instruction.now c.requires.here c.requires.program (c.requires.named ∙ ap (λ o. Some o) c.in-Join.is)
 
 pub string-requires : goal.string-requires
 string-requires c =
-    sources_some c.args.program.now c.args.message.now c.requires.accepted c.requires.mail c.args.self.now c.requires.running.0 c.requires.running.1 c.args.instruction.now c.requires.here c.requires.program (c.requires.named ∙ ap (λ o. Some o) c.in-String.is)
+    sources_some c.args.program.now c.args.message.now c.requires.accepted c.requires.mail c.args.position c.args.self.now c.requires.running.0 c.requires.running.1 c.args.instruction.now c.requires.here c.requires.program (c.requires.named ∙ ap (λ o. Some o) c.in-String.is)
 
 pub set-requires-clause-modifiers : goal.set-requires-clause-modifiers
 set-requires-clause-modifiers c =
-    modifiers_some c.args.program.now c.args.message.now c.requires.accepted c.requires.mail c.args.self.now c.requires.running.0 c.requires.running.1 c.args.instruction.now c.requires.here (c.requires.named ∙ ap (λ o. Some o) c.in-Set.is)
+    modifiers_some c.args.program.now c.args.message.now c.requires.accepted c.requires.mail c.args.position c.args.self.now c.requires.running.0 c.requires.running.1 c.args.instruction.now c.requires.here (c.requires.named ∙ ap (λ o. Some o) c.in-Set.is)
 
 pub set-requires-clause-top : goal.set-requires-clause-top
 set-requires-clause-top c =
-    value_some c.args.program.now c.args.message.now c.requires.accepted c.requires.mail c.args.self.now c.requires.running.0 c.requires.running.1 c.args.instruction.now c.requires.here (c.requires.named ∙ ap (λ o. Some o) c.in-Set.is)
+    value_some c.args.program.now c.args.message.now c.requires.accepted c.requires.mail c.args.position c.args.self.now c.requires.running.0 c.requires.running.1 c.args.instruction.now c.requires.here (c.requires.named ∙ ap (λ o. Some o) c.in-Set.is)
 
 pub returns-in-Bool : goal.returns-in-Bool
 returns-in-Bool c =
-    rw c.in-Bool.is (IfOk-weaker c.push.result _ _ (λ done h s at. had_bool c.args.program.now c.args.message.now c.requires.accepted c.requires.mail c.args.self.now s at c.args.instruction.now c.requires.here (c.requires.named ∙ ap (λ o. Some o) c.in-Bool.is) done c.push.new.self (h.0, h.1 c.args.message.now)) c.push.ensures.done)
+    rw c.in-Bool.is (IfOk-weaker c.push.result _ _ (λ done h s at. had_bool c.args.program.now c.args.message.now c.requires.accepted c.requires.mail c.args.position c.args.self.now s at c.args.instruction.now c.requires.here (c.requires.named ∙ ap (λ o. Some o) c.in-Bool.is) done c.push.new.self (h.0, h.1 c.args.message.now)) c.push.ensures.done)
 
 pub returns-in-Literal : goal.returns-in-Literal
 returns-in-Literal c =
-    let within = string_known c.args.program.now c.requires.accepted c.args.self.now.place c.args.instruction.now c.requires.here (c.requires.named ∙ ap (λ o. Some o) c.in-Literal.is) in
+    let within = string_known c.args.program.now c.requires.accepted c.args.position.place c.args.instruction.now c.requires.here (c.requires.named ∙ ap (λ o. Some o) c.in-Literal.is) in
     let there : c.args.instruction.now.c < length c.strings.result.now = rw c.strings.ensures.value within in
     let octets : c.as_slice.result.now ≡ get_or c.args.program.now.strings c.args.instruction.now.c [] =
     c.as_slice.ensures ∙ get_or_read c.strings.result.now _ _ there c.index-strings-instruction.is [] ∙ ap (λ xs. get_or xs c.args.instruction.now.c []) c.strings.ensures.value in
-    rw c.in-Literal.is (IfOk-weaker c.push_text.result _ _ (λ done h s at. had_literal c.args.program.now c.args.message.now c.requires.accepted c.requires.mail c.args.self.now s at c.args.instruction.now c.requires.here (c.requires.named ∙ ap (λ o. Some o) c.in-Literal.is) c.as_slice.result.now done c.push_text.new.self octets (h.0, h.1 c.args.message.now)) c.push_text.ensures)
+    rw c.in-Literal.is (IfOk-weaker c.push_text.result _ _ (λ done h s at. had_literal c.args.program.now c.args.message.now c.requires.accepted c.requires.mail c.args.position c.args.self.now s at c.args.instruction.now c.requires.here (c.requires.named ∙ ap (λ o. Some o) c.in-Literal.is) c.as_slice.result.now done c.push_text.new.self octets (h.0, h.1 c.args.message.now)) c.push_text.ensures)
 
 pub returns-in-Not : goal.returns-in-Not
 returns-in-Not c =
-    rw c.in-Not.is (IfOk-weaker c.push-in-Not.result _ _ (λ done h s at. had_not c.args.program.now c.args.message.now c.requires.accepted c.requires.mail c.args.self.now s at c.args.instruction.now c.requires.here (c.requires.named ∙ ap (λ o. Some o) c.in-Not.is) c.take-value.result c.take-value.new.self done c.push-in-Not.new.self (c.take-value.ensures c.args.message.now) (h.0, h.1 c.args.message.now)) c.push-in-Not.ensures.done)
+    rw c.in-Not.is (IfOk-weaker c.push-in-Not.result _ _ (λ done h s at. had_not c.args.program.now c.args.message.now c.requires.accepted c.requires.mail c.args.position c.args.self.now s at c.args.instruction.now c.requires.here (c.requires.named ∙ ap (λ o. Some o) c.in-Not.is) c.take-value.result c.take-value.new.self done c.push-in-Not.new.self (c.take-value.ensures c.args.message.now) (h.0, h.1 c.args.message.now)) c.push-in-Not.ensures.done)
 
 pub returns-in-JumpIfTrue : goal.returns-in-JumpIfTrue
 returns-in-JumpIfTrue c = λ s at.
-    rw c.in-JumpIfTrue.is (had_branch c.args.program.now c.args.message.now c.requires.accepted c.requires.mail c.args.self.now s at c.args.instruction.now c.requires.here JumpIfTrue true (c.requires.named ∙ ap (λ o. Some o) c.in-JumpIfTrue.is) refl refl c.branch-self.result c.branch-self.new.self (c.branch-self.ensures c.args.message.now))
+    rw c.in-JumpIfTrue.is (had_branch c.args.program.now c.args.message.now c.requires.accepted c.requires.mail c.args.position c.args.self.now s at c.args.instruction.now c.requires.here JumpIfTrue true (c.requires.named ∙ ap (λ o. Some o) c.in-JumpIfTrue.is) refl refl c.branch-self.result c.branch-self.new.self (c.branch-self.ensures c.args.message.now))
 
 pub returns-in-JumpIfFalse : goal.returns-in-JumpIfFalse
 returns-in-JumpIfFalse c = λ s at.
-    rw c.in-JumpIfFalse.is (had_branch c.args.program.now c.args.message.now c.requires.accepted c.requires.mail c.args.self.now s at c.args.instruction.now c.requires.here JumpIfFalse false (c.requires.named ∙ ap (λ o. Some o) c.in-JumpIfFalse.is) refl refl c.branch-self-in-JumpIfFalse.result c.branch-self-in-JumpIfFalse.new.self (c.branch-self-in-JumpIfFalse.ensures c.args.message.now))
+    rw c.in-JumpIfFalse.is (had_branch c.args.program.now c.args.message.now c.requires.accepted c.requires.mail c.args.position c.args.self.now s at c.args.instruction.now c.requires.here JumpIfFalse false (c.requires.named ∙ ap (λ o. Some o) c.in-JumpIfFalse.is) refl refl c.branch-self-in-JumpIfFalse.result c.branch-self-in-JumpIfFalse.new.self (c.branch-self-in-JumpIfFalse.ensures c.args.message.now))
 
 pub returns-in-Size : goal.returns-in-Size
 returns-in-Size c =
     let answer : c.compares.result ≡ compares c.args.instruction.now (get_or c.args.program.now.numbers c.args.instruction.now.c 0) _ =
     c.compares.ensures ∙ ap (λ xs. compares c.args.instruction.now (get_or xs c.args.instruction.now.c 0) c.size.result) c.numbers.ensures.value ∙ ap (compares c.args.instruction.now (get_or c.args.program.now.numbers c.args.instruction.now.c 0)) c.size.ensures.value in
-    rw c.in-Size.is (IfOk-weaker c.push-in-Size.result _ _ (λ done h s at. had_size c.args.program.now c.args.message.now c.requires.accepted c.requires.mail c.args.self.now s at c.args.instruction.now c.requires.here (c.requires.named ∙ ap (λ o. Some o) c.in-Size.is) c.compares.result done c.push-in-Size.new.self answer (h.0, h.1 c.args.message.now)) c.push-in-Size.ensures.done)
+    rw c.in-Size.is (IfOk-weaker c.push-in-Size.result _ _ (λ done h s at. had_size c.args.program.now c.args.message.now c.requires.accepted c.requires.mail c.args.position c.args.self.now s at c.args.instruction.now c.requires.here (c.requires.named ∙ ap (λ o. Some o) c.in-Size.is) c.compares.result done c.push-in-Size.new.self answer (h.0, h.1 c.args.message.now)) c.push-in-Size.ensures.done)
 
-pub returns-in-PartSize : goal.returns-in-PartSize
-returns-in-PartSize c =
+pub returns-in_ok-part_size-in-PartSize : goal.returns-in_ok-part_size-in-PartSize
+returns-in_ok-part_size-in-PartSize c =
     let number = ap (λ xs. get_or xs c.args.instruction.now.c 0) c.numbers-in-PartSize.ensures.value in
-    rw c.in-PartSize.is (IfOk-weaker c.part_size.result _ _ (λ done h s at. had_part_size c.args.program.now c.args.message.now c.requires.accepted c.requires.mail c.args.self.now s at c.args.instruction.now c.requires.here (c.requires.named ∙ ap (λ o. Some o) c.in-PartSize.is) _ done c.part_size.new.self number (h c.args.message.now)) c.part_size.ensures)
+    λ s at. rw c.in-PartSize.is (had_part_size c.args.program.now c.args.message.now c.requires.accepted c.requires.mail c.args.position c.args.self.now s at c.args.instruction.now c.requires.here (c.requires.named ∙ ap (λ o. Some o) c.in-PartSize.is) _ c.in_ok-part_size-in-PartSize.field-0 c.part_size.new.self number (c.in_ok-part_size-in-PartSize.ensures c.args.message.now))
 
 pub returns-in-Each : goal.returns-in-Each
-returns-in-Each c = λ s at. rw c.in-Each.is (had_each c.args.program.now c.args.message.now c.requires.accepted c.requires.mail c.args.self.now s at c.args.instruction.now c.requires.here (c.requires.named ∙ ap (λ o. Some o) c.in-Each.is) c.each.result c.each.new.self (c.each.ensures c.args.message.now))
+returns-in-Each c = λ s at. rw c.in-Each.is (had_each c.args.program.now c.args.message.now c.requires.accepted c.requires.mail c.args.position c.args.self.now s at c.args.instruction.now c.requires.here (c.requires.named ∙ ap (λ o. Some o) c.in-Each.is) c.each.result c.each.new.self (c.each.ensures c.args.message.now))
 
 pub returns-in-Next : goal.returns-in-Next
-returns-in-Next c = λ s at. rw c.in-Next.is (had_next c.args.program.now c.args.message.now c.requires.accepted c.requires.mail c.args.self.now s at c.args.instruction.now c.requires.here (c.requires.named ∙ ap (λ o. Some o) c.in-Next.is) c.next.result c.next.new.self (c.next.ensures c.args.message.now))
+returns-in-Next c = λ s at. rw c.in-Next.is (had_next c.args.program.now c.args.message.now c.requires.accepted c.requires.mail c.args.position c.args.self.now s at c.args.instruction.now c.requires.here (c.requires.named ∙ ap (λ o. Some o) c.in-Next.is) c.next.result c.next.new.self (c.next.ensures c.args.message.now))
 
 pub returns-in-Break : goal.returns-in-Break
-returns-in-Break c = λ s at. rw c.in-Break.is (had_break c.args.program.now c.args.message.now c.requires.accepted c.requires.mail c.args.self.now s at c.args.instruction.now c.requires.here (c.requires.named ∙ ap (λ o. Some o) c.in-Break.is) c.close.result c.close.new.self (c.close.ensures c.args.message.now))
+returns-in-Break c = λ s at. rw c.in-Break.is (had_break c.args.program.now c.args.message.now c.requires.accepted c.requires.mail c.args.position c.args.self.now s at c.args.instruction.now c.requires.here (c.requires.named ∙ ap (λ o. Some o) c.in-Break.is) c.close.result c.close.new.self (c.close.ensures c.args.message.now))
 
-pub returns-in-File : goal.returns-in-File
-returns-in-File c =
-    rw c.in-File.is (IfOk-weaker c.file.result _ _ (λ done h s at. had_file c.args.program.now c.args.message.now c.requires.accepted c.requires.mail c.args.self.now s at c.args.instruction.now c.requires.here (c.requires.named ∙ ap (λ o. Some o) c.in-File.is) done c.file.new.self (h c.args.message.now)) c.file.ensures)
+pub returns-in_ok-file-in-File : goal.returns-in_ok-file-in-File
+returns-in_ok-file-in-File c =
+    λ s at. rw c.in-File.is (had_file c.args.program.now c.args.message.now c.requires.accepted c.requires.mail c.args.position c.args.self.now s at c.args.instruction.now c.requires.here (c.requires.named ∙ ap (λ o. Some o) c.in-File.is) c.in_ok-file-in-File.field-0 c.file.new.self (c.in_ok-file-in-File.ensures c.args.message.now))
 
-pub returns-in-Store : goal.returns-in-Store
-returns-in-Store c =
-    rw c.in-Store.is (IfOk-weaker c.store.result _ _ (λ done h s at. had_store c.args.program.now c.args.message.now c.requires.accepted c.requires.mail c.args.self.now s at c.args.instruction.now c.requires.here (c.requires.named ∙ ap (λ o. Some o) c.in-Store.is) done c.store.new.self (h c.args.message.now)) c.store.ensures)
+pub returns-in_ok-store-in-Store : goal.returns-in_ok-store-in-Store
+returns-in_ok-store-in-Store c =
+    λ s at. rw c.in-Store.is (had_store c.args.program.now c.args.message.now c.requires.accepted c.requires.mail c.args.position c.args.self.now s at c.args.instruction.now c.requires.here (c.requires.named ∙ ap (λ o. Some o) c.in-Store.is) c.in_ok-store-in-Store.field-0 c.store.new.self (c.in_ok-store-in-Store.ensures c.args.message.now))
 
-pub returns-in-Exists : goal.returns-in-Exists
-returns-in-Exists c =
-    rw c.in-Exists.is (IfOk-weaker c.exists.result _ _ (λ done h s at. had_exists c.args.program.now c.args.message.now c.requires.accepted c.requires.mail c.args.self.now s at c.args.instruction.now c.requires.here (c.requires.named ∙ ap (λ o. Some o) c.in-Exists.is) c.scope_in.result c.scope_in.ensures done c.exists.new.self h) c.exists.ensures)
+pub returns-in_ok-exists-in-Exists : goal.returns-in_ok-exists-in-Exists
+returns-in_ok-exists-in-Exists c =
+    λ s at. rw c.in-Exists.is (had_exists c.args.program.now c.args.message.now c.requires.accepted c.requires.mail c.args.position c.args.self.now s at c.args.instruction.now c.requires.here (c.requires.named ∙ ap (λ o. Some o) c.in-Exists.is) c.scope_in.result c.scope_in.ensures c.in_ok-exists-in-Exists.field-0 c.exists.new.self c.in_ok-exists-in-Exists.ensures)
 
-pub returns-in-Header : goal.returns-in-Header
-returns-in-Header c =
-    rw c.in-Header.is (IfOk-weaker c.header.result _ _ (λ done h s at. had_header c.args.program.now c.args.message.now c.requires.accepted c.requires.mail c.args.self.now s at c.args.instruction.now c.requires.here (c.requires.named ∙ ap (λ o. Some o) c.in-Header.is) c.field_test_in.result c.field_test_in.ensures done c.header.new.self h) c.header.ensures)
+pub returns-in_ok-header-in-Header : goal.returns-in_ok-header-in-Header
+returns-in_ok-header-in-Header c =
+    λ s at. rw c.in-Header.is (had_header c.args.program.now c.args.message.now c.requires.accepted c.requires.mail c.args.position c.args.self.now s at c.args.instruction.now c.requires.here (c.requires.named ∙ ap (λ o. Some o) c.in-Header.is) c.field_test_in.result c.field_test_in.ensures c.in_ok-header-in-Header.field-0 c.header.new.self c.in_ok-header-in-Header.ensures)
 
-pub returns-in-PartBody : goal.returns-in-PartBody
-returns-in-PartBody c =
-    rw c.in-PartBody.is (IfOk-weaker c.part_body.result _ _ (λ done h s at. had_part_body c.args.program.now c.args.message.now c.requires.accepted c.requires.mail c.args.self.now s at c.args.instruction.now c.requires.here (c.requires.named ∙ ap (λ o. Some o) c.in-PartBody.is) c.match_in-in-PartBody.result c.match_in-in-PartBody.ensures done c.part_body.new.self (h c.args.message.now)) c.part_body.ensures.done)
+pub returns-in_ok-part_body-in-PartBody : goal.returns-in_ok-part_body-in-PartBody
+returns-in_ok-part_body-in-PartBody c =
+    λ s at. rw c.in-PartBody.is (had_part_body c.args.program.now c.args.message.now c.requires.accepted c.requires.mail c.args.position c.args.self.now s at c.args.instruction.now c.requires.here (c.requires.named ∙ ap (λ o. Some o) c.in-PartBody.is) c.match_in-in-PartBody.result c.match_in-in-PartBody.ensures c.in_ok-part_body-in-PartBody.field-0 c.part_body.new.self (c.in_ok-part_body-in-PartBody.ensures.done c.args.message.now))
 
-pub returns-in-PartDigest : goal.returns-in-PartDigest
-returns-in-PartDigest c =
-    rw c.in-PartDigest.is (IfOk-weaker c.part_digest.result _ _ (λ done h s at. had_part_digest c.args.program.now c.args.message.now c.requires.accepted c.requires.mail c.args.self.now s at c.args.instruction.now c.requires.here (c.requires.named ∙ ap (λ o. Some o) c.in-PartDigest.is) done c.part_digest.new.self (h c.args.message.now)) c.part_digest.ensures)
+pub returns-in_ok-part_digest-in-PartDigest : goal.returns-in_ok-part_digest-in-PartDigest
+returns-in_ok-part_digest-in-PartDigest c =
+    λ s at. rw c.in-PartDigest.is (had_part_digest c.args.program.now c.args.message.now c.requires.accepted c.requires.mail c.args.position c.args.self.now s at c.args.instruction.now c.requires.here (c.requires.named ∙ ap (λ o. Some o) c.in-PartDigest.is) c.in_ok-part_digest-in-PartDigest.field-0 c.part_digest.new.self (c.in_ok-part_digest-in-PartDigest.ensures c.args.message.now))
 
 pub returns-in-Variable : goal.returns-in-Variable
 returns-in-Variable c =
-    rw c.in-Variable.is (IfOk-weaker c.push_variable.result _ _ (λ done h s at. had_variable c.args.program.now c.args.message.now c.requires.accepted c.requires.mail c.args.self.now s at c.args.instruction.now c.requires.here (c.requires.named ∙ ap (λ o. Some o) c.in-Variable.is) done c.push_variable.new.self (h.0, h.1 c.args.message.now s at.stands)) c.push_variable.ensures)
+    rw c.in-Variable.is (IfOk-weaker c.push_variable.result _ _ (λ done h s at. had_variable c.args.program.now c.args.message.now c.requires.accepted c.requires.mail c.args.position c.args.self.now s at c.args.instruction.now c.requires.here (c.requires.named ∙ ap (λ o. Some o) c.in-Variable.is) done c.push_variable.new.self (h.0, h.1 c.args.message.now s at.stands.holds)) c.push_variable.ensures)
 
 pub returns-in-Capture : goal.returns-in-Capture
 returns-in-Capture c =
-    rw c.in-Capture.is (IfOk-weaker c.push_capture.result _ _ (λ done h s at. had_capture c.args.program.now c.args.message.now c.requires.accepted c.requires.mail c.args.self.now s at c.args.instruction.now c.requires.here (c.requires.named ∙ ap (λ o. Some o) c.in-Capture.is) done c.push_capture.new.self (h.0, h.1 c.args.message.now s at.stands)) c.push_capture.ensures)
+    rw c.in-Capture.is (IfOk-weaker c.push_capture.result _ _ (λ done h s at. had_capture c.args.program.now c.args.message.now c.requires.accepted c.requires.mail c.args.position c.args.self.now s at c.args.instruction.now c.requires.here (c.requires.named ∙ ap (λ o. Some o) c.in-Capture.is) done c.push_capture.new.self (h.0, h.1 c.args.message.now s at.stands.holds)) c.push_capture.ensures)
 
-pub returns-in-Join : goal.returns-in-Join
-returns-in-Join c =
-    rw c.in-Join.is (IfOk-weaker c.join.result _ _ (λ done h s at. had_join c.args.program.now c.args.message.now c.requires.accepted c.requires.mail c.args.self.now s at c.args.instruction.now c.requires.here (c.requires.named ∙ ap (λ o. Some o) c.in-Join.is) done c.join.new.self (h c.args.message.now)) c.join.ensures)
+pub returns-in_ok-join-in-Join : goal.returns-in_ok-join-in-Join
+returns-in_ok-join-in-Join c =
+    λ s at. rw c.in-Join.is (had_join c.args.program.now c.args.message.now c.requires.accepted c.requires.mail c.args.position c.args.self.now s at c.args.instruction.now c.requires.here (c.requires.named ∙ ap (λ o. Some o) c.in-Join.is) c.in_ok-join-in-Join.field-0 c.join.new.self (c.in_ok-join-in-Join.ensures c.args.message.now))
 
-pub returns-in-Set : goal.returns-in-Set
-returns-in-Set c =
-    rw c.in-Set.is (IfOk-weaker c.set.result _ _ (λ done h s at. had_set c.args.program.now c.args.message.now c.requires.accepted c.requires.mail c.args.self.now s at c.args.instruction.now c.requires.here (c.requires.named ∙ ap (λ o. Some o) c.in-Set.is) done c.set.new.self (h c.args.message.now)) c.set.ensures)
+pub returns-in_ok-set-in-Set : goal.returns-in_ok-set-in-Set
+returns-in_ok-set-in-Set c =
+    λ s at. rw c.in-Set.is (had_set c.args.program.now c.args.message.now c.requires.accepted c.requires.mail c.args.position c.args.self.now s at c.args.instruction.now c.requires.here (c.requires.named ∙ ap (λ o. Some o) c.in-Set.is) c.in_ok-set-in-Set.field-0 c.set.new.self (c.in_ok-set-in-Set.ensures c.args.message.now))
 
-pub returns-in-String : goal.returns-in-String
-returns-in-String c =
-    rw c.in-String.is (IfOk-weaker c.string.result _ _ (λ done h s at. had_string c.args.program.now c.args.message.now c.requires.accepted c.requires.mail c.args.self.now s at c.args.instruction.now c.requires.here (c.requires.named ∙ ap (λ o. Some o) c.in-String.is) c.match_in.result c.match_in.ensures done c.string.new.self (h c.args.message.now)) c.string.ensures)
+pub returns-in_ok-string-in-String : goal.returns-in_ok-string-in-String
+returns-in_ok-string-in-String c =
+    λ s at. rw c.in-String.is (had_string c.args.program.now c.args.message.now c.requires.accepted c.requires.mail c.args.position c.args.self.now s at c.args.instruction.now c.requires.here (c.requires.named ∙ ap (λ o. Some o) c.in-String.is) c.match_in.result c.match_in.ensures c.in_ok-string-in-String.field-0 c.string.new.self (c.in_ok-string-in-String.ensures c.args.message.now))
 
 pub header-requires-clause-current : goal.header-requires-clause-current
-header-requires-clause-current c = current_there c.args.program.now c.args.message.now c.requires.accepted c.requires.mail c.args.self.now c.requires.running.0 c.requires.running.1 c.args.instruction.now c.requires.here
+header-requires-clause-current c = current_there c.args.program.now c.args.message.now c.requires.accepted c.requires.mail c.args.position c.args.self.now c.requires.running.0 c.requires.running.1 c.args.instruction.now c.requires.here
 
 pub exists-requires-clause-current : goal.exists-requires-clause-current
-exists-requires-clause-current c = current_there c.args.program.now c.args.message.now c.requires.accepted c.requires.mail c.args.self.now c.requires.running.0 c.requires.running.1 c.args.instruction.now c.requires.here
+exists-requires-clause-current c = current_there c.args.program.now c.args.message.now c.requires.accepted c.requires.mail c.args.position c.args.self.now c.requires.running.0 c.requires.running.1 c.args.instruction.now c.requires.here
 
 pub header-requires-clause-top : goal.header-requires-clause-top
-header-requires-clause-top c = lists_some c.args.program.now c.args.message.now c.requires.accepted c.requires.mail c.args.self.now c.requires.running.0 c.requires.running.1 c.args.instruction.now c.requires.here c.requires.program (c.requires.named ∙ ap (λ o. Some o) c.in-Header.is)
+header-requires-clause-top c = lists_some c.args.program.now c.args.message.now c.requires.accepted c.requires.mail c.args.position c.args.self.now c.requires.running.0 c.requires.running.1 c.args.instruction.now c.requires.here c.requires.program (c.requires.named ∙ ap (λ o. Some o) c.in-Header.is)
 
 pub exists-requires-clause-top : goal.exists-requires-clause-top
-exists-requires-clause-top c = names_some c.args.program.now c.args.message.now c.requires.accepted c.requires.mail c.args.self.now c.requires.running.0 c.requires.running.1 c.args.instruction.now c.requires.here c.requires.program (c.requires.named ∙ ap (λ o. Some o) c.in-Exists.is)
+exists-requires-clause-top c = names_some c.args.program.now c.args.message.now c.requires.accepted c.requires.mail c.args.position c.args.self.now c.requires.running.0 c.requires.running.1 c.args.instruction.now c.requires.here c.requires.program (c.requires.named ∙ ap (λ o. Some o) c.in-Exists.is)
 
 pub part_size-requires : goal.part_size-requires
-part_size-requires c = part_some c.args.program.now c.args.message.now c.requires.accepted c.requires.mail c.args.self.now c.requires.running.0 c.requires.running.1 c.args.instruction.now c.requires.here PartSize (c.requires.named ∙ ap (λ o. Some o) c.in-PartSize.is) refl
+part_size-requires c = part_some c.args.program.now c.args.message.now c.requires.accepted c.requires.mail c.args.position c.args.self.now c.requires.running.0 c.requires.running.1 c.args.instruction.now c.requires.here PartSize (c.requires.named ∙ ap (λ o. Some o) c.in-PartSize.is) refl
 
 pub part_body-requires-clause-part : goal.part_body-requires-clause-part
-part_body-requires-clause-part c = part_small c.args.program.now c.args.message.now c.requires.accepted c.requires.mail c.args.self.now c.requires.running.0 c.requires.running.1 c.args.instruction.now c.requires.here PartBody (c.requires.named ∙ ap (λ o. Some o) c.in-PartBody.is) refl
+part_body-requires-clause-part c = part_small c.args.program.now c.args.message.now c.requires.accepted c.requires.mail c.args.position c.args.self.now c.requires.running.0 c.requires.running.1 c.args.instruction.now c.requires.here PartBody (c.requires.named ∙ ap (λ o. Some o) c.in-PartBody.is) refl
 
 pub part_body-requires-clause-top : goal.part_body-requires-clause-top
-part_body-requires-clause-top c = keys_some c.args.program.now c.args.message.now c.requires.accepted c.requires.mail c.args.self.now c.requires.running.0 c.requires.running.1 c.args.instruction.now c.requires.here PartBody (c.requires.named ∙ ap (λ o. Some o) c.in-PartBody.is) refl (λ es. refl) c.requires.program
+part_body-requires-clause-top c = keys_some c.args.program.now c.args.message.now c.requires.accepted c.requires.mail c.args.position c.args.self.now c.requires.running.0 c.requires.running.1 c.args.instruction.now c.requires.here PartBody (c.requires.named ∙ ap (λ o. Some o) c.in-PartBody.is) refl (λ es. refl) c.requires.program
 
 pub part_digest-requires-clause-part : goal.part_digest-requires-clause-part
-part_digest-requires-clause-part c = part_some c.args.program.now c.args.message.now c.requires.accepted c.requires.mail c.args.self.now c.requires.running.0 c.requires.running.1 c.args.instruction.now c.requires.here PartDigest (c.requires.named ∙ ap (λ o. Some o) c.in-PartDigest.is) refl
+part_digest-requires-clause-part c = part_some c.args.program.now c.args.message.now c.requires.accepted c.requires.mail c.args.position c.args.self.now c.requires.running.0 c.requires.running.1 c.args.instruction.now c.requires.here PartDigest (c.requires.named ∙ ap (λ o. Some o) c.in-PartDigest.is) refl
 
 pub part_digest-requires-clause-top : goal.part_digest-requires-clause-top
-part_digest-requires-clause-top c = keys_some c.args.program.now c.args.message.now c.requires.accepted c.requires.mail c.args.self.now c.requires.running.0 c.requires.running.1 c.args.instruction.now c.requires.here PartDigest (c.requires.named ∙ ap (λ o. Some o) c.in-PartDigest.is) refl (λ es. refl) c.requires.program
+part_digest-requires-clause-top c = keys_some c.args.program.now c.args.message.now c.requires.accepted c.requires.mail c.args.position c.args.self.now c.requires.running.0 c.requires.running.1 c.args.instruction.now c.requires.here PartDigest (c.requires.named ∙ ap (λ o. Some o) c.in-PartDigest.is) refl (λ es. refl) c.requires.program
 
 pub store-requires-clause-part : goal.store-requires-clause-part
-store-requires-clause-part c = current_some c.args.program.now c.args.message.now c.requires.accepted c.requires.mail c.args.self.now c.requires.running.0 c.requires.running.1 c.args.instruction.now c.requires.here Store (c.requires.named ∙ ap (λ o. Some o) c.in-Store.is) refl
+store-requires-clause-part c = current_some c.args.program.now c.args.message.now c.requires.accepted c.requires.mail c.args.position c.args.self.now c.requires.running.0 c.requires.running.1 c.args.instruction.now c.requires.here Store (c.requires.named ∙ ap (λ o. Some o) c.in-Store.is) refl
 
 pub store-requires-clause-top : goal.store-requires-clause-top
-store-requires-clause-top c = store_some c.args.program.now c.args.message.now c.requires.accepted c.requires.mail c.args.self.now c.requires.running.0 c.requires.running.1 c.args.instruction.now c.requires.here (c.requires.named ∙ ap (λ o. Some o) c.in-Store.is)
+store-requires-clause-top c = store_some c.args.program.now c.args.message.now c.requires.accepted c.requires.mail c.args.position c.args.self.now c.requires.running.0 c.requires.running.1 c.args.instruction.now c.requires.here (c.requires.named ∙ ap (λ o. Some o) c.in-Store.is)
 
 pub each-requires-clause-room : goal.each-requires-clause-room
-each-requires-clause-room c = room_there c.args.program.now c.args.message.now c.requires.accepted c.requires.mail c.args.self.now c.requires.running.0 c.requires.running.1 c.args.instruction.now c.requires.here (c.requires.named ∙ ap (λ o. Some o) c.in-Each.is)
+each-requires-clause-room c = room_there c.args.program.now c.args.message.now c.requires.accepted c.requires.mail c.args.position c.args.self.now c.requires.running.0 c.requires.running.1 c.args.instruction.now c.requires.here (c.requires.named ∙ ap (λ o. Some o) c.in-Each.is)
 
 pub each-requires-clause-current : goal.each-requires-clause-current
-each-requires-clause-current c = current_in_loops c.args.program.now c.args.message.now c.requires.accepted c.requires.mail c.args.self.now c.requires.running.0 c.requires.running.1 c.args.instruction.now c.requires.here
+each-requires-clause-current c = current_in_loops c.args.program.now c.args.message.now c.requires.accepted c.requires.mail c.args.position c.args.self.now c.requires.running.0 c.requires.running.1 c.args.instruction.now c.requires.here
 
 pub next-requires : goal.next-requires
-next-requires c = next_some c.args.program.now c.args.message.now c.requires.accepted c.requires.mail c.args.self.now c.requires.running.0 c.requires.running.1 c.args.instruction.now c.requires.here c.requires.program (c.requires.named ∙ ap (λ o. Some o) c.in-Next.is)
+next-requires c = next_some c.args.program.now c.args.message.now c.requires.accepted c.requires.mail c.args.position c.args.self.now c.requires.running.0 c.requires.running.1 c.args.instruction.now c.requires.here c.requires.program (c.requires.named ∙ ap (λ o. Some o) c.in-Next.is)
 
 pub close-requires-clause-some : goal.close-requires-clause-some
-close-requires-clause-some c = break_some c.args.program.now c.args.message.now c.requires.accepted c.requires.mail c.args.self.now c.requires.running.0 c.requires.running.1 c.args.instruction.now c.requires.here (c.requires.named ∙ ap (λ o. Some o) c.in-Break.is)
+close-requires-clause-some c = break_some c.args.program.now c.args.message.now c.requires.accepted c.requires.mail c.args.position c.args.self.now c.requires.running.0 c.requires.running.1 c.args.instruction.now c.requires.here (c.requires.named ∙ ap (λ o. Some o) c.in-Break.is)
 
 pub close-requires-clause-there : goal.close-requires-clause-there
-close-requires-clause-there c = break_there c.args.program.now c.args.message.now c.requires.accepted c.requires.mail c.args.self.now c.requires.running.0 c.requires.running.1 c.args.instruction.now c.requires.here c.requires.program (c.requires.named ∙ ap (λ o. Some o) c.in-Break.is)
+close-requires-clause-there c = break_there c.args.program.now c.args.message.now c.requires.accepted c.requires.mail c.args.position c.args.self.now c.requires.running.0 c.requires.running.1 c.args.instruction.now c.requires.here c.requires.program (c.requires.named ∙ ap (λ o. Some o) c.in-Break.is)
 
 pub set_content-requires-clause-part : goal.set_content-requires-clause-part
-set_content-requires-clause-part c = part_some c.args.program.now c.args.message.now c.requires.accepted c.requires.mail c.args.self.now c.requires.running.0 c.requires.running.1 c.args.instruction.now c.requires.here Take (c.requires.named ∙ ap (λ o. Some o) c.in-Take.is) (take_needs_part c.args.program.now c.requires.accepted c.args.self.now.place c.args.instruction.now c.requires.here (c.requires.named ∙ ap (λ o. Some o) c.in-Take.is))
+set_content-requires-clause-part c = part_some c.args.program.now c.args.message.now c.requires.accepted c.requires.mail c.args.position c.args.self.now c.requires.running.0 c.requires.running.1 c.args.instruction.now c.requires.here Take (c.requires.named ∙ ap (λ o. Some o) c.in-Take.is) (take_needs_part c.args.program.now c.requires.accepted c.args.position.place c.args.instruction.now c.requires.here (c.requires.named ∙ ap (λ o. Some o) c.in-Take.is))
 
 pub set_content-requires-clause-few : goal.set_content-requires-clause-few
-set_content-requires-clause-few c = (take_known c.args.program.now c.requires.accepted c.args.self.now.place c.args.instruction.now c.requires.here (c.requires.named ∙ ap (λ o. Some o) c.in-Take.is)).1
+set_content-requires-clause-few c = (take_known c.args.program.now c.requires.accepted c.args.position.place c.args.instruction.now c.requires.here (c.requires.named ∙ ap (λ o. Some o) c.in-Take.is)).1
 
 pub set_content-requires-clause-variable : goal.set_content-requires-clause-variable
-set_content-requires-clause-variable c = take_some c.args.program.now c.args.message.now c.requires.accepted c.requires.mail c.args.self.now c.requires.running.0 c.requires.running.1 c.args.instruction.now c.requires.here (c.requires.named ∙ ap (λ o. Some o) c.in-Take.is)
+set_content-requires-clause-variable c = take_some c.args.program.now c.args.message.now c.requires.accepted c.requires.mail c.args.position c.args.self.now c.requires.running.0 c.requires.running.1 c.args.instruction.now c.requires.here (c.requires.named ∙ ap (λ o. Some o) c.in-Take.is)
 
-pub returns-in-Take : goal.returns-in-Take
-returns-in-Take c =
-    rw c.in-Take.is (IfOk-weaker c.set_content.result _ _ (λ done h s at. had_take c.args.program.now c.args.message.now c.requires.accepted c.requires.mail c.args.self.now s at c.args.instruction.now c.requires.here (c.requires.named ∙ ap (λ o. Some o) c.in-Take.is) done c.set_content.new.self (h c.args.message.now)) c.set_content.ensures)
+pub returns-in_ok-set_content-in-Take : goal.returns-in_ok-set_content-in-Take
+returns-in_ok-set_content-in-Take c =
+    λ s at. rw c.in-Take.is (had_take c.args.program.now c.args.message.now c.requires.accepted c.requires.mail c.args.position c.args.self.now s at c.args.instruction.now c.requires.here (c.requires.named ∙ ap (λ o. Some o) c.in-Take.is) c.in_ok-set_content-in-Take.field-0 c.set_content.new.self (c.in_ok-set_content-in-Take.ensures c.args.message.now))
 
 pub field_test_in-requires : goal.field_test_in-requires
 field_test_in-requires c =
-    field_test_some c.args.program.now c.args.message.now c.requires.accepted c.requires.mail c.args.self.now c.requires.running.0 c.requires.running.1 c.args.instruction.now c.requires.here (c.requires.named ∙ ap (λ o. Some o) c.in-Header.is)
+    field_test_some c.args.program.now c.args.message.now c.requires.accepted c.requires.mail c.args.position c.args.self.now c.requires.running.0 c.requires.running.1 c.args.instruction.now c.requires.here (c.requires.named ∙ ap (λ o. Some o) c.in-Header.is)
 
 pub scope_in-requires : goal.scope_in-requires
 scope_in-requires c =
-    scope_some c.args.program.now c.args.message.now c.requires.accepted c.requires.mail c.args.self.now c.requires.running.0 c.requires.running.1 c.args.instruction.now c.requires.here (c.requires.named ∙ ap (λ o. Some o) c.in-Exists.is)
+    scope_some c.args.program.now c.args.message.now c.requires.accepted c.requires.mail c.args.position c.args.self.now c.requires.running.0 c.requires.running.1 c.args.instruction.now c.requires.here (c.requires.named ∙ ap (λ o. Some o) c.in-Exists.is)
 
 pub match_in-requires : goal.match_in-requires
 match_in-requires c =
-    sources_match_some c.args.program.now c.args.message.now c.requires.accepted c.requires.mail c.args.self.now c.requires.running.0 c.requires.running.1 c.args.instruction.now c.requires.here (c.requires.named ∙ ap (λ o. Some o) c.in-String.is)
+    sources_match_some c.args.program.now c.args.message.now c.requires.accepted c.requires.mail c.args.position c.args.self.now c.requires.running.0 c.requires.running.1 c.args.instruction.now c.requires.here (c.requires.named ∙ ap (λ o. Some o) c.in-String.is)
 
 pub match_in-requires-in-PartBody : goal.match_in-requires-in-PartBody
 match_in-requires-in-PartBody c =
-    body_match_some c.args.program.now c.args.message.now c.requires.accepted c.requires.mail c.args.self.now c.requires.running.0 c.requires.running.1 c.args.instruction.now c.requires.here (c.requires.named ∙ ap (λ o. Some o) c.in-PartBody.is)
+    body_match_some c.args.program.now c.args.message.now c.requires.accepted c.requires.mail c.args.position c.args.self.now c.requires.running.0 c.requires.running.1 c.args.instruction.now c.requires.here (c.requires.named ∙ ap (λ o. Some o) c.in-PartBody.is)
+
+pub returns-in-Discard : goal.returns-in-Discard
+returns-in-Discard c = λ s at. rw (c.in-Discard.is, c.discard.ensures.flow) (c.discard.ensures.stands c.args.message.now s at.stands.holds, refl)

@@ -9,16 +9,10 @@ returns c =
     on_ok_weaker c.begin.result
     (λ held.
     record {
-      steps = 0;
-      run = refl;
-      stands = record {
-        place = c.requires.place;
-        work = held ∙ ap (λ n. let h : Held = record { stack = []; variables = replicate n []; captures = no_captures } in h) c.variables.ensures.value;
-        mail_is = refl;
-        frames = c.requires.frames;
-        actions = c.requires.actions;
-        implicit_keep = c.requires.implicit_keep;
-        charge = c.requires.charge;
-      };
+      work = held ∙ ap (λ n. let h : Held = record { stack = []; variables = replicate n []; captures = no_captures } in h) c.variables.ensures.value;
+      mail_is = refl;
+      frames = c.requires.frames;
+      actions = c.requires.actions;
+      implicit_keep = c.requires.implicit_keep;
     })
     c.begin.ensures

@@ -6,11 +6,9 @@ use Rattle.sieve_vm.proofs.machine.Machine.list.Goals as goal
 pub returns : goal.returns
 returns c = λ mail s stands.
     record {
-      place = stands.place;
       work = stands.work;
       mail_is = stands.mail_is;
       frames = stands.frames;
       actions = c.in_ok-push.ensures.ok ∙ ap (λ l. with_action l c.args.action) stands.actions ∙ sym (first_occurrences-push s.actions c.args.action);
       implicit_keep = stands.implicit_keep;
-      charge = stands.charge;
     }

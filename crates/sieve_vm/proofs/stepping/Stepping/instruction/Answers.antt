@@ -9,25 +9,25 @@ pub bounds-instructions-self-inside : goal.bounds-instructions-self-inside
 bounds-instructions-self-inside c =
     let p = c.self.inside in
     let on = subst (λ (m : Moment). goes_on (turn_at m) ≡ true) (sym c.self.view_is) c.requires in
-    let at = going_at p.program.now p.message.now p.steps p.goes_on p.machine c.self.invariant.3 on in
-    rw c.instructions.ensures.value (place_within p.program.now p.message.now c.self.invariant.1 c.self.invariant.2 p.machine at.0 at.2)
+    let at = going_at p.program.now p.message.now p.steps p.turn p.machine c.self.invariant.3 on in
+    rw c.instructions.ensures.value (place_within p.program.now p.message.now c.self.invariant.1 c.self.invariant.2 p.turn.position p.machine at.0 at.2)
 
 pub offset_bounds-instructions-self-inside : goal.offset_bounds-instructions-self-inside
 offset_bounds-instructions-self-inside c =
     let p = c.self.inside in
     let on = subst (λ (m : Moment). goes_on (turn_at m) ≡ true) (sym c.self.view_is) c.requires in
-    let at = going_at p.program.now p.message.now p.steps p.goes_on p.machine c.self.invariant.3 on in
-    let within = place_within p.program.now p.message.now c.self.invariant.1 c.self.invariant.2 p.machine at.0 at.2 in
+    let at = going_at p.program.now p.message.now p.steps p.turn p.machine c.self.invariant.3 on in
+    let within = place_within p.program.now p.message.now c.self.invariant.1 c.self.invariant.2 p.turn.position p.machine at.0 at.2 in
     omega (arith, within, c.instructions.ensures.program.instructions)
 
 pub returns : goal.returns
 returns c = λ state e.
     let p = c.self.inside in
     let on = subst (λ (m : Moment). goes_on (turn_at m) ≡ true) (sym c.self.view_is) c.requires in
-    let at = going_at p.program.now p.message.now p.steps p.goes_on p.machine c.self.invariant.3 on in
-    let there = stands_in p.message.now _ p.goes_on p.machine state c.self.invariant.3 (ap state_at c.self.view_is ∙ e) in
-    let within = place_within p.program.now p.message.now c.self.invariant.1 c.self.invariant.2 p.machine at.0 at.2 in
+    let at = going_at p.program.now p.message.now p.steps p.turn p.machine c.self.invariant.3 on in
+    let there = stands_in p.message.now _ p.turn p.machine state c.self.invariant.3 (ap state_at c.self.view_is ∙ e) in
+    let within = place_within p.program.now p.message.now c.self.invariant.1 c.self.invariant.2 p.turn.position p.machine at.0 at.2 in
     ap (λ (m : Moment). slice_get m.code.instructions state.place) (sym c.self.view_is)
     ∙ ap (slice_get p.program.now.instructions) (sym there.place)
-    ∙ slice_get-get_or p.program.now.instructions p.machine.place no_instruction within
-    ∙ ap (λ xs. Some (get_or xs p.machine.place no_instruction)) (sym c.instructions.ensures.value)
+    ∙ slice_get-get_or p.program.now.instructions p.turn.position.place no_instruction within
+    ∙ ap (λ xs. Some (get_or xs p.turn.position.place no_instruction)) (sym c.instructions.ensures.value)

@@ -9,5 +9,6 @@ pub returns : goal.returns
 returns c =
     let p = c.self.inside in
     let over = subst (λ (m : Moment). goes_on (turn_at m) ≡ false) (sym c.self.view_is) c.requires in
-    let at = over_at p.program.now p.message.now p.steps p.goes_on p.machine c.self.invariant.3 over in
-    subst (λ (m : Moment). IsOutcome m.code m.mail c.in_ok-into_final.field-0.items p.machine.charged) c.self.view_is (outcome_of p.program.now p.message.now p.machine c.in_ok-into_final.field-0.items (record { end = at.0; over = at.1; stands = at.2 }) c.in_ok-into_final.ensures)
+    let at = over_at p.program.now p.message.now p.steps p.turn p.machine c.self.invariant.3 over in
+    subst (λ (m : Moment). IsOutcome m.code m.mail c.in_ok-into_final.field-0.items p.turn.position.charged) c.self.view_is
+    (outcome_of p.program.now p.message.now at.0 p.turn.position p.machine c.in_ok-into_final.field-0.items at.1 at.2 c.in_ok-into_final.ensures)
