@@ -18,8 +18,8 @@ use Rattle.sieve_check.specs.declared.signature.Positional.TheVariants as positi
 use Rattle.sieve_check.specs.declared.signature.Ending.TheVariants.{Semicolon, Block}
 use Rattle.sieve_check.specs.declared.typed.Act.{Act}
 use Rattle.sieve_check.specs.declared.typed.Act.TheVariants as act
-use Rattle.sieve_check.specs.Acts.{Acting, IsBoundedAct, act_row, act_strings, acting, bare, filing}
-use Rattle.sieve_check.specs.Bounded.{IsBoundedString, IsBoundedCommand, AreBoundedCommands, AreBoundedBranches, IsCommandIn, AreCommandsIn, AreBranchesIn}
+use Rattle.sieve_check.specs.Acts.{Acting, act_row, act_strings, acting, bare, filing}
+use Rattle.sieve_check.specs.Bounded.{IsBoundedString, IsBoundedAct, IsBoundedCommand, AreBoundedCommands, AreBoundedBranches, IsCommandIn, AreCommandsIn, AreBranchesIn}
 use Rattle.sieve_check.specs.FormOf.{InnerForms, none, one, template_of, most_of, PartForm, action, with_text, setting_in, taking_in, act_by, act_of, action_at, simple_of, block_of, Forms, closed, closed_by, after_none, put}
 use Rattle.sieve_check.specs.Rules.{ending_cause, may_stand, mentions_by, needs_of, opened_by, same_tests, strings_of}
 use Rattle.sieve_check.specs.Rows.{command_row}

@@ -1,11 +1,16 @@
 -- What differs from act to act.
-use Rattle.std.specs.Prelude.{ℕ, ◌<◌, ◌≤◌, Bool, true, false, List, [], ◌∷◌, if◌then◌else◌}
-use Rattle.octets.specs.Limits.{max_value}
+use Rattle.std.specs.Prelude.{ℕ, Bool, true, false, List, [], ◌∷◌, if◌then◌else◌}
 use Rattle.sieve_check.specs.declared.table.CommandName.{CommandName}
 use Rattle.sieve_check.specs.declared.table.CommandName.TheVariants as called
 use Rattle.sieve_check.specs.declared.typed.Act.{Act}
 use Rattle.sieve_check.specs.declared.typed.Act.TheVariants.{Keep, Discard, FileInto, Set, Take, Store, Leave, Stop}
 use Rattle.sieve_check.specs.Typed.{Template}
+
+-- a number that has bounds: so many octets are taken, or so many loops are left
+pub data Bound : Type 0 where
+  unbounded : Bound
+  some_octets : ℕ → Bound
+  some_loops : ℕ → Bound
 
 pub record ActRow : Type 0 where
   -- it takes a string
@@ -14,31 +19,22 @@ pub record ActRow : Type 0 where
   pub sets : List (List ℕ)
   -- so many loops are open around it, at least
   pub loops : ℕ
+  -- its number, if it has one
+  pub bound : Bound
 
 abbrev pub act_row : Act → ActRow
-act_row Keep = record { string = false; sets = []; loops = 0 }
-act_row Discard = record { string = false; sets = []; loops = 0 }
-act_row FileInto = record { string = true; sets = []; loops = 0 }
-act_row (Set modifiers name) = record { string = true; sets = name ∷ []; loops = 0 }
-act_row (Take most name) = record { string = false; sets = name ∷ []; loops = 1 }
-act_row Store = record { string = true; sets = []; loops = 1 }
-act_row (Leave left) = record { string = false; sets = []; loops = left }
-act_row Stop = record { string = false; sets = []; loops = 0 }
+act_row Keep = record { string = false; sets = []; loops = 0; bound = unbounded }
+act_row Discard = record { string = false; sets = []; loops = 0; bound = unbounded }
+act_row FileInto = record { string = true; sets = []; loops = 0; bound = unbounded }
+act_row (Set modifiers name) = record { string = true; sets = name ∷ []; loops = 0; bound = unbounded }
+act_row (Take most name) = record { string = false; sets = name ∷ []; loops = 1; bound = some_octets most }
+act_row Store = record { string = true; sets = []; loops = 1; bound = unbounded }
+act_row (Leave left) = record { string = false; sets = []; loops = left; bound = some_loops left }
+act_row Stop = record { string = false; sets = []; loops = 0; bound = unbounded }
 
 -- the string, where the act takes one
 abbrev pub act_strings : Act → Template → List Template
 act_strings act string = if (act_row act).string then string ∷ [] else []
-
--- some octets are taken, and no more than a value may have, and some loops are left
-abbrev pub IsBoundedAct : Act → Type 0
-IsBoundedAct Keep = Unit {0}
-IsBoundedAct Discard = Unit {0}
-IsBoundedAct FileInto = Unit {0}
-IsBoundedAct (Set modifiers name) = Unit {0}
-IsBoundedAct (Take most name) = (0 < most) × (most ≤ max_value)
-IsBoundedAct Store = Unit {0}
-IsBoundedAct (Leave left) = 0 < left
-IsBoundedAct Stop = Unit {0}
 
 -- how the act of an action is made: it is this one, without an argument; this one, with one string; that of `set`, of
 -- `take`, or of `break`; or the command is none

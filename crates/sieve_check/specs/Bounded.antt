@@ -1,14 +1,14 @@
 -- What a script's limits say of its typed form.
 use Rattle.std.specs.Prelude.{◌≡◌, ℕ, suc, ◌<◌, ◌≤◌, Bool, true, false, List, [], length, All, bytes_eq}
-use Rattle.octets.specs.Limits.{max_loops, max_script, max_segments, max_string, max_test_strings, max_variables}
+use Rattle.octets.specs.Limits.{max_loops, max_script, max_segments, max_string, max_test_strings, max_value, max_variables}
 use Rattle.octets.specs.Once.{each_once}
 use Rattle.sieve_references.specs.References.{last_capture}
 use Rattle.sieve_check.specs.declared.typed.Segment.{Segment}
 use Rattle.sieve_check.specs.declared.typed.Segment.TheVariants.{Text, Variable, Capture}
 use Rattle.sieve_check.specs.declared.typed.Takes.{Takes}
 use Rattle.sieve_check.specs.Typed.{Template, Strings, in_order, TestForm, asks, negation, all_of, any_of, TestForms, no_test, test, CommandForm, does, for_every_part, choice, CommandForms, no_command, command, BranchForms, no_branch, otherwise, branch}
-pub use Rattle.sieve_check.specs.Acts.{IsBoundedAct}
-use Rattle.sieve_check.specs.Acts.{act_row, act_strings}
+use Rattle.sieve_check.specs.declared.typed.Act.{Act}
+use Rattle.sieve_check.specs.Acts.{Bound, unbounded, some_octets, some_loops, act_row, act_strings}
 use Rattle.sieve_check.specs.Questions.{row_of}
 use Rattle.sieve_check.specs.Extent.{commands_extent, string_extent}
 use Rattle.sieve_check.specs.Variables.{commands_variables}
@@ -48,6 +48,15 @@ abbrev mutual
   pub AreBoundedTests : TestForms → Type 0
   AreBoundedTests no_test = Unit {0}
   AreBoundedTests (test t ts) = IsBoundedTest t × AreBoundedTests ts
+
+-- some octets are taken, and no more than a value may have, and some loops are left
+abbrev pub IsInBounds : Bound → Type 0
+IsInBounds unbounded = Unit {0}
+IsInBounds (some_octets most) = (0 < most) × (most ≤ max_value)
+IsInBounds (some_loops left) = 0 < left
+
+abbrev pub IsBoundedAct : Act → Type 0
+IsBoundedAct act = IsInBounds (act_row act).bound
 
 abbrev mutual
   pub IsBoundedCommand : CommandForm → Type 0
