@@ -1,9 +1,11 @@
 -- The printed lines.
-use Rattle.std.specs.Prelude.{ℕ, suc, ◌/◌, ◌%◌, Bool, false, List, [], ◌∷◌, ◌++◌, ◌&&◌, ◌||◌, ◌==◌, length, not, nat_le, codes, if◌then◌else◌}
+use Rattle.std.specs.Prelude.{ℕ, suc, Bool, List, [], ◌∷◌, ◌++◌, ◌&&◌, ◌||◌, ◌==◌, length, nat_le, codes, if◌then◌else◌}
 use Rattle.std.specs.List.{flat_map}
-use Rattle.std.specs.Fmt.{decimal, digit_glyph}
+use Rattle.std.specs.Fmt.{decimal}
 use Rattle.bytecode_format.specs.declared.action.Action.{Action}
 use Rattle.bytecode_format.specs.declared.action.Action.TheVariants.{Keep, File, Store}
+use Rattle.bytecode_listing.specs.Quoted as quoting
+use Rattle.bytecode_listing.specs.Quoted.{escape}
 use Rattle.mime_params.specs.declared.media.MediaType.{MediaType}
 use Rattle.mime_params.specs.MediaValue.{media_text}
 use Rattle.mime_decode.specs.Content.{digest_of}
@@ -17,23 +19,23 @@ use Rattle.depot_jobs.specs.declared.piece.Setting.TheVariants.{Quotes, Text}
 abbrev pub line : List ℕ → List ℕ
 line text = text ++ 10 ∷ []
 
--- an octet that is printed as it is: 32 to 126; between quotes without the quote and the backslash,
--- in a text also a line break
+-- an octet that is printed as it is: between quotes, as in a listing; in a text also the quote, the backslash and a line
+-- break
 abbrev pub is_plain : Setting → ℕ → Bool
-is_plain Quotes octet = (nat_le 32 octet && nat_le octet 126) && not (octet == 34 || octet == 92)
+is_plain Quotes octet = quoting.is_plain octet
 is_plain Text octet = (nat_le 32 octet && nat_le octet 126) || octet == 10
 
 -- an octet among others: itself, or a backslash and its two hexadecimal digits
 abbrev pub escaped_octet : Setting → ℕ → List ℕ
-escaped_octet setting octet = if is_plain setting octet then octet ∷ [] else 92 ∷ digit_glyph false (octet / 16) ∷ digit_glyph false (octet % 16) ∷ []
+escaped_octet setting octet = if is_plain setting octet then octet ∷ [] else escape octet
 
 -- octets among others
 abbrev pub escaped : Setting → List ℕ → List ℕ
 escaped setting = flat_map (escaped_octet setting)
 
--- octets between quotes
+-- octets between quotes, as in a listing
 abbrev pub quoted : List ℕ → List ℕ
-quoted octets = 34 ∷ [] ++ escaped Quotes octets ++ 34 ∷ []
+quoted octets = quoting.quoted octets
 
 -- a text that may have been written by anyone
 abbrev pub shown : List ℕ → List ℕ

@@ -1,6 +1,6 @@
 // Jobs and their answers.
-ghost use Rattle.std.specs.Prelude.{◌≡◌, ◌≢◌, ◌<◌, ◌≤◌, ◌⊎◌, ◌++◌, ℕ, List, None, IfErr, IfOk, IsErrAnd, MatchOption, OnErr, OnOk, length, string_bytes};
-ghost use Rattle.octets.specs.Limits.{max_program, max_script};
+ghost use Rattle.std.specs.Prelude.{◌≡◌, ◌≢◌, ◌<◌, ◌≤◌, ◌⊎◌, ◌++◌, ℕ, None, IfErr, IfOk, IsErrAnd, MatchOption, OnErr, OnOk, length, string_bytes};
+ghost use Rattle.octets.specs.Limits.{max_program};
 ghost use Rattle.bytecode_cost.specs.Text.{budget_text};
 ghost use Rattle.bytecode_format.specs.Code.{Code};
 ghost use Rattle.bytecode_format.specs.Spelling.{spelling};
@@ -9,7 +9,7 @@ ghost use Rattle.bytecode_listing.specs.Listing.{accepted_listing, refused_listi
 ghost use Rattle.bytecode_verifier.specs.Budget.{budget_of};
 ghost use Rattle.bytecode_verifier.specs.declared.error.Refusal.TheVariants as verifier;
 ghost use Rattle.sieve_check.specs.Typed.{CommandForms};
-ghost use Rattle.sieve_engine.specs.Evaluation.{IsCompiled, IsScript};
+ghost use Rattle.sieve_engine.specs.Evaluation.{IsScript};
 ghost use Rattle.sieve_explain.specs.Explaining.{Explains, listing_told};
 ghost use Rattle.refusals.specs.Causes.{of_verifier};
 ghost use Rattle.refusals.specs.Scripts.{IsScriptRefusal};

@@ -1,7 +1,6 @@
 // Printing into a sink, without memory: each line in one call, unless it is a long one.
-ghost use Rattle.std.specs.Prelude.{◌≡◌, ◌++◌, ◌<◌, OnErr, OnOk, false};
+ghost use Rattle.std.specs.Prelude.{◌≡◌, ◌++◌, OnErr, OnOk};
 ghost use Rattle.std.specs.List.{list_all};
-ghost use Rattle.std.specs.Fmt.{decimal, digit_glyph};
 ghost use Rattle.encodings.specs.Device.{HasBroken, HasTaken};
 ghost use Rattle.depot_jobs.specs.Gathering.{HasGathered, gathering};
 ghost use Rattle.depot_jobs.specs.Pieces.{piece_text, pieces_text};
@@ -11,6 +10,7 @@ ghost use Rattle.depot_jobs.specs.Printed as Printed;
 use crate::gathering::{Line, gather, send};
 use crate::piece::{Piece, Setting};
 use bytecode_format::Action;
+use bytecode_listing::quoting::{self, escape};
 use encodings::{DeviceFailed, Sink};
 use itoa::Buffer;
 use refusals::Refusal;
@@ -102,7 +102,7 @@ fn gather_octet<O: Sink>(
     if is_plain(setting, octet) {
         gather(line, out, &[octet])
     } else {
-        gather(line, out, &[b'\\', digit(octet / 16), digit(octet % 16)])
+        gather(line, out, &escape(octet))
     }
 }
 
@@ -118,17 +118,9 @@ fn is_plain(setting: Setting, octet: u8) -> bool
     ensures { result ≡ Printed.is_plain setting octet }
 {
     match setting {
-        Setting::Quotes => matches!(octet, 32..=126) && !matches!(octet, b'"' | b'\\'),
+        Setting::Quotes => quoting::is_plain(octet),
         Setting::Text => matches!(octet, 32..=126 | b'\n'),
     }
-}
-
-// A hexadecimal digit.
-fn digit(n: u8) -> u8
-    requires { n < 16 }
-    ensures { result ≡ digit_glyph false n }
-{
-    if n < 10 { b'0' + n } else { b'a' - 10 + n }
 }
 
 // Writes the line of an action.

@@ -1,4 +1,3 @@
-use Rattle.std.proofs.Common.{◌++◌}
 use Rattle.std.proofs.lemmas.Result.{err_from_is_err_and}
 use Rattle.bytecode_trace.specs.Printed.{trace_text}
 use Rattle.encodings.proofs.Outputs.{broken_later}

@@ -1,4 +1,4 @@
-use Rattle.std.proofs.Common.{◌≡◌, subst}
+use Rattle.std.proofs.Common.{subst}
 use Rattle.encodings.proofs.Outputs.{broken_later}
 use Rattle.encodings.specs.Device.{HasTaken}
 use Rattle.depot_jobs.specs.Printed.{report_text}
