@@ -4,7 +4,8 @@ ghost use Rattle.std.specs.Global.{Vec};
 ghost use Rattle.std.specs.List.{list_all};
 ghost use Rattle.octets.specs.Limits.{max_string};
 ghost use Rattle.sieve_check.specs.declared.typed.Segment.{Segment};
-ghost use Rattle.sieve_meaning.specs.Expanded.{is_written, items_of, octets_of, written};
+ghost use Rattle.sieve_meaning.specs.Expanded.{items_of, octets_of, written};
+ghost use Rattle.sieve_meaning.specs.Private.{is_written};
 
 use mail_matching::Texts;
 use octets::{MAX_STRING, Octets};
@@ -15,6 +16,7 @@ use sieve_check::Segment;
 pub enum ExpandedText<'t> {
     /// Octets that the script, a variable or a capture lends.
     Lent(&'t [u8]),
+    /// Octets of its own, of several segments.
     Made(Octets),
 }
 
