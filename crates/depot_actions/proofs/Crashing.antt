@@ -75,7 +75,7 @@ module _ {D : Type 0} {g : Ghosts D} (stays : (file : D) → g.may_leave file (g
     ]
 
     ended_shut : (file_state run.ended).is_open ≡ false → ∥ Made ∥₁
-    ended_shut stays_closed = elim it.left [
+    ended_shut shut = elim it.left [
       | inl left ↦ ∥∥₁_map (left_holds_one run.ended (λ trees may. let c = comes trees may in (c.after, c.stored)) run.left left) (λ one.
           let c = comes one.trees one.may in
           let step : Step c.after = record { either = c.either; told = λ is_open. absurd (true≢false (sym is_open ∙ shut)) } in
