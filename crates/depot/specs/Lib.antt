@@ -1,5 +1,5 @@
 pub mod Ending
-pub mod Errands
+pub mod Tasks
 pub mod Batches
 pub mod Programs
 pub mod Looks
