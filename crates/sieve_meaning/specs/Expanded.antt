@@ -15,7 +15,7 @@ abbrev pub octets_of : ExpandedText → List ℕ
 octets_of (Lent octets) = octets.now
 octets_of (Made octets) = octets
 
--- the text of such a string, cut; of any other none
+-- the text of a string that is one piece of text, cut; of any other none
 abbrev pub written : Template → List ℕ
 written (Text octets ∷ []) = take max_string octets
 written _ = []
