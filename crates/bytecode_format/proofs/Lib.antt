@@ -3,6 +3,7 @@ pub mod Fields
 pub mod FormatLemmas
 pub mod Lengths
 pub mod Operations
+pub mod QuestionLemmas
 pub mod ActionLemmas
 pub mod ModifierLemmas
 pub mod SelectionLemmas

@@ -3,8 +3,21 @@ use Rattle.std.proofs.Common.{◌≡◌, ℕ, zero, suc, Bool, true, false, not,
 use Rattle.std.proofs.lemmas.Bool.{eqb-true}
 use Rattle.std.specs.List.{list_all}
 use Rattle.bytecode_format.specs.declared.operation.Operation.{Operation}
-use Rattle.bytecode_format.specs.declared.operation.Operation.TheVariants.{Halt, Literal, Variable, Capture, Join, Set, Bool as BoolOp, Not, Jump, JumpIfTrue, JumpIfFalse, Header, Exists, String, Size, PartSize, PartBody, PartDigest, Keep, Discard, File, Store, Each, Next, Break, Take}
-use Rattle.bytecode_format.specs.Operations.{operations, operation_of, octet_of}
+use Rattle.bytecode_format.specs.declared.operation.Operation.TheVariants.{Halt, Literal, Variable, Capture, Join, Set, Test, Not, Jump, JumpIfTrue, JumpIfFalse, Keep, Discard, File, Store, Each, Next, Break, Take}
+use Rattle.bytecode_format.specs.declared.operation.TestOperation.{TestOperation}
+use Rattle.bytecode_format.specs.declared.operation.TestOperation.TheVariants.{Constant, Header, Exists, String, Size, PartSize, PartBody, PartDigest}
+use Rattle.bytecode_format.specs.Operations.{operations, operation_of, octet_of, octet_of_test}
+
+-- the octet of a test names it
+test_named : (test : TestOperation) → operation_of (octet_of_test test) ≡ Some (Test test)
+test_named Constant = refl
+test_named Header = refl
+test_named Exists = refl
+test_named String = refl
+test_named Size = refl
+test_named PartSize = refl
+test_named PartBody = refl
+test_named PartDigest = refl
 
 -- the octet of an operation names it
 pub named : (o : Operation) → operation_of (octet_of o) ≡ Some o
@@ -14,18 +27,11 @@ named Variable = refl
 named Capture = refl
 named Join = refl
 named Set = refl
-named BoolOp = refl
+named (Test test) = test_named test
 named Not = refl
 named Jump = refl
 named JumpIfTrue = refl
 named JumpIfFalse = refl
-named Header = refl
-named Exists = refl
-named String = refl
-named Size = refl
-named PartSize = refl
-named PartBody = refl
-named PartDigest = refl
 named Keep = refl
 named Discard = refl
 named File = refl

@@ -6,13 +6,15 @@ use Rattle.glob_match.specs.declared.comparator.Comparator.TheVariants.{Octet, C
 use Rattle.glob_match.specs.declared.match_type.Match.{Match}
 use Rattle.glob_match.specs.declared.match_type.MatchType.{MatchType}
 use Rattle.glob_match.specs.declared.match_type.MatchType.TheVariants.{Is, Contains, Matches}
+use Rattle.bytecode_format.specs.declared.question.Order.{Order}
+use Rattle.bytecode_format.specs.declared.question.Order.TheVariants.{Over, Under}
 use Rattle.bytecode_format.specs.declared.selection.Scope.{Scope}
 use Rattle.bytecode_format.specs.declared.selection.Scope.TheVariants.{Message, Part, PartAndBelow}
 use Rattle.bytecode_format.specs.declared.selection.Selector.{Selector}
 use Rattle.bytecode_format.specs.declared.selection.Selector.TheVariants.{Value, Main, Sub, ContentType, Param}
 use Rattle.bytecode_format.specs.declared.selection.FieldTest.{FieldTest}
 use Rattle.bytecode_format.specs.declared.selection.TestCounts.{TestCounts}
-use Rattle.bytecode_format.specs.Selection.{kind_number, kind_numbered, comparator_number, comparator_numbered, match_number, match_numbered, scope_number, scope_numbered, selector_number, selector_numbered, field_test_number, field_test_numbered, counts_number, counts_numbered}
+use Rattle.bytecode_format.specs.Selection.{kind_number, kind_numbered, comparator_number, comparator_numbered, match_number, match_numbered, scope_number, scope_numbered, selector_number, selector_numbered, field_test_number, field_test_numbered, counts_number, counts_numbered, order_number, order_numbered}
 
 -- ---- how values are matched
 
@@ -167,3 +169,20 @@ counts_again counts few =
 
 pub counts_only : (n : ℕ) → counts_number (counts_numbered n) ≡ n
 counts_only n = omega arith
+
+-- ---- the order of a size
+
+pub order_again : (order : Order) → order_numbered (order_number order) ≡ Some order
+order_again Over = refl
+order_again Under = refl
+
+pub order_small : (order : Order) → order_number order ≤ 1
+order_small Over = lit≤ tt
+order_small Under = lit≤ tt
+
+pub order_only : (n : ℕ) (order : Order) → order_numbered n ≡ Some order → order_number order ≡ n
+order_only zero Over e = refl
+order_only zero Under e = absurd cc
+order_only (suc zero) Over e = absurd cc
+order_only (suc zero) Under e = refl
+order_only (suc (suc n)) order e = absurd cc

@@ -1,4 +1,5 @@
 pub mod Operations
+pub mod Questions
 pub mod Code
 pub mod Spelling
 pub mod Modifiers

@@ -1,18 +1,32 @@
 -- The operations and their octets.
 use Rattle.std.specs.Prelude.{ℕ, zero, suc, List, [], ◌∷◌, Option, None, slice_get}
 use Rattle.bytecode_format.specs.declared.operation.Operation.{Operation}
-use Rattle.bytecode_format.specs.declared.operation.Operation.TheVariants.{Halt, Literal, Variable, Capture, Join, Set, Bool, Not, Jump, JumpIfTrue, JumpIfFalse, Header, Exists, String, Size, PartSize, PartBody, PartDigest, Keep, Discard, File, Store, Each, Next, Break, Take}
+use Rattle.bytecode_format.specs.declared.operation.Operation.TheVariants.{Halt, Literal, Variable, Capture, Join, Set, Test, Not, Jump, JumpIfTrue, JumpIfFalse, Keep, Discard, File, Store, Each, Next, Break, Take}
+use Rattle.bytecode_format.specs.declared.operation.TestOperation.{TestOperation}
+use Rattle.bytecode_format.specs.declared.operation.TestOperation.TheVariants.{Constant, Header, Exists, String, Size, PartSize, PartBody, PartDigest}
 
 -- every operation, in the order of their octets: the first one's octet is 1
 abbrev pub operations : List Operation
 operations =
-    Halt ∷ Literal ∷ Variable ∷ Capture ∷ Join ∷ Set ∷ Bool ∷ Not ∷ Jump ∷ JumpIfTrue ∷ JumpIfFalse ∷ Header ∷ Exists
-    ∷ String ∷ Size ∷ PartSize ∷ PartBody ∷ PartDigest ∷ Keep ∷ Discard ∷ File ∷ Store ∷ Each ∷ Next ∷ Break ∷ Take ∷ []
+    Halt ∷ Literal ∷ Variable ∷ Capture ∷ Join ∷ Set ∷ Test Constant ∷ Not ∷ Jump ∷ JumpIfTrue ∷ JumpIfFalse ∷ Test Header
+    ∷ Test Exists ∷ Test String ∷ Test Size ∷ Test PartSize ∷ Test PartBody ∷ Test PartDigest ∷ Keep ∷ Discard ∷ File ∷ Store
+    ∷ Each ∷ Next ∷ Break ∷ Take ∷ []
 
 -- the operation of an octet, if it names one
 abbrev pub operation_of : ℕ → Option Operation
 operation_of zero = None
 operation_of (suc n) = slice_get operations n
+
+-- the octet of a test
+abbrev pub octet_of_test : TestOperation → ℕ
+octet_of_test Constant = 0x07
+octet_of_test Header = 0x0C
+octet_of_test Exists = 0x0D
+octet_of_test String = 0x0E
+octet_of_test Size = 0x0F
+octet_of_test PartSize = 0x10
+octet_of_test PartBody = 0x11
+octet_of_test PartDigest = 0x12
 
 -- the octet of an operation
 abbrev pub octet_of : Operation → ℕ
@@ -22,18 +36,11 @@ octet_of Variable = 0x03
 octet_of Capture = 0x04
 octet_of Join = 0x05
 octet_of Set = 0x06
-octet_of Bool = 0x07
+octet_of (Test test) = octet_of_test test
 octet_of Not = 0x08
 octet_of Jump = 0x09
 octet_of JumpIfTrue = 0x0A
 octet_of JumpIfFalse = 0x0B
-octet_of Header = 0x0C
-octet_of Exists = 0x0D
-octet_of String = 0x0E
-octet_of Size = 0x0F
-octet_of PartSize = 0x10
-octet_of PartBody = 0x11
-octet_of PartDigest = 0x12
 octet_of Keep = 0x13
 octet_of Discard = 0x14
 octet_of File = 0x15

@@ -1,12 +1,14 @@
 -- What the fields a and c of an instruction say of a test: how values are matched with keys, where they are looked
 -- for, what is taken of a field, and how many strings the lists have.
-use Rattle.std.specs.Prelude.{ℕ, zero, suc, ◌+◌, ◌*◌, ◌/◌, ◌%◌, Option, Some, None}
+use Rattle.std.specs.Prelude.{ℕ, Bool, true, false, zero, suc, ◌+◌, ◌*◌, ◌/◌, ◌%◌, Option, Some, None}
 use Rattle.std.specs.Option.{option_and_then, option_map}
 use Rattle.glob_match.specs.declared.comparator.Comparator.{Comparator}
 use Rattle.glob_match.specs.declared.comparator.Comparator.TheVariants.{Octet, Casemap}
 use Rattle.glob_match.specs.declared.match_type.Match.{Match}
 use Rattle.glob_match.specs.declared.match_type.MatchType.{MatchType}
 use Rattle.glob_match.specs.declared.match_type.MatchType.TheVariants.{Is, Contains, Matches}
+use Rattle.bytecode_format.specs.declared.question.Order.{Order}
+use Rattle.bytecode_format.specs.declared.question.Order.TheVariants.{Over, Under}
 use Rattle.bytecode_format.specs.declared.selection.Scope.{Scope}
 use Rattle.bytecode_format.specs.declared.selection.Scope.TheVariants.{Message, Part, PartAndBelow}
 use Rattle.bytecode_format.specs.declared.selection.Selector.{Selector}
@@ -115,3 +117,25 @@ counts_number counts = counts.keys + key_numbers * counts.params
 
 abbrev pub counts_numbered : ℕ → TestCounts
 counts_numbered c = record { params = params_in c; keys = keys_in c }
+
+-- ---- a of a test of a size: whether it is over or under a number
+
+abbrev pub order_number : Order → ℕ
+order_number Over = 0
+order_number Under = 1
+
+abbrev pub order_numbered : ℕ → Option Order
+order_numbered zero = Some Over
+order_numbered (suc zero) = Some Under
+order_numbered (suc (suc n)) = None
+
+-- ---- a of a truth value
+
+abbrev pub truth_number : Bool → ℕ
+truth_number false = 0
+truth_number true = 1
+
+abbrev pub truth_numbered : ℕ → Option Bool
+truth_numbered zero = Some false
+truth_numbered (suc zero) = Some true
+truth_numbered (suc (suc n)) = None

@@ -5,13 +5,19 @@ ghost use Rattle.bytecode_format.specs.declared.modifiers.Modifiers.{Modifiers};
 ghost use Rattle.bytecode_format.specs.declared.selection.Scope.{Scope};
 ghost use Rattle.bytecode_format.specs.declared.selection.FieldTest.{FieldTest};
 ghost use Rattle.bytecode_format.specs.declared.selection.TestCounts.{TestCounts};
+ghost use Rattle.bytecode_format.specs.declared.instruction.Instruction.{Instruction};
+ghost use Rattle.bytecode_format.specs.declared.operation.TestOperation.{TestOperation};
+ghost use Rattle.bytecode_format.specs.declared.question.Counts.{Counts};
+ghost use Rattle.bytecode_format.specs.declared.question.Order.{Order};
+ghost use Rattle.bytecode_format.specs.declared.question.Question.{Question};
+ghost use Rattle.bytecode_format.specs.Questions.{AreCountsOf, StandsIn, counts_in, instruction_of, operation_asking, question_in, row_of};
 ghost use Rattle.glob_match.specs.declared.match_type.Match.{Match};
 ghost use Rattle.bytecode_format.specs.Code.{Code};
 ghost use Rattle.bytecode_format.specs.Spelling.{IsProgram, spelling};
 ghost use Rattle.bytecode_format.specs.Action.{is_same};
 ghost use Rattle.bytecode_format.specs.Actions.{first_occurrences, with_action};
 ghost use Rattle.bytecode_format.specs.Modifiers.{modifiers_number, modifiers_numbered};
-ghost use Rattle.bytecode_format.specs.Selection.{counts_number, counts_numbered, field_test_number, field_test_numbered, key_numbers, match_number, match_numbered, scope_number, scope_numbered};
+ghost use Rattle.bytecode_format.specs.Selection.{counts_number, counts_numbered, field_test_number, field_test_numbered, key_numbers, match_number, match_numbered, order_number, order_numbered, scope_number, scope_numbered};
 
 /// Octets spell at most one program.
 pub fn one_program_for_octets()
@@ -69,4 +75,24 @@ pub fn one_number_for_counts()
     ensures number { (counts : TestCounts) → counts.keys < key_numbers
         → counts_numbered (counts_number counts) ≡ counts }
     ensures only { (n : ℕ) → counts_number (counts_numbered n) ≡ n }
+{}
+
+/// An order is known by its number, and no other number stands for it.
+pub fn one_number_for_orders()
+    ensures number { (order : Order) → order_numbered (order_number order) ≡ Some order }
+    ensures only { (n : ℕ) (order : Order) → order_numbered n ≡ Some order
+        → order_number order ≡ n }
+{}
+
+/// A question is known by its instruction, and so is how many strings it has. What an instruction asks is of its own
+/// operation.
+pub fn one_instruction_for_questions()
+    ensures question { (numbers : List ℕ) (q : Question) (counts : Counts) (place : ℕ)
+        → StandsIn numbers place q
+        → question_in numbers (operation_asking q) (instruction_of q counts place) ≡ Some q }
+    ensures counts { (q : Question) (counts : Counts) (place : ℕ) → counts.keys < key_numbers
+        → AreCountsOf (row_of q).takes counts
+        → counts_in (operation_asking q) (instruction_of q counts place) ≡ counts }
+    ensures only { (numbers : List ℕ) (t : TestOperation) (i : Instruction) (q : Question)
+        → question_in numbers t i ≡ Some q → operation_asking q ≡ t }
 {}

@@ -1,61 +1,88 @@
 // The names of the operations.
 ghost use Rattle.std.specs.Prelude.{◌≡◌};
 
-/// An operation of the bytecode, under its octet.
+/// What an instruction tests.
+#[derive(Clone, Copy)]
+pub enum TestOperation {
+    /// Nothing: a truth value.
+    Constant,
+    /// Header fields.
+    Header,
+    /// Which fields are there.
+    Exists,
+    /// Texts.
+    String,
+    /// The message's size.
+    Size,
+    /// The current part's size.
+    PartSize,
+    /// The current part's content.
+    PartBody,
+    /// The digest of the current part's content.
+    PartDigest,
+}
+
+/// An operation of the bytecode.
 #[derive(Clone, Copy)]
 pub enum Operation {
     /// Ends the run.
-    Halt = 0x01,
+    Halt,
     /// Pushes a string of the program.
-    Literal = 0x02,
+    Literal,
     /// Pushes a variable's value.
-    Variable = 0x03,
+    Variable,
     /// Pushes a capture.
-    Capture = 0x04,
+    Capture,
     /// Joins texts.
-    Join = 0x05,
+    Join,
     /// Sets a variable.
-    Set = 0x06,
-    /// Pushes a truth value.
-    Bool = 0x07,
+    Set,
+    /// Asks a test, and pushes its truth value: 0x07 and 0x0C to 0x12.
+    Test(TestOperation),
     /// Turns a truth value round.
-    Not = 0x08,
+    Not,
     /// Goes on at a later place.
-    Jump = 0x09,
+    Jump,
     /// Goes on at a later place where the value taken is true.
-    JumpIfTrue = 0x0A,
+    JumpIfTrue,
     /// Goes on at a later place where the value taken is false.
-    JumpIfFalse = 0x0B,
-    /// Tests header fields.
-    Header = 0x0C,
-    /// Tests which fields are there.
-    Exists = 0x0D,
-    /// Tests texts.
-    String = 0x0E,
-    /// Compares the message's size.
-    Size = 0x0F,
-    /// Compares the current part's size.
-    PartSize = 0x10,
-    /// Tests the current part's content.
-    PartBody = 0x11,
-    /// Tests the digest of the current part's content.
-    PartDigest = 0x12,
+    JumpIfFalse,
     /// Lists the action Keep.
-    Keep = 0x13,
+    Keep,
     /// Takes the implicit keep away.
-    Discard = 0x14,
+    Discard,
     /// Lists the action File.
-    File = 0x15,
+    File,
     /// Lists the action Store.
-    Store = 0x16,
+    Store,
     /// Opens a loop over parts.
-    Each = 0x17,
+    Each,
     /// Goes to the loop's next part, or closes it.
-    Next = 0x18,
+    Next,
     /// Closes loops.
-    Break = 0x19,
+    Break,
     /// Sets a variable from the current part's content.
-    Take = 0x1A,
+    Take,
+}
+
+impl TestOperation {
+    ghost use Rattle.bytecode_format.specs.Operations.{octet_of_test};
+
+    /// The octet that names the operation.
+    pub fn octet(self) -> u8
+        ensures { result ≡ octet_of_test self }
+    {
+        match self {
+            TestOperation::Constant => 0x07,
+            TestOperation::Header => 0x0C,
+            TestOperation::Exists => 0x0D,
+            TestOperation::String => 0x0E,
+            TestOperation::Size => 0x0F,
+            TestOperation::PartSize => 0x10,
+            TestOperation::PartBody => 0x11,
+            TestOperation::PartDigest => 0x12,
+        }
+    }
 }
 
 impl Operation {
@@ -72,18 +99,18 @@ impl Operation {
             0x04 => Operation::Capture,
             0x05 => Operation::Join,
             0x06 => Operation::Set,
-            0x07 => Operation::Bool,
+            0x07 => Operation::Test(TestOperation::Constant),
             0x08 => Operation::Not,
             0x09 => Operation::Jump,
             0x0A => Operation::JumpIfTrue,
             0x0B => Operation::JumpIfFalse,
-            0x0C => Operation::Header,
-            0x0D => Operation::Exists,
-            0x0E => Operation::String,
-            0x0F => Operation::Size,
-            0x10 => Operation::PartSize,
-            0x11 => Operation::PartBody,
-            0x12 => Operation::PartDigest,
+            0x0C => Operation::Test(TestOperation::Header),
+            0x0D => Operation::Test(TestOperation::Exists),
+            0x0E => Operation::Test(TestOperation::String),
+            0x0F => Operation::Test(TestOperation::Size),
+            0x10 => Operation::Test(TestOperation::PartSize),
+            0x11 => Operation::Test(TestOperation::PartBody),
+            0x12 => Operation::Test(TestOperation::PartDigest),
             0x13 => Operation::Keep,
             0x14 => Operation::Discard,
             0x15 => Operation::File,
@@ -100,6 +127,26 @@ impl Operation {
     pub fn octet(self) -> u8
         ensures { result ≡ octet_of self }
     {
-        self as u8
+        match self {
+            Operation::Halt => 0x01,
+            Operation::Literal => 0x02,
+            Operation::Variable => 0x03,
+            Operation::Capture => 0x04,
+            Operation::Join => 0x05,
+            Operation::Set => 0x06,
+            Operation::Test(test) => test.octet(),
+            Operation::Not => 0x08,
+            Operation::Jump => 0x09,
+            Operation::JumpIfTrue => 0x0A,
+            Operation::JumpIfFalse => 0x0B,
+            Operation::Keep => 0x13,
+            Operation::Discard => 0x14,
+            Operation::File => 0x15,
+            Operation::Store => 0x16,
+            Operation::Each => 0x17,
+            Operation::Next => 0x18,
+            Operation::Break => 0x19,
+            Operation::Take => 0x1A,
+        }
     }
 }
