@@ -11,7 +11,8 @@ use Rattle.bytecode_format.specs.Code.{Code}
 use Rattle.bytecode_format.specs.Operations.{operation_of}
 use Rattle.bytecode_format.specs.declared.instruction.Instruction.{Instruction}
 use Rattle.bytecode_format.specs.declared.operation.Operation.{Operation}
-use Rattle.bytecode_format.specs.declared.operation.Operation.TheVariants.{Header, Exists, String, PartBody}
+use Rattle.bytecode_format.specs.declared.operation.Operation.TheVariants.{Test}
+use Rattle.bytecode_format.specs.declared.operation.TestOperation.TheVariants.{Header, Exists, String, PartBody}
 use Rattle.bytecode_format.specs.Spelling.{IsProgram}
 use Rattle.bytecode_verifier.specs.Budget.{share_at}
 use Rattle.bytecode_verifier.specs.Loops.{Loop as Pair, is_open, loop_from, loops, open_loops}
@@ -121,10 +122,10 @@ with_rest most None rest h k = tt
 with_rest most (Some words) rest h k = omega (arith, length-append (said_a words) rest)
 
 words_length : (i : Instruction) (operation : Operation) → IsShort (in_words operation i)
-words_length i Header = with_rest 36 (selection_words i.a) (counts_words i.c) (both_length 16 19 (match_words (i.a % 8)) (scope_words i.a) (match_length (i.a % 8)) (scope_length i.a)) (omega (arith, counts_length i.c))
-words_length i Exists = with_rest 7 (word_of Scope i.a) [] (one_of 7 (words Scope) i.a refl) (omega arith)
-words_length i String = with_rest 16 (match_words i.a) [] (match_length i.a) (omega arith)
-words_length i PartBody = with_rest 16 (match_words i.a) [] (match_length i.a) (omega arith)
+words_length i (Test Header) = with_rest 36 (selection_words i.a) (counts_words i.c) (both_length 16 19 (match_words (i.a % 8)) (scope_words i.a) (match_length (i.a % 8)) (scope_length i.a)) (omega (arith, counts_length i.c))
+words_length i (Test Exists) = with_rest 7 (word_of Scope i.a) [] (one_of 7 (words Scope) i.a refl) (omega arith)
+words_length i (Test String) = with_rest 16 (match_words i.a) [] (match_length i.a) (omega arith)
+words_length i (Test PartBody) = with_rest 16 (match_words i.a) [] (match_length i.a) (omega arith)
 words_length i _ = tt
 
 meant_length : (code : Code) (i : Instruction) → IsShort (meant code i)

@@ -9,7 +9,8 @@ use Rattle.bytecode_listing.specs.declared.drafts.Line.TheVariants.{Label, Step}
 use Rattle.bytecode_listing.specs.Labels.{◌>>=◌, count}
 use Rattle.bytecode_format.specs.Operations.{operation_of}
 use Rattle.bytecode_format.specs.declared.operation.Operation.{Operation}
-use Rattle.bytecode_format.specs.declared.operation.Operation.TheVariants.{Header, Exists, String, PartBody}
+use Rattle.bytecode_format.specs.declared.operation.Operation.TheVariants.{Test}
+use Rattle.bytecode_format.specs.declared.operation.TestOperation.TheVariants.{Header, Exists, String, PartBody}
 use Rattle.bytecode_listing.specs.declared.wording.Facet.{Facet}
 use Rattle.bytecode_listing.specs.declared.wording.Facet.TheVariants.{Match, Comparator, Scope, Selector}
 use Rattle.bytecode_listing.specs.Wording.{number_of}
@@ -159,10 +160,10 @@ selection_took tokens =
 
 worded_took : (operation : Option Operation) (tokens : Tokens) → Took (length tokens) (worded_at operation tokens)
 worded_took None tokens = omega arith
-worded_took (Some Header) tokens = selection_took tokens
-worded_took (Some Exists) tokens = facet_took Scope tokens
-worded_took (Some String) tokens = match_took tokens
-worded_took (Some PartBody) tokens = match_took tokens
+worded_took (Some (Test Header)) tokens = selection_took tokens
+worded_took (Some (Test Exists)) tokens = facet_took Scope tokens
+worded_took (Some (Test String)) tokens = match_took tokens
+worded_took (Some (Test PartBody)) tokens = match_took tokens
 worded_took (Some _) tokens = omega arith
 
 words_leave : (operation : Option Operation) (tokens : Tokens) → Leaves (length tokens) (words_at operation tokens)

@@ -10,7 +10,8 @@ use Rattle.bytecode_format.specs.Code.{Code}
 use Rattle.bytecode_format.specs.Operations.{operation_of}
 use Rattle.bytecode_format.specs.declared.instruction.Instruction.{Instruction}
 use Rattle.bytecode_format.specs.declared.operation.Operation.{Operation}
-use Rattle.bytecode_format.specs.declared.operation.Operation.TheVariants.{Header, Exists, String, PartBody}
+use Rattle.bytecode_format.specs.declared.operation.Operation.TheVariants.{Test}
+use Rattle.bytecode_format.specs.declared.operation.TestOperation.TheVariants.{Header, Exists, String, PartBody}
 use Rattle.bytecode_verifier.specs.Budget.{share_at}
 use Rattle.bytecode_verifier.specs.declared.error.Refusal.{Refusal}
 use Rattle.bytecode_verifier.specs.declared.error.Refusal.TheVariants.{Memory, Index, Form, End, Loop, Jump, NoPart, Stack}
@@ -142,10 +143,10 @@ with_rest None rest h k = tt
 with_rest (Some words) rest h k = appended (said_a words) rest (appended (codes "a ") words refl h) k
 
 words_line : (code : Code) (i : Instruction) (operation : Operation) → AreLines (in_words operation i)
-words_line code i Header = with_rest (selection_words i.a) (counts_words i.c) (both_line (match_words (i.a % 8)) (scope_words i.a) (match_line (i.a % 8)) (scope_line i.a)) (counts_line i.c)
-words_line code i Exists = with_rest (word_of Scope i.a) [] (word_line Scope i.a) refl
-words_line code i String = with_rest (match_words i.a) [] (match_line i.a) refl
-words_line code i PartBody = with_rest (match_words i.a) [] (match_line i.a) refl
+words_line code i (Test Header) = with_rest (selection_words i.a) (counts_words i.c) (both_line (match_words (i.a % 8)) (scope_words i.a) (match_line (i.a % 8)) (scope_line i.a)) (counts_line i.c)
+words_line code i (Test Exists) = with_rest (word_of Scope i.a) [] (word_line Scope i.a) refl
+words_line code i (Test String) = with_rest (match_words i.a) [] (match_line i.a) refl
+words_line code i (Test PartBody) = with_rest (match_words i.a) [] (match_line i.a) refl
 words_line code i _ = tt
 
 meant_line : (code : Code) (i : Instruction) → AreLines (meant code i)

@@ -2,7 +2,8 @@
 use Rattle.std.proofs.Common.{◌≡◌, ℕ, ◌<◌, ◌==◌, Bool, true, false, List, [], ◌∷◌, Option, Some, None, refl, ap, subst, eqb-true}
 use Rattle.std.proofs.lemmas.Bool.{agree_below_at}
 use Rattle.bytecode_format.specs.declared.operation.Operation.{Operation}
-use Rattle.bytecode_format.specs.declared.operation.Operation.TheVariants.{Header, Exists, String, PartBody}
+use Rattle.bytecode_format.specs.declared.operation.Operation.TheVariants.{Test}
+use Rattle.bytecode_format.specs.declared.operation.TestOperation.TheVariants.{Header, Exists, String, PartBody}
 use Rattle.bytecode_listing.specs.Wording.{a_words}
 use Rattle.bytecode_listing.specs.Tokens.{tokens_from, tokens_of}
 use Rattle.bytecode_listing.specs.Items.{Said, facet_at, match_at, selection_at, worded_at}
@@ -20,28 +21,28 @@ is_read operation a (Some words) = is_said a (worded_at (Some operation) (tokens
 reads : Operation → ℕ → Bool
 reads operation a = is_read operation a (a_words operation a)
 
-each_header : (a : ℕ) → a < 256 → reads Header a ≡ true
+each_header : (a : ℕ) → a < 256 → reads (Test Header) a ≡ true
 unfolding reads is_read is_said tokens_from facet_at match_at selection_at
-each_header a h = agree_below_at (reads Header) (λ _. true) 256 a refl h
+each_header a h = agree_below_at (reads (Test Header)) (λ _. true) 256 a refl h
 
-each_scope : (a : ℕ) → a < 256 → reads Exists a ≡ true
+each_scope : (a : ℕ) → a < 256 → reads (Test Exists) a ≡ true
 unfolding reads is_read is_said tokens_from facet_at
-each_scope a h = agree_below_at (reads Exists) (λ _. true) 256 a refl h
+each_scope a h = agree_below_at (reads (Test Exists)) (λ _. true) 256 a refl h
 
-each_match : (a : ℕ) → a < 256 → reads String a ≡ true
+each_match : (a : ℕ) → a < 256 → reads (Test String) a ≡ true
 unfolding reads is_read is_said tokens_from facet_at match_at
-each_match a h = agree_below_at (reads String) (λ _. true) 256 a refl h
+each_match a h = agree_below_at (reads (Test String)) (λ _. true) 256 a refl h
 
-each_body : (a : ℕ) → a < 256 → reads PartBody a ≡ true
+each_body : (a : ℕ) → a < 256 → reads (Test PartBody) a ≡ true
 unfolding reads is_read is_said tokens_from facet_at match_at
-each_body a h = agree_below_at (reads PartBody) (λ _. true) 256 a refl h
+each_body a h = agree_below_at (reads (Test PartBody)) (λ _. true) 256 a refl h
 
 each : (operation : Operation) (a : ℕ) → a < 256 → reads operation a ≡ true
 unfolding reads is_read
-each Header a h = each_header a h
-each Exists a h = each_scope a h
-each String a h = each_match a h
-each PartBody a h = each_body a h
+each (Test Header) a h = each_header a h
+each (Test Exists) a h = each_scope a h
+each (Test String) a h = each_match a h
+each (Test PartBody) a h = each_body a h
 each _ a h = refl
 
 said_is : (a : ℕ) (said : Said) → is_said a said ≡ true → said ≡ (Some a, [])

@@ -8,7 +8,8 @@ use Rattle.bytecode_format.specs.Code.{Code}
 use Rattle.bytecode_format.specs.Spelling.{IsProgram}
 use Rattle.bytecode_format.specs.Operations.{operation_of}
 use Rattle.bytecode_format.specs.declared.operation.Operation.{Operation}
-use Rattle.bytecode_format.specs.declared.operation.Operation.TheVariants.{Header, Exists, String, PartBody}
+use Rattle.bytecode_format.specs.declared.operation.Operation.TheVariants.{Test}
+use Rattle.bytecode_format.specs.declared.operation.TestOperation.TheVariants.{Header, Exists, String, PartBody}
 use Rattle.bytecode_listing.specs.Names.{octet_named}
 use Rattle.bytecode_listing.specs.Wording.{number_of}
 use Rattle.bytecode_listing.specs.declared.wording.Facet.{Facet}
@@ -177,10 +178,10 @@ selection_at tokens =
 -- the field a of an operation in words, where it says how a test compares or what it looks at
 abbrev pub worded_at : Option Operation → Tokens → Said
 worded_at None tokens = (None, tokens)
-worded_at (Some Header) tokens = selection_at tokens
-worded_at (Some Exists) tokens = facet_at Scope tokens
-worded_at (Some String) tokens = match_at tokens
-worded_at (Some PartBody) tokens = match_at tokens
+worded_at (Some (Test Header)) tokens = selection_at tokens
+worded_at (Some (Test Exists)) tokens = facet_at Scope tokens
+worded_at (Some (Test String)) tokens = match_at tokens
+worded_at (Some (Test PartBody)) tokens = match_at tokens
 worded_at (Some _) tokens = (None, tokens)
 
 -- the number of a in words; at least one has to stand there

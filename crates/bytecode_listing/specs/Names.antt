@@ -2,7 +2,8 @@
 use Rattle.std.specs.Prelude.{ℕ, suc, List, [], ◌∷◌, Option, Some, None, bytes_eq, if◌then◌else◌, codes}
 use Rattle.bytecode_format.specs.Operations.{operations}
 use Rattle.bytecode_format.specs.declared.operation.Operation.{Operation}
-use Rattle.bytecode_format.specs.declared.operation.Operation.TheVariants.{Halt, Literal, Variable, Capture, Join, Set, Bool, Not, Jump, JumpIfTrue, JumpIfFalse, Header, Exists, String, Size, PartSize, PartBody, PartDigest, Keep, Discard, File, Store, Each, Next, Break, Take}
+use Rattle.bytecode_format.specs.declared.operation.Operation.TheVariants.{Halt, Literal, Variable, Capture, Join, Set, Not, Jump, JumpIfTrue, JumpIfFalse, Keep, Discard, File, Store, Each, Next, Break, Take, Test}
+use Rattle.bytecode_format.specs.declared.operation.TestOperation.TheVariants.{Constant, Header, Exists, String, Size, PartSize, PartBody, PartDigest}
 
 -- the name of an operation
 abbrev pub name_of : Operation → List ℕ
@@ -12,18 +13,18 @@ name_of Variable = codes "VAR"
 name_of Capture = codes "CAP"
 name_of Join = codes "JOIN"
 name_of Set = codes "SET"
-name_of Bool = codes "BOOL"
+name_of (Test Constant) = codes "BOOL"
 name_of Not = codes "NOT"
 name_of Jump = codes "JMP"
 name_of JumpIfTrue = codes "JT"
 name_of JumpIfFalse = codes "JF"
-name_of Header = codes "HEADER"
-name_of Exists = codes "EXISTS"
-name_of String = codes "STRING"
-name_of Size = codes "SIZE"
-name_of PartSize = codes "PARTSIZE"
-name_of PartBody = codes "PARTBODY"
-name_of PartDigest = codes "PARTDIGEST"
+name_of (Test Header) = codes "HEADER"
+name_of (Test Exists) = codes "EXISTS"
+name_of (Test String) = codes "STRING"
+name_of (Test Size) = codes "SIZE"
+name_of (Test PartSize) = codes "PARTSIZE"
+name_of (Test PartBody) = codes "PARTBODY"
+name_of (Test PartDigest) = codes "PARTDIGEST"
 name_of Keep = codes "KEEP"
 name_of Discard = codes "DISCARD"
 name_of File = codes "FILE"

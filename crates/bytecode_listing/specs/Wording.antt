@@ -3,7 +3,8 @@ use Rattle.std.specs.Prelude.{ℕ, ◌/◌, ◌%◌, List, [], ◌∷◌, ◌++�
 use Rattle.std.specs.List.{position}
 use Rattle.std.specs.Fmt.{decimal}
 use Rattle.bytecode_format.specs.declared.operation.Operation.{Operation}
-use Rattle.bytecode_format.specs.declared.operation.Operation.TheVariants.{Header, Exists, String, PartBody}
+use Rattle.bytecode_format.specs.declared.operation.Operation.TheVariants.{Test}
+use Rattle.bytecode_format.specs.declared.operation.TestOperation.TheVariants.{Header, Exists, String, PartBody}
 use Rattle.bytecode_format.specs.Selection.{keys_in, params_in}
 use Rattle.bytecode_listing.specs.declared.wording.Facet.{Facet}
 use Rattle.bytecode_listing.specs.declared.wording.Facet.TheVariants.{Match, Comparator, Scope, Selector}
@@ -44,10 +45,10 @@ selection_words a = both (match_words (a % 8)) (scope_words a)
 
 -- the field a of an operation in words, where it says how a test compares or what it looks at
 abbrev pub a_words : Operation → ℕ → Option (List ℕ)
-a_words Header a = selection_words a
-a_words Exists a = word_of Scope a
-a_words String a = match_words a
-a_words PartBody a = match_words a
+a_words (Test Header) a = selection_words a
+a_words (Test Exists) a = word_of Scope a
+a_words (Test String) a = match_words a
+a_words (Test PartBody) a = match_words a
 a_words _ a = None
 
 -- the counts of HEADER: of parameters, and of keys
@@ -60,5 +61,5 @@ said_a words = codes "a " ++ words
 
 -- what follows the words of a
 abbrev pub after_a : Operation → ℕ → List ℕ
-after_a Header c = counts_words c
+after_a (Test Header) c = counts_words c
 after_a _ c = []

@@ -8,7 +8,7 @@ ghost use Rattle.bytecode_listing.specs.Wording.{counts_words, match_words, said
 use crate::quoting::put_cut;
 use crate::wording::{Facet, word_of};
 use crate::writing::put_number;
-use bytecode_format::{Instruction, Operation, Program, TestCounts};
+use bytecode_format::{Instruction, Operation, Program, TestCounts, TestOperation};
 use bytecode_verifier::row_of;
 use std::alloc::AllocError;
 
@@ -178,9 +178,9 @@ fn put_words(
         (out.new.items ≡ out.old.items ++ comment (in_words operation instruction)) }
 {
     match operation {
-        Operation::Header => put_selection(out, instruction.a, instruction.c),
-        Operation::Exists => put_scope(out, instruction.a),
-        Operation::String | Operation::PartBody => put_match(out, instruction.a),
+        Operation::Test(TestOperation::Header) => put_selection(out, instruction.a, instruction.c),
+        Operation::Test(TestOperation::Exists) => put_scope(out, instruction.a),
+        Operation::Test(TestOperation::String) | Operation::Test(TestOperation::PartBody) => put_match(out, instruction.a),
         _ => Ok(()),
     }
 }

@@ -2,7 +2,7 @@
 ghost use Rattle.std.specs.Prelude.{◌≡◌};
 ghost use Rattle.bytecode_listing.specs.Names.{name_of, octet_named};
 
-use bytecode_format::Operation;
+use bytecode_format::{Operation, TestOperation};
 
 /// The operation's name in a listing.
 pub fn name_of(operation: Operation) -> &'static [u8]
@@ -15,18 +15,18 @@ pub fn name_of(operation: Operation) -> &'static [u8]
         Operation::Capture => b"CAP",
         Operation::Join => b"JOIN",
         Operation::Set => b"SET",
-        Operation::Bool => b"BOOL",
+        Operation::Test(TestOperation::Constant) => b"BOOL",
         Operation::Not => b"NOT",
         Operation::Jump => b"JMP",
         Operation::JumpIfTrue => b"JT",
         Operation::JumpIfFalse => b"JF",
-        Operation::Header => b"HEADER",
-        Operation::Exists => b"EXISTS",
-        Operation::String => b"STRING",
-        Operation::Size => b"SIZE",
-        Operation::PartSize => b"PARTSIZE",
-        Operation::PartBody => b"PARTBODY",
-        Operation::PartDigest => b"PARTDIGEST",
+        Operation::Test(TestOperation::Header) => b"HEADER",
+        Operation::Test(TestOperation::Exists) => b"EXISTS",
+        Operation::Test(TestOperation::String) => b"STRING",
+        Operation::Test(TestOperation::Size) => b"SIZE",
+        Operation::Test(TestOperation::PartSize) => b"PARTSIZE",
+        Operation::Test(TestOperation::PartBody) => b"PARTBODY",
+        Operation::Test(TestOperation::PartDigest) => b"PARTDIGEST",
         Operation::Keep => b"KEEP",
         Operation::Discard => b"DISCARD",
         Operation::File => b"FILE",

@@ -6,7 +6,7 @@ ghost use Rattle.bytecode_listing.specs.Items.{facet_at, joined, match_at, worde
 ghost use Rattle.bytecode_listing.specs.Wording.{number_of, word_of, words};
 
 use crate::tokens::leading_word;
-use bytecode_format::Operation;
+use bytecode_format::{Operation, TestOperation};
 
 /// What words say of a test.
 #[derive(Clone, Copy)]
@@ -133,9 +133,9 @@ pub fn worded_of(octets: &[u8], operation: Option<Operation>) -> (Option<u8>, &[
     ensures { (result.0, tokens_of result.1.now) ≡ worded_at operation (tokens_of octets.now) }
 {
     match operation {
-        Some(Operation::Header) => selection_of(octets),
-        Some(Operation::Exists) => facet_of(octets, Facet::Scope),
-        Some(Operation::String | Operation::PartBody) => match_of(octets),
+        Some(Operation::Test(TestOperation::Header)) => selection_of(octets),
+        Some(Operation::Test(TestOperation::Exists)) => facet_of(octets, Facet::Scope),
+        Some(Operation::Test(TestOperation::String) | Operation::Test(TestOperation::PartBody)) => match_of(octets),
         _ => (None, octets),
     }
 }

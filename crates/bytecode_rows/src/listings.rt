@@ -1,5 +1,5 @@
 // Listings, with ample memory, so that none is refused.
-use bytecode_format::{Instruction, Operation, Program};
+use bytecode_format::{Instruction, Operation, Program, TestOperation};
 use bytecode_listing::laws::read_again;
 use bytecode_listing::{ListingError, assemble, disassemble};
 use octets::Octets;
@@ -42,7 +42,7 @@ fn small_program(rt: HostRuntime) -> Result<(), Fail> {
     let mut strings = Vec::new(alloc);
     strings.push(Octets::from_vec(b"a\0a\"b".to_vec(alloc)?))?;
     let header = Instruction {
-        op: Operation::Header.octet(),
+        op: Operation::Test(TestOperation::Header).octet(),
         a: 1,
         b: 2,
         c: 3,

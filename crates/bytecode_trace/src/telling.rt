@@ -2,7 +2,7 @@
 ghost use Rattle.std.specs.Prelude.{◌≡◌};
 ghost use Rattle.bytecode_trace.specs.Printed.{told_of};
 
-use bytecode_format::Operation;
+use bytecode_format::{Operation, TestOperation};
 
 /// Which value is told of an instruction.
 #[derive(Clone, Copy)]
@@ -29,15 +29,15 @@ pub fn told_of(operation: Option<Operation>) -> Told
         | Operation::Variable
         | Operation::Capture
         | Operation::Join
-        | Operation::Bool
+        | Operation::Test(TestOperation::Constant)
         | Operation::Not
-        | Operation::Header
-        | Operation::Exists
-        | Operation::String
-        | Operation::Size
-        | Operation::PartSize
-        | Operation::PartBody
-        | Operation::PartDigest => Told::Left,
+        | Operation::Test(TestOperation::Header)
+        | Operation::Test(TestOperation::Exists)
+        | Operation::Test(TestOperation::String)
+        | Operation::Test(TestOperation::Size)
+        | Operation::Test(TestOperation::PartSize)
+        | Operation::Test(TestOperation::PartBody)
+        | Operation::Test(TestOperation::PartDigest) => Told::Left,
         Operation::JumpIfTrue | Operation::JumpIfFalse | Operation::File | Operation::Store => {
             Told::Taken
         }

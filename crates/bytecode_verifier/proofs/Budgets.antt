@@ -8,7 +8,8 @@ use Rattle.std.proofs.lemmas.List.Elements.{All-cons, All-nil}
 use Rattle.octets.specs.Limits.{max_message, max_parts}
 use Rattle.bytecode_format.specs.declared.instruction.Instruction.{Instruction}
 use Rattle.bytecode_format.specs.declared.operation.Operation.{Operation}
-use Rattle.bytecode_format.specs.declared.operation.Operation.TheVariants.{Join, Set, Header, Exists, String, PartBody, PartDigest, File, Store, Take}
+use Rattle.bytecode_format.specs.declared.operation.Operation.TheVariants.{Join, Set, File, Store, Take, Test}
+use Rattle.bytecode_format.specs.declared.operation.TestOperation.TheVariants.{Header, Exists, String, PartBody, PartDigest}
 use Rattle.bytecode_format.specs.Operations.{operation_of}
 use Rattle.bytecode_format.specs.Code.{Code}
 use Rattle.bytecode_format.specs.Spelling.{IsProgram}
@@ -83,21 +84,21 @@ texts_fit number entries small cap fits = go (take_texts number entries) refl
     go (Some texts) h = let t = taken number entries texts small.short h in fits texts (omega (arith, t.total, t.left, small.few))
 
 pub cap_fits : (o : Option Operation) (i : Instruction) (entries : Entries) → i.b < 2 ^ 16 → IsSmall entries → Fits (cap_of o i entries)
-cap_fits (Some Header) i entries below small = go (take_lists i.b (params_in i.c) (keys_in i.c) entries) refl
+cap_fits (Some (Test Header)) i entries below small = go (take_lists i.b (params_in i.c) (keys_in i.c) entries) refl
   where
     go : (o : Option Lists) → take_lists i.b (params_in i.c) (keys_in i.c) entries ≡ o → Fits (option_map_or cap_of_matching o one_charge)
     go None h = one_fits
     go (Some lists) h =
         let t = taken_lists i.b (params_in i.c) (keys_in i.c) entries lists small.short h in
         (lit≤ tt, matching_fits i.b (params_in i.c) (keys_in i.c) (one_more_each lists.names) (one_more_each lists.keys) (length lists.names) (length lists.params) (omega (arith, t.left, small.few)) t.names_total t.keys_total t.names_are t.params_are)
-cap_fits (Some Exists) i entries below small = texts_fit i.b entries small cap_of_names (λ names total. (lit≤ tt, omega (arith, total)))
-cap_fits (Some PartBody) i entries below small = texts_fit i.c entries small cap_of_body (λ keys total. (lit≤ tt, omega (arith, total)))
-cap_fits (Some PartDigest) i entries below small = texts_fit i.c entries small cap_of_digest (λ keys total. (omega (arith, total), lit≤ tt))
+cap_fits (Some (Test Exists)) i entries below small = texts_fit i.b entries small cap_of_names (λ names total. (lit≤ tt, omega (arith, total)))
+cap_fits (Some (Test PartBody)) i entries below small = texts_fit i.c entries small cap_of_body (λ keys total. (lit≤ tt, omega (arith, total)))
+cap_fits (Some (Test PartDigest)) i entries below small = texts_fit i.c entries small cap_of_digest (λ keys total. (omega (arith, total), lit≤ tt))
 cap_fits (Some File) i entries below small = octets_fit 1 entries small (take_texts 1 entries) refl
 cap_fits (Some Store) i entries below small = octets_fit 1 entries small (take_texts 1 entries) refl
 cap_fits (Some Join) i entries below small = octets_fit i.b entries small (take_texts i.b entries) refl
 cap_fits (Some Set) i entries below small = octets_fit 1 entries small (take_texts 1 entries) refl
-cap_fits (Some String) i entries below small = go (take_lists i.b 0 i.c entries) refl
+cap_fits (Some (Test String)) i entries below small = go (take_lists i.b 0 i.c entries) refl
   where
     go : (o : Option Lists) → take_lists i.b 0 i.c entries ≡ o → Fits (option_map_or cap_of_comparing o one_charge)
     go None h = one_fits

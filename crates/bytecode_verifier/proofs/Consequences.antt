@@ -5,7 +5,8 @@ use Rattle.std.proofs.lemmas.Option.{slice_get_within}
 use Rattle.std.proofs.lemmas.Map.Keys.{any_passes_from_place}
 use Rattle.octets.specs.Limits.{max_test_strings, max_loops, max_value}
 use Rattle.bytecode_format.specs.declared.instruction.Instruction.{Instruction}
-use Rattle.bytecode_format.specs.declared.operation.Operation.TheVariants.{Literal, Variable, Set, Size, Header, Exists, String, PartSize, PartBody, PartDigest, Break, Take}
+use Rattle.bytecode_format.specs.declared.operation.Operation.TheVariants.{Literal, Variable, Set, Break, Take, Test}
+use Rattle.bytecode_format.specs.declared.operation.TestOperation.TheVariants.{Size, Header, Exists, String, PartSize, PartBody, PartDigest}
 use Rattle.bytecode_format.specs.Operations.{operation_of}
 use Rattle.bytecode_format.specs.Code.{Code}
 use Rattle.bytecode_format.specs.declared.modifiers.Modifiers.{Modifiers}
@@ -102,7 +103,7 @@ module _ (code : Code) (is : IsAccepted code) where
     well_formed = form_at code place i (is.form place) here
 
     -- the index is below the count of numbers
-    pub number_known : operation_of i.op ≡ Some Size → i.c < length code.numbers
+    pub number_known : operation_of i.op ≡ Some (Test Size) → i.c < length code.numbers
     number_known size =
         let broken : misses_index code (row_in code i) i ≡ false = rw here at (is.index place) in
         leb-false (length code.numbers) i.c (ap (λ o. misses_index code (option_and_then (row_in_version code.version) o) i) (sym size) ∙ broken)
@@ -124,7 +125,7 @@ module _ (code : Code) (is : IsAccepted code) where
         let broken : misses_index code (row_in code i) i ≡ false = rw here at (is.index place) in
         leb-false code.variables i.c (ap (λ o. misses_index code (option_and_then (row_in_version code.version) o) i) (sym set) ∙ broken)
 
-    pub part_number_known : operation_of i.op ≡ Some PartSize → i.c < length code.numbers
+    pub part_number_known : operation_of i.op ≡ Some (Test PartSize) → i.c < length code.numbers
     part_number_known size =
         let broken : misses_index code (row_in code i) i ≡ false = rw here at (is.index place) in
         leb-false (length code.numbers) i.c (ap (λ o. misses_index code (option_and_then (row_in_version code.version) o) i) (sym size) ∙ broken)
@@ -133,9 +134,9 @@ module _ (code : Code) (is : IsAccepted code) where
     formed_as operation named = ap (λ o. is_well_formed (option_and_then (row_in_version code.version) o) i) (sym named) ∙ well_formed
 
     -- the fields of a test of fields are in their ranges
-    pub header_known : operation_of i.op ≡ Some Header → IsFieldTest i
+    pub header_known : operation_of i.op ≡ Some (Test Header) → IsFieldTest i
     header_known header =
-        let parts = all_three (is_some (field_test_numbered i.a)) (is_list i.b) (are_counts i.a i.c) (formed_as Header header) in
+        let parts = all_three (is_some (field_test_numbered i.a)) (is_list i.b) (are_counts i.a i.c) (formed_as (Test Header) header) in
         let says = known (field_test_numbered i.a) parts.0 in
         let counts = counts_of (selects_params i.a) (is_list (keys_in i.c)) (is_list (params_in i.c)) (params_in i.c == 0) parts.2 in
         record {
@@ -148,31 +149,31 @@ module _ (code : Code) (is : IsAccepted code) where
         }
 
     -- the scope of a test that fields exist, and how many names it has
-    pub exists_known : operation_of i.op ≡ Some Exists → (scope : Scope) × ((scope_numbered i.a ≡ Some scope) × (1 ≤ i.b) × (i.b ≤ max_test_strings))
+    pub exists_known : operation_of i.op ≡ Some (Test Exists) → (scope : Scope) × ((scope_numbered i.a ≡ Some scope) × (1 ≤ i.b) × (i.b ≤ max_test_strings))
     exists_known exists =
-        let parts = all_three (is_some (scope_numbered i.a)) (is_list i.b) (i.c == 0) (formed_as Exists exists) in
+        let parts = all_three (is_some (scope_numbered i.a)) (is_list i.b) (i.c == 0) (formed_as (Test Exists) exists) in
         let names = list_size i.b parts.1 in
         let scope = known (scope_numbered i.a) parts.0 in
         (scope.0, (scope.1, names.0, names.1))
 
     -- how sources are matched
-    pub sources_known : operation_of i.op ≡ Some String → is_some (match_numbered i.a) ≡ true
-    sources_known string = (all_three (is_some (match_numbered i.a)) (is_list i.b) (is_list i.c) (formed_as String string)).0
+    pub sources_known : operation_of i.op ≡ Some (Test String) → is_some (match_numbered i.a) ≡ true
+    sources_known string = (all_three (is_some (match_numbered i.a)) (is_list i.b) (is_list i.c) (formed_as (Test String) string)).0
 
     -- how the current part's size is compared
-    pub part_size_known : operation_of i.op ≡ Some PartSize → i.a < 2
-    part_size_known size = ltb-true i.a 2 (all_three (nat_lt i.a 2) (i.b == 0) true (formed_as PartSize size)).0
+    pub part_size_known : operation_of i.op ≡ Some (Test PartSize) → i.a < 2
+    part_size_known size = ltb-true i.a 2 (all_three (nat_lt i.a 2) (i.b == 0) true (formed_as (Test PartSize) size)).0
 
     -- how the current part's content is matched, and with how many keys
-    pub part_body_known : operation_of i.op ≡ Some PartBody → (is_some (match_numbered i.a) ≡ true) × (1 ≤ i.c) × (i.c ≤ max_test_strings)
+    pub part_body_known : operation_of i.op ≡ Some (Test PartBody) → (is_some (match_numbered i.a) ≡ true) × (1 ≤ i.c) × (i.c ≤ max_test_strings)
     part_body_known body =
-        let parts = all_three (is_some (match_numbered i.a)) (i.b == 0) (is_list i.c) (formed_as PartBody body) in
+        let parts = all_three (is_some (match_numbered i.a)) (i.b == 0) (is_list i.c) (formed_as (Test PartBody) body) in
         let keys = list_size i.c parts.2 in
         (parts.0, keys.0, keys.1)
 
     -- with how many keys the current part's digest is compared
-    pub part_digest_known : operation_of i.op ≡ Some PartDigest → (1 ≤ i.c) × (i.c ≤ max_test_strings)
-    part_digest_known digest = list_size i.c (all_three (i.a == 0) (i.b == 0) (is_list i.c) (formed_as PartDigest digest)).2
+    pub part_digest_known : operation_of i.op ≡ Some (Test PartDigest) → (1 ≤ i.c) × (i.c ≤ max_test_strings)
+    part_digest_known digest = list_size i.c (all_three (i.a == 0) (i.b == 0) (is_list i.c) (formed_as (Test PartDigest) digest)).2
 
     -- an operation on the current part stands in a loop
     pub part_known : needs_part (row_in code i) ≡ true → length (open_loops code place) ≢ 0

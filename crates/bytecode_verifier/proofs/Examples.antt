@@ -2,7 +2,8 @@
 use Rattle.std.proofs.Common.{◌≡◌, ℕ, Bool, List, [], ◌∷◌, Some, None, refl, true, false}
 use Rattle.bytecode_format.specs.declared.instruction.Instruction.{Instruction}
 use Rattle.bytecode_format.specs.declared.operation.Operation.{Operation}
-use Rattle.bytecode_format.specs.declared.operation.Operation.TheVariants.{Halt, Literal, Variable, Capture, Join, Set, Bool as BoolOp, Not, Jump as Goto, JumpIfTrue, JumpIfFalse, Header, Exists, String, Size, PartSize, PartBody, PartDigest, Keep, Discard, File, Store, Each, Next, Break, Take}
+use Rattle.bytecode_format.specs.declared.operation.Operation.TheVariants.{Halt, Literal, Variable, Capture, Join, Set, Not, Jump as Goto, JumpIfTrue, JumpIfFalse, Keep, Discard, File, Store, Each, Next, Break, Take, Test}
+use Rattle.bytecode_format.specs.declared.operation.TestOperation.TheVariants.{Constant, Header, Exists, String, Size, PartSize, PartBody, PartDigest}
 use Rattle.bytecode_format.specs.Operations.{octet_of}
 use Rattle.bytecode_format.specs.Code.{Code}
 use Rattle.bytecode_verifier.specs.declared.error.Refusal.TheVariants.{Index, Form, End, Loop, Jump, NoPart, Stack}
@@ -40,11 +41,11 @@ no_operation : refusal_of (program [] (at_octet 0 ∷ plain Halt ∷ [])) ≡ So
 no_operation = refl
 
 -- the jump leads between a value and what takes it
-jump_into_value : refusal_of (program [] (at BoolOp 1 0 ∷ at JumpIfFalse 0 3 ∷ at BoolOp 1 0 ∷ plain Not ∷ at JumpIfTrue 0 5 ∷ plain Halt ∷ [])) ≡ Some (Stack 3)
+jump_into_value : refusal_of (program [] (at (Test Constant) 1 0 ∷ at JumpIfFalse 0 3 ∷ at (Test Constant) 1 0 ∷ plain Not ∷ at JumpIfTrue 0 5 ∷ plain Halt ∷ [])) ≡ Some (Stack 3)
 jump_into_value = refl
 
 abbrev over_size : List Instruction
-over_size = plain Size ∷ at JumpIfFalse 0 3 ∷ plain Discard ∷ plain Halt ∷ []
+over_size = plain (Test Size) ∷ at JumpIfFalse 0 3 ∷ plain Discard ∷ plain Halt ∷ []
 
 missing_number : refusal_of (program [] over_size) ≡ Some (Index 0)
 missing_number = refl
@@ -78,13 +79,13 @@ missing_string = refl
 text_left : refusal_of (with_strings ([] ∷ []) (plain Literal ∷ plain Halt ∷ [])) ≡ Some (Stack 1)
 text_left = refl
 
-truth_filed : refusal_of (program [] (at BoolOp 1 0 ∷ plain File ∷ plain Halt ∷ [])) ≡ Some (Stack 1)
+truth_filed : refusal_of (program [] (at (Test Constant) 1 0 ∷ plain File ∷ plain Halt ∷ [])) ≡ Some (Stack 1)
 truth_filed = refl
 
 -- names of 7 and 3 octets, a key of 1, another of 2: 8 + 4, and 2 names times 2 + 3
 abbrev two_names : List Instruction
 two_names =
-    at Literal 0 0 ∷ at Literal 0 1 ∷ at Literal 0 2 ∷ at Literal 0 3 ∷ lists Header 4 2 2 ∷ at JumpIfFalse 0 7 ∷ plain Discard ∷ plain Halt ∷ []
+    at Literal 0 0 ∷ at Literal 0 1 ∷ at Literal 0 2 ∷ at Literal 0 3 ∷ lists (Test Header) 4 2 2 ∷ at JumpIfFalse 0 7 ∷ plain Discard ∷ plain Halt ∷ []
 
 abbrev lengths : List (List ℕ)
 lengths = (1 ∷ 1 ∷ 1 ∷ 1 ∷ 1 ∷ 1 ∷ 1 ∷ []) ∷ (1 ∷ 1 ∷ 1 ∷ []) ∷ (1 ∷ []) ∷ (1 ∷ 1 ∷ []) ∷ []
@@ -96,10 +97,10 @@ names_and_keys_budget : budget_of (with_strings lengths two_names) ≡ record { 
 names_and_keys_budget = refl
 
 -- three keys, where two texts stand
-missing_text : refusal_of (with_strings ([] ∷ []) (plain Literal ∷ plain Literal ∷ lists Header 0 1 3 ∷ at JumpIfFalse 0 4 ∷ plain Halt ∷ [])) ≡ Some (Stack 2)
+missing_text : refusal_of (with_strings ([] ∷ []) (plain Literal ∷ plain Literal ∷ lists (Test Header) 0 1 3 ∷ at JumpIfFalse 0 4 ∷ plain Halt ∷ [])) ≡ Some (Stack 2)
 missing_text = refl
 
-exists_budget : budget_of (with_strings lengths (plain Literal ∷ lists Exists 0 1 0 ∷ at JumpIfFalse 0 3 ∷ plain Halt ∷ [])) ≡ record { version = 1; fixed = 4 ∷ 0 ∷ 0 ∷ 0 ∷ []; scaled = 8 ∷ 0 ∷ 0 ∷ 0 ∷ [] }
+exists_budget : budget_of (with_strings lengths (plain Literal ∷ lists (Test Exists) 0 1 0 ∷ at JumpIfFalse 0 3 ∷ plain Halt ∷ [])) ≡ record { version = 1; fixed = 4 ∷ 0 ∷ 0 ∷ 0 ∷ []; scaled = 8 ∷ 0 ∷ 0 ∷ 0 ∷ [] }
 exists_budget = refl
 
 -- ---- variables
@@ -130,70 +131,70 @@ joins = plain Capture ∷ plain Capture ∷ plain Capture ∷ plain Capture ∷ 
 join_budget : (budget_of (program [] joins)).fixed ≡ 36872 ∷ 0 ∷ 0 ∷ 0 ∷ []
 join_budget = refl
 
-join_of_a_truth : refusal_of (program [] (at BoolOp 1 0 ∷ plain Capture ∷ lists Join 0 2 0 ∷ plain File ∷ plain Halt ∷ [])) ≡ Some (Stack 2)
+join_of_a_truth : refusal_of (program [] (at (Test Constant) 1 0 ∷ plain Capture ∷ lists Join 0 2 0 ∷ plain File ∷ plain Halt ∷ [])) ≡ Some (Stack 2)
 join_of_a_truth = refl
 
 -- sources of 7 and 3 octets, a key of 1, another of 2: 8 + 4, times 2 + 3
-string_budget : (budget_of (with_strings lengths (at Literal 0 0 ∷ at Literal 0 1 ∷ at Literal 0 2 ∷ at Literal 0 3 ∷ lists String 4 2 2 ∷ at JumpIfFalse 0 7 ∷ plain Discard ∷ plain Halt ∷ []))).fixed ≡ 68 ∷ 0 ∷ 0 ∷ 0 ∷ []
+string_budget : (budget_of (with_strings lengths (at Literal 0 0 ∷ at Literal 0 1 ∷ at Literal 0 2 ∷ at Literal 0 3 ∷ lists (Test String) 4 2 2 ∷ at JumpIfFalse 0 7 ∷ plain Discard ∷ plain Halt ∷ []))).fixed ≡ 68 ∷ 0 ∷ 0 ∷ 0 ∷ []
 string_budget = refl
 
 -- of fields: lists of 1 to 512, ways to match, scopes and selectors
 abbrev formed : (i : Instruction) → Bool
 formed i = is_well_formed (row_named 1 i.op) i
 
-no_names : formed (lists Header 0 0 1) ≡ false
+no_names : formed (lists (Test Header) 0 0 1) ≡ false
 no_names = refl
 
-no_keys : formed (lists Header 0 1 0) ≡ false
+no_keys : formed (lists (Test Header) 0 1 0) ≡ false
 no_keys = refl
 
-most_names : formed (lists Header 6 512 512) ≡ true
+most_names : formed (lists (Test Header) 6 512 512) ≡ true
 most_names = refl
 
-a_name_too_many : formed (lists Header 0 513 1) ≡ false
+a_name_too_many : formed (lists (Test Header) 0 513 1) ≡ false
 a_name_too_many = refl
 
-a_key_too_many : formed (lists Header 0 1 513) ≡ false
+a_key_too_many : formed (lists (Test Header) 0 1 513) ≡ false
 a_key_too_many = refl
 
-no_fourth_way : formed (lists Header 3 1 1) ≡ false
+no_fourth_way : formed (lists (Test Header) 3 1 1) ≡ false
 no_fourth_way = refl
 
-no_fourth_way_of_octets : formed (lists Header 7 1 1) ≡ false
+no_fourth_way_of_octets : formed (lists (Test Header) 7 1 1) ≡ false
 no_fourth_way_of_octets = refl
 
-last_scope : formed (lists Header 16 1 1) ≡ true
+last_scope : formed (lists (Test Header) 16 1 1) ≡ true
 last_scope = refl
 
-no_fourth_scope : formed (lists Header 24 1 1) ≡ false
+no_fourth_scope : formed (lists (Test Header) 24 1 1) ≡ false
 no_fourth_scope = refl
 
-exists_in_the_last_scope : formed (lists Exists 2 1 0) ≡ true
+exists_in_the_last_scope : formed (lists (Test Exists) 2 1 0) ≡ true
 exists_in_the_last_scope = refl
 
-exists_in_no_fourth_scope : formed (lists Exists 3 1 0) ≡ false
+exists_in_no_fourth_scope : formed (lists (Test Exists) 3 1 0) ≡ false
 exists_in_no_fourth_scope = refl
 
 -- the contenttype of fields, and their parameters
-no_parameters : formed (lists Header 96 1 1) ≡ true
+no_parameters : formed (lists (Test Header) 96 1 1) ≡ true
 no_parameters = refl
 
-parameters_of_a_contenttype : formed (lists Header 96 1 0x10001) ≡ false
+parameters_of_a_contenttype : formed (lists (Test Header) 96 1 0x10001) ≡ false
 parameters_of_a_contenttype = refl
 
-parameters_missing : formed (lists Header 128 1 1) ≡ false
+parameters_missing : formed (lists (Test Header) 128 1 1) ≡ false
 parameters_missing = refl
 
-one_parameter : formed (lists Header 128 1 0x10001) ≡ true
+one_parameter : formed (lists (Test Header) 128 1 0x10001) ≡ true
 one_parameter = refl
 
-most_parameters : formed (lists Header 150 512 0x2000200) ≡ true
+most_parameters : formed (lists (Test Header) 150 512 0x2000200) ≡ true
 most_parameters = refl
 
-a_parameter_too_many : formed (lists Header 128 1 0x2010001) ≡ false
+a_parameter_too_many : formed (lists (Test Header) 128 1 0x2010001) ≡ false
 a_parameter_too_many = refl
 
-no_sixth_selector : formed (lists Header 160 1 1) ≡ false
+no_sixth_selector : formed (lists (Test Header) 160 1 1) ≡ false
 no_sixth_selector = refl
 
 tenth_capture : formed (at Capture 10 0) ≡ false
@@ -217,10 +218,10 @@ both_cases = refl
 seventh_bit : formed (at Set 0x40 0) ≡ false
 seventh_bit = refl
 
-no_sources : formed (lists String 0 0 1) ≡ false
+no_sources : formed (lists (Test String) 0 0 1) ≡ false
 no_sources = refl
 
-most_sources : formed (lists String 6 512 512) ≡ true
+most_sources : formed (lists (Test String) 6 512 512) ≡ true
 most_sources = refl
 
 -- a stray Next, a loop in a loop, a stray Next and a stray Each
@@ -305,13 +306,13 @@ jump_into_another_loop : refusal_of (program [] (at Each 0 2 ∷ at Goto 0 4 ∷
 jump_into_another_loop = refl
 
 -- operations on the current part, outside of a loop and in one
-part_size_outside : refusal_of (program (7 ∷ []) (plain PartSize ∷ at JumpIfFalse 0 2 ∷ plain Halt ∷ [])) ≡ Some (NoPart 0)
+part_size_outside : refusal_of (program (7 ∷ []) (plain (Test PartSize) ∷ at JumpIfFalse 0 2 ∷ plain Halt ∷ [])) ≡ Some (NoPart 0)
 part_size_outside = refl
 
-part_size_inside : refusal_of (program (7 ∷ []) (at Each 0 4 ∷ plain PartSize ∷ at JumpIfFalse 0 4 ∷ plain Discard ∷ at Next 0 0 ∷ plain Halt ∷ [])) ≡ None
+part_size_inside : refusal_of (program (7 ∷ []) (at Each 0 4 ∷ plain (Test PartSize) ∷ at JumpIfFalse 0 4 ∷ plain Discard ∷ at Next 0 0 ∷ plain Halt ∷ [])) ≡ None
 part_size_inside = refl
 
-part_size_of_no_number : refusal_of (program [] (at Each 0 4 ∷ plain PartSize ∷ at JumpIfFalse 0 4 ∷ plain Discard ∷ at Next 0 0 ∷ plain Halt ∷ [])) ≡ Some (Index 1)
+part_size_of_no_number : refusal_of (program [] (at Each 0 4 ∷ plain (Test PartSize) ∷ at JumpIfFalse 0 4 ∷ plain Discard ∷ at Next 0 0 ∷ plain Halt ∷ [])) ≡ Some (Index 1)
 part_size_of_no_number = refl
 
 store_outside : refusal_of (with_strings ((7 ∷ []) ∷ []) (plain Literal ∷ plain Store ∷ plain Halt ∷ [])) ≡ Some (NoPart 1)
@@ -330,13 +331,13 @@ form_in_a_loop = refl
 ends_in_a_loop : refusal_of (program [] (at Each 0 1 ∷ at Next 0 0 ∷ [])) ≡ Some (End 1)
 ends_in_a_loop = refl
 
-value_left_at_a_loop : refusal_of (program [] (at BoolOp 1 0 ∷ at Each 0 2 ∷ at Next 0 1 ∷ plain Halt ∷ [])) ≡ Some (Stack 1)
+value_left_at_a_loop : refusal_of (program [] (at (Test Constant) 1 0 ∷ at Each 0 2 ∷ at Next 0 1 ∷ plain Halt ∷ [])) ≡ Some (Stack 1)
 value_left_at_a_loop = refl
 
-value_left_in_a_loop : refusal_of (program [] (at Each 0 2 ∷ at BoolOp 1 0 ∷ at Next 0 0 ∷ plain Halt ∷ [])) ≡ Some (Stack 2)
+value_left_in_a_loop : refusal_of (program [] (at Each 0 2 ∷ at (Test Constant) 1 0 ∷ at Next 0 0 ∷ plain Halt ∷ [])) ≡ Some (Stack 2)
 value_left_in_a_loop = refl
 
-value_left_at_a_break : refusal_of (program [] (at Each 0 3 ∷ at BoolOp 1 0 ∷ at Break 1 0 ∷ at Next 0 0 ∷ plain Halt ∷ [])) ≡ Some (Stack 2)
+value_left_at_a_break : refusal_of (program [] (at Each 0 3 ∷ at (Test Constant) 1 0 ∷ at Break 1 0 ∷ at Next 0 0 ∷ plain Halt ∷ [])) ≡ Some (Stack 2)
 value_left_at_a_break = refl
 
 -- an Each counts outside of its loop, a Next in it
@@ -346,7 +347,7 @@ two_loops_budget = refl
 -- a part's content with keys of 1 and 2 octets, its digest with one of 7, and a folder of 3
 abbrev parts : List Instruction
 parts =
-    at Each 0 10 ∷ at Literal 0 2 ∷ at Literal 0 3 ∷ at PartBody 4 2 ∷ at JumpIfFalse 0 10 ∷ at Literal 0 0 ∷ at PartDigest 0 1 ∷ at JumpIfFalse 0 10
+    at Each 0 10 ∷ at Literal 0 2 ∷ at Literal 0 3 ∷ at (Test PartBody) 4 2 ∷ at JumpIfFalse 0 10 ∷ at Literal 0 0 ∷ at (Test PartDigest) 0 1 ∷ at JumpIfFalse 0 10
     ∷ at Literal 0 1 ∷ plain Store ∷ at Next 0 0 ∷ plain Halt ∷ []
 
 parts_accepted : refusal_of (with_strings lengths parts) ≡ None
@@ -358,7 +359,7 @@ parts_budget = refl
 
 -- two parameters of a field of 3 octets, a key of 1: 4, and twice 2
 abbrev parameters : List Instruction
-parameters = at Literal 0 1 ∷ at Literal 0 0 ∷ at Literal 0 3 ∷ at Literal 0 2 ∷ lists Header 128 1 0x20001 ∷ at JumpIfFalse 0 6 ∷ plain Halt ∷ []
+parameters = at Literal 0 1 ∷ at Literal 0 0 ∷ at Literal 0 3 ∷ at Literal 0 2 ∷ lists (Test Header) 128 1 0x20001 ∷ at JumpIfFalse 0 6 ∷ plain Halt ∷ []
 
 parameters_accepted : refusal_of (with_strings lengths parameters) ≡ None
 parameters_accepted = refl
@@ -367,7 +368,7 @@ parameters_budget : (budget_of (with_strings lengths parameters)).scaled ≡ 8 �
 parameters_budget = refl
 
 -- a parameter is missing on the stack
-parameter_missing : refusal_of (with_strings lengths (at Literal 0 1 ∷ at Literal 0 3 ∷ at Literal 0 2 ∷ lists Header 128 1 0x20001 ∷ at JumpIfFalse 0 5 ∷ plain Halt ∷ [])) ≡ Some (Stack 3)
+parameter_missing : refusal_of (with_strings lengths (at Literal 0 1 ∷ at Literal 0 3 ∷ at Literal 0 2 ∷ lists (Test Header) 128 1 0x20001 ∷ at JumpIfFalse 0 5 ∷ plain Halt ∷ [])) ≡ Some (Stack 3)
 parameter_missing = refl
 
 -- ---- Take, and version 2

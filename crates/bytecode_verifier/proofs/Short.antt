@@ -7,7 +7,8 @@ use Rattle.std.specs.Option.{option_and_then, option_map, option_map_or}
 use Rattle.octets.specs.Limits.{max_string, max_stack, max_value}
 use Rattle.bytecode_format.specs.declared.instruction.Instruction.{Instruction}
 use Rattle.bytecode_format.specs.declared.operation.Operation.{Operation}
-use Rattle.bytecode_format.specs.declared.operation.Operation.TheVariants.{Halt, Literal, Variable, Capture, Join, Set, Bool as BoolOp, Not, Jump, JumpIfTrue, JumpIfFalse, Header, Exists, String, Size, PartSize, PartBody, PartDigest, Keep, Discard, File, Store, Each, Next, Break, Take}
+use Rattle.bytecode_format.specs.declared.operation.Operation.TheVariants.{Halt, Literal, Variable, Capture, Join, Set, Not, Jump, JumpIfTrue, JumpIfFalse, Keep, Discard, File, Store, Each, Next, Break, Take, Test}
+use Rattle.bytecode_format.specs.declared.operation.TestOperation.TheVariants.{Constant, Header, Exists, String, Size, PartSize, PartBody, PartDigest}
 use Rattle.bytecode_format.specs.Operations.{operation_of}
 use Rattle.bytecode_format.specs.Code.{Code}
 use Rattle.bytecode_format.specs.Spelling.{Fits, IsProgram}
@@ -99,17 +100,17 @@ module _ (code : Code) (fits : IsProgram code) where
   small_after Next i entries after small e = cleared (is_empty entries) after e
   small_after Break i entries after small e = cleared (is_empty entries) after e
   small_after Literal i entries after small e = lent i.c (slice_get code.strings i.c) entries after refl small e
-  small_after BoolOp i entries after small e = pushed Truth entries after small.short e
-  small_after Size i entries after small e = pushed Truth entries after small.short e
-  small_after PartSize i entries after small e = pushed Truth entries after small.short e
+  small_after (Test Constant) i entries after small e = pushed Truth entries after small.short e
+  small_after (Test Size) i entries after small e = pushed Truth entries after small.short e
+  small_after (Test PartSize) i entries after small e = pushed Truth entries after small.short e
   small_after Not i entries after small e = guarded (has_truth entries) entries after small e
   small_after JumpIfTrue i entries after small e = emptied entries after e
   small_after JumpIfFalse i entries after small e = emptied entries after e
-  small_after Header i entries after small e = tested_lists i.b (params_in i.c) (keys_in i.c) entries after small e
-  small_after String i entries after small e = tested_lists i.b 0 i.c entries after small e
-  small_after Exists i entries after small e = tested i.b entries after small e
-  small_after PartBody i entries after small e = tested i.c entries after small e
-  small_after PartDigest i entries after small e = tested i.c entries after small e
+  small_after (Test Header) i entries after small e = tested_lists i.b (params_in i.c) (keys_in i.c) entries after small e
+  small_after (Test String) i entries after small e = tested_lists i.b 0 i.c entries after small e
+  small_after (Test Exists) i entries after small e = tested i.b entries after small e
+  small_after (Test PartBody) i entries after small e = tested i.c entries after small e
+  small_after (Test PartDigest) i entries after small e = tested i.c entries after small e
   small_after Variable i entries after small e = pushed (Text max_value) entries after (lit≤ tt, small.short) e
   small_after Capture i entries after small e = pushed (Text max_value) entries after (lit≤ tt, small.short) e
   small_after Join i entries after small e = go (take_texts i.b entries) refl e

@@ -3,7 +3,8 @@ use Rattle.std.specs.Prelude.{ℕ, ◌+◌, ◌*◌, max, Option, Some, None, Li
 use Rattle.std.specs.Option.{option_map_or}
 use Rattle.bytecode_format.specs.declared.instruction.Instruction.{Instruction}
 use Rattle.bytecode_format.specs.declared.operation.Operation.{Operation}
-use Rattle.bytecode_format.specs.declared.operation.Operation.TheVariants.{Halt, Literal, Variable, Capture, Join, Set, Bool as BoolOp, Not, Jump, JumpIfTrue, JumpIfFalse, Header, Exists, String, Size, PartSize, PartBody, PartDigest, Keep, Discard, File, Store, Each, Next, Break, Take}
+use Rattle.bytecode_format.specs.declared.operation.Operation.TheVariants.{Halt, Literal, Variable, Capture, Join, Set, Not, Jump, JumpIfTrue, JumpIfFalse, Keep, Discard, File, Store, Each, Next, Break, Take, Test}
+use Rattle.bytecode_format.specs.declared.operation.TestOperation.TheVariants.{Constant, Header, Exists, String, Size, PartSize, PartBody, PartDigest}
 use Rattle.bytecode_format.specs.Operations.{operation_of}
 use Rattle.bytecode_format.specs.Code.{Code}
 use Rattle.bytecode_cost.specs.Sums.{Sums}
@@ -69,19 +70,19 @@ cap_of (Some Variable) i entries = one_charge
 cap_of (Some Capture) i entries = one_charge
 cap_of (Some Join) i entries = option_map_or cap_of_octets (take_texts i.b entries) one_charge
 cap_of (Some Set) i entries = option_map_or cap_of_octets (take_texts 1 entries) one_charge
-cap_of (Some BoolOp) i entries = one_charge
+cap_of (Some (Test Constant)) i entries = one_charge
 cap_of (Some Not) i entries = one_charge
 cap_of (Some Jump) i entries = one_charge
 cap_of (Some JumpIfTrue) i entries = one_charge
 cap_of (Some JumpIfFalse) i entries = one_charge
-cap_of (Some Header) i entries = option_map_or cap_of_matching
+cap_of (Some (Test Header)) i entries = option_map_or cap_of_matching
     (take_lists i.b (params_in i.c) (keys_in i.c) entries) one_charge
-cap_of (Some Exists) i entries = option_map_or cap_of_names (take_texts i.b entries) one_charge
-cap_of (Some String) i entries = option_map_or cap_of_comparing (take_lists i.b 0 i.c entries) one_charge
-cap_of (Some Size) i entries = one_charge
-cap_of (Some PartSize) i entries = one_charge
-cap_of (Some PartBody) i entries = option_map_or cap_of_body (take_texts i.c entries) one_charge
-cap_of (Some PartDigest) i entries = option_map_or cap_of_digest (take_texts i.c entries) one_charge
+cap_of (Some (Test Exists)) i entries = option_map_or cap_of_names (take_texts i.b entries) one_charge
+cap_of (Some (Test String)) i entries = option_map_or cap_of_comparing (take_lists i.b 0 i.c entries) one_charge
+cap_of (Some (Test Size)) i entries = one_charge
+cap_of (Some (Test PartSize)) i entries = one_charge
+cap_of (Some (Test PartBody)) i entries = option_map_or cap_of_body (take_texts i.c entries) one_charge
+cap_of (Some (Test PartDigest)) i entries = option_map_or cap_of_digest (take_texts i.c entries) one_charge
 cap_of (Some Keep) i entries = one_charge
 cap_of (Some Discard) i entries = one_charge
 cap_of (Some File) i entries = option_map_or cap_of_octets (take_texts 1 entries) one_charge

@@ -4,7 +4,8 @@ use Rattle.std.specs.Option.{option_and_then, option_map_or}
 use Rattle.octets.specs.Limits.{max_loops, max_segments, max_test_strings, max_value}
 use Rattle.bytecode_format.specs.declared.instruction.Instruction.{Instruction}
 use Rattle.bytecode_format.specs.declared.operation.Operation.{Operation}
-use Rattle.bytecode_format.specs.declared.operation.Operation.TheVariants.{Halt, Literal, Variable, Capture, Join, Set, Bool as BoolOp, Not, Jump, JumpIfTrue, JumpIfFalse, Header, Exists, String, Size, PartSize, PartBody, PartDigest, Keep, Discard, File, Store, Each, Next, Break, Take}
+use Rattle.bytecode_format.specs.declared.operation.Operation.TheVariants.{Halt, Literal, Variable, Capture, Join, Set, Not, Jump, JumpIfTrue, JumpIfFalse, Keep, Discard, File, Store, Each, Next, Break, Take, Test}
+use Rattle.bytecode_format.specs.declared.operation.TestOperation.TheVariants.{Constant, Header, Exists, String, Size, PartSize, PartBody, PartDigest}
 use Rattle.bytecode_format.specs.Operations.{operation_of}
 use Rattle.bytecode_format.specs.Modifiers.{modifiers_numbered}
 use Rattle.bytecode_format.specs.declared.selection.FieldTest as field
@@ -36,18 +37,18 @@ row_of Variable = record plain { c = Any; index = Some Variables }
 row_of Capture = record plain { a = Below captures }
 row_of Join = record plain { b = Between 2 max_segments }
 row_of Set = record plain { a = Modifiers; c = Any; index = Some Variables }
-row_of BoolOp = record plain { a = Below 2 }
+row_of (Test Constant) = record plain { a = Below 2 }
 row_of Not = plain
 row_of Jump = jump
 row_of JumpIfTrue = jump
 row_of JumpIfFalse = jump
-row_of Header = record plain { a = FieldTest; b = Between 1 max_test_strings; c = Counts }
-row_of Exists = record plain { a = Scope; b = Between 1 max_test_strings }
-row_of String = record plain { a = Match; b = Between 1 max_test_strings; c = Between 1 max_test_strings }
-row_of Size = record plain { a = Below 2; c = Any; index = Some Numbers }
-row_of PartSize = record plain { a = Below 2; c = Any; index = Some Numbers; needs_part = true }
-row_of PartBody = record plain { a = Match; c = Between 1 max_test_strings; needs_part = true }
-row_of PartDigest = record plain { c = Between 1 max_test_strings; needs_part = true }
+row_of (Test Header) = record plain { a = FieldTest; b = Between 1 max_test_strings; c = Counts }
+row_of (Test Exists) = record plain { a = Scope; b = Between 1 max_test_strings }
+row_of (Test String) = record plain { a = Match; b = Between 1 max_test_strings; c = Between 1 max_test_strings }
+row_of (Test Size) = record plain { a = Below 2; c = Any; index = Some Numbers }
+row_of (Test PartSize) = record plain { a = Below 2; c = Any; index = Some Numbers; needs_part = true }
+row_of (Test PartBody) = record plain { a = Match; c = Between 1 max_test_strings; needs_part = true }
+row_of (Test PartDigest) = record plain { c = Between 1 max_test_strings; needs_part = true }
 row_of Keep = plain
 row_of Discard = plain
 row_of File = plain

@@ -5,7 +5,8 @@ use Rattle.std.specs.Option.{option_and_then, option_map, option_map_or}
 use Rattle.octets.specs.Limits.{max_stack, max_string, max_value}
 use Rattle.bytecode_format.specs.declared.instruction.Instruction.{Instruction}
 use Rattle.bytecode_format.specs.declared.operation.Operation.{Operation}
-use Rattle.bytecode_format.specs.declared.operation.Operation.TheVariants.{Halt, Literal, Variable, Capture, Join, Set, Bool as BoolOp, Not, Jump, JumpIfTrue, JumpIfFalse, Header, Exists, String, Size, PartSize, PartBody, PartDigest, Keep, Discard, File, Store, Each, Next, Break, Take}
+use Rattle.bytecode_format.specs.declared.operation.Operation.TheVariants.{Halt, Literal, Variable, Capture, Join, Set, Not, Jump, JumpIfTrue, JumpIfFalse, Keep, Discard, File, Store, Each, Next, Break, Take, Test}
+use Rattle.bytecode_format.specs.declared.operation.TestOperation.TheVariants.{Constant, Header, Exists, String, Size, PartSize, PartBody, PartDigest}
 use Rattle.bytecode_format.specs.Operations.{operation_of}
 use Rattle.bytecode_format.specs.Code.{Code}
 use Rattle.bytecode_format.specs.Selection.{keys_in, params_in}
@@ -75,22 +76,22 @@ entries_after code Variable i entries = with_entry (Text max_value) entries
 entries_after code Capture i entries = with_entry (Text max_value) entries
 entries_after code Join i entries = option_and_then with_joined (take_texts i.b entries)
 entries_after code Set i entries = option_map (λ (value : Texts). value.below) (take_texts 1 entries)
-entries_after code BoolOp i entries = with_entry Truth entries
+entries_after code (Test Constant) i entries = with_entry Truth entries
 entries_after code Not i entries = if has_truth entries then Some entries else None
 entries_after code Jump i entries = if is_empty entries then Some [] else None
 entries_after code JumpIfTrue i entries = without_truth entries
 entries_after code JumpIfFalse i entries = without_truth entries
-entries_after code Header i entries = option_and_then (λ (lists : Lists). with_entry Truth lists.below)
+entries_after code (Test Header) i entries = option_and_then (λ (lists : Lists). with_entry Truth lists.below)
     (take_lists i.b (params_in i.c) (keys_in i.c) entries)
-entries_after code Exists i entries = option_and_then (λ (names : Texts). with_entry Truth names.below)
+entries_after code (Test Exists) i entries = option_and_then (λ (names : Texts). with_entry Truth names.below)
     (take_texts i.b entries)
-entries_after code String i entries = option_and_then (λ (lists : Lists). with_entry Truth lists.below)
+entries_after code (Test String) i entries = option_and_then (λ (lists : Lists). with_entry Truth lists.below)
     (take_lists i.b 0 i.c entries)
-entries_after code Size i entries = with_entry Truth entries
-entries_after code PartSize i entries = with_entry Truth entries
-entries_after code PartBody i entries = option_and_then (λ (keys : Texts). with_entry Truth keys.below)
+entries_after code (Test Size) i entries = with_entry Truth entries
+entries_after code (Test PartSize) i entries = with_entry Truth entries
+entries_after code (Test PartBody) i entries = option_and_then (λ (keys : Texts). with_entry Truth keys.below)
     (take_texts i.c entries)
-entries_after code PartDigest i entries = option_and_then (λ (keys : Texts). with_entry Truth keys.below)
+entries_after code (Test PartDigest) i entries = option_and_then (λ (keys : Texts). with_entry Truth keys.below)
     (take_texts i.c entries)
 entries_after code Keep i entries = Some entries
 entries_after code Discard i entries = Some entries

@@ -17,7 +17,7 @@ use crate::row::MAX_LOOPS;
 use crate::rules::{is_well_formed, misses_index, row_named};
 use crate::shape::Shape;
 use bytecode_cost::Budget;
-use bytecode_format::{Instruction, Operation, Program};
+use bytecode_format::{Instruction, Operation, Program, TestOperation};
 use std::alloc::{AllocError, Global};
 
 /// What is known of the instructions so far: for each rule the first place where it is broken, the
@@ -106,18 +106,18 @@ impl Pass {
             Some(Operation::Capture) => self.take_as(here, Some(Operation::Capture)),
             Some(Operation::Join) => self.take_as(here, Some(Operation::Join)),
             Some(Operation::Set) => self.take_as(here, Some(Operation::Set)),
-            Some(Operation::Bool) => self.take_as(here, Some(Operation::Bool)),
+            Some(Operation::Test(TestOperation::Constant)) => self.take_as(here, Some(Operation::Test(TestOperation::Constant))),
             Some(Operation::Not) => self.take_as(here, Some(Operation::Not)),
             Some(Operation::Jump) => self.take_as(here, Some(Operation::Jump)),
             Some(Operation::JumpIfTrue) => self.take_as(here, Some(Operation::JumpIfTrue)),
             Some(Operation::JumpIfFalse) => self.take_as(here, Some(Operation::JumpIfFalse)),
-            Some(Operation::Header) => self.take_as(here, Some(Operation::Header)),
-            Some(Operation::Exists) => self.take_as(here, Some(Operation::Exists)),
-            Some(Operation::String) => self.take_as(here, Some(Operation::String)),
-            Some(Operation::Size) => self.take_as(here, Some(Operation::Size)),
-            Some(Operation::PartSize) => self.take_as(here, Some(Operation::PartSize)),
-            Some(Operation::PartBody) => self.take_as(here, Some(Operation::PartBody)),
-            Some(Operation::PartDigest) => self.take_as(here, Some(Operation::PartDigest)),
+            Some(Operation::Test(TestOperation::Header)) => self.take_as(here, Some(Operation::Test(TestOperation::Header))),
+            Some(Operation::Test(TestOperation::Exists)) => self.take_as(here, Some(Operation::Test(TestOperation::Exists))),
+            Some(Operation::Test(TestOperation::String)) => self.take_as(here, Some(Operation::Test(TestOperation::String))),
+            Some(Operation::Test(TestOperation::Size)) => self.take_as(here, Some(Operation::Test(TestOperation::Size))),
+            Some(Operation::Test(TestOperation::PartSize)) => self.take_as(here, Some(Operation::Test(TestOperation::PartSize))),
+            Some(Operation::Test(TestOperation::PartBody)) => self.take_as(here, Some(Operation::Test(TestOperation::PartBody))),
+            Some(Operation::Test(TestOperation::PartDigest)) => self.take_as(here, Some(Operation::Test(TestOperation::PartDigest))),
             Some(Operation::Keep) => self.take_as(here, Some(Operation::Keep)),
             Some(Operation::Discard) => self.take_as(here, Some(Operation::Discard)),
             Some(Operation::File) => self.take_as(here, Some(Operation::File)),

@@ -5,7 +5,7 @@ ghost use Rattle.bytecode_verifier.specs.Rows;
 use bytecode_format::{
     FieldTest, Instruction, Modifiers, Operation, Scope, Selector, TestCounts, VERSION_TWO,
     match_of,
-};
+, TestOperation};
 use octets::MAX_VALUE;
 
 /// The most strings in the lists of a test.
@@ -147,39 +147,39 @@ pub fn row_of(operation: Operation) -> Row
             index: Some(Table::Variables),
             ..PLAIN
         },
-        Operation::Bool => Row {
+        Operation::Test(TestOperation::Constant) => Row {
             a: Range::Below(2),
             ..PLAIN
         },
         Operation::Jump | Operation::JumpIfTrue | Operation::JumpIfFalse => JUMP,
-        Operation::Size => SIZE,
-        Operation::Header => Row {
+        Operation::Test(TestOperation::Size) => SIZE,
+        Operation::Test(TestOperation::Header) => Row {
             a: Range::FieldTest,
             b: LIST,
             c: Range::Counts,
             ..PLAIN
         },
-        Operation::Exists => Row {
+        Operation::Test(TestOperation::Exists) => Row {
             a: Range::Scope,
             b: LIST,
             ..PLAIN
         },
-        Operation::String => Row {
+        Operation::Test(TestOperation::String) => Row {
             a: Range::Match,
             b: LIST,
             c: LIST,
             ..PLAIN
         },
-        Operation::PartSize => Row {
+        Operation::Test(TestOperation::PartSize) => Row {
             needs_part: true,
             ..SIZE
         },
-        Operation::PartBody => Row {
+        Operation::Test(TestOperation::PartBody) => Row {
             a: Range::Match,
             c: LIST,
             ..PART
         },
-        Operation::PartDigest => Row { c: LIST, ..PART },
+        Operation::Test(TestOperation::PartDigest) => Row { c: LIST, ..PART },
         Operation::Store => PART,
         Operation::Each | Operation::Next => Row {
             c: Range::Any,

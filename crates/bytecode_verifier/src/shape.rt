@@ -7,7 +7,7 @@ ghost use Rattle.bytecode_verifier.specs.Budget.{one_charge, cap_of_octets, cap_
 ghost use Rattle.bytecode_verifier.specs.Pass.{IsSmall, Passes, Takes, TakesLists};
 
 use crate::cap::{Cap, ONE_CHARGE};
-use bytecode_format::{Instruction, Operation, Program, TestCounts};
+use bytecode_format::{Instruction, Operation, Program, TestCounts, TestOperation};
 use octets::{MAX_STRING, MAX_VALUE};
 use std::alloc::{AllocError, Global};
 use std::marker::Model;
@@ -103,11 +103,11 @@ impl Shape {
     {
         let Instruction { b, c, .. } = *instruction;
         let fine = match operation {
-            Some(Operation::Header) => return self.take_fields(b, TestCounts::of(c)),
-            Some(Operation::String) => return self.take_sources(b, c),
-            Some(Operation::Exists) => return self.take_names(b),
-            Some(Operation::PartBody) => return self.take_body_keys(c),
-            Some(Operation::PartDigest) => return self.take_digest_keys(c),
+            Some(Operation::Test(TestOperation::Header)) => return self.take_fields(b, TestCounts::of(c)),
+            Some(Operation::Test(TestOperation::String)) => return self.take_sources(b, c),
+            Some(Operation::Test(TestOperation::Exists)) => return self.take_names(b),
+            Some(Operation::Test(TestOperation::PartBody)) => return self.take_body_keys(c),
+            Some(Operation::Test(TestOperation::PartDigest)) => return self.take_digest_keys(c),
             Some(Operation::Join) => return self.join(b),
             Some(Operation::Take) => return Ok(Some(cap_of_content(b))),
             Some(Operation::Set | Operation::File | Operation::Store) => return Ok(
@@ -122,7 +122,7 @@ impl Shape {
             ) => self.is_empty(),
             Some(Operation::Literal) => self.push_string(program, c)?,
             Some(Operation::Variable | Operation::Capture) => self.push(Entry::Text(MAX_VALUE))?,
-            Some(Operation::Bool | Operation::Size | Operation::PartSize) => self.push(
+            Some(Operation::Test(TestOperation::Constant) | Operation::Test(TestOperation::Size) | Operation::Test(TestOperation::PartSize)) => self.push(
                 Entry::Truth,
             )?,
             Some(Operation::Not) => self.has_truth(),

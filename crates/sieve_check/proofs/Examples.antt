@@ -6,7 +6,7 @@ use Rattle.sieve_check.specs.declared.error.CheckError.TheVariants.{MissingCapab
 use Rattle.sieve_check.specs.declared.causes.ReasonKind.TheVariants as kind
 use Rattle.sieve_check.specs.declared.names.Capability.TheVariants.{Mime, FileInto, Depot}
 use Rattle.sieve_check.specs.declared.table.TestName.TheVariants.{Header, Exists, Size}
-use Rattle.sieve_check.specs.declared.typed.Order.TheVariants.{Over}
+use Rattle.bytecode_format.specs.declared.question.Order.TheVariants.{Over}
 use Rattle.sieve_check.specs.Causes.{plain, refusal_for}
 use Rattle.sieve_check.specs.Rules.{Visit, refused_among, fault_of, after_invocation}
 use Rattle.sieve_check.specs.Arguments.{reading}

@@ -18,8 +18,8 @@ use Rattle.sieve_check.specs.declared.signature.Positional.TheVariants as positi
 use Rattle.sieve_check.specs.declared.signature.Signature.{Signature}
 use Rattle.sieve_check.specs.Bounded.{IsBoundedString, IsAsTaken, AreBoundedStrings}
 use Rattle.sieve_check.specs.FormOf.{list_in, list_taken, template_of, strings_in as strings_taken}
-use Rattle.sieve_check.specs.declared.typed.Takes.{Takes}
-use Rattle.sieve_check.specs.Questions.{no_list}
+use Rattle.bytecode_format.specs.declared.question.Takes.{Takes}
+use Rattle.bytecode_format.specs.Questions.{no_list}
 use Rattle.sieve_check.specs.Rules.{is_long, string_has, strings_in, strings_of, lists_read}
 use Rattle.sieve_check.specs.Arguments.{reading}
 use Rattle.sieve_check.specs.Signatures.{◌>>=◌, Read, Given, with_argument, is_list, is_positional}

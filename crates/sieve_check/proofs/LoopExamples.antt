@@ -8,8 +8,8 @@ use Rattle.sieve_check.specs.declared.error.CheckError.TheVariants.{MissingCapab
 use Rattle.sieve_check.specs.declared.table.CommandName.TheVariants.{Break, ForEveryPart, Take}
 use Rattle.sieve_check.specs.declared.typed.Act.TheVariants as act
 use Rattle.sieve_check.specs.declared.typed.Act.TheVariants.{Keep, Store, Leave}
-use Rattle.sieve_check.specs.declared.typed.Order.TheVariants.{Under}
-use Rattle.sieve_check.specs.declared.typed.Question.TheVariants.{Constant, PartSize, PartBody, PartDigest}
+use Rattle.bytecode_format.specs.declared.question.Order.TheVariants.{Under}
+use Rattle.bytecode_format.specs.declared.question.Question.TheVariants.{Constant, PartSize, PartBody, PartDigest}
 use Rattle.sieve_check.specs.declared.typed.Segment.TheVariants.{Text, Variable}
 use Rattle.sieve_check.specs.FormOf.{form_of}
 use Rattle.sieve_check.specs.Causes.{refusal_for}

@@ -13,11 +13,12 @@ use Rattle.sieve_check.specs.declared.table.Role.{Role}
 use Rattle.sieve_check.specs.declared.table.Role.TheVariants.{Expanded}
 use Rattle.sieve_check.specs.declared.table.TestName.{TestName}
 use Rattle.sieve_check.specs.declared.table.TestName.TheVariants.{Constant}
-use Rattle.sieve_check.specs.declared.typed.Order.{Order}
-use Rattle.sieve_check.specs.declared.typed.Takes.{Takes}
+use Rattle.bytecode_format.specs.declared.question.Order.{Order}
+use Rattle.bytecode_format.specs.declared.question.Takes.{Takes}
 use Rattle.sieve_check.specs.Bounded.{IsBoundedAct}
 use Rattle.sieve_check.specs.Acts.{Acting, act_row, acting, bare, filing}
-use Rattle.sieve_check.specs.Questions.{Asking, Row, asking, by_number, by_tags, no_list, row_of, takes_params, unasked}
+use Rattle.bytecode_format.specs.Questions.{Row, no_list, row_of, takes_params}
+use Rattle.sieve_check.specs.Questions.{Asking, asking, by_number, by_tags, unasked}
 use Rattle.sieve_check.specs.Rows.{command_row, test_row}
 use Rattle.sieve_check.specs.Rules.{may_stand, same_tests}
 use Rattle.sieve_check.specs.Signatures.{command_signature, test_signature}

@@ -14,10 +14,10 @@ use Rattle.sieve_check.specs.declared.table.TestName.{TestName}
 use Rattle.sieve_check.specs.declared.table.TestName.TheVariants.{Constant, Not, AllOf, AnyOf}
 use Rattle.sieve_check.specs.declared.signature.Positional.{Positional}
 use Rattle.sieve_check.specs.declared.signature.Positional.TheVariants as positional
-use Rattle.sieve_check.specs.declared.typed.Order.{Order}
-use Rattle.sieve_check.specs.declared.typed.Order.TheVariants.{Over}
-use Rattle.sieve_check.specs.declared.typed.Question.{Question}
-use Rattle.sieve_check.specs.declared.typed.Takes.{Takes}
+use Rattle.bytecode_format.specs.declared.question.Order.{Order}
+use Rattle.bytecode_format.specs.declared.question.Order.TheVariants.{Over}
+use Rattle.bytecode_format.specs.declared.question.Question.{Question}
+use Rattle.bytecode_format.specs.declared.question.Takes.{Takes}
 use Rattle.bytecode_format.specs.declared.selection.Selector.{Selector}
 use Rattle.bytecode_format.specs.declared.selection.Selector.TheVariants.{Param}
 use Rattle.sieve_check.specs.declared.signature.Signature.{Signature}
@@ -33,7 +33,8 @@ use Rattle.sieve_check.specs.Names.{test_known, test_named}
 use Rattle.sieve_check.specs.Rows.{Row, test_row}
 use Rattle.sieve_check.specs.Arguments.{arguments_cause, reading}
 use Rattle.sieve_check.specs.Causes.{Cause, about, plain}
-use Rattle.sieve_check.specs.Questions.{Asking, asking, by_number, by_tags, no_list, row_of, takes_params, unasked}
+use Rattle.bytecode_format.specs.Questions.{no_list, row_of, takes_params}
+use Rattle.sieve_check.specs.Questions.{Asking, asking, by_number, by_tags, unasked}
 use Rattle.sieve_check.specs.Rules.{Visit, are_many, cause_of, ending_cause, expanding, ill_formed, kind_of, known_cause, lacking, lacking_cause, large_cause, large_mention_cause, lists_read, long_string_cause, looks_inside, many_loops_cause, many_strings_cause, may_stand, mention_cause, Mentions, mentions_of, mentions_read, misplaced, more_visits, names_by, names_mentioned, needs_of, no_mention, opened_by, place_cause, read_cause, row_mentions, same_tests, string_has, strings_of, takes_tests, tests_cause, tests_visits, unknown_cause, visits_of, where_required}
 use Rattle.sieve_check.specs.Signatures.{◌>>=◌, Read, is_positional, test_signature}
 use Rattle.sieve_check.specs.Surroundings.{Context, first_lacking, opens_many}

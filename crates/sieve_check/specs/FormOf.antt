@@ -11,9 +11,9 @@ use Rattle.sieve_check.specs.declared.table.TestName.TheVariants.{Not, AllOf, An
 use Rattle.sieve_check.specs.declared.names.Capability.TheVariants.{Variables}
 use Rattle.sieve_check.specs.declared.typed.Act.{Act}
 use Rattle.sieve_check.specs.declared.typed.Act.TheVariants as act
-use Rattle.sieve_check.specs.declared.typed.Order.{Order}
-use Rattle.sieve_check.specs.declared.typed.Question.{Question}
-use Rattle.sieve_check.specs.declared.typed.Takes.{Takes}
+use Rattle.bytecode_format.specs.declared.question.Order.{Order}
+use Rattle.bytecode_format.specs.declared.question.Question.{Question}
+use Rattle.bytecode_format.specs.declared.question.Takes.{Takes}
 use Rattle.sieve_check.specs.declared.typed.Segment.{Segment}
 use Rattle.sieve_check.specs.declared.typed.Segment.TheVariants.{Text, Variable, Capture}
 use Rattle.bytecode_format.specs.declared.modifiers.Modifiers.{Modifiers}
@@ -25,7 +25,8 @@ use Rattle.sieve_check.specs.Signatures.{◌>>=◌, Read, command_signature, tes
 use Rattle.sieve_check.specs.Rules.{after_invocation, invocation_of, loops_opened}
 use Rattle.sieve_check.specs.Surroundings.{Context, Loop, at_start, has_capability, inside, loops_left}
 use Rattle.sieve_check.specs.Acts.{Acting, acting, bare, filing, setting, taking, leaving, inactive}
-use Rattle.sieve_check.specs.Questions.{Asking, asking, by_number, by_tags, row_of, unasked}
+use Rattle.bytecode_format.specs.Questions.{row_of}
+use Rattle.sieve_check.specs.Questions.{Asking, asking, by_number, by_tags, unasked}
 use Rattle.sieve_check.specs.Typed.{Template, Strings, TestForm, asks, negation, all_of, any_of, TestForms, no_test as no_other, test, CommandForm, does, for_every_part, choice, CommandForms, no_command, command, BranchForms, no_branch, otherwise, branch}
 
 -- the forms of the tests behind arguments: none, one, or a first and others in brackets

@@ -6,8 +6,8 @@ use Rattle.bytecode_format.specs.declared.modifiers.Case.{Case}
 use Rattle.bytecode_format.specs.declared.modifiers.Case.TheVariants.{Lower, Upper}
 use Rattle.bytecode_format.specs.declared.selection.Selector.{Selector}
 use Rattle.bytecode_format.specs.declared.selection.Selector.TheVariants.{Value, Main, Sub, ContentType, Param}
-use Rattle.sieve_check.specs.declared.typed.Order.{Order as Ordering}
-use Rattle.sieve_check.specs.declared.typed.Order.TheVariants.{Over, Under}
+use Rattle.bytecode_format.specs.declared.question.Order.{Order as Ordering}
+use Rattle.bytecode_format.specs.declared.question.Order.TheVariants.{Over, Under}
 use Rattle.sieve_check.specs.declared.names.Tag.{Tag}
 use Rattle.sieve_check.specs.declared.names.Tag.TheVariants.{Order, Kind, Comparator, Letters, FirstLetter, QuoteWildcard, Length, Mime, AnyChild, Select, Name, First}
 use Rattle.sieve_check.specs.declared.tag_table.Family.{Family}

@@ -2,7 +2,7 @@
 -- it begins; a choice begins where its first branch does.
 use Rattle.std.specs.Prelude.{ℕ, List, ◌++◌}
 use Rattle.sieve_check.specs.declared.typed.Act.{Act}
-use Rattle.sieve_check.specs.declared.typed.Question.{Question}
+use Rattle.bytecode_format.specs.declared.question.Question.{Question}
 use Rattle.sieve_check.specs.declared.typed.Segment.{Segment}
 
 -- a string as it is meant: stretches of text and references, which are put in their places one after the other

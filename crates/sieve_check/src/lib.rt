@@ -59,4 +59,4 @@ pub use table::{
     CommandName, TestName, all_commands, all_tests, command_named, command_word, test_named,
     test_word,
 };
-pub use typed::{Act, Branch, Command, Order, Question, Segment, Strings, Takes, Test};
+pub use typed::{Act, Branch, Command, Segment, Strings, Test};

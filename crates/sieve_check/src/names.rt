@@ -2,8 +2,7 @@
 ghost use Rattle.std.specs.Prelude.{◌≡◌};
 ghost use Rattle.sieve_check.specs.Names.{capability_named, comparator_named};
 
-use crate::typed::Order;
-use bytecode_format::{Case, Selector};
+use bytecode_format::{Case, Order, Selector};
 use glob_match::{Comparator, MatchType};
 
 /// The tags that are known, by the group of which at most one may stand.

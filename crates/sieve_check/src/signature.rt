@@ -6,8 +6,7 @@ ghost use Rattle.sieve_check.specs.Signatures.{is_list};
 
 use crate::names::Tag;
 use crate::tag_table::{Family, tag_row};
-use crate::typed::Order;
-use bytecode_format::{Modifiers, Selector};
+use bytecode_format::{Modifiers, Order, Selector};
 use glob_match::{Comparator, MatchType};
 use sieve_parser::Argument;
 

@@ -7,8 +7,7 @@ ghost use Rattle.sieve_check.specs.Private.{tag_view};
 ghost use Rattle.sieve_check.specs.TagRows.{first_letter_word, kind_word, letters_word, order_word, selector_word, tag_row, tag_word};
 
 use crate::names::Tag;
-use crate::typed::Order;
-use bytecode_format::{Case, Selector};
+use bytecode_format::{Case, Order, Selector};
 use glob_match::MatchType;
 use octets::is_word;
 

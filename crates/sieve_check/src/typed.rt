@@ -1,20 +1,8 @@
 // Scripts that were checked, in typed form: what they mean, without how they are written.
-ghost use Rattle.std.specs.Prelude.{◌≡◌};
-ghost use Rattle.sieve_check.specs.Questions.{takes_params};
 
-use bytecode_format::{FieldTest, Modifiers, Scope, Selector};
-use glob_match::Match;
+use bytecode_format::{Modifiers, Question};
 use octets::Octets;
 use std::slice;
-
-/// How a size is compared (RFC 5228, section 5.9).
-#[derive(Clone, Copy, PartialEq, Eq)]
-pub enum Order {
-    /// More octets than the number.
-    Over,
-    /// Fewer octets than the number.
-    Under,
-}
 
 /// A piece of a string: text as it stands, or a reference (RFC 5229, section 3).
 #[derive(Drop)]
@@ -25,45 +13,6 @@ pub enum Segment {
     Variable(Octets),
     /// What a wildcard of the last match stands for; 0 is the whole value that was matched.
     Capture(u8),
-}
-
-// Whether the values of parameters are taken, by their names.
-fn takes_params(selector: Selector) -> bool
-    ensures { result ≡ takes_params selector }
-{
-    match selector {
-        Selector::Param => true,
-        Selector::Value | Selector::Main | Selector::Sub | Selector::ContentType => false,
-    }
-}
-
-/// What a simple test asks, apart from its strings.
-#[derive(Clone, Copy)]
-pub enum Question {
-    /// `true` and `false`.
-    Constant(bool),
-    /// `header`: whether what is selected of a field of one of the names matches one of the keys.
-    Header(FieldTest),
-    /// `exists`: whether there is a field of each of the names.
-    Exists(Scope),
-    /// `size`.
-    Size(Order, u64),
-    /// `string`: whether one of the names, which are its sources, matches one of the keys (RFC 5229, section 5).
-    String(Match),
-    /// `partsize`: the size of the current part's content. Ours, as the two that follow.
-    PartSize(Order, u64),
-    /// `partbody`: whether the current part's content matches one of the keys.
-    PartBody(Match),
-    /// `partdigest`: whether the digest of the current part's content is one of the keys.
-    PartDigest,
-}
-
-/// Which lists of strings a question takes.
-#[derive(Clone, Copy)]
-pub struct Takes {
-    pub names: bool,
-    pub params: bool,
-    pub keys: bool,
 }
 
 /// The strings of a simple test, each as its segments. A list that the question doesn't take is empty.
@@ -126,60 +75,6 @@ pub enum Act {
     Leave(u8),
     /// `stop`.
     Stop,
-}
-
-impl Question {
-    ghost use Rattle.std.specs.Prelude.{◌≡◌};
-    ghost use Rattle.std.specs.Option.{option_to_list};
-    ghost use Rattle.sieve_check.specs.Questions.{row_of};
-
-    /// The number that it compares with, if it does.
-    pub fn number(self) -> Option<u64>
-        ensures { option_to_list result ≡ (row_of self).numbers }
-    {
-        match self {
-            Question::Size(_, number) | Question::PartSize(_, number) => Some(number),
-            Question::Constant(_)
-            | Question::Header(_)
-            | Question::Exists(_)
-            | Question::String(_)
-            | Question::PartBody(_)
-            | Question::PartDigest => None,
-        }
-    }
-
-    /// Which lists of strings it takes.
-    pub fn takes(self) -> Takes
-        ensures { result ≡ (row_of self).takes }
-    {
-        match self {
-            Question::Constant(_) | Question::Size(_, _) | Question::PartSize(_, _) => Takes {
-                names: false,
-                params: false,
-                keys: false,
-            },
-            Question::Header(test) => Takes {
-                names: true,
-                params: takes_params(test.selector),
-                keys: true,
-            },
-            Question::Exists(_) => Takes {
-                names: true,
-                params: false,
-                keys: false,
-            },
-            Question::String(_) => Takes {
-                names: true,
-                params: false,
-                keys: true,
-            },
-            Question::PartBody(_) | Question::PartDigest => Takes {
-                names: false,
-                params: false,
-                keys: true,
-            },
-        }
-    }
 }
 
 impl Act {

@@ -21,8 +21,8 @@ use Rattle.sieve_check.specs.declared.typed.Segment.{Segment}
 use Rattle.sieve_check.specs.declared.typed.Segment.TheVariants.{Text, Variable, Capture}
 use Rattle.sieve_check.specs.Typed.{Template, CommandForms, Strings, in_order, TestForm, asks, negation, all_of, any_of, TestForms, no_test, test, BranchForms, no_branch, otherwise, branch, CommandForm, does, for_every_part, choice, no_command, command}
 use Rattle.sieve_check.specs.Variables.{string_variables, strings_variables}
-use Rattle.sieve_check.specs.declared.typed.Question.{Question}
-use Rattle.sieve_check.specs.Questions.{row_of}
+use Rattle.bytecode_format.specs.declared.question.Question.{Question}
+use Rattle.bytecode_format.specs.Questions.{row_of}
 use Rattle.sieve_check.specs.declared.typed.Act.{Act}
 use Rattle.sieve_check.specs.declared.typed.Act.TheVariants.{Leave, Stop}
 use Rattle.sieve_check.specs.Acts.{act_row, act_strings}

@@ -16,11 +16,11 @@ use Rattle.bytecode_verifier.proofs.Open.{inside}
 use Rattle.mime_decode.specs.Mail.{Mail, size_of}
 use Rattle.mail_matching.specs.HeaderTests.{exists_in}
 use Rattle.mail_matching.specs.PartTests.{body_match, digest_match}
-use Rattle.sieve_check.specs.declared.typed.Order.{Order}
-use Rattle.sieve_check.specs.declared.typed.Question.{Question}
-use Rattle.sieve_check.specs.declared.typed.Question.TheVariants.{Constant, Header, Exists, Size, String, PartSize, PartBody, PartDigest}
+use Rattle.bytecode_format.specs.declared.question.Order.{Order}
+use Rattle.bytecode_format.specs.declared.question.Question.{Question}
+use Rattle.bytecode_format.specs.declared.question.Question.TheVariants.{Constant, Header, Exists, Size, String, PartSize, PartBody, PartDigest}
 use Rattle.sieve_check.specs.Bounded.{AreBoundedStrings}
-use Rattle.sieve_check.specs.Questions.{row_of, no_list}
+use Rattle.bytecode_format.specs.Questions.{row_of, no_list}
 use Rattle.sieve_check.specs.Typed.{Strings}
 use Rattle.sieve_meaning.specs.Meaning.{Effects, texts_of, expanded, all_expanded, is_size, answer}
 use Rattle.sieve_vm.specs.State.{State, truth, current_part}

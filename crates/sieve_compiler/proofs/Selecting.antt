@@ -12,11 +12,11 @@ use Rattle.bytecode_format.specs.declared.selection.TestCounts.{TestCounts}
 use Rattle.bytecode_format.specs.Selection.{match_number, match_numbered, scope_number, scope_numbered, field_test_number, field_test_numbered, keys_in, params_in, counts_number}
 use Rattle.bytecode_format.proofs.SelectionLemmas.{match_again, scope_again, field_test_again, counts_again}
 use Rattle.bytecode_verifier.specs.Rows.{is_param, is_list, are_counts}
-use Rattle.sieve_check.specs.declared.typed.Order.{Order}
-use Rattle.sieve_check.specs.declared.typed.Order.TheVariants.{Over, Under}
-use Rattle.sieve_check.specs.declared.typed.Takes.{Takes}
+use Rattle.bytecode_format.specs.declared.question.Order.{Order}
+use Rattle.bytecode_format.specs.declared.question.Order.TheVariants.{Over, Under}
+use Rattle.bytecode_format.specs.declared.question.Takes.{Takes}
 use Rattle.sieve_check.specs.Bounded.{IsAsTaken, AreBoundedStrings}
-use Rattle.sieve_check.specs.Questions.{fields_by}
+use Rattle.bytecode_format.specs.Questions.{fields_by}
 use Rattle.sieve_check.specs.Typed.{Template, Strings}
 use Rattle.sieve_meaning.specs.Meaning.{is_size}
 use Rattle.sieve_compiler.specs.Coding.{truth_number, order_number}

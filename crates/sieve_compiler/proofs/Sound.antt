@@ -2,7 +2,8 @@
 use Rattle.std.proofs.Common.{◌≡◌, ℕ, zero, suc, ◌+◌, ◌<◌, ◌≤◌, Bool, true, false, List, [], ◌∷◌, ◌++◌, Option, Some, None, unwrap_or, slice_get, length, min, sum, refl, subst, arith}
 use Rattle.bytecode_format.specs.declared.instruction.Instruction.{Instruction}
 use Rattle.bytecode_format.specs.declared.operation.Operation.{Operation}
-use Rattle.bytecode_format.specs.declared.operation.Operation.TheVariants.{Literal, Variable as VariableOp, Capture as CaptureOp, Join, String, Bool as BoolOp, Header, Exists, Size, PartSize, PartBody, PartDigest, Each, Next, Break}
+use Rattle.bytecode_format.specs.declared.operation.Operation.TheVariants.{Literal, Variable as VariableOp, Capture as CaptureOp, Join, Each, Next, Break, Test}
+use Rattle.bytecode_format.specs.declared.operation.TestOperation.TheVariants.{String, Constant, Header, Exists, Size, PartSize, PartBody, PartDigest}
 use Rattle.bytecode_format.specs.Operations.{operation_of}
 use Rattle.std.specs.Option.{option_and_then, option_map_or}
 use Rattle.bytecode_format.specs.Code.{Code}
@@ -37,14 +38,14 @@ leaves tables (Some Literal) i entries = Text (length (string_at tables i.c)) �
 leaves tables (Some VariableOp) i entries = Text max_value ∷ entries
 leaves tables (Some CaptureOp) i entries = Text max_value ∷ entries
 leaves tables (Some Join) i entries = option_map_or joined_text (take_texts i.b entries) []
-leaves tables (Some BoolOp) i entries = Truth ∷ []
-leaves tables (Some Size) i entries = Truth ∷ []
-leaves tables (Some Header) i entries = Truth ∷ []
-leaves tables (Some Exists) i entries = Truth ∷ []
-leaves tables (Some String) i entries = Truth ∷ []
-leaves tables (Some PartSize) i entries = Truth ∷ []
-leaves tables (Some PartBody) i entries = Truth ∷ []
-leaves tables (Some PartDigest) i entries = Truth ∷ []
+leaves tables (Some (Test Constant)) i entries = Truth ∷ []
+leaves tables (Some (Test Size)) i entries = Truth ∷ []
+leaves tables (Some (Test Header)) i entries = Truth ∷ []
+leaves tables (Some (Test Exists)) i entries = Truth ∷ []
+leaves tables (Some (Test String)) i entries = Truth ∷ []
+leaves tables (Some (Test PartSize)) i entries = Truth ∷ []
+leaves tables (Some (Test PartBody)) i entries = Truth ∷ []
+leaves tables (Some (Test PartDigest)) i entries = Truth ∷ []
 leaves tables _ i entries = []
 
 abbrev pub left_by : Tables → Option Instruction → Entries → Entries

@@ -1,6 +1,6 @@
 -- The numbers of a script, as they stand in it.
 use Rattle.std.specs.Prelude.{ℕ, List, [], ◌++◌}
-use Rattle.sieve_check.specs.Questions.{row_of}
+use Rattle.bytecode_format.specs.Questions.{row_of}
 use Rattle.sieve_check.specs.Typed.{TestForm, asks, negation, all_of, any_of, TestForms, no_test, test, CommandForm, does, for_every_part, choice, CommandForms, no_command, command, BranchForms, no_branch, otherwise, branch}
 
 abbrev mutual

@@ -7,8 +7,8 @@ use crate::instructions::{
 };
 use crate::lengths::{has_leaves, is_left, test_length, tests_length};
 use crate::tables::Tables;
-use bytecode_format::{Instruction, Operation};
-use sieve_check::{Branch, Command, Question, Segment, Strings, Test};
+use bytecode_format::{Instruction, Operation, Question};
+use sieve_check::{Branch, Command, Segment, Strings, Test};
 use std::alloc::{AllocError, Global};
 
 /// The code so far, and the tables of the whole script.
@@ -28,7 +28,7 @@ impl<'t, 's> Coder<'t, 's> {
     ghost use Rattle.sieve_check.specs.Private.{branch_forms, else_form};
     ghost use Rattle.sieve_compiler.specs.Lengths.{string_length, strings_length, test_length, tests_length, leave_length, command_length, commands_length};
     ghost use Rattle.sieve_check.specs.Typed.{in_order};
-    ghost use Rattle.sieve_check.specs.Questions.{row_of};
+    ghost use Rattle.bytecode_format.specs.Questions.{row_of};
     ghost use Rattle.sieve_check.specs.Bounded.{IsBoundedString, AreBoundedStrings, IsBoundedTest, AreBoundedTests, IsBoundedCommand, AreBoundedCommands};
     ghost use Rattle.sieve_compiler.specs.Coding.{jump_if, loop_code, question_code, push_text, push_segment, string_code, strings_code, test_code, tests_code, leave_code, command_code, commands_code};
     ghost use Rattle.sieve_compiler.specs.Aiming.{aimed, with_target, branch_code, unaimed_code};

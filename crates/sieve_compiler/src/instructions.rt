@@ -7,8 +7,8 @@ ghost use Rattle.sieve_compiler.specs.Aiming.{is_jump, aimed};
 
 use crate::exits::Exit;
 use crate::tables::Tables;
-use bytecode_format::{Instruction, Operation, TestCounts, match_number};
-use sieve_check::{Act, Order, Question, Strings};
+use bytecode_format::{Instruction, Operation, Order, Question, TestCounts, TestOperation, match_number};
+use sieve_check::{Act, Strings};
 
 /// An instruction with all its fields.
 fn instruction_with(operation: Operation, a: u8, b: u16, c: u32) -> Instruction
@@ -61,29 +61,29 @@ pub fn question_code(tables: &Tables<'_>, question: Question, strings: &Strings)
     let names = strings.names.len() as u16;
     let keys = strings.keys.len() as u32;
     match question {
-        Question::Constant(value) => instruction(Operation::Bool, u8::from(value), 0),
+        Question::Constant(value) => instruction(Operation::Test(TestOperation::Constant), u8::from(value), 0),
         Question::Header(test) => {
             let counts = TestCounts {
                 params: strings.params.len() as u16,
                 keys: keys as u16,
             };
-            instruction_with(Operation::Header, test.number(), names, counts.number())
+            instruction_with(Operation::Test(TestOperation::Header), test.number(), names, counts.number())
         }
-        Question::Exists(scope) => instruction_with(Operation::Exists, scope.number(), names, 0),
+        Question::Exists(scope) => instruction_with(Operation::Test(TestOperation::Exists), scope.number(), names, 0),
         Question::Size(order, number) => {
             let place = tables.place_of_number(number) as u32;
-            instruction(Operation::Size, order_number(order), place)
+            instruction(Operation::Test(TestOperation::Size), order_number(order), place)
         }
         Question::String(how) => {
             let matching = match_number(how);
-            instruction_with(Operation::String, matching, names, keys)
+            instruction_with(Operation::Test(TestOperation::String), matching, names, keys)
         }
         Question::PartSize(order, number) => {
             let place = tables.place_of_number(number) as u32;
-            instruction(Operation::PartSize, order_number(order), place)
+            instruction(Operation::Test(TestOperation::PartSize), order_number(order), place)
         }
-        Question::PartBody(how) => instruction(Operation::PartBody, match_number(how), keys),
-        Question::PartDigest => instruction(Operation::PartDigest, 0, keys),
+        Question::PartBody(how) => instruction(Operation::Test(TestOperation::PartBody), match_number(how), keys),
+        Question::PartDigest => instruction(Operation::Test(TestOperation::PartDigest), 0, keys),
     }
 }
 

@@ -2,14 +2,15 @@
 ghost use Rattle.std.specs.Prelude.{◌≡◌};
 
 use crate::tables::Tables;
-use sieve_check::{Act, Command, Question, Segment, Strings, Test};
+use bytecode_format::Question;
+use sieve_check::{Act, Command, Segment, Strings, Test};
 use std::alloc::{AllocError, Global};
 
 impl<'a> Tables<'a> {
     ghost use Rattle.std.specs.Prelude.{◌≡◌, [], ◌∷◌, map, OnOk, IfOk};
     ghost use Rattle.sieve_check.specs.TypedView.{templates_of, strings_form, test_form, tests_of, command_form, commands_form};
     ghost use Rattle.sieve_check.specs.Typed.{in_order};
-    ghost use Rattle.sieve_check.specs.Questions.{row_of};
+    ghost use Rattle.bytecode_format.specs.Questions.{row_of};
     ghost use Rattle.sieve_check.specs.Acts.{act_row};
     ghost use Rattle.sieve_compiler.specs.Tables.{tables_of};
     ghost use Rattle.sieve_compiler.specs.Growing.{uses_with, segment_uses, segments_uses, string_uses, strings_uses, test_uses, tests_uses, command_uses, commands_uses, with_uses};

@@ -9,8 +9,8 @@ use Rattle.mail_matching.proofs.Pairs.{finding_holds}
 use Rattle.mime_decode.specs.Content.{digest_of}
 use Rattle.mime_decode.specs.Mail.{Mail, Part}
 use Rattle.mail_matching.specs.Selection.{selected_values}
-use Rattle.sieve_check.specs.declared.typed.Question.{Question}
-use Rattle.sieve_check.specs.declared.typed.Question.TheVariants.{Constant, Header, Exists, Size, String, PartSize, PartBody, PartDigest}
+use Rattle.bytecode_format.specs.declared.question.Question.{Question}
+use Rattle.bytecode_format.specs.declared.question.Question.TheVariants.{Constant, Header, Exists, Size, String, PartSize, PartBody, PartDigest}
 use Rattle.sieve_meaning.specs.Meaning.{Texts, answer, current}
 use Rattle.sieve_meaning.specs.Traced.{found}
 

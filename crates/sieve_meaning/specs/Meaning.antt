@@ -13,10 +13,10 @@ use Rattle.mime_decode.specs.Mail.{Mail, Part as MailPart, size_of}
 use Rattle.mime_decode.specs.Visited.{visited}
 use Rattle.sieve_check.specs.declared.typed.Act.{Act}
 use Rattle.sieve_check.specs.declared.typed.Act.TheVariants.{Keep, Discard, FileInto, Set, Take, Store, Leave, Stop}
-use Rattle.sieve_check.specs.declared.typed.Order.{Order}
-use Rattle.sieve_check.specs.declared.typed.Order.TheVariants.{Over, Under}
-use Rattle.sieve_check.specs.declared.typed.Question.{Question}
-use Rattle.sieve_check.specs.declared.typed.Question.TheVariants.{Constant, Header, Exists, Size, String, PartSize, PartBody, PartDigest}
+use Rattle.bytecode_format.specs.declared.question.Order.{Order}
+use Rattle.bytecode_format.specs.declared.question.Order.TheVariants.{Over, Under}
+use Rattle.bytecode_format.specs.declared.question.Question.{Question}
+use Rattle.bytecode_format.specs.declared.question.Question.TheVariants.{Constant, Header, Exists, Size, String, PartSize, PartBody, PartDigest}
 use Rattle.sieve_check.specs.declared.typed.Segment.{Segment}
 use Rattle.sieve_check.specs.declared.typed.Segment.TheVariants.{Text, Variable, Capture}
 use Rattle.sieve_check.specs.Typed.{Template, Strings, TestForm, asks, negation, all_of, any_of, TestForms, no_test, test, CommandForm, does, for_every_part, choice, CommandForms, no_command, command, BranchForms, no_branch, otherwise, branch}

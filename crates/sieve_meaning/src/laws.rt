@@ -3,7 +3,7 @@ ghost use Rattle.std.specs.Prelude.{◌≡◌, ℕ, IfSome, List, Option, is_som
 ghost use Rattle.mail_matching.specs.Findings.{is_pair};
 ghost use Rattle.mime_decode.specs.Mail.{Mail};
 ghost use Rattle.sieve_check.specs.Typed.{CommandForms};
-ghost use Rattle.sieve_check.specs.declared.typed.Question.{Question};
+ghost use Rattle.bytecode_format.specs.declared.question.Question.{Question};
 ghost use Rattle.sieve_meaning.specs.Meaning.{Texts, answer, meaning};
 ghost use Rattle.sieve_meaning.specs.Traced.{come_to, found, script_events};
 

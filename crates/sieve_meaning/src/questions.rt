@@ -14,13 +14,12 @@ ghost use Rattle.sieve_meaning.specs.Traced.{found};
 
 use crate::expanded_list::ExpandedList;
 use crate::subject::Subject;
-use bytecode_format::FieldTest;
+use bytecode_format::{FieldTest, Order, Question};
 use glob_match::Match;
 use mail_matching::{
     Answer, Finding, HeaderTest, Outcome, exists, find_body, find_digest, find_header, find_string,
 };
 use mime_decode::digest_of;
-use sieve_check::{Order, Question};
 use std::alloc::{AllocError, Global};
 
 /// The strings of a test, expanded.

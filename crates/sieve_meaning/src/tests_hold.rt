@@ -2,8 +2,9 @@
 use crate::evaluator::Evaluator;
 use crate::questions::{Reply, answer};
 use crate::subject::Subject;
+use bytecode_format::Question;
 use mail_matching::{Finding, Outcome};
-use sieve_check::{Question, Strings, Test};
+use sieve_check::{Strings, Test};
 use std::alloc::{AllocError, Global};
 
 impl<'s, 'm> Evaluator<'s, 'm> {
@@ -11,7 +12,7 @@ impl<'s, 'm> Evaluator<'s, 'm> {
     ghost use Rattle.mail_matching.specs.Findings.{shortened};
     ghost use Rattle.mail_matching.specs.Outcomes.{after};
     ghost use Rattle.sieve_check.specs.Bounded.{AreBoundedStrings, AreBoundedTests, IsBoundedTest};
-    ghost use Rattle.sieve_check.specs.Questions.{row_of};
+    ghost use Rattle.bytecode_format.specs.Questions.{row_of};
     ghost use Rattle.sieve_check.specs.TypedView.{strings_form, test_form, tests_of};
     ghost use Rattle.sieve_meaning.specs.Meaning.{Effects, all_do, answer, any_do, matched, test_does, texts_of};
     ghost use Rattle.sieve_meaning.specs.Evaluation.{Gives, HasEvaluated};

@@ -8,7 +8,7 @@ use Rattle.mail_matching.specs.Findings.{shortened}
 use Rattle.mail_matching.specs.declared.finding.Finding.{Finding}
 use Rattle.mail_matching.specs.declared.finding.Finding.TheVariants.{Pair, NoneOf}
 use Rattle.mime_decode.specs.Mail.{Mail}
-use Rattle.sieve_check.specs.declared.typed.Question.{Question}
+use Rattle.bytecode_format.specs.declared.question.Question.{Question}
 use Rattle.sieve_meaning.specs.Traced.{asked, event, turned}
 use Rattle.sieve_trace.specs.Printed.{Sheet, event_line, event_text, finding_text, occurrence_text, part_text, place_text, told, value_text}
 use Rattle.sieve_trace.specs.Private.{occurrence_of}

@@ -7,7 +7,7 @@ use Rattle.mail_matching.specs.declared.finding.Finding.{Finding}
 use Rattle.mail_matching.specs.declared.finding.Finding.TheVariants.{Pair, NoneOf}
 use Rattle.mime_decode.specs.Mail.{Mail, Part as MailPart}
 use Rattle.mime_params.specs.MediaValue.{media_text}
-use Rattle.sieve_check.specs.declared.typed.Question.{Question}
+use Rattle.bytecode_format.specs.declared.question.Question.{Question}
 use Rattle.sieve_meaning.specs.Traced.{Event, Occurrence, asked, negated, all_held, any_held, acted, turned}
 use Rattle.sieve_trace.specs.Words.{act_text, comparison_word, question_word}
 use Rattle.sieve_trace.specs.declared.places.Place.{Place}

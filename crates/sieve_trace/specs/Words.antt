@@ -6,8 +6,8 @@ use Rattle.glob_match.specs.declared.match_type.MatchType.{MatchType}
 use Rattle.glob_match.specs.declared.match_type.MatchType.TheVariants.{Is, Contains, Matches}
 use Rattle.sieve_check.specs.declared.typed.Act.{Act}
 use Rattle.sieve_check.specs.declared.typed.Act.TheVariants.{Keep, Discard, FileInto, Set, Take, Store, Leave, Stop}
-use Rattle.sieve_check.specs.declared.typed.Question.{Question}
-use Rattle.sieve_check.specs.declared.typed.Question.TheVariants.{Constant, Header, Exists, Size, String, PartSize, PartBody, PartDigest}
+use Rattle.bytecode_format.specs.declared.question.Question.{Question}
+use Rattle.bytecode_format.specs.declared.question.Question.TheVariants.{Constant, Header, Exists, Size, String, PartSize, PartBody, PartDigest}
 
 -- the word of a question
 abbrev pub question_word : Question → List ℕ

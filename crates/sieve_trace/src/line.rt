@@ -12,10 +12,11 @@ ghost use Rattle.sieve_trace.specs.Private.{occurrence_of, sheet_of};
 use crate::places::Place;
 use crate::scene::Scene;
 use crate::words::{comparison_word, push_act, push_number, push_with_text, question_word};
+use bytecode_format::Question;
 use bytecode_listing::quoting::MAX_START;
 use mail_matching::Finding;
 use mime_decode::Message;
-use sieve_check::{Act, Question};
+use sieve_check::Act;
 use sieve_meaning::Subject;
 use std::alloc::{AllocError, Global};
 

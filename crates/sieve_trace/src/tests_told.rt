@@ -2,7 +2,7 @@
 ghost use Rattle.std.specs.Prelude.{◌≡◌, IfErr, IfOk, map};
 ghost use Rattle.encodings.specs.Device.{HasTaken};
 ghost use Rattle.sieve_check.specs.Bounded.{AreBoundedStrings, AreBoundedTests, IsBoundedTest};
-ghost use Rattle.sieve_check.specs.Questions.{row_of};
+ghost use Rattle.bytecode_format.specs.Questions.{row_of};
 ghost use Rattle.sieve_check.specs.Typed.{asks};
 ghost use Rattle.sieve_check.specs.TypedView.{strings_form, test_form, tests_of};
 ghost use Rattle.sieve_meaning.specs.Evaluation.{HasEvaluated};
@@ -16,8 +16,9 @@ use crate::error::TraceError;
 use crate::line::{MAX_KEPT, Page, Told};
 use crate::scene::Scene;
 use crate::telling::tell;
+use bytecode_format::Question;
 use encodings::Sink;
-use sieve_check::{Question, Strings, Test};
+use sieve_check::{Strings, Test};
 use sieve_meaning::Evaluator;
 
 /// Whether the test is true of the message. It is told after the tests that it is made of.

@@ -6,11 +6,12 @@ ghost use Rattle.bytecode_listing.specs.Quoted.{quoted_start};
 ghost use Rattle.sieve_meaning.specs.Traced.{variable_of};
 ghost use Rattle.sieve_trace.specs.Words.{act_text, comparison_word, kind_word, question_word};
 
+use bytecode_format::Question;
 use bytecode_listing::quoting::put_quoted_start;
 use glob_match::MatchType;
 use itoa::Buffer;
 use octets::Octets;
-use sieve_check::{Act, Question};
+use sieve_check::Act;
 use std::alloc::AllocError;
 
 /// The word of a question.

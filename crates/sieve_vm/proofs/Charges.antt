@@ -4,7 +4,8 @@ use Rattle.std.proofs.Math.Nat.{mul-le-mul}
 use Rattle.std.specs.Option.{option_and_then, option_map, option_map_or}
 use Rattle.bytecode_format.specs.declared.instruction.Instruction.{Instruction}
 use Rattle.bytecode_format.specs.declared.operation.Operation.{Operation}
-use Rattle.bytecode_format.specs.declared.operation.Operation.TheVariants.{Join, Set, Header, Exists, String, PartBody, PartDigest, File, Store, Take}
+use Rattle.bytecode_format.specs.declared.operation.Operation.TheVariants.{Join, Set, File, Store, Take, Test}
+use Rattle.bytecode_format.specs.declared.operation.TestOperation.TheVariants.{Header, Exists, String, PartBody, PartDigest}
 use Rattle.bytecode_format.specs.Code.{Code}
 use Rattle.bytecode_verifier.specs.declared.shape.Entry.TheVariants.{Truth, Text}
 use Rattle.bytecode_verifier.specs.Shape.{Entries, Texts, Lists as ListBounds, with_entry, with_joined, take_texts, take_lists}
@@ -189,15 +190,15 @@ taken_fits mail most (Some current) = go (slice_get mail.parts current)
 -- the charge of an instruction that the shape goes over
 pub charge_fits : (code : Code) (mail : Mail) → IsMail mail → (o : Operation) (i : Instruction) (s : State) (entries : Entries) → Describes entries s.stack → (after : Entries) → left_by code (Some o) i entries ≡ Some after
     → IsWithinCap mail (charge_of mail o i s) (cap_of (Some o) i entries)
-charge_fits code mail known Header i s entries d after e = header_fits code mail known i s entries d (field_test_numbered i.a) after e
-charge_fits code mail known Exists i s entries d after e = exists_fits code mail known i s entries d (scope_numbered i.a) after e
+charge_fits code mail known (Test Header) i s entries d after e = header_fits code mail known i s entries d (field_test_numbered i.a) after e
+charge_fits code mail known (Test Exists) i s entries d after e = exists_fits code mail known i s entries d (scope_numbered i.a) after e
 charge_fits code mail known File i s entries d after e = file_fits code mail known i s entries d after e
 charge_fits code mail known Store i s entries d after e = file_fits code mail known i s entries d after e
-charge_fits code mail known PartBody i s entries d after e = keys_fit code mail known i s entries d body_cost cap_of_body (body_fits code mail known i s entries d) (λ bounds. omega arith) after e
-charge_fits code mail known PartDigest i s entries d after e = keys_fit code mail known i s entries d digest_cost cap_of_digest (digest_fits code mail known i s entries d) (λ bounds. omega arith) after e
+charge_fits code mail known (Test PartBody) i s entries d after e = keys_fit code mail known i s entries d body_cost cap_of_body (body_fits code mail known i s entries d) (λ bounds. omega arith) after e
+charge_fits code mail known (Test PartDigest) i s entries d after e = keys_fit code mail known i s entries d digest_cost cap_of_digest (digest_fits code mail known i s entries d) (λ bounds. omega arith) after e
 charge_fits code mail known Set i s entries d after e = file_fits code mail known i s entries d after e
 charge_fits code mail known Join i s entries d after e = parts_fit code mail known i s entries d after e
-charge_fits code mail known String i s entries d after e = sources_fit code mail known i s entries d after e
+charge_fits code mail known (Test String) i s entries d after e = sources_fit code mail known i s entries d after e
 charge_fits code mail known Take i s entries d after e =
     let most = taken_fits mail i.b (current_part s.frames) in
     record { some = omega arith; most = omega (arith, most) }

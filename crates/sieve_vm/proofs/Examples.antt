@@ -3,7 +3,8 @@ use Rattle.std.proofs.Common.{◌≡◌, ℕ, ◌+◌, ◌*◌, true, false, Lis
 use Rattle.bytecode_format.specs.declared.action.Action.TheVariants as action
 use Rattle.bytecode_format.specs.declared.instruction.Instruction.{Instruction}
 use Rattle.bytecode_format.specs.declared.operation.Operation.{Operation}
-use Rattle.bytecode_format.specs.declared.operation.Operation.TheVariants.{Literal, Variable, Capture, Join, Set, Header, Exists, String, File}
+use Rattle.bytecode_format.specs.declared.operation.Operation.TheVariants.{Literal, Variable, Capture, Join, Set, File, Test}
+use Rattle.bytecode_format.specs.declared.operation.TestOperation.TheVariants.{Header, Exists, String}
 use Rattle.bytecode_format.specs.Operations.{octet_of}
 use Rattle.bytecode_format.specs.Code.{Code}
 use Rattle.mime_decode.specs.Mail.{Part, Mail}
@@ -68,19 +69,19 @@ module _ (root : Part) where
   truth_filed = refl
 
   -- two fields and one more, of a name of 7 octets and one more; a value of 2 octets and one more, of a key of 1 and one more
-  matched : effect (referred_in code) mail Header (lists Header 1 1 1) (with_stack (text (codes "A") ∷ text (codes "Subject") ∷ [])) ≡ on (with_stack (truth true ∷ []))
+  matched : effect (referred_in code) mail (Test Header) (lists (Test Header) 1 1 1) (with_stack (text (codes "A") ∷ text (codes "Subject") ∷ [])) ≡ on (with_stack (truth true ∷ []))
   matched = refl
 
-  matched_charge : charge_of mail Header (lists Header 1 1 1) (with_stack (text (codes "A") ∷ text (codes "Subject") ∷ [])) ≡ 1 + 3 * 8 + 3 * 2
+  matched_charge : charge_of mail (Test Header) (lists (Test Header) 1 1 1) (with_stack (text (codes "A") ∷ text (codes "Subject") ∷ [])) ≡ 1 + 3 * 8 + 3 * 2
   matched_charge = refl
 
   -- the captures of a match: the value, and what its wildcard stands for
-  captured : effect (referred_in code) mail Header (lists Header 2 1 1) (with_stack (text (codes "a*") ∷ text (codes "Subject") ∷ []))
+  captured : effect (referred_in code) mail (Test Header) (lists (Test Header) 2 1 1) (with_stack (text (codes "a*") ∷ text (codes "Subject") ∷ []))
       ≡ on (record (with_stack (truth true ∷ [])) { captures = codes "aa" ∷ codes "a" ∷ [] ∷ [] ∷ [] ∷ [] ∷ [] ∷ [] ∷ [] ∷ [] ∷ [] })
   captured = refl
 
   -- a match that fails leaves them
-  not_captured : effect (referred_in code) mail Header (lists Header 2 1 1) (record (with_stack (text (codes "b*") ∷ text (codes "Subject") ∷ [])) { captures = codes "old" ∷ [] })
+  not_captured : effect (referred_in code) mail (Test Header) (lists (Test Header) 2 1 1) (record (with_stack (text (codes "b*") ∷ text (codes "Subject") ∷ [])) { captures = codes "old" ∷ [] })
       ≡ on (record (with_stack (truth false ∷ [])) { captures = codes "old" ∷ [] })
   not_captured = refl
 
@@ -120,19 +121,19 @@ module _ (root : Part) where
   no_variable_to_set = refl
 
   -- the second of two sources matches, and it sets captures
-  source_matched : effect (referred_in code) mail String (lists String 2 2 1) (with_stack (text (codes "b*") ∷ text (codes "bc") ∷ text (codes "a") ∷ []))
+  source_matched : effect (referred_in code) mail (Test String) (lists (Test String) 2 2 1) (with_stack (text (codes "b*") ∷ text (codes "bc") ∷ text (codes "a") ∷ []))
       ≡ on (record (with_stack (truth true ∷ [])) { captures = codes "bc" ∷ codes "c" ∷ [] ∷ [] ∷ [] ∷ [] ∷ [] ∷ [] ∷ [] ∷ [] ∷ [] })
   source_matched = refl
 
   -- all sources and keys count: one octet and one more, two octets and one more, each times two octets and one more
-  source_charge : charge_of mail String (lists String 2 2 1) (with_stack (text (codes "b*") ∷ text (codes "bc") ∷ text (codes "a") ∷ [])) ≡ 1 + 2 * 3 + 3 * 3
+  source_charge : charge_of mail (Test String) (lists (Test String) 2 2 1) (with_stack (text (codes "b*") ∷ text (codes "bc") ∷ text (codes "a") ∷ [])) ≡ 1 + 2 * 3 + 3 * 3
   source_charge = refl
 
-  exists : effect (referred_in code) mail Exists (lists Exists 0 2 0) (with_stack (text (codes "x") ∷ text (codes "Subject") ∷ [])) ≡ on (with_stack (truth true ∷ []))
+  exists : effect (referred_in code) mail (Test Exists) (lists (Test Exists) 0 2 0) (with_stack (text (codes "x") ∷ text (codes "Subject") ∷ [])) ≡ on (with_stack (truth true ∷ []))
   exists = refl
 
-  exists_charge : charge_of mail Exists (lists Exists 0 2 0) (with_stack (text (codes "x") ∷ text (codes "Subject") ∷ [])) ≡ 1 + 3 * (8 + 2)
+  exists_charge : charge_of mail (Test Exists) (lists (Test Exists) 0 2 0) (with_stack (text (codes "x") ∷ text (codes "Subject") ∷ [])) ≡ 1 + 3 * (8 + 2)
   exists_charge = refl
 
-  not_there : effect (referred_in code) mail Exists (lists Exists 0 2 0) (with_stack (text (codes "y") ∷ text (codes "Subject") ∷ [])) ≡ on (with_stack (truth false ∷ []))
+  not_there : effect (referred_in code) mail (Test Exists) (lists (Test Exists) 0 2 0) (with_stack (text (codes "y") ∷ text (codes "Subject") ∷ [])) ≡ on (with_stack (truth false ∷ []))
   not_there = refl

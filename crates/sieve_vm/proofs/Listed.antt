@@ -9,7 +9,8 @@ use Rattle.bytecode_format.specs.declared.action.Action.TheVariants as action
 use Rattle.bytecode_format.specs.declared.instruction.Instruction.{Instruction}
 use Rattle.bytecode_format.specs.declared.modifiers.Modifiers.{Modifiers}
 use Rattle.bytecode_format.specs.declared.operation.Operation.{Operation}
-use Rattle.bytecode_format.specs.declared.operation.Operation.TheVariants.{Halt, Literal, Variable, Capture, Join, Set, Bool as BoolOp, Not, Jump, JumpIfTrue, JumpIfFalse, Header, Exists, String, Size, PartSize, PartBody, PartDigest, Keep, Discard, File, Store, Each, Next, Break, Take}
+use Rattle.bytecode_format.specs.declared.operation.Operation.TheVariants.{Halt, Literal, Variable, Capture, Join, Set, Not, Jump, JumpIfTrue, JumpIfFalse, Keep, Discard, File, Store, Each, Next, Break, Take, Test}
+use Rattle.bytecode_format.specs.declared.operation.TestOperation.TheVariants.{Constant, Header, Exists, String, Size, PartSize, PartBody, PartDigest}
 use Rattle.bytecode_format.specs.Action.{is_same}
 use Rattle.bytecode_format.specs.Actions.{first_occurrences, is_listed, with_implicit_keep}
 use Rattle.bytecode_format.specs.Modifiers.{modified, modifiers_numbered}
@@ -204,30 +205,30 @@ module _ (counted : Counted) where
     lists Capture = before Capture (has_push (text (slice_index_or s.captures i.a [])) s)
     lists Join = before Join (has_texts join s (texts_on_top i.b s.stack) (λ texts t. has_push (text (take max_string (concat texts))) t))
     lists Set = before Set (has_text (set_variable i) s s.stack (λ value t. has_set i.c (modifiers_numbered i.a) value t))
-    lists BoolOp = before BoolOp (has_push (truth (i.a == 1)) s)
+    lists (Test Constant) = before (Test Constant) (has_push (truth (i.a == 1)) s)
     lists Not = before Not (has_truth (λ b t. on (record t { stack = truth (not b) ∷ t.stack })) s s.stack (λ b t. refl))
     lists Jump = before Jump (has_if s.actions (is_sound_jump (referred_in code) s i) (jumps i.c s) refl)
     lists JumpIfTrue = before JumpIfTrue (has_if s.actions (is_sound_jump (referred_in code) s i) (with_truth (branch i.c true) s s.stack) (has_truth (branch i.c true) s s.stack (λ b t. has_branch i.c true b t)))
     lists JumpIfFalse = before JumpIfFalse (has_if s.actions (is_sound_jump (referred_in code) s i) (with_truth (branch i.c false) s s.stack) (has_truth (branch i.c false) s s.stack (λ b t. has_branch i.c false b t)))
-    lists Header =
-        before Header (has_meant s.actions (λ test. with_lists (test_values mail test) s (lists_on_top i.b (params_in i.c) (keys_in i.c) s.stack)) (field_test_numbered i.a)
+    lists (Test Header) =
+        before (Test Header) (has_meant s.actions (λ test. with_lists (test_values mail test) s (lists_on_top i.b (params_in i.c) (keys_in i.c) s.stack)) (field_test_numbered i.a)
         (λ test. has_lists (test_values mail test) s (lists_on_top i.b (params_in i.c) (keys_in i.c) s.stack) (λ texts t. has_tested t (found_in mail test texts t))))
-    lists Exists =
-        before Exists (has_meant s.actions (λ scope. with_texts (test_names mail scope) s (texts_on_top i.b s.stack)) (scope_numbered i.a)
+    lists (Test Exists) =
+        before (Test Exists) (has_meant s.actions (λ scope. with_texts (test_names mail scope) s (texts_on_top i.b s.stack)) (scope_numbered i.a)
         (λ scope. has_texts (test_names mail scope) s (texts_on_top i.b s.stack) (λ names t. has_push (truth (exists_in scope (current_part t.frames) names mail)) t)))
-    lists String =
-        before String (has_meant s.actions (λ how. with_lists (test_sources how) s (lists_on_top i.b 0 i.c s.stack)) (match_numbered i.a)
+    lists (Test String) =
+        before (Test String) (has_meant s.actions (λ how. with_lists (test_sources how) s (lists_on_top i.b 0 i.c s.stack)) (match_numbered i.a)
         (λ how. has_lists (test_sources how) s (lists_on_top i.b 0 i.c s.stack) (λ texts t. has_tested t (first_match how texts.names texts.keys t.captures))))
-    lists Size = before Size (has_number i (size_of mail) s (slice_get code.numbers i.c))
-    lists PartSize =
-        before PartSize (has_part (λ number part t. with_number i (length part.content) t (slice_get code.numbers i.c)) mail s s.frames
+    lists (Test Size) = before (Test Size) (has_number i (size_of mail) s (slice_get code.numbers i.c))
+    lists (Test PartSize) =
+        before (Test PartSize) (has_part (λ number part t. with_number i (length part.content) t (slice_get code.numbers i.c)) mail s s.frames
         (λ number part. has_number i (length part.content) s (slice_get code.numbers i.c)))
-    lists PartBody =
-        before PartBody (has_meant s.actions (λ how. with_part (λ number part t. with_texts (test_body how part) t (texts_on_top i.c t.stack)) mail s s.frames) (match_numbered i.a)
+    lists (Test PartBody) =
+        before (Test PartBody) (has_meant s.actions (λ how. with_part (λ number part t. with_texts (test_body how part) t (texts_on_top i.c t.stack)) mail s s.frames) (match_numbered i.a)
         (λ how. has_part (λ number part t. with_texts (test_body how part) t (texts_on_top i.c t.stack)) mail s s.frames
         (λ number part. has_texts (test_body how part) s (texts_on_top i.c s.stack) (λ keys t. has_tested t (body_match how part keys t.captures)))))
-    lists PartDigest =
-        before PartDigest (has_part (λ number part t. with_texts (test_digest part) t (texts_on_top i.c t.stack)) mail s s.frames
+    lists (Test PartDigest) =
+        before (Test PartDigest) (has_part (λ number part t. with_texts (test_digest part) t (texts_on_top i.c t.stack)) mail s s.frames
         (λ number part. has_texts (test_digest part) s (texts_on_top i.c s.stack) (λ keys t. has_tested t (digest_match part keys t.captures))))
     lists Keep = one_more s.actions action.Keep (counts counted (Some Keep)) (keep_counts counted)
     lists Discard = before Discard refl

@@ -3,7 +3,8 @@ use Rattle.std.proofs.Common.{◌≡◌, ℕ, zero, suc, ◌+◌, ◌*◌, true,
 use Rattle.bytecode_format.specs.declared.action.Action.TheVariants as action
 use Rattle.bytecode_format.specs.declared.instruction.Instruction.{Instruction}
 use Rattle.bytecode_format.specs.declared.operation.Operation.{Operation}
-use Rattle.bytecode_format.specs.declared.operation.Operation.TheVariants.{Halt, Header, Exists, PartSize, PartBody, PartDigest, Variable, Keep, File, Store, Each, Next, Break, Take}
+use Rattle.bytecode_format.specs.declared.operation.Operation.TheVariants.{Halt, Variable, Keep, File, Store, Each, Next, Break, Take, Test}
+use Rattle.bytecode_format.specs.declared.operation.TestOperation.TheVariants.{Header, Exists, PartSize, PartBody, PartDigest}
 use Rattle.bytecode_format.specs.Operations.{octet_of}
 use Rattle.bytecode_format.specs.Code.{Code}
 use Rattle.mime_decode.specs.Mail.{Mail, Part}
@@ -133,20 +134,20 @@ module _ (root : Part) where
   code = program one_loop
 
   -- its content has three octets: not over three, and not under three
-  not_over : effect (referred_in code) mail PartSize (instruction PartSize 0 0 0) (in_loop []) ≡ on (in_loop (truth false ∷ []))
+  not_over : effect (referred_in code) mail (Test PartSize) (instruction (Test PartSize) 0 0 0) (in_loop []) ≡ on (in_loop (truth false ∷ []))
   not_over = refl
 
-  no_part : effect (referred_in code) mail PartSize (instruction PartSize 0 0 0) (start code) ≡ fails
+  no_part : effect (referred_in code) mail (Test PartSize) (instruction (Test PartSize) 0 0 0) (start code) ≡ fails
   no_part = refl
 
-  body_is : effect (referred_in code) mail PartBody (instruction PartBody 0 0 1) (in_loop (text (codes "ONE") ∷ [])) ≡ on (in_loop (truth true ∷ []))
+  body_is : effect (referred_in code) mail (Test PartBody) (instruction (Test PartBody) 0 0 1) (in_loop (text (codes "ONE") ∷ [])) ≡ on (in_loop (truth true ∷ []))
   body_is = refl
 
-  body_charge : charge_of mail PartBody (instruction PartBody 0 0 1) (in_loop (text (codes "ON") ∷ [])) ≡ 1 + 4 * 3
+  body_charge : charge_of mail (Test PartBody) (instruction (Test PartBody) 0 0 1) (in_loop (text (codes "ON") ∷ [])) ≡ 1 + 4 * 3
   body_charge = refl
 
   -- 64 octets and one more
-  digest_charge : charge_of mail PartDigest (instruction PartDigest 0 0 1) (in_loop (text (codes "ab") ∷ [])) ≡ 1 + 65 * 3
+  digest_charge : charge_of mail (Test PartDigest) (instruction (Test PartDigest) 0 0 1) (in_loop (text (codes "ab") ∷ [])) ≡ 1 + 65 * 3
   digest_charge = ap (λ n. 1 + n) (digest_cost-is (part 1 (codes "one") (codes "one")) (codes "ab" ∷ []))
 
   -- the part's number is stored, and the implicit keep stays
@@ -198,20 +199,20 @@ module _ (root : Part) where
   budget_of_taking = refl
 
   -- the root; the current part; that with those below it
-  root_alone : effect (referred_in code) mail Header (instruction Header 0 1 1) (in_loop (text (codes "root") ∷ text (codes "Subject") ∷ [])) ≡ on (in_loop (truth true ∷ []))
+  root_alone : effect (referred_in code) mail (Test Header) (instruction (Test Header) 0 1 1) (in_loop (text (codes "root") ∷ text (codes "Subject") ∷ [])) ≡ on (in_loop (truth true ∷ []))
   root_alone = refl
 
-  current_alone : effect (referred_in code) mail Header (instruction Header 8 1 1) (in_loop (text (codes "below") ∷ text (codes "Subject") ∷ [])) ≡ on (in_loop (truth false ∷ []))
+  current_alone : effect (referred_in code) mail (Test Header) (instruction (Test Header) 8 1 1) (in_loop (text (codes "below") ∷ text (codes "Subject") ∷ [])) ≡ on (in_loop (truth false ∷ []))
   current_alone = refl
 
-  current_and_below : effect (referred_in code) mail Header (instruction Header 16 1 1) (in_loop (text (codes "below") ∷ text (codes "Subject") ∷ [])) ≡ on (in_loop (truth true ∷ []))
+  current_and_below : effect (referred_in code) mail (Test Header) (instruction (Test Header) 16 1 1) (in_loop (text (codes "below") ∷ text (codes "Subject") ∷ [])) ≡ on (in_loop (truth true ∷ []))
   current_and_below = refl
 
   -- two fields and one more, of a name of 7 octets and one more; values of 3 and 5 octets, each with one more, of a key of 1 and one more
-  scope_charge : charge_of mail Header (instruction Header 16 1 1) (in_loop (text (codes "x") ∷ text (codes "Subject") ∷ [])) ≡ 1 + 3 * 8 + (4 * 2 + 6 * 2)
+  scope_charge : charge_of mail (Test Header) (instruction (Test Header) 16 1 1) (in_loop (text (codes "x") ∷ text (codes "Subject") ∷ [])) ≡ 1 + 3 * 8 + (4 * 2 + 6 * 2)
   scope_charge = refl
 
-  exists_charge : charge_of mail Exists (instruction Exists 1 1 0) (in_loop (text (codes "Subject") ∷ [])) ≡ 1 + 2 * 8
+  exists_charge : charge_of mail (Test Exists) (instruction (Test Exists) 1 1 0) (in_loop (text (codes "Subject") ∷ [])) ≡ 1 + 2 * 8
   exists_charge = refl
 
   -- ---- brackets

@@ -6,7 +6,8 @@ use Rattle.std.proofs.lemmas.List.{length-take}
 use Rattle.std.proofs.lemmas.List.Elements.{All-push}
 use Rattle.bytecode_format.specs.declared.instruction.Instruction.{Instruction}
 use Rattle.bytecode_format.specs.declared.operation.Operation.{Operation}
-use Rattle.bytecode_format.specs.declared.operation.Operation.TheVariants.{PartSize, PartBody, PartDigest, Store, Take}
+use Rattle.bytecode_format.specs.declared.operation.Operation.TheVariants.{Store, Take, Test}
+use Rattle.bytecode_format.specs.declared.operation.TestOperation.TheVariants.{PartSize, PartBody, PartDigest}
 use Rattle.bytecode_format.specs.Operations.{operation_of}
 use Rattle.bytecode_format.specs.Code.{Code}
 use Rattle.bytecode_verifier.specs.declared.shape.Entry.TheVariants.{Truth, Text}
@@ -67,14 +68,14 @@ module _ (code : Code) (mail : Mail) (is : IsAccepted code) (known : IsMail mail
         subst (λ fs. Leads code mail s (with_part does mail s fs)) (sym p.is)
         (subst (λ (o : Option Part). Leads code mail s (option_map_or (λ part. does p.frame.part part s) o fails)) (sym p.there) leads)
 
-    pub leads_part_size : operation_of i.op ≡ Some PartSize → Leads code mail s (effect (referred_in code) mail PartSize i s)
+    pub leads_part_size : operation_of i.op ≡ Some (Test PartSize) → Leads code mail s (effect (referred_in code) mail (Test PartSize) i s)
     leads_part_size e =
-        let a = after_of code mail is known s i here from (Some PartSize) e in
-        let p = has_part PartSize e refl in
+        let a = after_of code mail is known s i here from (Some (Test PartSize)) e in
+        let p = has_part (Test PartSize) e refl in
         let number : slice_get code.numbers i.c ≡ Some (get_or code.numbers i.c 0) = slice_get-get_or code.numbers i.c 0 (part_number_known code is s.place i here e) in
         in_part (λ number part t. with_number i (length part.content) t (slice_get code.numbers i.c)) p
         (subst (λ (o : Option ℕ). Leads code mail s (with_number i (length p.part.content) s o)) (sym number)
-        (pushes code mail is known s i here from PartSize s (truth (compares i (get_or code.numbers i.c 0) (length p.part.content))) Truth entries a.0 e refl a.1 a.1 refl refl refl held from.stores d d))
+        (pushes code mail is known s i here from (Test PartSize) s (truth (compares i (get_or code.numbers i.c 0) (length p.part.content))) Truth entries a.0 e refl a.1 a.1 refl refl refl held from.stores d d))
 
     -- a test of the current part with keys
     leads_keys : (operation : Operation) (how : Match) (value : List ℕ) → operation_of i.op ≡ Some operation → is_plain (Some operation) ≡ true
@@ -90,17 +91,17 @@ module _ (code : Code) (mail : Mail) (is : IsAccepted code) (known : IsMail mail
             subst (λ (o : Option OnTop). Leads code mail s (with_texts (λ keys t. tested t (first_match how (value ∷ []) keys t.captures)) s o)) (sym keys.is)
             (leads_tested code mail is known s i here from operation (record s { stack = keys.top.below }) bounds.below after how (value ∷ []) keys.top.texts e goes_on leaves f refl refl refl held from.stores keys.below)
 
-    pub leads_part_body : operation_of i.op ≡ Some PartBody → Leads code mail s (effect (referred_in code) mail PartBody i s)
+    pub leads_part_body : operation_of i.op ≡ Some (Test PartBody) → Leads code mail s (effect (referred_in code) mail (Test PartBody) i s)
     leads_part_body e =
-        let p = has_part PartBody e refl in
+        let p = has_part (Test PartBody) e refl in
         let says = meant_by (match_numbered i.a) (part_body_known code is s.place i here e).0 in
         subst (λ (o : Option Match). Leads code mail s (with_meant (λ how. with_part (λ number part t. with_texts (test_body how part) t (texts_on_top i.c t.stack)) mail s s.frames) o)) (sym says.1)
-        (in_part (λ number part t. with_texts (test_body says.0 part) t (texts_on_top i.c t.stack)) p (leads_keys PartBody says.0 p.part.content e refl (λ es. refl)))
+        (in_part (λ number part t. with_texts (test_body says.0 part) t (texts_on_top i.c t.stack)) p (leads_keys (Test PartBody) says.0 p.part.content e refl (λ es. refl)))
 
-    pub leads_part_digest : operation_of i.op ≡ Some PartDigest → Leads code mail s (effect (referred_in code) mail PartDigest i s)
+    pub leads_part_digest : operation_of i.op ≡ Some (Test PartDigest) → Leads code mail s (effect (referred_in code) mail (Test PartDigest) i s)
     leads_part_digest e =
-        let p = has_part PartDigest e refl in
-        in_part (λ number part t. with_texts (test_digest part) t (texts_on_top i.c t.stack)) p (leads_keys PartDigest exactly (digest_of p.part.content) e refl (λ es. refl))
+        let p = has_part (Test PartDigest) e refl in
+        in_part (λ number part t. with_texts (test_digest part) t (texts_on_top i.c t.stack)) p (leads_keys (Test PartDigest) exactly (digest_of p.part.content) e refl (λ es. refl))
 
     pub leads_store : operation_of i.op ≡ Some Store → Leads code mail s (effect (referred_in code) mail Store i s)
     leads_store e =

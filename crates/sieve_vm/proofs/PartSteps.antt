@@ -5,7 +5,8 @@ use Rattle.std.proofs.lemmas.Option.{slice_get-get_or}
 use Rattle.bytecode_format.specs.declared.action.Action.TheVariants as action
 use Rattle.bytecode_format.specs.declared.instruction.Instruction.{Instruction}
 use Rattle.bytecode_format.specs.declared.operation.Operation.{Operation}
-use Rattle.bytecode_format.specs.declared.operation.Operation.TheVariants.{PartSize, PartBody, PartDigest, Store, Take}
+use Rattle.bytecode_format.specs.declared.operation.Operation.TheVariants.{Store, Take, Test}
+use Rattle.bytecode_format.specs.declared.operation.TestOperation.TheVariants.{PartSize, PartBody, PartDigest}
 use Rattle.bytecode_format.specs.Operations.{operation_of}
 use Rattle.bytecode_format.specs.Code.{Code}
 use Rattle.std.specs.Option.{option_and_then, option_map_or, unwrap_or}
@@ -117,37 +118,37 @@ module _ (code : Code) (mail : Mail) (is : IsAccepted code) (known : IsMail mail
           let fits : Leads code mail s (tested (record s { stack = n.0.below }) found) = subst (Leads code mail s) same (fine code mail is known pos m s at i here o e) in
           rw (same, price) (had_tested code mail is known pos m s at i here (record s { stack = n.0.below }) found (cost p n.0.texts) done m' fits now.0 now.1)
 
-    pub had_part_size : (e : operation_of i.op ≡ Some PartSize) (number : ℕ) (done : Done) (m' : Machine) → number ≡ get_or code.numbers i.c 0
+    pub had_part_size : (e : operation_of i.op ≡ Some (Test PartSize)) (number : ℕ) (done : Done) (m' : Machine) → number ≡ get_or code.numbers i.c 0
         → ((t : State) (part : Part) → Represents mail t m → part_in m.loops ≡ Some part → (done ≡ once On) × Represents mail (record t { stack = truth (compares i number (length part.content)) ∷ t.stack }) m')
-        → HasDone mail (effect (referred_in code) mail PartSize i s) 1 done m'
+        → HasDone mail (effect (referred_in code) mail (Test PartSize) i s) 1 done m'
     had_part_size e number done m' right tests =
-        let p = part_here PartSize e refl in
-        let now = tests s p.part at.stands.holds (part_is PartSize e refl) in
+        let p = part_here (Test PartSize) e refl in
+        let now = tests s p.part at.stands.holds (part_is (Test PartSize) e refl) in
         let known_number : slice_get code.numbers i.c ≡ Some number = slice_get-get_or code.numbers i.c 0 (part_number_known code is s.place i here_is e) ∙ ap (λ n. Some n) (sym right) in
-        let same : effect (referred_in code) mail PartSize i s ≡ push (truth (compares i number (length p.part.content))) s =
-        does_is PartSize e refl (λ place part t. with_number i (length part.content) t (slice_get code.numbers i.c)) ∙ ap (with_number i (length p.part.content) s) known_number in
-        let fits : Leads code mail s (push (truth (compares i number (length p.part.content))) s) = subst (Leads code mail s) same (fine code mail is known pos m s at i here PartSize e) in
+        let same : effect (referred_in code) mail (Test PartSize) i s ≡ push (truth (compares i number (length p.part.content))) s =
+        does_is (Test PartSize) e refl (λ place part t. with_number i (length part.content) t (slice_get code.numbers i.c)) ∙ ap (with_number i (length p.part.content) s) known_number in
+        let fits : Leads code mail s (push (truth (compares i number (length p.part.content))) s) = subst (Leads code mail s) same (fine code mail is known pos m s at i here (Test PartSize) e) in
         rw (same, pushed code mail s (truth (compares i number (length p.part.content))) s fits, now.0) (now.1, refl)
 
-    pub body_match_some : operation_of i.op ≡ Some PartBody → IsSome (match_numbered i.a)
+    pub body_match_some : operation_of i.op ≡ Some (Test PartBody) → IsSome (match_numbered i.a)
     body_match_some e = rw (meant_by (match_numbered i.a) (part_body_known code is s.place i here_is e).0).1 refl
 
-    pub had_part_body : (e : operation_of i.op ≡ Some PartBody) (how : Match) → match_numbered i.a ≡ Some how → (done : Done) (m' : Machine)
+    pub had_part_body : (e : operation_of i.op ≡ Some (Test PartBody)) (how : Match) → match_numbered i.a ≡ Some how → (done : Done) (m' : Machine)
         → ((t : State) (top : OnTop) (part : Part) → Represents mail t m → texts_on_top i.c t.stack ≡ Some top → part_in m.loops ≡ Some part
         → (done ≡ charged_at (body_cost part top.texts))
         × Represents mail (record t { stack = truth (is_some (body_match how part top.texts t.captures)) ∷ top.below; captures = unwrap_or (body_match how part top.texts t.captures) t.captures }) m')
-        → HasDone mail (effect (referred_in code) mail PartBody i s) (charge_of mail PartBody i s) done m'
+        → HasDone mail (effect (referred_in code) mail (Test PartBody) i s) (charge_of mail (Test PartBody) i s) done m'
     had_part_body e how says done m' tests =
-        had_keys PartBody e refl (λ es. refl) how (λ part. part.content) body_cost
+        had_keys (Test PartBody) e refl (λ es. refl) how (λ part. part.content) body_cost
         (ap (with_meant (λ x. with_part (λ number part t. with_texts (test_body x part) t (texts_on_top i.c t.stack)) mail s s.frames)) says)
         refl done m' tests
 
-    pub had_part_digest : (e : operation_of i.op ≡ Some PartDigest) (done : Done) (m' : Machine)
+    pub had_part_digest : (e : operation_of i.op ≡ Some (Test PartDigest)) (done : Done) (m' : Machine)
         → ((t : State) (top : OnTop) (part : Part) → Represents mail t m → texts_on_top i.c t.stack ≡ Some top → part_in m.loops ≡ Some part
         → (done ≡ charged_at (digest_cost part top.texts))
         × Represents mail (record t { stack = truth (is_some (digest_match part top.texts t.captures)) ∷ top.below; captures = unwrap_or (digest_match part top.texts t.captures) t.captures }) m')
-        → HasDone mail (effect (referred_in code) mail PartDigest i s) (charge_of mail PartDigest i s) done m'
-    had_part_digest e done m' tests = had_keys PartDigest e refl (λ es. refl) exactly (λ part. digest_of part.content) digest_cost refl refl done m' tests
+        → HasDone mail (effect (referred_in code) mail (Test PartDigest) i s) (charge_of mail (Test PartDigest) i s) done m'
+    had_part_digest e done m' tests = had_keys (Test PartDigest) e refl (λ es. refl) exactly (λ part. digest_of part.content) digest_cost refl refl done m' tests
 
     store_top : operation_of i.op ≡ Some Store → (folder : List ℕ) × ((rest : List Value) × (s.stack ≡ text folder ∷ rest))
     store_top e = let a = after code mail is known pos m s at i here Store e in folder_there there.entries a.0 s.stack a.1 there.describes

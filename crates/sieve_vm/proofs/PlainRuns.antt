@@ -9,7 +9,8 @@ use Rattle.octets.specs.Limits.{max_stack, max_string, max_value}
 use Rattle.bytecode_format.specs.declared.action.Action.TheVariants as action
 use Rattle.bytecode_format.specs.declared.instruction.Instruction.{Instruction}
 use Rattle.bytecode_format.specs.declared.operation.Operation.{Operation}
-use Rattle.bytecode_format.specs.declared.operation.Operation.TheVariants.{Halt, Literal, Variable, Capture, Join, Set, Bool as BoolOp, Not, Jump, JumpIfTrue, JumpIfFalse, Header, Exists, String, Size, PartSize, PartBody, PartDigest, Keep, Discard, File, Store, Each, Next, Break, Take}
+use Rattle.bytecode_format.specs.declared.operation.Operation.TheVariants.{Halt, Literal, Variable, Capture, Join, Set, Not, Jump, JumpIfTrue, JumpIfFalse, Keep, Discard, File, Store, Each, Next, Break, Take, Test}
+use Rattle.bytecode_format.specs.declared.operation.TestOperation.TheVariants.{Constant, Header, Exists, String, Size, PartSize, PartBody, PartDigest}
 use Rattle.bytecode_format.specs.Operations.{operation_of}
 use Rattle.bytecode_format.specs.Code.{Code}
 use Rattle.bytecode_format.specs.declared.modifiers.Modifiers.{Modifiers}
@@ -361,18 +362,18 @@ module _ (code : Code) (mail : Mail) (is : IsAccepted code) (known : IsMail mail
     stays Capture e = other Capture e refl (effect (referred_in code) mail Capture i s) (charge_of mail Capture i s)
     stays Join e = stays_join e
     stays Set e = stays_set e
-    stays BoolOp e = other BoolOp e refl (effect (referred_in code) mail BoolOp i s) (charge_of mail BoolOp i s)
+    stays (Test Constant) e = other (Test Constant) e refl (effect (referred_in code) mail (Test Constant) i s) (charge_of mail (Test Constant) i s)
     stays Not e = other Not e refl (effect (referred_in code) mail Not i s) (charge_of mail Not i s)
     stays Jump e = other Jump e refl (effect (referred_in code) mail Jump i s) (charge_of mail Jump i s)
     stays JumpIfTrue e = other JumpIfTrue e refl (effect (referred_in code) mail JumpIfTrue i s) (charge_of mail JumpIfTrue i s)
     stays JumpIfFalse e = other JumpIfFalse e refl (effect (referred_in code) mail JumpIfFalse i s) (charge_of mail JumpIfFalse i s)
-    stays Header e = other Header e refl (effect (referred_in code) mail Header i s) (charge_of mail Header i s)
-    stays Exists e = other Exists e refl (effect (referred_in code) mail Exists i s) (charge_of mail Exists i s)
-    stays String e = other String e refl (effect (referred_in code) mail String i s) (charge_of mail String i s)
-    stays Size e = other Size e refl (effect (referred_in code) mail Size i s) (charge_of mail Size i s)
-    stays PartSize e = other PartSize e refl (effect (referred_in code) mail PartSize i s) (charge_of mail PartSize i s)
-    stays PartBody e = other PartBody e refl (effect (referred_in code) mail PartBody i s) (charge_of mail PartBody i s)
-    stays PartDigest e = other PartDigest e refl (effect (referred_in code) mail PartDigest i s) (charge_of mail PartDigest i s)
+    stays (Test Header) e = other (Test Header) e refl (effect (referred_in code) mail (Test Header) i s) (charge_of mail (Test Header) i s)
+    stays (Test Exists) e = other (Test Exists) e refl (effect (referred_in code) mail (Test Exists) i s) (charge_of mail (Test Exists) i s)
+    stays (Test String) e = other (Test String) e refl (effect (referred_in code) mail (Test String) i s) (charge_of mail (Test String) i s)
+    stays (Test Size) e = other (Test Size) e refl (effect (referred_in code) mail (Test Size) i s) (charge_of mail (Test Size) i s)
+    stays (Test PartSize) e = other (Test PartSize) e refl (effect (referred_in code) mail (Test PartSize) i s) (charge_of mail (Test PartSize) i s)
+    stays (Test PartBody) e = other (Test PartBody) e refl (effect (referred_in code) mail (Test PartBody) i s) (charge_of mail (Test PartBody) i s)
+    stays (Test PartDigest) e = other (Test PartDigest) e refl (effect (referred_in code) mail (Test PartDigest) i s) (charge_of mail (Test PartDigest) i s)
     stays Keep e = stays_on Keep e (record s { actions = s.actions ++ action.Keep ∷ []; implicit_keep = false }) entries 1 refl full.fills refl refl refl (omega arith)
     stays Discard e = stays_on Discard e (record s { implicit_keep = false }) entries 1 refl full.fills refl refl refl (omega arith)
     stays File e = stays_file e

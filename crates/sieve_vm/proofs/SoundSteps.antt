@@ -5,7 +5,8 @@ use Rattle.std.proofs.lemmas.List.{length-replicate}
 use Rattle.std.proofs.lemmas.List.Elements.{All-replicate, All-push, All-nil}
 use Rattle.bytecode_format.specs.declared.instruction.Instruction.{Instruction}
 use Rattle.bytecode_format.specs.declared.operation.Operation.{Operation}
-use Rattle.bytecode_format.specs.declared.operation.Operation.TheVariants.{Halt, Literal, Variable, Capture, Join, Set, Bool as BoolOp, Not, Jump, JumpIfTrue, JumpIfFalse, Header, Exists, String, Size, PartSize, PartBody, PartDigest, Keep, Discard, File, Store, Each, Next, Break, Take}
+use Rattle.bytecode_format.specs.declared.operation.Operation.TheVariants.{Halt, Literal, Variable, Capture, Join, Set, Not, Jump, JumpIfTrue, JumpIfFalse, Keep, Discard, File, Store, Each, Next, Break, Take, Test}
+use Rattle.bytecode_format.specs.declared.operation.TestOperation.TheVariants.{Constant, Header, Exists, String, Size, PartSize, PartBody, PartDigest}
 use Rattle.bytecode_format.specs.Operations.{operation_of}
 use Rattle.bytecode_format.specs.Code.{Code}
 use Rattle.std.specs.Option.{option_and_then}
@@ -79,18 +80,18 @@ module _ (code : Code) (mail : Mail) (is : IsAccepted code) (known : IsMail mail
     leads Capture e = leads_capture code mail is known s i here from e
     leads Join e = leads_join code mail is known s i here from e
     leads Set e = leads_set code mail is known s i here from e
-    leads BoolOp e = leads_bool code mail is known s i here from e
+    leads (Test Constant) e = leads_bool code mail is known s i here from e
     leads Not e = leads_not code mail is known s i here from e
     leads Jump e = leads_jump code mail is known s i here from e
     leads JumpIfTrue e = leads_branch code mail is known s i here from JumpIfTrue true e refl refl refl
     leads JumpIfFalse e = leads_branch code mail is known s i here from JumpIfFalse false e refl refl refl
-    leads Header e = leads_header code mail is known s i here from e
-    leads Exists e = leads_exists code mail is known s i here from e
-    leads String e = leads_string code mail is known s i here from e
-    leads Size e = leads_size code mail is known s i here from e
-    leads PartSize e = leads_part_size code mail is known s i here from e
-    leads PartBody e = leads_part_body code mail is known s i here from e
-    leads PartDigest e = leads_part_digest code mail is known s i here from e
+    leads (Test Header) e = leads_header code mail is known s i here from e
+    leads (Test Exists) e = leads_exists code mail is known s i here from e
+    leads (Test String) e = leads_string code mail is known s i here from e
+    leads (Test Size) e = leads_size code mail is known s i here from e
+    leads (Test PartSize) e = leads_part_size code mail is known s i here from e
+    leads (Test PartBody) e = leads_part_body code mail is known s i here from e
+    leads (Test PartDigest) e = leads_part_digest code mail is known s i here from e
     leads Keep e = leads_still code mail is known s i here from Keep _ e refl (λ x. refl) refl refl refl refl held (All-push (NamesPart mail) s.actions action.Keep from.stores tt)
     leads Discard e = leads_still code mail is known s i here from Discard _ e refl (λ x. refl) refl refl refl refl held from.stores
     leads File e = leads_file code mail is known s i here from e

@@ -5,7 +5,8 @@ use Rattle.std.proofs.lemmas.Option.{slice_get-get_or}
 use Rattle.bytecode_format.specs.declared.action.Action.TheVariants as action
 use Rattle.bytecode_format.specs.declared.instruction.Instruction.{Instruction}
 use Rattle.bytecode_format.specs.declared.operation.Operation.{Operation}
-use Rattle.bytecode_format.specs.declared.operation.Operation.TheVariants.{Literal, Variable, Capture, Join, Set, Bool as BoolOp, Not, JumpIfTrue, JumpIfFalse, Header, Exists, String, Size, File}
+use Rattle.bytecode_format.specs.declared.operation.Operation.TheVariants.{Literal, Variable, Capture, Join, Set, Not, JumpIfTrue, JumpIfFalse, File, Test}
+use Rattle.bytecode_format.specs.declared.operation.TestOperation.TheVariants.{Constant, Header, Exists, String, Size}
 use Rattle.bytecode_format.specs.Operations.{operation_of}
 use Rattle.bytecode_format.specs.Code.{Code}
 use Rattle.std.specs.Option.{unwrap_or}
@@ -82,13 +83,13 @@ module _ (code : Code) (mail : Mail) (is : IsAccepted code) (known : IsMail mail
     had_push : (value : Value) (done : Done) (m' : Machine) → Leads code mail s (push value s) → Pushes value done m m' → HasDone mail (push value s) 1 done m'
     had_push value done m' fits pushes = rw (pushed code mail s value s fits, pushes.0) (pushes.1 s at.stands.holds, refl)
 
-    pub had_bool : operation_of i.op ≡ Some BoolOp → (done : Done) (m' : Machine) → Pushes (truth (i.a == 1)) done m m' → HasDone mail (effect (referred_in code) mail BoolOp i s) 1 done m'
-    had_bool e done m' pushes = had_push (truth (i.a == 1)) done m' (fine code mail is known pos m s at i here BoolOp e) pushes
+    pub had_bool : operation_of i.op ≡ Some (Test Constant) → (done : Done) (m' : Machine) → Pushes (truth (i.a == 1)) done m m' → HasDone mail (effect (referred_in code) mail (Test Constant) i s) 1 done m'
+    had_bool e done m' pushes = had_push (truth (i.a == 1)) done m' (fine code mail is known pos m s at i here (Test Constant) e) pushes
 
-    pub had_size : operation_of i.op ≡ Some Size → (answer : Bool) (done : Done) (m' : Machine) → answer ≡ compares i (get_or code.numbers i.c 0) (size_of mail) → Pushes (truth answer) done m m' → HasDone mail (effect (referred_in code) mail Size i s) 1 done m'
+    pub had_size : operation_of i.op ≡ Some (Test Size) → (answer : Bool) (done : Done) (m' : Machine) → answer ≡ compares i (get_or code.numbers i.c 0) (size_of mail) → Pushes (truth answer) done m m' → HasDone mail (effect (referred_in code) mail (Test Size) i s) 1 done m'
     had_size e answer done m' right pushes =
         let number : slice_get code.numbers i.c ≡ Some (get_or code.numbers i.c 0) = slice_get-get_or code.numbers i.c 0 (number_known code is s.place i here_is e) in
-        let fits : Leads code mail s (push (truth (compares i (get_or code.numbers i.c 0) (size_of mail))) s) = subst (λ (o : Option ℕ). Leads code mail s (with_number i (size_of mail) s o)) number (fine code mail is known pos m s at i here Size e) in
+        let fits : Leads code mail s (push (truth (compares i (get_or code.numbers i.c 0) (size_of mail))) s) = subst (λ (o : Option ℕ). Leads code mail s (with_number i (size_of mail) s o)) number (fine code mail is known pos m s at i here (Test Size) e) in
         rw number (rw (← right) (had_push (truth answer) done m' (rw right fits) pushes))
 
     pub had_literal : operation_of i.op ≡ Some Literal → (octets : List ℕ) (done : Done) (m' : Machine) → octets ≡ get_or code.strings i.c [] → Pushes (text octets) done m m' → HasDone mail (effect (referred_in code) mail Literal i s) 1 done m'
@@ -210,23 +211,23 @@ module _ (code : Code) (mail : Mail) (is : IsAccepted code) (known : IsMail mail
     abbrev HasNames : Type 0
     HasNames = (w : Mail) × ((t : State) × ((top : OnTop) × (Represents w t m × (texts_on_top i.b t.stack ≡ Some top) × AreTexts top.texts)))
 
-    names_top : operation_of i.op ≡ Some Exists → (top : OnTop) × (texts_on_top i.b s.stack ≡ Some top)
-    names_top e = let a = after code mail is known pos m s at i here Exists e in names_there i.b there.entries a.0 s.stack a.1 there.describes
+    names_top : operation_of i.op ≡ Some (Test Exists) → (top : OnTop) × (texts_on_top i.b s.stack ≡ Some top)
+    names_top e = let a = after code mail is known pos m s at i here (Test Exists) e in names_there i.b there.entries a.0 s.stack a.1 there.describes
 
-    pub names_some : IsProgram code → operation_of i.op ≡ Some Exists → HasNames
+    pub names_some : IsProgram code → operation_of i.op ≡ Some (Test Exists) → HasNames
     names_some fits e = let n = names_top e in (mail, (s, (n.0, (at.stands.holds, n.1, texts_are i.b s.stack n.0 (few fits) (short fits) n.1))))
 
-    pub scope_some : operation_of i.op ≡ Some Exists → IsSome (scope_numbered i.a)
+    pub scope_some : operation_of i.op ≡ Some (Test Exists) → IsSome (scope_numbered i.a)
     scope_some e = rw (exists_known code is s.place i here_is e).1.0 refl
 
-    pub had_exists : operation_of i.op ≡ Some Exists → (scope : Scope) → scope_numbered i.a ≡ Some scope → (done : Done) (m' : Machine)
+    pub had_exists : operation_of i.op ≡ Some (Test Exists) → (scope : Scope) → scope_numbered i.a ≡ Some scope → (done : Done) (m' : Machine)
         → ((t : State) (top : OnTop) → Represents mail t m → texts_on_top i.b t.stack ≡ Some top
         → (done ≡ charged_at (cost_of_names scope (current_part t.frames) mail top)) × Represents mail (record t { stack = truth (exists_in scope (current_part t.frames) top.texts mail) ∷ top.below }) m')
-        → HasDone mail (effect (referred_in code) mail Exists i s) (charge_of mail Exists i s) done m'
+        → HasDone mail (effect (referred_in code) mail (Test Exists) i s) (charge_of mail (Test Exists) i s) done m'
     had_exists e scope says done m' tests =
         let n = names_top e in
         let tested_now = tests s n.0 at.stands.holds n.1 in
-        let meant : Leads code mail s (with_texts (test_names mail scope) s (texts_on_top i.b s.stack)) = subst (λ (o : Option Scope). Leads code mail s (with_meant (λ x. with_texts (test_names mail x) s (texts_on_top i.b s.stack)) o)) says (fine code mail is known pos m s at i here Exists e) in
+        let meant : Leads code mail s (with_texts (test_names mail scope) s (texts_on_top i.b s.stack)) = subst (λ (o : Option Scope). Leads code mail s (with_meant (λ x. with_texts (test_names mail x) s (texts_on_top i.b s.stack)) o)) says (fine code mail is known pos m s at i here (Test Exists) e) in
         let fits : Leads code mail s (test_names mail scope n.0.texts (record s { stack = n.0.below })) = subst (λ (o : Option OnTop). Leads code mail s (with_texts (test_names mail scope) s o)) n.1 meant in
         rw (says, n.1, pushed code mail s (truth (exists_in scope (current_part s.frames) n.0.texts mail)) (record s { stack = n.0.below }) fits, tested_now.0) (tested_now.1, refl)
 
@@ -234,10 +235,10 @@ module _ (code : Code) (mail : Mail) (is : IsAccepted code) (known : IsMail mail
     abbrev HasLists : Type 0
     HasLists = (w : Mail) × ((t : State) × ((top : Lists) × (Represents w t m × (lists_on_top i.b (params_in i.c) (keys_in i.c) t.stack ≡ Some top) × AreTexts top.names × AreTexts top.params × AreTexts top.keys)))
 
-    lists_top : operation_of i.op ≡ Some Header → (top : Lists) × (lists_on_top i.b (params_in i.c) (keys_in i.c) s.stack ≡ Some top)
-    lists_top e = let a = after code mail is known pos m s at i here Header e in lists_there i.b (params_in i.c) (keys_in i.c) there.entries a.0 s.stack a.1 there.describes
+    lists_top : operation_of i.op ≡ Some (Test Header) → (top : Lists) × (lists_on_top i.b (params_in i.c) (keys_in i.c) s.stack ≡ Some top)
+    lists_top e = let a = after code mail is known pos m s at i here (Test Header) e in lists_there i.b (params_in i.c) (keys_in i.c) there.entries a.0 s.stack a.1 there.describes
 
-    pub lists_some : IsProgram code → operation_of i.op ≡ Some Header → HasLists
+    pub lists_some : IsProgram code → operation_of i.op ≡ Some (Test Header) → HasLists
     lists_some fits e =
         let l = lists_top e in
         let are = lists_are i.b (params_in i.c) (keys_in i.c) s.stack l.0 (few fits) (short fits) l.1 in
@@ -248,25 +249,25 @@ module _ (code : Code) (mail : Mail) (is : IsAccepted code) (known : IsMail mail
     had_tested t None cost done m' fits e stands = rw (pushed code mail s (truth false) t fits, e) (stands, refl)
     had_tested t (Some captures) cost done m' fits e stands = rw (pushed code mail s (truth true) (record t { captures = captures }) fits, e) (stands, refl)
 
-    pub field_test_some : operation_of i.op ≡ Some Header → IsSome (field_test_numbered i.a)
+    pub field_test_some : operation_of i.op ≡ Some (Test Header) → IsSome (field_test_numbered i.a)
     field_test_some e = let fields = header_known code is s.place i here_is e in rw fields.says refl
 
-    pub had_header : operation_of i.op ≡ Some Header → (test : FieldTest) → field_test_numbered i.a ≡ Some test → (done : Done) (m' : Machine)
+    pub had_header : operation_of i.op ≡ Some (Test Header) → (test : FieldTest) → field_test_numbered i.a ≡ Some test → (done : Done) (m' : Machine)
         → ((t : State) (top : Lists) → Represents mail t m → lists_on_top i.b (params_in i.c) (keys_in i.c) t.stack ≡ Some top
         → (done ≡ charged_at (cost_of_matching test (current_part t.frames) mail top)) × Represents mail (record t { stack = truth (is_some (found_in mail test top t)) ∷ top.below; captures = unwrap_or (found_in mail test top t) t.captures }) m')
-        → HasDone mail (effect (referred_in code) mail Header i s) (charge_of mail Header i s) done m'
+        → HasDone mail (effect (referred_in code) mail (Test Header) i s) (charge_of mail (Test Header) i s) done m'
     had_header e test says done m' tests =
         let l = lists_top e in
         let tested_now = tests s l.0 at.stands.holds l.1 in
-        let meant : Leads code mail s (with_lists (test_values mail test) s (lists_on_top i.b (params_in i.c) (keys_in i.c) s.stack)) = subst (λ (o : Option FieldTest). Leads code mail s (with_meant (λ x. with_lists (test_values mail x) s (lists_on_top i.b (params_in i.c) (keys_in i.c) s.stack)) o)) says (fine code mail is known pos m s at i here Header e) in
+        let meant : Leads code mail s (with_lists (test_values mail test) s (lists_on_top i.b (params_in i.c) (keys_in i.c) s.stack)) = subst (λ (o : Option FieldTest). Leads code mail s (with_meant (λ x. with_lists (test_values mail x) s (lists_on_top i.b (params_in i.c) (keys_in i.c) s.stack)) o)) says (fine code mail is known pos m s at i here (Test Header) e) in
         let fits : Leads code mail s (tested (record s { stack = l.0.below }) (found_in mail test l.0 s)) = subst (λ (o : Option Lists). Leads code mail s (with_lists (test_values mail test) s o)) l.1 meant in
         rw (says, l.1) (had_tested (record s { stack = l.0.below }) (found_in mail test l.0 s) (cost_of_matching test (current_part s.frames) mail l.0) done m' fits tested_now.0 tested_now.1)
 
     -- sources and keys are on top of a state that the machine stands for
-    sources_top : operation_of i.op ≡ Some String → (top : Lists) × (lists_on_top i.b 0 i.c s.stack ≡ Some top)
-    sources_top e = let a = after code mail is known pos m s at i here String e in lists_there i.b 0 i.c there.entries a.0 s.stack a.1 there.describes
+    sources_top : operation_of i.op ≡ Some (Test String) → (top : Lists) × (lists_on_top i.b 0 i.c s.stack ≡ Some top)
+    sources_top e = let a = after code mail is known pos m s at i here (Test String) e in lists_there i.b 0 i.c there.entries a.0 s.stack a.1 there.describes
 
-    pub sources_some : IsProgram code → operation_of i.op ≡ Some String → (w : Mail) × ((t : State) × ((top : Lists) × (Represents w t m × (lists_on_top i.b 0 i.c t.stack ≡ Some top) × AreTexts top.names × AreTexts top.keys)))
+    pub sources_some : IsProgram code → operation_of i.op ≡ Some (Test String) → (w : Mail) × ((t : State) × ((top : Lists) × (Represents w t m × (lists_on_top i.b 0 i.c t.stack ≡ Some top) × AreTexts top.names × AreTexts top.keys)))
     sources_some fits e =
         let l = sources_top e in
         let are = lists_are i.b 0 i.c s.stack l.0 (few fits) (short fits) l.1 in
@@ -276,16 +277,16 @@ module _ (code : Code) (mail : Mail) (is : IsAccepted code) (known : IsMail mail
     abbrev matched_by : Match → Lists → State → Option (List (List ℕ))
     matched_by how top t = first_match how top.names top.keys t.captures
 
-    pub sources_match_some : operation_of i.op ≡ Some String → IsSome (match_numbered i.a)
+    pub sources_match_some : operation_of i.op ≡ Some (Test String) → IsSome (match_numbered i.a)
     sources_match_some e = rw (meant_by (match_numbered i.a) (sources_known code is s.place i here_is e)).1 refl
 
-    pub had_string : operation_of i.op ≡ Some String → (how : Match) → match_numbered i.a ≡ Some how → (done : Done) (m' : Machine)
+    pub had_string : operation_of i.op ≡ Some (Test String) → (how : Match) → match_numbered i.a ≡ Some how → (done : Done) (m' : Machine)
         → ((t : State) (top : Lists) → Represents mail t m → lists_on_top i.b 0 i.c t.stack ≡ Some top
         → (done ≡ charged_at (cost_of_comparing top)) × Represents mail (record t { stack = truth (is_some (matched_by how top t)) ∷ top.below; captures = unwrap_or (matched_by how top t) t.captures }) m')
-        → HasDone mail (effect (referred_in code) mail String i s) (charge_of mail String i s) done m'
+        → HasDone mail (effect (referred_in code) mail (Test String) i s) (charge_of mail (Test String) i s) done m'
     had_string e how says done m' tests =
         let l = sources_top e in
         let tested_now = tests s l.0 at.stands.holds l.1 in
-        let meant : Leads code mail s (with_lists (test_sources how) s (lists_on_top i.b 0 i.c s.stack)) = subst (λ (o : Option Match). Leads code mail s (with_meant (λ x. with_lists (test_sources x) s (lists_on_top i.b 0 i.c s.stack)) o)) says (fine code mail is known pos m s at i here String e) in
+        let meant : Leads code mail s (with_lists (test_sources how) s (lists_on_top i.b 0 i.c s.stack)) = subst (λ (o : Option Match). Leads code mail s (with_meant (λ x. with_lists (test_sources x) s (lists_on_top i.b 0 i.c s.stack)) o)) says (fine code mail is known pos m s at i here (Test String) e) in
         let fits : Leads code mail s (tested (record s { stack = l.0.below }) (matched_by how l.0 s)) = subst (λ (o : Option Lists). Leads code mail s (with_lists (test_sources how) s o)) l.1 meant in
         rw (says, l.1) (had_tested (record s { stack = l.0.below }) (matched_by how l.0 s) (cost_of_comparing l.0) done m' fits tested_now.0 tested_now.1)

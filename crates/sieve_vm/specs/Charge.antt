@@ -3,7 +3,8 @@ use Rattle.std.specs.Prelude.{ℕ, ◌+◌, List, Option, Some, None, length, mi
 use Rattle.std.specs.Option.{option_map_or}
 use Rattle.bytecode_format.specs.declared.instruction.Instruction.{Instruction}
 use Rattle.bytecode_format.specs.declared.operation.Operation.{Operation}
-use Rattle.bytecode_format.specs.declared.operation.Operation.TheVariants.{Halt, Literal, Variable, Capture, Join, Set, Bool as BoolOp, Not, Jump, JumpIfTrue, JumpIfFalse, Header, Exists, String, Size, PartSize, PartBody, PartDigest, Keep, Discard, File, Store, Each, Next, Break, Take}
+use Rattle.bytecode_format.specs.declared.operation.Operation.TheVariants.{Halt, Literal, Variable, Capture, Join, Set, Not, Jump, JumpIfTrue, JumpIfFalse, Keep, Discard, File, Store, Each, Next, Break, Take, Test}
+use Rattle.bytecode_format.specs.declared.operation.TestOperation.TheVariants.{Constant, Header, Exists, String, Size, PartSize, PartBody, PartDigest}
 use Rattle.bytecode_format.specs.declared.selection.Scope.{Scope}
 use Rattle.bytecode_format.specs.declared.selection.FieldTest.{FieldTest}
 use Rattle.bytecode_format.specs.Selection.{scope_numbered, field_test_numbered, keys_in, params_in}
@@ -51,24 +52,24 @@ charge_of mail Variable i state = 1
 charge_of mail Capture i state = 1
 charge_of mail Join i state = 1 + option_map_or octets_on_top (texts_on_top i.b state.stack) 0
 charge_of mail Set i state = 1 + length_on_top state.stack
-charge_of mail BoolOp i state = 1
+charge_of mail (Test Constant) i state = 1
 charge_of mail Not i state = 1
 charge_of mail Jump i state = 1
 charge_of mail JumpIfTrue i state = 1
 charge_of mail JumpIfFalse i state = 1
-charge_of mail Header i state = 1 + option_map_or
+charge_of mail (Test Header) i state = 1 + option_map_or
     (λ test. option_map_or (cost_of_matching test (current_part state.frames) mail)
     (lists_on_top i.b (params_in i.c) (keys_in i.c) state.stack) 0)
     (field_test_numbered i.a) 0
-charge_of mail Exists i state = 1 + option_map_or
+charge_of mail (Test Exists) i state = 1 + option_map_or
     (λ scope. option_map_or (cost_of_names scope (current_part state.frames) mail) (texts_on_top i.b state.stack) 0)
     (scope_numbered i.a) 0
-charge_of mail String i state = 1 + option_map_or cost_of_comparing (lists_on_top i.b 0 i.c state.stack) 0
-charge_of mail Size i state = 1
-charge_of mail PartSize i state = 1
-charge_of mail PartBody i state = 1 + option_map_or (cost_with_part body_cost mail (current_part state.frames))
+charge_of mail (Test String) i state = 1 + option_map_or cost_of_comparing (lists_on_top i.b 0 i.c state.stack) 0
+charge_of mail (Test Size) i state = 1
+charge_of mail (Test PartSize) i state = 1
+charge_of mail (Test PartBody) i state = 1 + option_map_or (cost_with_part body_cost mail (current_part state.frames))
     (texts_on_top i.c state.stack) 0
-charge_of mail PartDigest i state = 1 + option_map_or (cost_with_part digest_cost mail (current_part state.frames))
+charge_of mail (Test PartDigest) i state = 1 + option_map_or (cost_with_part digest_cost mail (current_part state.frames))
     (texts_on_top i.c state.stack) 0
 charge_of mail Keep i state = 1
 charge_of mail Discard i state = 1

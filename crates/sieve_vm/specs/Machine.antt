@@ -6,7 +6,8 @@ use Rattle.octets.specs.Limits.{max_loops, max_stack, max_string, max_value}
 use Rattle.bytecode_format.specs.declared.action.Action.TheVariants as action
 use Rattle.bytecode_format.specs.declared.instruction.Instruction.{Instruction}
 use Rattle.bytecode_format.specs.declared.operation.Operation.{Operation}
-use Rattle.bytecode_format.specs.declared.operation.Operation.TheVariants.{Halt, Literal, Variable, Capture, Join, Set, Bool as BoolOp, Not, Jump, JumpIfTrue, JumpIfFalse, Header, Exists, String, Size, PartSize, PartBody, PartDigest, Keep, Discard, File, Store, Each, Next, Break, Take}
+use Rattle.bytecode_format.specs.declared.operation.Operation.TheVariants.{Halt, Literal, Variable, Capture, Join, Set, Not, Jump, JumpIfTrue, JumpIfFalse, Keep, Discard, File, Store, Each, Next, Break, Take, Test}
+use Rattle.bytecode_format.specs.declared.operation.TestOperation.TheVariants.{Constant, Header, Exists, String, Size, PartSize, PartBody, PartDigest}
 use Rattle.bytecode_format.specs.Operations.{operation_of}
 use Rattle.bytecode_format.specs.Code.{Code}
 use Rattle.bytecode_format.specs.declared.modifiers.Modifiers.{Modifiers}
@@ -197,26 +198,26 @@ effect program mail Variable i state = with_string state (slice_get state.variab
 effect program mail Capture i state = push (text (slice_index_or state.captures i.a [])) state
 effect program mail Join i state = with_texts join state (texts_on_top i.b state.stack)
 effect program mail Set i state = with_text (set_variable i) state state.stack
-effect program mail BoolOp i state = push (truth (i.a == 1)) state
+effect program mail (Test Constant) i state = push (truth (i.a == 1)) state
 effect program mail Not i state = with_truth (λ b s. on (record s { stack = truth (not b) ∷ s.stack })) state state.stack
 effect program mail Jump i state = if is_sound_jump program state i then jumps i.c state else fails
 effect program mail JumpIfTrue i state = if is_sound_jump program state i then with_truth (branch i.c true) state state.stack else fails
 effect program mail JumpIfFalse i state = if is_sound_jump program state i then with_truth (branch i.c false) state state.stack else fails
-effect program mail Header i state = with_meant
+effect program mail (Test Header) i state = with_meant
     (λ test. with_lists (test_values mail test) state (lists_on_top i.b (params_in i.c) (keys_in i.c) state.stack))
     (field_test_numbered i.a)
-effect program mail Exists i state = with_meant
+effect program mail (Test Exists) i state = with_meant
     (λ scope. with_texts (test_names mail scope) state (texts_on_top i.b state.stack)) (scope_numbered i.a)
-effect program mail String i state = with_meant
+effect program mail (Test String) i state = with_meant
     (λ how. with_lists (test_sources how) state (lists_on_top i.b 0 i.c state.stack)) (match_numbered i.a)
-effect program mail Size i state = with_number i (size_of mail) state (slice_get program.numbers i.c)
-effect program mail PartSize i state = with_part
+effect program mail (Test Size) i state = with_number i (size_of mail) state (slice_get program.numbers i.c)
+effect program mail (Test PartSize) i state = with_part
     (λ number part s. with_number i (length part.content) s (slice_get program.numbers i.c)) mail state state.frames
-effect program mail PartBody i state = with_meant
+effect program mail (Test PartBody) i state = with_meant
     (λ how. with_part
     (λ number part s. with_texts (test_body how part) s (texts_on_top i.c s.stack)) mail state state.frames)
     (match_numbered i.a)
-effect program mail PartDigest i state = with_part
+effect program mail (Test PartDigest) i state = with_part
     (λ number part s. with_texts (test_digest part) s (texts_on_top i.c s.stack)) mail state state.frames
 effect program mail Keep i state = on (record state { actions = state.actions ++ action.Keep ∷ []; implicit_keep = false })
 effect program mail Discard i state = on (record state { implicit_keep = false })

@@ -7,7 +7,7 @@ use crate::numbers::{field_test_in, match_in, scope_in};
 use crate::shared_text::SharedText;
 use crate::testing::compares;
 use crate::workspace::Workspace;
-use bytecode_format::{Action, ActionList, Instruction, Modifiers, Operation, Program};
+use bytecode_format::{Action, ActionList, Instruction, Modifiers, Operation, Program, TestOperation};
 use mime_decode::Message;
 use std::alloc::{AllocError, Global};
 
@@ -192,7 +192,7 @@ impl<'p, 's, 'm> Machine<'p, 's, 'm> {
             Operation::Capture => self.push_capture(alloc, instruction.a),
             Operation::Join => Ok(self.join(alloc, instruction.b as usize)?),
             Operation::Set => Ok(self.set(alloc, instruction)?),
-            Operation::Bool => self.push(instruction.a == 1),
+            Operation::Test(TestOperation::Constant) => self.push(instruction.a == 1),
             Operation::Not => {
                 let value = self.take();
                 self.push(!value)
@@ -200,21 +200,21 @@ impl<'p, 's, 'm> Machine<'p, 's, 'm> {
             Operation::Jump => Ok(once(Flow::To(instruction.c as usize))),
             Operation::JumpIfTrue => Ok(self.branch(instruction.c, true)),
             Operation::JumpIfFalse => Ok(self.branch(instruction.c, false)),
-            Operation::Header => {
+            Operation::Test(TestOperation::Header) => {
                 Ok(self.header(alloc, message, instruction, field_test_in(instruction))?)
             }
-            Operation::Exists => Ok(self.exists(message, instruction, scope_in(instruction))?),
-            Operation::String => Ok(self.string(alloc, instruction, match_in(instruction))?),
-            Operation::Size => {
+            Operation::Test(TestOperation::Exists) => Ok(self.exists(message, instruction, scope_in(instruction))?),
+            Operation::Test(TestOperation::String) => Ok(self.string(alloc, instruction, match_in(instruction))?),
+            Operation::Test(TestOperation::Size) => {
                 let number = program.numbers()[instruction.c as usize];
                 self.push(compares(instruction, number, message.size() as u64))
             }
-            Operation::PartSize => {
+            Operation::Test(TestOperation::PartSize) => {
                 let number = program.numbers()[instruction.c as usize];
                 Ok(self.part_size(alloc, instruction, number)?)
             }
-            Operation::PartBody => Ok(self.part_body(alloc, instruction, match_in(instruction))?),
-            Operation::PartDigest => Ok(self.part_digest(alloc, instruction.c as usize)?),
+            Operation::Test(TestOperation::PartBody) => Ok(self.part_body(alloc, instruction, match_in(instruction))?),
+            Operation::Test(TestOperation::PartDigest) => Ok(self.part_digest(alloc, instruction.c as usize)?),
             Operation::Keep => self.keep(),
             Operation::Discard => Ok(self.discard()),
             Operation::File => Ok(self.file(alloc)?),

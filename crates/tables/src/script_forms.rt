@@ -1,9 +1,9 @@
 // The typed forms of scripts.
 use crate::printed::Printed;
-use bytecode_format::{Case, Modifiers, Scope, Selector};
+use bytecode_format::{Case, Modifiers, Order, Question, Scope, Selector};
 use glob_match::{Comparator, Match, MatchType};
 use refusals::Refusal;
-use sieve_check::{Act, Branch, Command, Order, Question, Segment, Test};
+use sieve_check::{Act, Branch, Command, Segment, Test};
 use sieve_engine::check_script;
 use std::alloc::{AllocError, Global};
 

@@ -1,5 +1,5 @@
 use Rattle.std.proofs.Common.{ap, [], ◌∷◌}
-use Rattle.sieve_check.specs.Questions.{row_of}
+use Rattle.bytecode_format.specs.Questions.{row_of}
 use Rattle.sieve_compiler.specs.Growing.{uses_with, with_uses}
 use Rattle.sieve_compiler.proofs.NumberingLemmas.{used_as}
 use Rattle.sieve_compiler.proofs.tables.Tables.add_compared.Goals as goal

@@ -2,7 +2,8 @@ use Rattle.std.proofs.Common.{◌≡◌, ◌<◌, ◌∙◌, [], true, false, So
 use Rattle.std.proofs.lemmas.List.{get_or_read}
 use Rattle.bytecode_verifier.proofs.Consequences.{string_known, take_known}
 use Rattle.std.proofs.lemmas.Result.{IfOk-weaker}
-use Rattle.bytecode_format.specs.declared.operation.Operation.TheVariants.{JumpIfTrue, JumpIfFalse, PartSize, PartBody, PartDigest, Store, Take}
+use Rattle.bytecode_format.specs.declared.operation.Operation.TheVariants.{JumpIfTrue, JumpIfFalse, Store, Take, Test}
+use Rattle.bytecode_format.specs.declared.operation.TestOperation.TheVariants.{PartSize, PartBody, PartDigest}
 use Rattle.sieve_vm.specs.Machine.{compares}
 use Rattle.sieve_vm.proofs.Reached.{take_needs_part}
 use Rattle.sieve_vm.proofs.StackSteps.{not_some, if_true_some, if_false_some, folder_some, names_some, lists_some, parts_some, sources_some, modifiers_some, field_test_some, scope_some, sources_match_some, value_some, had_variable, had_capture, had_join, had_set, had_string, had_bool, had_not, had_size, had_literal, had_branch, had_file, had_exists, had_header}
@@ -72,8 +73,8 @@ returns-in-Size c =
     c.compares.ensures ∙ ap (λ xs. compares c.args.instruction.now (get_or xs c.args.instruction.now.c 0) c.size.result) c.numbers.ensures.value ∙ ap (compares c.args.instruction.now (get_or c.args.program.now.numbers c.args.instruction.now.c 0)) c.size.ensures.value in
     rw c.in-Size.is (IfOk-weaker c.push-in-Size.result _ _ (λ done h s at. had_size c.args.program.now c.args.message.now c.requires.accepted c.requires.mail c.args.position c.args.self.now s at c.args.instruction.now c.requires.here (c.requires.named ∙ ap (λ o. Some o) c.in-Size.is) c.compares.result done c.push-in-Size.new.self answer (h.0, h.1 c.args.message.now)) c.push-in-Size.ensures.done)
 
-pub returns-in_ok-part_size-in-PartSize : goal.returns-in_ok-part_size-in-PartSize
-returns-in_ok-part_size-in-PartSize c =
+pub returns-in_ok-part_size-in-(Test PartSize) : goal.returns-in_ok-part_size-in-(Test PartSize)
+returns-in_ok-part_size-in-(Test PartSize) c =
     let number = ap (λ xs. get_or xs c.args.instruction.now.c 0) c.numbers-in-PartSize.ensures.value in
     λ s at. rw c.in-PartSize.is (had_part_size c.args.program.now c.args.message.now c.requires.accepted c.requires.mail c.args.position c.args.self.now s at c.args.instruction.now c.requires.here (c.requires.named ∙ ap (λ o. Some o) c.in-PartSize.is) _ c.in_ok-part_size-in-PartSize.field-0 c.part_size.new.self number (c.in_ok-part_size-in-PartSize.ensures c.args.message.now))
 
@@ -102,12 +103,12 @@ pub returns-in_ok-header-in-Header : goal.returns-in_ok-header-in-Header
 returns-in_ok-header-in-Header c =
     λ s at. rw c.in-Header.is (had_header c.args.program.now c.args.message.now c.requires.accepted c.requires.mail c.args.position c.args.self.now s at c.args.instruction.now c.requires.here (c.requires.named ∙ ap (λ o. Some o) c.in-Header.is) c.field_test_in.result c.field_test_in.ensures c.in_ok-header-in-Header.field-0 c.header.new.self c.in_ok-header-in-Header.ensures)
 
-pub returns-in_ok-part_body-in-PartBody : goal.returns-in_ok-part_body-in-PartBody
-returns-in_ok-part_body-in-PartBody c =
+pub returns-in_ok-part_body-in-(Test PartBody) : goal.returns-in_ok-part_body-in-(Test PartBody)
+returns-in_ok-part_body-in-(Test PartBody) c =
     λ s at. rw c.in-PartBody.is (had_part_body c.args.program.now c.args.message.now c.requires.accepted c.requires.mail c.args.position c.args.self.now s at c.args.instruction.now c.requires.here (c.requires.named ∙ ap (λ o. Some o) c.in-PartBody.is) c.match_in-in-PartBody.result c.match_in-in-PartBody.ensures c.in_ok-part_body-in-PartBody.field-0 c.part_body.new.self (c.in_ok-part_body-in-PartBody.ensures.done c.args.message.now))
 
-pub returns-in_ok-part_digest-in-PartDigest : goal.returns-in_ok-part_digest-in-PartDigest
-returns-in_ok-part_digest-in-PartDigest c =
+pub returns-in_ok-part_digest-in-(Test PartDigest) : goal.returns-in_ok-part_digest-in-(Test PartDigest)
+returns-in_ok-part_digest-in-(Test PartDigest) c =
     λ s at. rw c.in-PartDigest.is (had_part_digest c.args.program.now c.args.message.now c.requires.accepted c.requires.mail c.args.position c.args.self.now s at c.args.instruction.now c.requires.here (c.requires.named ∙ ap (λ o. Some o) c.in-PartDigest.is) c.in_ok-part_digest-in-PartDigest.field-0 c.part_digest.new.self (c.in_ok-part_digest-in-PartDigest.ensures c.args.message.now))
 
 pub returns-in-Variable : goal.returns-in-Variable
@@ -143,19 +144,19 @@ pub exists-requires-clause-top : goal.exists-requires-clause-top
 exists-requires-clause-top c = names_some c.args.program.now c.args.message.now c.requires.accepted c.requires.mail c.args.position c.args.self.now c.requires.running.0 c.requires.running.1 c.args.instruction.now c.requires.here c.requires.program (c.requires.named ∙ ap (λ o. Some o) c.in-Exists.is)
 
 pub part_size-requires : goal.part_size-requires
-part_size-requires c = part_some c.args.program.now c.args.message.now c.requires.accepted c.requires.mail c.args.position c.args.self.now c.requires.running.0 c.requires.running.1 c.args.instruction.now c.requires.here PartSize (c.requires.named ∙ ap (λ o. Some o) c.in-PartSize.is) refl
+part_size-requires c = part_some c.args.program.now c.args.message.now c.requires.accepted c.requires.mail c.args.position c.args.self.now c.requires.running.0 c.requires.running.1 c.args.instruction.now c.requires.here (Test PartSize) (c.requires.named ∙ ap (λ o. Some o) c.in-PartSize.is) refl
 
 pub part_body-requires-clause-part : goal.part_body-requires-clause-part
-part_body-requires-clause-part c = part_small c.args.program.now c.args.message.now c.requires.accepted c.requires.mail c.args.position c.args.self.now c.requires.running.0 c.requires.running.1 c.args.instruction.now c.requires.here PartBody (c.requires.named ∙ ap (λ o. Some o) c.in-PartBody.is) refl
+part_body-requires-clause-part c = part_small c.args.program.now c.args.message.now c.requires.accepted c.requires.mail c.args.position c.args.self.now c.requires.running.0 c.requires.running.1 c.args.instruction.now c.requires.here (Test PartBody) (c.requires.named ∙ ap (λ o. Some o) c.in-PartBody.is) refl
 
 pub part_body-requires-clause-top : goal.part_body-requires-clause-top
-part_body-requires-clause-top c = keys_some c.args.program.now c.args.message.now c.requires.accepted c.requires.mail c.args.position c.args.self.now c.requires.running.0 c.requires.running.1 c.args.instruction.now c.requires.here PartBody (c.requires.named ∙ ap (λ o. Some o) c.in-PartBody.is) refl (λ es. refl) c.requires.program
+part_body-requires-clause-top c = keys_some c.args.program.now c.args.message.now c.requires.accepted c.requires.mail c.args.position c.args.self.now c.requires.running.0 c.requires.running.1 c.args.instruction.now c.requires.here (Test PartBody) (c.requires.named ∙ ap (λ o. Some o) c.in-PartBody.is) refl (λ es. refl) c.requires.program
 
 pub part_digest-requires-clause-part : goal.part_digest-requires-clause-part
-part_digest-requires-clause-part c = part_some c.args.program.now c.args.message.now c.requires.accepted c.requires.mail c.args.position c.args.self.now c.requires.running.0 c.requires.running.1 c.args.instruction.now c.requires.here PartDigest (c.requires.named ∙ ap (λ o. Some o) c.in-PartDigest.is) refl
+part_digest-requires-clause-part c = part_some c.args.program.now c.args.message.now c.requires.accepted c.requires.mail c.args.position c.args.self.now c.requires.running.0 c.requires.running.1 c.args.instruction.now c.requires.here (Test PartDigest) (c.requires.named ∙ ap (λ o. Some o) c.in-PartDigest.is) refl
 
 pub part_digest-requires-clause-top : goal.part_digest-requires-clause-top
-part_digest-requires-clause-top c = keys_some c.args.program.now c.args.message.now c.requires.accepted c.requires.mail c.args.position c.args.self.now c.requires.running.0 c.requires.running.1 c.args.instruction.now c.requires.here PartDigest (c.requires.named ∙ ap (λ o. Some o) c.in-PartDigest.is) refl (λ es. refl) c.requires.program
+part_digest-requires-clause-top c = keys_some c.args.program.now c.args.message.now c.requires.accepted c.requires.mail c.args.position c.args.self.now c.requires.running.0 c.requires.running.1 c.args.instruction.now c.requires.here (Test PartDigest) (c.requires.named ∙ ap (λ o. Some o) c.in-PartDigest.is) refl (λ es. refl) c.requires.program
 
 pub store-requires-clause-part : goal.store-requires-clause-part
 store-requires-clause-part c = current_some c.args.program.now c.args.message.now c.requires.accepted c.requires.mail c.args.position c.args.self.now c.requires.running.0 c.requires.running.1 c.args.instruction.now c.requires.here Store (c.requires.named ∙ ap (λ o. Some o) c.in-Store.is) refl
@@ -203,8 +204,8 @@ pub match_in-requires : goal.match_in-requires
 match_in-requires c =
     sources_match_some c.args.program.now c.args.message.now c.requires.accepted c.requires.mail c.args.position c.args.self.now c.requires.running.0 c.requires.running.1 c.args.instruction.now c.requires.here (c.requires.named ∙ ap (λ o. Some o) c.in-String.is)
 
-pub match_in-requires-in-PartBody : goal.match_in-requires-in-PartBody
-match_in-requires-in-PartBody c =
+pub match_in-requires-in-(Test PartBody) : goal.match_in-requires-in-(Test PartBody)
+match_in-requires-in-(Test PartBody) c =
     body_match_some c.args.program.now c.args.message.now c.requires.accepted c.requires.mail c.args.position c.args.self.now c.requires.running.0 c.requires.running.1 c.args.instruction.now c.requires.here (c.requires.named ∙ ap (λ o. Some o) c.in-PartBody.is)
 
 pub returns-in-Discard : goal.returns-in-Discard
