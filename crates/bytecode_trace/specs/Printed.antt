@@ -8,7 +8,6 @@ use Rattle.bytecode_format.specs.Operations.{operation_of}
 use Rattle.bytecode_format.specs.declared.instruction.Instruction.{Instruction}
 use Rattle.bytecode_format.specs.declared.operation.Operation.{Operation}
 use Rattle.bytecode_format.specs.declared.operation.Operation.TheVariants.{Halt, Literal, Variable, Capture, Join, Set as SetOp, Not, Jump, JumpIfTrue, JumpIfFalse, Keep, Discard, File, Store, Each, Next, Break, Take, Test}
-use Rattle.bytecode_format.specs.declared.operation.TestOperation.TheVariants.{Constant, Header, Exists, String, Size, PartSize, PartBody, PartDigest}
 use Rattle.bytecode_listing.specs.Listing.{instruction_text}
 use Rattle.bytecode_listing.specs.Quoted.{quoted_start}
 use Rattle.mime_decode.specs.Mail.{Mail}
@@ -43,18 +42,11 @@ told_of (Some Variable) = Left
 told_of (Some Capture) = Left
 told_of (Some Join) = Left
 told_of (Some SetOp) = Set
-told_of (Some (Test Constant)) = Left
+told_of (Some (Test test)) = Left
 told_of (Some Not) = Left
 told_of (Some Jump) = Nothing
 told_of (Some JumpIfTrue) = Taken
 told_of (Some JumpIfFalse) = Taken
-told_of (Some (Test Header)) = Left
-told_of (Some (Test Exists)) = Left
-told_of (Some (Test String)) = Left
-told_of (Some (Test Size)) = Left
-told_of (Some (Test PartSize)) = Left
-told_of (Some (Test PartBody)) = Left
-told_of (Some (Test PartDigest)) = Left
 told_of (Some Keep) = Nothing
 told_of (Some Discard) = Nothing
 told_of (Some File) = Taken

@@ -2,7 +2,7 @@
 ghost use Rattle.std.specs.Prelude.{◌≡◌};
 ghost use Rattle.bytecode_trace.specs.Printed.{told_of};
 
-use bytecode_format::{Operation, TestOperation};
+use bytecode_format::Operation;
 
 /// Which value is told of an instruction.
 #[derive(Clone, Copy)]
@@ -29,15 +29,8 @@ pub fn told_of(operation: Option<Operation>) -> Told
         | Operation::Variable
         | Operation::Capture
         | Operation::Join
-        | Operation::Test(TestOperation::Constant)
-        | Operation::Not
-        | Operation::Test(TestOperation::Header)
-        | Operation::Test(TestOperation::Exists)
-        | Operation::Test(TestOperation::String)
-        | Operation::Test(TestOperation::Size)
-        | Operation::Test(TestOperation::PartSize)
-        | Operation::Test(TestOperation::PartBody)
-        | Operation::Test(TestOperation::PartDigest) => Told::Left,
+        | Operation::Test(_)
+        | Operation::Not => Told::Left,
         Operation::JumpIfTrue | Operation::JumpIfFalse | Operation::File | Operation::Store => {
             Told::Taken
         }

@@ -4,14 +4,15 @@ use Rattle.std.specs.Option.{option_map_or}
 use Rattle.bytecode_format.specs.declared.instruction.Instruction.{Instruction}
 use Rattle.bytecode_format.specs.declared.operation.Operation.{Operation}
 use Rattle.bytecode_format.specs.declared.operation.Operation.TheVariants.{Halt, Literal, Variable, Capture, Join, Set, Not, Jump, JumpIfTrue, JumpIfFalse, Keep, Discard, File, Store, Each, Next, Break, Take, Test}
+use Rattle.bytecode_format.specs.declared.operation.TestOperation.{TestOperation}
 use Rattle.bytecode_format.specs.declared.operation.TestOperation.TheVariants.{Constant, Header, Exists, String, Size, PartSize, PartBody, PartDigest}
 use Rattle.bytecode_format.specs.Operations.{operation_of}
 use Rattle.bytecode_format.specs.Code.{Code}
 use Rattle.bytecode_cost.specs.Sums.{Sums}
 use Rattle.bytecode_verifier.specs.Places.{sum_below}
 use Rattle.bytecode_verifier.specs.Loops.{open_loops}
-use Rattle.bytecode_format.specs.Selection.{keys_in, params_in}
-use Rattle.bytecode_verifier.specs.Shape.{Entries, Texts, Lists, take_texts, take_lists, shape_at}
+use Rattle.bytecode_format.specs.Questions.{counts_in}
+use Rattle.bytecode_verifier.specs.Shape.{Entries, Texts, Lists, take_texts, take_counted, shape_at}
 use Rattle.bytecode_verifier.specs.declared.cap.Cap.{Cap}
 use Rattle.bytecode_verifier.specs.declared.share.Share.{Share}
 
@@ -31,8 +32,8 @@ abbrev pub cap_of_octets : Texts → Cap
 cap_of_octets taken = record { fixed = 1 + sum taken.texts; scaled = 0 }
 
 -- for each octet of the message and one more, the names, each with one more: a message has no more fields than octets
-abbrev pub cap_of_names : Texts → Cap
-cap_of_names names = record { fixed = 1; scaled = one_more_each names.texts }
+abbrev pub cap_of_names : Lists → Cap
+cap_of_names lists = record { fixed = 1; scaled = one_more_each lists.names }
 
 -- the same, and for each name, or each parameter of each name, the keys, each with one more: what a
 -- name, or a parameter of that name, selects of all fields has no more octets than the message
@@ -46,8 +47,8 @@ cap_of_comparing lists = record { fixed = 1 + one_more_each lists.names * one_mo
 
 -- for each octet of the message and one more, the keys, each with one more: a part's content has no
 -- more octets than the message
-abbrev pub cap_of_body : Texts → Cap
-cap_of_body keys = record { fixed = 1; scaled = one_more_each keys.texts }
+abbrev pub cap_of_body : Lists → Cap
+cap_of_body lists = record { fixed = 1; scaled = one_more_each lists.keys }
 
 -- one charge, and one for each octet of a part's content that a variable may be set to
 abbrev pub cap_of_content : ℕ → Cap
@@ -58,8 +59,19 @@ abbrev pub digest_length : ℕ
 digest_length = 64
 
 -- one charge, and for each octet of a digest and one more the keys, each with one more
-abbrev pub cap_of_digest : Texts → Cap
-cap_of_digest keys = record { fixed = 1 + (digest_length + 1) * one_more_each keys.texts; scaled = 0 }
+abbrev pub cap_of_digest : Lists → Cap
+cap_of_digest lists = record { fixed = 1 + (digest_length + 1) * one_more_each lists.keys; scaled = 0 }
+
+-- the cap of a test that takes these lists
+abbrev pub cap_of_test : TestOperation → Lists → Cap
+cap_of_test Constant lists = one_charge
+cap_of_test Header lists = cap_of_matching lists
+cap_of_test Exists lists = cap_of_names lists
+cap_of_test String lists = cap_of_comparing lists
+cap_of_test Size lists = one_charge
+cap_of_test PartSize lists = one_charge
+cap_of_test PartBody lists = cap_of_body lists
+cap_of_test PartDigest lists = cap_of_digest lists
 
 -- the cap of an instruction that finds these entries
 abbrev pub cap_of : Option Operation → Instruction → Entries → Cap
@@ -70,19 +82,11 @@ cap_of (Some Variable) i entries = one_charge
 cap_of (Some Capture) i entries = one_charge
 cap_of (Some Join) i entries = option_map_or cap_of_octets (take_texts i.b entries) one_charge
 cap_of (Some Set) i entries = option_map_or cap_of_octets (take_texts 1 entries) one_charge
-cap_of (Some (Test Constant)) i entries = one_charge
+cap_of (Some (Test test)) i entries = option_map_or (cap_of_test test) (take_counted (counts_in test i) entries) one_charge
 cap_of (Some Not) i entries = one_charge
 cap_of (Some Jump) i entries = one_charge
 cap_of (Some JumpIfTrue) i entries = one_charge
 cap_of (Some JumpIfFalse) i entries = one_charge
-cap_of (Some (Test Header)) i entries = option_map_or cap_of_matching
-    (take_lists i.b (params_in i.c) (keys_in i.c) entries) one_charge
-cap_of (Some (Test Exists)) i entries = option_map_or cap_of_names (take_texts i.b entries) one_charge
-cap_of (Some (Test String)) i entries = option_map_or cap_of_comparing (take_lists i.b 0 i.c entries) one_charge
-cap_of (Some (Test Size)) i entries = one_charge
-cap_of (Some (Test PartSize)) i entries = one_charge
-cap_of (Some (Test PartBody)) i entries = option_map_or cap_of_body (take_texts i.c entries) one_charge
-cap_of (Some (Test PartDigest)) i entries = option_map_or cap_of_digest (take_texts i.c entries) one_charge
 cap_of (Some Keep) i entries = one_charge
 cap_of (Some Discard) i entries = one_charge
 cap_of (Some File) i entries = option_map_or cap_of_octets (take_texts 1 entries) one_charge

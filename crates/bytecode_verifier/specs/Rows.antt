@@ -5,15 +5,16 @@ use Rattle.octets.specs.Limits.{max_loops, max_segments, max_test_strings, max_v
 use Rattle.bytecode_format.specs.declared.instruction.Instruction.{Instruction}
 use Rattle.bytecode_format.specs.declared.operation.Operation.{Operation}
 use Rattle.bytecode_format.specs.declared.operation.Operation.TheVariants.{Halt, Literal, Variable, Capture, Join, Set, Not, Jump, JumpIfTrue, JumpIfFalse, Keep, Discard, File, Store, Each, Next, Break, Take, Test}
+use Rattle.bytecode_format.specs.declared.operation.TestOperation.{TestOperation}
 use Rattle.bytecode_format.specs.declared.operation.TestOperation.TheVariants.{Constant, Header, Exists, String, Size, PartSize, PartBody, PartDigest}
 use Rattle.bytecode_format.specs.Operations.{operation_of}
 use Rattle.bytecode_format.specs.Modifiers.{modifiers_numbered}
 use Rattle.bytecode_format.specs.declared.selection.FieldTest as field
 use Rattle.bytecode_format.specs.declared.selection.Selector.{Selector}
 use Rattle.bytecode_format.specs.declared.selection.Selector.TheVariants.{Param}
-use Rattle.bytecode_format.specs.Selection.{match_numbered, scope_numbered, field_test_numbered, keys_in, params_in}
+use Rattle.bytecode_format.specs.Selection.{field_test_numbered, keys_in, match_numbered, order_numbered, params_in, scope_numbered, truth_numbered}
 use Rattle.bytecode_verifier.specs.declared.row.Range.{Range}
-use Rattle.bytecode_verifier.specs.declared.row.Range.TheVariants.{Unnamed, Below, Between, Match, Scope, FieldTest, Counts, Modifiers, Any}
+use Rattle.bytecode_verifier.specs.declared.row.Range.TheVariants.{Unnamed, Below, Between, Truth, Order, Match, Scope, FieldTest, Counts, Modifiers, Any}
 use Rattle.bytecode_verifier.specs.declared.row.Table.TheVariants.{Variables, Numbers, Strings}
 use Rattle.bytecode_verifier.specs.declared.row.Row.{Row}
 
@@ -29,6 +30,17 @@ plain = record { a = Unnamed; b = Unnamed; c = Unnamed; index = None; jumps = fa
 abbrev pub jump : Row
 jump = record plain { c = Any; jumps = true }
 
+-- the row of a test
+abbrev pub test_row : TestOperation → Row
+test_row Constant = record plain { a = Truth }
+test_row Header = record plain { a = FieldTest; b = Between 1 max_test_strings; c = Counts }
+test_row Exists = record plain { a = Scope; b = Between 1 max_test_strings }
+test_row String = record plain { a = Match; b = Between 1 max_test_strings; c = Between 1 max_test_strings }
+test_row Size = record plain { a = Order; c = Any; index = Some Numbers }
+test_row PartSize = record plain { a = Order; c = Any; index = Some Numbers; needs_part = true }
+test_row PartBody = record plain { a = Match; c = Between 1 max_test_strings; needs_part = true }
+test_row PartDigest = record plain { c = Between 1 max_test_strings; needs_part = true }
+
 -- the row of an operation
 abbrev pub row_of : Operation → Row
 row_of Halt = plain
@@ -37,18 +49,11 @@ row_of Variable = record plain { c = Any; index = Some Variables }
 row_of Capture = record plain { a = Below captures }
 row_of Join = record plain { b = Between 2 max_segments }
 row_of Set = record plain { a = Modifiers; c = Any; index = Some Variables }
-row_of (Test Constant) = record plain { a = Below 2 }
+row_of (Test test) = test_row test
 row_of Not = plain
 row_of Jump = jump
 row_of JumpIfTrue = jump
 row_of JumpIfFalse = jump
-row_of (Test Header) = record plain { a = FieldTest; b = Between 1 max_test_strings; c = Counts }
-row_of (Test Exists) = record plain { a = Scope; b = Between 1 max_test_strings }
-row_of (Test String) = record plain { a = Match; b = Between 1 max_test_strings; c = Between 1 max_test_strings }
-row_of (Test Size) = record plain { a = Below 2; c = Any; index = Some Numbers }
-row_of (Test PartSize) = record plain { a = Below 2; c = Any; index = Some Numbers; needs_part = true }
-row_of (Test PartBody) = record plain { a = Match; c = Between 1 max_test_strings; needs_part = true }
-row_of (Test PartDigest) = record plain { c = Between 1 max_test_strings; needs_part = true }
 row_of Keep = plain
 row_of Discard = plain
 row_of File = plain
@@ -87,6 +92,8 @@ abbrev pub takes : ℕ → Range → ℕ → Bool
 takes a Unnamed n = n == 0
 takes a (Below bound) n = nat_lt n bound
 takes a (Between least most) n = nat_le least n && nat_le n most
+takes a Truth n = is_some (truth_numbered n)
+takes a Order n = is_some (order_numbered n)
 takes a Match n = is_some (match_numbered n)
 takes a Scope n = is_some (scope_numbered n)
 takes a FieldTest n = is_some (field_test_numbered n)

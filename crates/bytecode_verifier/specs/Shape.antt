@@ -6,10 +6,10 @@ use Rattle.octets.specs.Limits.{max_stack, max_string, max_value}
 use Rattle.bytecode_format.specs.declared.instruction.Instruction.{Instruction}
 use Rattle.bytecode_format.specs.declared.operation.Operation.{Operation}
 use Rattle.bytecode_format.specs.declared.operation.Operation.TheVariants.{Halt, Literal, Variable, Capture, Join, Set, Not, Jump, JumpIfTrue, JumpIfFalse, Keep, Discard, File, Store, Each, Next, Break, Take, Test}
-use Rattle.bytecode_format.specs.declared.operation.TestOperation.TheVariants.{Constant, Header, Exists, String, Size, PartSize, PartBody, PartDigest}
+use Rattle.bytecode_format.specs.declared.question.Counts.{Counts}
+use Rattle.bytecode_format.specs.Questions.{counts_in}
 use Rattle.bytecode_format.specs.Operations.{operation_of}
 use Rattle.bytecode_format.specs.Code.{Code}
-use Rattle.bytecode_format.specs.Selection.{keys_in, params_in}
 use Rattle.bytecode_verifier.specs.Rows.{row_named, is_jump}
 use Rattle.bytecode_verifier.specs.Taken as taken
 use Rattle.bytecode_verifier.specs.Taken.{OnTop, texts_on_top, lists_on_top}
@@ -59,6 +59,10 @@ Lists = taken.Lists Entry ℕ
 abbrev pub take_lists : ℕ → ℕ → ℕ → Entries → Option Lists
 take_lists names params keys entries = lists_on_top bound_in names params keys entries
 
+-- the lists of a test that has so many
+abbrev pub take_counted : Counts → Entries → Option Lists
+take_counted counts entries = take_lists counts.names counts.params counts.keys entries
+
 -- a text of at most as many octets as the string has, where there is one
 abbrev pub with_string : Option (List ℕ) → Entries → Option Entries
 with_string string entries = option_and_then (λ octets. with_entry (Text (length octets)) entries) string
@@ -76,23 +80,12 @@ entries_after code Variable i entries = with_entry (Text max_value) entries
 entries_after code Capture i entries = with_entry (Text max_value) entries
 entries_after code Join i entries = option_and_then with_joined (take_texts i.b entries)
 entries_after code Set i entries = option_map (λ (value : Texts). value.below) (take_texts 1 entries)
-entries_after code (Test Constant) i entries = with_entry Truth entries
+entries_after code (Test test) i entries = option_and_then (λ (lists : Lists). with_entry Truth lists.below)
+    (take_counted (counts_in test i) entries)
 entries_after code Not i entries = if has_truth entries then Some entries else None
 entries_after code Jump i entries = if is_empty entries then Some [] else None
 entries_after code JumpIfTrue i entries = without_truth entries
 entries_after code JumpIfFalse i entries = without_truth entries
-entries_after code (Test Header) i entries = option_and_then (λ (lists : Lists). with_entry Truth lists.below)
-    (take_lists i.b (params_in i.c) (keys_in i.c) entries)
-entries_after code (Test Exists) i entries = option_and_then (λ (names : Texts). with_entry Truth names.below)
-    (take_texts i.b entries)
-entries_after code (Test String) i entries = option_and_then (λ (lists : Lists). with_entry Truth lists.below)
-    (take_lists i.b 0 i.c entries)
-entries_after code (Test Size) i entries = with_entry Truth entries
-entries_after code (Test PartSize) i entries = with_entry Truth entries
-entries_after code (Test PartBody) i entries = option_and_then (λ (keys : Texts). with_entry Truth keys.below)
-    (take_texts i.c entries)
-entries_after code (Test PartDigest) i entries = option_and_then (λ (keys : Texts). with_entry Truth keys.below)
-    (take_texts i.c entries)
 entries_after code Keep i entries = Some entries
 entries_after code Discard i entries = Some entries
 entries_after code File i entries = option_map (λ (folder : Texts). folder.below) (take_texts 1 entries)

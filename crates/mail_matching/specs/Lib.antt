@@ -8,6 +8,8 @@ pub mod Costs
 pub mod HeaderTests
 -- the tests of the current part
 pub mod PartTests
+-- what all questions of simple tests come to
+pub mod Questions
 -- where tests look, and what they select there
 pub mod Selection
 -- what the code hands over and what it is handed

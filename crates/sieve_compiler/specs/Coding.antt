@@ -3,18 +3,15 @@ use Rattle.std.specs.Prelude.{ℕ, ◌+◌, Bool, true, false, not, List, [], �
 use Rattle.bytecode_format.specs.declared.instruction.Instruction.{Instruction}
 use Rattle.bytecode_format.specs.declared.operation.Operation.{Operation}
 use Rattle.bytecode_format.specs.declared.operation.Operation.TheVariants as operation
-use Rattle.bytecode_format.specs.declared.operation.TestOperation.TheVariants as test_operation
 use Rattle.bytecode_format.specs.declared.operation.Operation.TheVariants.{Halt, Literal, Join, Jump, JumpIfTrue, JumpIfFalse, Each, Next}
 use Rattle.bytecode_format.specs.Modifiers.{modifiers_number}
-use Rattle.bytecode_format.specs.Selection.{match_number, scope_number, field_test_number, counts_number}
+use Rattle.bytecode_format.specs.declared.question.Counts.{Counts}
+use Rattle.bytecode_format.specs.Questions.{instruction_of, row_of}
 use Rattle.bytecode_format.specs.Operations.{octet_of}
 use Rattle.bytecode_format.specs.Code.{Code}
 use Rattle.sieve_check.specs.declared.typed.Act.{Act}
 use Rattle.sieve_check.specs.declared.typed.Act.TheVariants.{Keep, Discard, FileInto, Set, Take, Store, Leave, Stop}
-use Rattle.bytecode_format.specs.declared.question.Order.{Order}
-use Rattle.bytecode_format.specs.declared.question.Order.TheVariants.{Over, Under}
 use Rattle.bytecode_format.specs.declared.question.Question.{Question}
-use Rattle.bytecode_format.specs.declared.question.Question.TheVariants.{Constant, Header, Exists, Size, String, PartSize, PartBody, PartDigest}
 use Rattle.sieve_check.specs.declared.typed.Segment.{Segment}
 use Rattle.sieve_check.specs.declared.typed.Segment.TheVariants.{Text, Variable, Capture}
 use Rattle.sieve_check.specs.Acts.{act_strings}
@@ -64,30 +61,19 @@ string_code tables (one ∷ other ∷ more) = map (push_segment tables) (one ∷
 abbrev pub strings_code : Tables → List Template → List Instruction
 strings_code tables strings = flat_map (string_code tables) strings
 
--- how an instruction says a truth value, and whether a size is over or under a number
-abbrev pub truth_number : Bool → ℕ
-truth_number true = 1
-truth_number false = 0
+-- how many strings a test has
+abbrev pub counts_of : Strings → Counts
+counts_of strings = record { names = length strings.names; params = length strings.params; keys = length strings.keys }
 
-abbrev pub order_number : Order → ℕ
-order_number Over = 0
-order_number Under = 1
+-- the place of a number that a question compares with, if it does
+abbrev pub place_of_first : Tables → List ℕ → ℕ
+place_of_first tables [] = 0
+place_of_first tables (number ∷ numbers) = place_of_number tables number
 
--- the instruction of each question, after its strings
+-- the instruction of a question, after its strings
 abbrev pub question_code : Tables → Question → Strings → Instruction
-question_code tables (Constant b) strings = instruction (operation.Test test_operation.Constant) (truth_number b) 0
-question_code tables (Header fields) strings =
-    instruction_with (operation.Test test_operation.Header) (field_test_number fields) (length strings.names)
-    (counts_number (record { params = length strings.params; keys = length strings.keys }))
-question_code tables (Exists scope) strings = instruction_with (operation.Test test_operation.Exists) (scope_number scope) (length strings.names) 0
-question_code tables (Size order number) strings = instruction (operation.Test test_operation.Size) (order_number order)
-    (place_of_number tables number)
-question_code tables (String how) strings = instruction_with (operation.Test test_operation.String) (match_number how) (length strings.names)
-    (length strings.keys)
-question_code tables (PartSize order number) strings = instruction (operation.Test test_operation.PartSize) (order_number order)
-    (place_of_number tables number)
-question_code tables (PartBody how) strings = instruction (operation.Test test_operation.PartBody) (match_number how) (length strings.keys)
-question_code tables PartDigest strings = instruction (operation.Test test_operation.PartDigest) 0 (length strings.keys)
+question_code tables question strings =
+    instruction_of question (counts_of strings) (place_of_first tables (row_of question).numbers)
 
 -- the instruction of each act, after its string
 abbrev pub act_code : Tables → Act → Instruction

@@ -1,22 +1,16 @@
 -- What a script means. Where its tests and commands stand in it says nothing here.
 use Rattle.std.specs.Prelude.{ℕ, ◌-◌, Bool, true, false, not, nat_lt, bytes_eq, List, [], ◌∷◌, ◌++◌, flat_map, length, map, slice_get, slice_index_or, take, Option, None, Some, option_and_then, if◌then◌else◌}
-use Rattle.std.specs.Bool.{then_some}
 use Rattle.octets.specs.Limits.{max_string, max_value}
 use Rattle.bytecode_format.specs.declared.action.Action.{Action}
 use Rattle.bytecode_format.specs.declared.action.Action.TheVariants as action
 use Rattle.bytecode_format.specs.Actions.{final_actions}
 use Rattle.bytecode_format.specs.Modifiers.{modified}
-use Rattle.mail_matching.specs.FirstMatch.{first_match, no_captures}
-use Rattle.mail_matching.specs.HeaderTests.{exists_in, header_match}
-use Rattle.mail_matching.specs.PartTests.{body_match, digest_match}
-use Rattle.mime_decode.specs.Mail.{Mail, Part as MailPart, size_of}
+use Rattle.mail_matching.specs.FirstMatch.{no_captures}
+use Rattle.mail_matching.specs.Questions.{Texts, answer, current}
+use Rattle.mime_decode.specs.Mail.{Mail, Part as MailPart}
 use Rattle.mime_decode.specs.Visited.{visited}
 use Rattle.sieve_check.specs.declared.typed.Act.{Act}
 use Rattle.sieve_check.specs.declared.typed.Act.TheVariants.{Keep, Discard, FileInto, Set, Take, Store, Leave, Stop}
-use Rattle.bytecode_format.specs.declared.question.Order.{Order}
-use Rattle.bytecode_format.specs.declared.question.Order.TheVariants.{Over, Under}
-use Rattle.bytecode_format.specs.declared.question.Question.{Question}
-use Rattle.bytecode_format.specs.declared.question.Question.TheVariants.{Constant, Header, Exists, Size, String, PartSize, PartBody, PartDigest}
 use Rattle.sieve_check.specs.declared.typed.Segment.{Segment}
 use Rattle.sieve_check.specs.declared.typed.Segment.TheVariants.{Text, Variable, Capture}
 use Rattle.sieve_check.specs.Typed.{Template, Strings, TestForm, asks, negation, all_of, any_of, TestForms, no_test, test, CommandForm, does, for_every_part, choice, CommandForms, no_command, command, BranchForms, no_branch, otherwise, branch}
@@ -48,11 +42,6 @@ abbrev pub all_expanded : Effects → List Template → List (List ℕ)
 all_expanded effects templates = map (expanded effects) templates
 
 -- the texts of a test: its strings, each expanded
-pub record Texts : Type 0 where
-  pub names : List (List ℕ)
-  pub params : List (List ℕ)
-  pub keys : List (List ℕ)
-
 abbrev pub texts_of : Effects → Strings → Texts
 texts_of effects strings = record {
   names = all_expanded effects strings.names;
@@ -117,22 +106,12 @@ abbrev pub turns : (ℕ → Effects → Ending) → List ℕ → Effects → End
 turns turn [] effects = normal effects
 turns turn (part ∷ parts) effects = after_turn (turn part effects) (λ e. turns turn parts e)
 
--- whether the message or a part is over or under a number of octets (RFC 5228, section 5.9)
-abbrev pub is_size : Order → ℕ → ℕ → Bool
-is_size Over number octets = nat_lt number octets
-is_size Under number octets = nat_lt octets number
-
 -- what a test comes to, from the captures after it, if it is true; where it isn't, nothing changes
 abbrev pub matched : Option (List (List ℕ)) → Effects → Verdict
 matched None effects = verdict false effects
 matched (Some captures) effects = verdict true (record effects { captures = captures })
 
 -- Below, the current part is that of the innermost loop, by its number; none outside of loops.
-
--- the current part
-abbrev pub current : Mail → Option ℕ → Option MailPart
-current mail None = None
-current mail (Some number) = slice_get mail.parts number
 
 -- the values of variables after the first octets of the current part's content were taken into one,
 -- at most so many; as they were, where there is no part, as in no checked script
@@ -144,25 +123,6 @@ with_taken most name (Some part) variables = with_value name (take most part.con
 abbrev pub stored : Option ℕ → List ℕ → List Action
 stored None folder = []
 stored (Some number) folder = action.Store folder number ∷ []
-
--- the captures after a question that is true of the message, from those before it (RFC 5228, section 5;
--- RFC 5229, section 5); None where it isn't true. Those of the current part are ours, and true of no
--- part where there is none, as in no checked script
-abbrev pub answer : Mail → Option ℕ → Question → Texts → List (List ℕ) → Option (List (List ℕ))
-answer mail part (Constant b) texts captures = then_some b captures
-answer mail part (Header fields) texts captures =
-    header_match fields.how fields.scope part fields.selector texts.params texts.names texts.keys mail captures
-answer mail part (Exists scope) texts captures = then_some (exists_in scope part texts.names mail) captures
-answer mail part (Size order number) texts captures = then_some (is_size order number (size_of mail)) captures
--- the values are those of its sources
-answer mail part (String how) texts captures = first_match how texts.names texts.keys captures
--- the size of its content, its content and the digest of its content
-answer mail part (PartSize order number) texts captures = option_and_then
-    (λ p. then_some (is_size order number (length p.content)) captures) (current mail part)
-answer mail part (PartBody how) texts captures = option_and_then
-    (λ p. body_match how p texts.keys captures) (current mail part)
-answer mail part PartDigest texts captures = option_and_then
-    (λ p. digest_match p texts.keys captures) (current mail part)
 
 abbrev mutual
   -- what a test comes to

@@ -3,33 +3,15 @@ use Rattle.std.specs.Prelude.{ℕ, Bool, true, false, ◌&&◌, List, [], ◌∷
 use Rattle.bytecode_format.specs.declared.action.Action.{Action}
 use Rattle.bytecode_format.specs.declared.action.Action.TheVariants as action
 use Rattle.bytecode_format.specs.Actions.{final_actions}
-use Rattle.mail_matching.specs.Findings.{finding_of}
-use Rattle.mail_matching.specs.HeaderTests.{header_finding}
-use Rattle.mail_matching.specs.PartTests.{body_finding, digest_finding}
+use Rattle.mail_matching.specs.Questions.{found}
 use Rattle.mail_matching.specs.declared.finding.Finding.{Finding}
 use Rattle.mime_decode.specs.Mail.{Mail}
 use Rattle.mime_decode.specs.Visited.{visited}
 use Rattle.sieve_check.specs.declared.typed.Act.{Act}
 use Rattle.sieve_check.specs.declared.typed.Act.TheVariants.{Keep, Discard, FileInto, Set, Take, Store, Leave, Stop}
 use Rattle.bytecode_format.specs.declared.question.Question.{Question}
-use Rattle.bytecode_format.specs.declared.question.Question.TheVariants.{Constant, Header, Exists, Size, String, PartSize, PartBody, PartDigest}
 use Rattle.sieve_check.specs.Typed.{TestForm, asks, negation, all_of, any_of, TestForms, no_test, test, CommandForm, does, for_every_part, choice, CommandForms, no_command, command, BranchForms, no_branch, otherwise, branch}
-use Rattle.sieve_meaning.specs.Meaning.{Effects, no_effects, expanded, Texts, texts_of, current, Verdict, test_does, Ending, normal, stopped, broken, effects_of, act_does, command_does, commands_do, stored}
-
--- what a question finds that compares values with keys: the first of its values and of its keys that match, or how many
--- values there are, none of which matches. The others find nothing, nor do those of the current part, where there is none
-abbrev pub found : Mail → Option ℕ → Question → Texts → Option Finding
-found mail part (Constant b) texts = None
-found mail part (Header fields) texts = Some
-    (header_finding fields.how fields.scope part fields.selector texts.params texts.names texts.keys mail)
-found mail part (Exists scope) texts = None
-found mail part (Size order number) texts = None
--- the values are those of its sources
-found mail part (String how) texts = Some (finding_of how texts.names texts.keys)
-found mail part (PartSize order number) texts = None
--- the one value is its content, and the digest of its content
-found mail part (PartBody how) texts = option_map (λ p. body_finding how p texts.keys) (current mail part)
-found mail part PartDigest texts = option_map (λ p. digest_finding p texts.keys) (current mail part)
+use Rattle.sieve_meaning.specs.Meaning.{Effects, no_effects, expanded, texts_of, Verdict, test_does, Ending, normal, stopped, broken, effects_of, act_does, command_does, commands_do, stored}
 
 -- what came of a test or a command
 pub data Occurrence : Type 0 where

@@ -7,26 +7,22 @@ use Rattle.bytecode_format.specs.declared.action.Action.TheVariants as action
 use Rattle.bytecode_format.specs.declared.instruction.Instruction.{Instruction}
 use Rattle.bytecode_format.specs.declared.operation.Operation.{Operation}
 use Rattle.bytecode_format.specs.declared.operation.Operation.TheVariants.{Halt, Literal, Variable, Capture, Join, Set, Not, Jump, JumpIfTrue, JumpIfFalse, Keep, Discard, File, Store, Each, Next, Break, Take, Test}
-use Rattle.bytecode_format.specs.declared.operation.TestOperation.TheVariants.{Constant, Header, Exists, String, Size, PartSize, PartBody, PartDigest}
+use Rattle.bytecode_format.specs.declared.operation.TestOperation.{TestOperation}
+use Rattle.bytecode_format.specs.declared.question.Question.{Question}
 use Rattle.bytecode_format.specs.Operations.{operation_of}
+use Rattle.bytecode_format.specs.Questions.{counts_in, question_in}
 use Rattle.bytecode_format.specs.Code.{Code}
 use Rattle.bytecode_format.specs.declared.modifiers.Modifiers.{Modifiers}
 use Rattle.bytecode_format.specs.Modifiers.{modified, modifiers_numbered}
-use Rattle.bytecode_format.specs.declared.selection.Scope.{Scope}
-use Rattle.bytecode_format.specs.declared.selection.FieldTest.{FieldTest}
-use Rattle.bytecode_format.specs.Selection.{match_numbered, scope_numbered, field_test_numbered, keys_in, params_in}
-use Rattle.bytecode_verifier.specs.Rows.{is_well_formed}
+use Rattle.bytecode_verifier.specs.Rows.{is_well_formed, test_row}
 use Rattle.bytecode_verifier.specs.Rules.{row_in}
 use Rattle.bytecode_verifier.specs.Places.{holds_at}
 use Rattle.bytecode_verifier.specs.Loops.{opens, closes, same_loops}
-use Rattle.glob_match.specs.declared.match_type.Match.{Match}
-use Rattle.mime_decode.specs.Mail.{Mail, Part, size_of}
+use Rattle.mime_decode.specs.Mail.{Mail, Part}
 use Rattle.mime_decode.specs.Visited.{visited}
-use Rattle.mail_matching.specs.FirstMatch.{first_match}
-use Rattle.mail_matching.specs.HeaderTests.{exists_in, header_match}
-use Rattle.mail_matching.specs.PartTests.{body_match, digest_match}
-use Rattle.sieve_vm.specs.State.{Value, truth, text, Frame, State, current_part, Turn, goes, ends, traps}
-use Rattle.sieve_vm.specs.Stack.{OnTop, Lists, texts_on_top, lists_on_top}
+use Rattle.mail_matching.specs.Questions.{answer}
+use Rattle.sieve_vm.specs.State.{Referred, Value, truth, text, Frame, State, current_part, Turn, goes, ends, traps}
+use Rattle.sieve_vm.specs.Stack.{OnTop, Lists, texts_on_top, lists_counted, texts_in}
 use Rattle.sieve_vm.specs.Charge.{charge_of}
 
 -- what an operation does: the state that it leaves, still at its own place and without its charge,
@@ -61,14 +57,6 @@ abbrev pub with_lists : (Lists → State → Effect) → State → Option Lists 
 with_lists go state None = fails
 with_lists go state (Some top) = go top (record state { stack = top.below })
 
--- what an instruction may refer to in its program: its strings and its numbers, whether the same loops are open at two places, and
--- whether two places have an Each and a Next that name each other; of the version nothing
-pub record Referred : Type 0 where
-  pub strings : List (List ℕ)
-  pub numbers : List ℕ
-  pub same_loops : ℕ → ℕ → Bool
-  pub are_partners : ℕ → ℕ → Bool
-
 -- a jump is forward, and keeps the open loops
 abbrev pub is_sound_jump : Referred → State → Instruction → Bool
 is_sound_jump program state i = nat_lt state.place i.c && program.same_loops state.place i.c
@@ -76,15 +64,6 @@ is_sound_jump program state i = nat_lt state.place i.c && program.same_loops sta
 -- to the target where the truth value is this one, else on
 abbrev pub branch : ℕ → Bool → Bool → State → Effect
 branch target wanted value state = if cond wanted value (not value) then jumps target state else on state
-
--- whether a size is over the number, where a is 0, or under it
-abbrev pub compares : Instruction → ℕ → ℕ → Bool
-compares i number size = if i.a == 0 then nat_lt number size else nat_lt size number
-
--- whether a size, which is in the message or in a part, is over or under the number
-abbrev pub with_number : Instruction → ℕ → State → Option ℕ → Effect
-with_number i size state None = fails
-with_number i size state (Some number) = push (truth (compares i number size)) state
 
 abbrev pub with_string : State → Option (List ℕ) → Effect
 with_string state None = fails
@@ -125,37 +104,23 @@ abbrev pub with_meant : {A : Type 0} → (A → Effect) → Option A → Effect
 with_meant go None = fails
 with_meant go (Some meant) = go meant
 
--- whether the parts in scope have a field of each name
-abbrev pub test_names : Mail → Scope → List (List ℕ) → State → Effect
-test_names mail scope names state = push
-    (truth (exists_in scope (current_part state.frames) names mail)) state
-
 -- whether a test has matched, with the captures after it; one that hasn't leaves them
 abbrev pub tested : State → Option (List (List ℕ)) → Effect
 tested state None = push (truth false) state
 tested state (Some captures) = push (truth true) (record state { captures = captures })
 
--- what a test of fields finds: the captures after the first value that is selected and matches a key
-abbrev pub found_in : Mail → FieldTest → Lists → State → Option (List (List ℕ))
-found_in mail test lists state =
-    header_match test.how test.scope (current_part state.frames)
-    test.selector lists.params lists.names lists.keys mail state.captures
+-- whether a test is about the current part, and whether there is none
+abbrev pub is_about_part : TestOperation → Bool
+is_about_part test = (test_row test).needs_part
 
--- whether a value that is selected matches a key
-abbrev pub test_values : Mail → FieldTest → Lists → State → Effect
-test_values mail test lists state = tested state (found_in mail test lists state)
+abbrev pub is_outside : List Frame → Bool
+is_outside [] = true
+is_outside (frame ∷ frames) = false
 
--- whether a source matches a key
-abbrev pub test_sources : Match → Lists → State → Effect
-test_sources how lists state = tested state (first_match how lists.names lists.keys state.captures)
-
--- whether the current part's content matches a key
-abbrev pub test_body : Match → Part → List (List ℕ) → State → Effect
-test_body how part keys state = tested state (body_match how part keys state.captures)
-
--- whether its digest equals a key
-abbrev pub test_digest : Part → List (List ℕ) → State → Effect
-test_digest part keys state = tested state (digest_match part keys state.captures)
+-- what asking a question of the message comes to, with these lists
+abbrev pub ask : Mail → Question → Lists → State → Effect
+ask mail question lists state =
+    tested state (answer mail (current_part state.frames) question (texts_in lists) state.captures)
 
 -- the variable's value is the first octets of the current part's content, so many, or all where there are fewer
 abbrev pub set_content : Instruction → ℕ → Part → State → Effect
@@ -198,27 +163,13 @@ effect program mail Variable i state = with_string state (slice_get state.variab
 effect program mail Capture i state = push (text (slice_index_or state.captures i.a [])) state
 effect program mail Join i state = with_texts join state (texts_on_top i.b state.stack)
 effect program mail Set i state = with_text (set_variable i) state state.stack
-effect program mail (Test Constant) i state = push (truth (i.a == 1)) state
+effect program mail (Test test) i state = if is_about_part test && is_outside state.frames then fails else with_meant
+    (λ question. with_lists (ask mail question) state (lists_counted (counts_in test i) state.stack))
+    (question_in program.numbers test i)
 effect program mail Not i state = with_truth (λ b s. on (record s { stack = truth (not b) ∷ s.stack })) state state.stack
 effect program mail Jump i state = if is_sound_jump program state i then jumps i.c state else fails
 effect program mail JumpIfTrue i state = if is_sound_jump program state i then with_truth (branch i.c true) state state.stack else fails
 effect program mail JumpIfFalse i state = if is_sound_jump program state i then with_truth (branch i.c false) state state.stack else fails
-effect program mail (Test Header) i state = with_meant
-    (λ test. with_lists (test_values mail test) state (lists_on_top i.b (params_in i.c) (keys_in i.c) state.stack))
-    (field_test_numbered i.a)
-effect program mail (Test Exists) i state = with_meant
-    (λ scope. with_texts (test_names mail scope) state (texts_on_top i.b state.stack)) (scope_numbered i.a)
-effect program mail (Test String) i state = with_meant
-    (λ how. with_lists (test_sources how) state (lists_on_top i.b 0 i.c state.stack)) (match_numbered i.a)
-effect program mail (Test Size) i state = with_number i (size_of mail) state (slice_get program.numbers i.c)
-effect program mail (Test PartSize) i state = with_part
-    (λ number part s. with_number i (length part.content) s (slice_get program.numbers i.c)) mail state state.frames
-effect program mail (Test PartBody) i state = with_meant
-    (λ how. with_part
-    (λ number part s. with_texts (test_body how part) s (texts_on_top i.c s.stack)) mail state state.frames)
-    (match_numbered i.a)
-effect program mail (Test PartDigest) i state = with_part
-    (λ number part s. with_texts (test_digest part) s (texts_on_top i.c s.stack)) mail state state.frames
 effect program mail Keep i state = on (record state { actions = state.actions ++ action.Keep ∷ []; implicit_keep = false })
 effect program mail Discard i state = on (record state { implicit_keep = false })
 effect program mail File i state = with_text file state state.stack
@@ -249,7 +200,7 @@ turn cost fails = traps
 abbrev pub turn_of : Code → Mail → Option Operation → Instruction → State → Turn
 turn_of code mail None i state = traps
 turn_of code mail (Some operation) i state =
-    if is_well_formed (row_in code i) i then turn (charge_of mail operation i state) (effect (referred_in code) mail operation i state) else traps
+    if is_well_formed (row_in code i) i then turn (charge_of (referred_in code) mail operation i state) (effect (referred_in code) mail operation i state) else traps
 
 -- a place past the end traps
 abbrev pub turn_at : Code → Mail → State → Option Instruction → Turn

@@ -3,7 +3,6 @@ use Rattle.std.specs.Prelude.{◌≡◌, ℕ, suc, ◌+◌, Bool, true, false, S
 use Rattle.bytecode_format.specs.declared.instruction.Instruction.{Instruction}
 use Rattle.bytecode_format.specs.declared.operation.Operation.{Operation}
 use Rattle.bytecode_format.specs.declared.operation.Operation.TheVariants.{Halt, Literal, Variable, Capture, Join, Set, Not, Jump, JumpIfTrue, JumpIfFalse, Keep, Discard, File, Store, Each, Next, Break, Take, Test}
-use Rattle.bytecode_format.specs.declared.operation.TestOperation.TheVariants.{Constant, Header, Exists, String, Size, PartSize, PartBody, PartDigest}
 use Rattle.bytecode_format.specs.Operations.{operation_of}
 use Rattle.bytecode_format.specs.Code.{Code}
 use Rattle.mime_decode.specs.Mail.{Mail, Part}
@@ -21,18 +20,11 @@ is_plain Variable = false
 is_plain Capture = false
 is_plain Join = true
 is_plain Set = true
-is_plain (Test Constant) = false
+is_plain (Test test) = false
 is_plain Not = false
 is_plain Jump = false
 is_plain JumpIfTrue = false
 is_plain JumpIfFalse = false
-is_plain (Test Header) = false
-is_plain (Test Exists) = false
-is_plain (Test String) = false
-is_plain (Test Size) = false
-is_plain (Test PartSize) = false
-is_plain (Test PartBody) = false
-is_plain (Test PartDigest) = false
 is_plain Keep = true
 is_plain Discard = true
 is_plain File = true

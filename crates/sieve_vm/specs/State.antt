@@ -42,3 +42,11 @@ pub data Turn : Type 0 where
 -- stack is empty, no loop is open
 abbrev pub start : Code → State
 start code = record { place = 0; stack = []; frames = []; variables = replicate code.variables []; captures = no_captures; actions = []; implicit_keep = true; charge = 0 }
+
+-- what an instruction may refer to in its program: its strings and its numbers, whether the same loops are open at two places, and
+-- whether two places have an Each and a Next that name each other; of the version nothing
+pub record Referred : Type 0 where
+  pub strings : List (List ℕ)
+  pub numbers : List ℕ
+  pub same_loops : ℕ → ℕ → Bool
+  pub are_partners : ℕ → ℕ → Bool
