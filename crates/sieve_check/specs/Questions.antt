@@ -1,19 +1,16 @@
 -- How the questions of simple tests are made of their tags.
-use Rattle.std.specs.Prelude.{ℕ, Bool, true, false, if◌then◌else◌, List, [], ◌∷◌, unwrap_or}
+use Rattle.std.specs.Prelude.{ℕ, if◌then◌else◌, unwrap_or}
 use Rattle.glob_match.specs.declared.comparator.Comparator.TheVariants.{Casemap}
 use Rattle.glob_match.specs.declared.match_type.Match.{Match}
 use Rattle.glob_match.specs.declared.match_type.MatchType.TheVariants.{Is}
 use Rattle.bytecode_format.specs.declared.selection.Scope.{Scope}
 use Rattle.bytecode_format.specs.declared.selection.Scope.TheVariants.{Message, Part, PartAndBelow}
-use Rattle.bytecode_format.specs.declared.selection.Selector.{Selector}
-use Rattle.bytecode_format.specs.declared.selection.Selector.TheVariants.{Value, Main, Sub, ContentType, Param}
 use Rattle.sieve_check.specs.declared.signature.Tags.{Tags}
 use Rattle.sieve_check.specs.declared.table.TestName.{TestName}
 use Rattle.sieve_check.specs.declared.table.TestName.TheVariants as called
 use Rattle.bytecode_format.specs.declared.question.Order.{Order}
 use Rattle.bytecode_format.specs.declared.question.Question.{Question}
 use Rattle.bytecode_format.specs.declared.question.Question.TheVariants.{Constant, Header, Exists, Size, String, PartSize, PartBody, PartDigest}
-use Rattle.bytecode_format.specs.declared.question.Takes.{Takes}
 
 -- how values and keys are matched: without a tag by `:is`, and by `i;ascii-casemap`
 abbrev pub match_of : Tags → Match
