@@ -223,7 +223,7 @@ impl Range {
             Range::Unnamed => value == 0,
             Range::Below(bound) => value < bound,
             Range::Between(least, most) => least <= value && value <= most,
-            Range::Truth => value < 2,
+            Range::Truth => matches!(value, 0 | 1),
             Range::Order => value < 256 && Order::of(value as u8).is_some(),
             Range::Match => value < 256 && match_of(value as u8).is_some(),
             Range::Scope => value < 256 && Scope::of(value as u8).is_some(),
