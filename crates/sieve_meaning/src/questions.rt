@@ -1,4 +1,4 @@
-// Questions, asked. Outside of loops, where no checked script asks about the current part, that fails.
+// Questions about the current part. Outside of loops, where no checked script asks them, they fail.
 ghost use Rattle.std.specs.Prelude.{◌≡◌, ℕ, List, IfOk, option_map};
 ghost use Rattle.mail_matching.specs.Findings.{shortened};
 ghost use Rattle.mail_matching.specs.Outcomes.{after};
@@ -16,9 +16,11 @@ use std::alloc::{AllocError, Global};
 /// The strings of a test, expanded.
 pub type Lists<'l, 't> = TestTexts<'l, ExpandedList<'t>, ExpandedList<'t>, ExpandedList<'t>>;
 
-// The same as `asked` of a question that needs to know of the current part's content. Apart, so that the others have no room for it.
-#[inline(never)]
-fn asked_of_part<'m>(
+/// What a question that needs to know of the current part's content comes to, with its texts, and what it finds. Of that the first
+/// octets are kept, at most so many of the value and of the key.
+///
+/// An error comes only where memory was refused.
+pub fn asked_of_part<'m>(
     alloc: Global,
     subject: Subject<'_, 'm>,
     question: Question,
@@ -58,43 +60,15 @@ fn asked_of_part<'m>(
         }
         Need::Digest => {
             let digest = digest_of(content.as_slice());
-            ask_and_find(alloc, message, part, question, Shown::Digest(&digest), texts, most)
+            ask_and_find(
+                alloc,
+                message,
+                part,
+                question,
+                Shown::Digest(&digest),
+                texts,
+                most,
+            )
         }
-    }
-}
-
-/// What the question comes to, with its texts, and what it finds. Of that the first octets are kept, at most so many of the value and
-/// of the key.
-///
-/// An error comes only where memory was refused.
-#[inline(always)]
-pub fn asked<'m>(
-    alloc: Global,
-    subject: Subject<'_, 'm>,
-    question: Question,
-    texts: Lists<'_, '_>,
-    most: usize,
-) -> Result<(Answer<'m>, Option<Finding>), AllocError>
-    requires names { AreTexts (items_of texts.names.now) }
-    requires params { AreTexts (items_of texts.params.now) }
-    requires keys { AreTexts (items_of texts.keys.now) }
-    ensures outcome { IfOk result
-        (λ r. (captures : List (List ℕ))
-        → after r.0.outcome captures
-        ≡ answer subject.entry.message.now subject.entry.part question
-        (texts_of (items_of texts.entry.names.now) (items_of texts.entry.params.now)
-        (items_of texts.entry.keys.now)) captures) }
-    ensures found { IfOk result (λ r. r.1
-        ≡ option_map (shortened most)
-        (found subject.entry.message.now subject.entry.part question
-        (texts_of (items_of texts.entry.names.now) (items_of texts.entry.params.now)
-        (items_of texts.entry.keys.now)))) }
-{
-    match Need::of(question) {
-        Need::Nothing => {
-            let Subject { message, part, .. } = subject;
-            ask_and_find(alloc, message, part, question, Shown::Nothing, texts, most)
-        }
-        need => asked_of_part(alloc, subject, question, need, texts, most),
     }
 }

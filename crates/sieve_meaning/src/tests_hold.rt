@@ -1,9 +1,9 @@
 // Whether tests are true.
 use crate::evaluator::Evaluator;
-use crate::questions::asked;
+use crate::questions::asked_of_part;
 use crate::subject::Subject;
 use bytecode_format::Question;
-use mail_matching::{Answer, Finding, Outcome, TestTexts};
+use mail_matching::{Answer, Finding, Need, Outcome, Shown, TestTexts, ask_and_find};
 use sieve_check::{Strings, Test};
 use std::alloc::{AllocError, Global};
 
@@ -142,8 +142,9 @@ impl<'s, 'm> Evaluator<'s, 'm> {
             ≡ option_map (shortened most) (found subject.entry.message.now subject.entry.part
             question (texts_of e (strings_form strings.now)))) }
     {
-        let (Answer { outcome, .. }, found) =
-            self.answered(alloc, question, strings, subject, most)?;
+        let (Answer { outcome, .. }, found) = self.answered(
+            alloc, question, strings, subject, most,
+        )?;
         Ok((self.settle(outcome), found))
     }
 
@@ -176,7 +177,13 @@ impl<'s, 'm> Evaluator<'s, 'm> {
             params: &params,
             keys: &keys,
         };
-        asked(alloc, subject, question, texts, most)
+        match Need::of(question) {
+            Need::Nothing => {
+                let Subject { message, part, .. } = subject;
+                ask_and_find(alloc, message, part, question, Shown::Nothing, texts, most)
+            }
+            need => asked_of_part(alloc, subject, question, need, texts, most),
+        }
     }
 
     // Keeps the captures that a test has set, and says whether it has matched.
