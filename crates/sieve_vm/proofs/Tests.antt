@@ -4,9 +4,10 @@ use Rattle.std.specs.Option.{option_and_then, unwrap_or}
 use Rattle.octets.specs.Limits.{max_message}
 use Rattle.bytecode_format.specs.declared.question.Question.{Question}
 use Rattle.mail_matching.specs.Outcomes.{after}
-use Rattle.mail_matching.specs.Questions.{IsShown, current, need_of}
+use Rattle.mail_matching.specs.Questions.{IsShown, current, need_of, texts_of}
 use Rattle.mail_matching.specs.declared.questions.Need.{Need}
 use Rattle.mail_matching.specs.declared.questions.Need.TheVariants as need
+use Rattle.mail_matching.specs.declared.questions.Shown.{Shown}
 use Rattle.mail_matching.specs.declared.questions.Shown.TheVariants as shown
 use Rattle.mail_matching.specs.declared.outcome.Outcome.{Outcome}
 use Rattle.bytecode_format.specs.declared.question.Counts.{Counts}
@@ -18,7 +19,7 @@ use Rattle.sieve_vm.specs.declared.machine.Flow.TheVariants.{On, To}
 use Rattle.sieve_vm.specs.Machine.{next_part}
 use Rattle.sieve_vm.specs.Visits.{Visits, Continues, HasSameLoops, part_in}
 use Rattle.sieve_vm.specs.State.{Value, truth, Frame, State, current_part}
-use Rattle.sieve_vm.specs.Stack.{OnTop, texts_on_top, Lists, lists_counted}
+use Rattle.sieve_vm.specs.Stack.{Lists, lists_counted, texts_in}
 use Rattle.sieve_vm.specs.Standing.{Held, held_of, held_by, Represents, GoesFrom}
 use Rattle.sieve_vm.proofs.Reached.{part_there}
 use Rattle.sieve_vm.proofs.Steps.{charged_at}
@@ -28,8 +29,8 @@ module _ (mail : Mail) (s : State) (m : Machine) (stands : Represents mail s m) 
   pub stack_is : (held_of m.work).stack ≡ s.stack
   stack_is = ap (λ (h : Held). h.stack) stands.work
 
-  pub lists_there : (counts : Counts) (top : Lists) → lists_counted counts s.stack ≡ Some top → lists_counted counts (held_of m.work).stack ≡ Some top
-  lists_there counts top e = ap (lists_counted counts) stack_is ∙ e
+  pub lists_there : (counted counts : Counts) (top : Lists) → counted ≡ counts → lists_counted counts s.stack ≡ Some top → lists_counted counted (held_of m.work).stack ≡ Some top
+  lists_there counted counts top same e = ap (λ n. lists_counted n (held_of m.work).stack) same ∙ ap (lists_counted counts) stack_is ∙ e
 
   -- what the workspace holds has changed, and nothing else
   pub holds_now : (work : Workspace) (change : Held → Held) → held_of work ≡ change (held_of m.work)
@@ -97,6 +98,10 @@ pub continues_each : (frame : Frame) (frames : List Frame) (rest : List ℕ) (ea
 continues_each frame frames [] each old new h = absurd (let none = h.0 in cc)
 continues_each frame frames (part ∷ rest) each old new h = let is = h.0 in cc
 
+-- the texts of lists that are lent
+pub same_texts : (top : Lists) (names params keys : List (List ℕ)) → names ≡ top.names → params ≡ top.params → keys ≡ top.keys → texts_of names params keys ≡ texts_in top
+same_texts top names params keys n p k = rw (n, p, k) refl
+
 -- ---- what a question needs of the current part's content
 
 -- there is a current part, of which this is needed
@@ -123,6 +128,10 @@ is_needed visits mail known same within q needs something e = go (current_part v
           small = omega (arith, bounds.content, bounds.body, known.small);
           needs_it = f;
         }
+
+-- what is shown of it
+pub shown_of : (q : Question) (needs : Need) (at : Option Part) (part : Part) (known : Shown) → need_of q ≡ needs → at ≡ Some part → IsShown needs (Some part) known → IsShown (need_of q) at known
+shown_of q needs at part known needs_it there shows = rw (needs_it, there) shows
 
 -- nothing is shown where nothing is needed
 pub nothing_shown : (mail : Mail) (q : Question) (at : Option ℕ) → cond (is_some at) (need_of q) need.Nothing ≡ need.Nothing → IsShown (need_of q) (current mail at) shown.Nothing

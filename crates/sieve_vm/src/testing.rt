@@ -142,16 +142,37 @@ fn answer<'m>(
         Need::Nothing => ask(alloc, message, current, question, Shown::Nothing, texts),
         Need::Length => {
             let length = loops.length(alloc)? as u64;
-            ask(alloc, message, current, question, Shown::Length(length), texts)
+            ask(
+                alloc,
+                message,
+                current,
+                question,
+                Shown::Length(length),
+                texts,
+            )
         }
         Need::Content => {
             loops.fetch(alloc)?;
             let content = loops.content();
-            ask(alloc, message, current, question, Shown::Content(content), texts)
+            ask(
+                alloc,
+                message,
+                current,
+                question,
+                Shown::Content(content),
+                texts,
+            )
         }
         Need::Digest => {
             let digest = loops.digest(alloc)?;
-            ask(alloc, message, current, question, Shown::Digest(&digest), texts)
+            ask(
+                alloc,
+                message,
+                current,
+                question,
+                Shown::Digest(&digest),
+                texts,
+            )
         }
     }
 }
