@@ -141,38 +141,18 @@ fn answer<'m>(
     match needed(question, current) {
         Need::Nothing => ask(alloc, message, current, question, Shown::Nothing, texts),
         Need::Length => {
-            let length = loops.length(alloc)? as u64;
-            ask(
-                alloc,
-                message,
-                current,
-                question,
-                Shown::Length(length),
-                texts,
-            )
+            let shown = Shown::Length(loops.length(alloc)? as u64);
+            ask(alloc, message, current, question, shown, texts)
         }
         Need::Content => {
             loops.fetch(alloc)?;
-            let content = loops.content();
-            ask(
-                alloc,
-                message,
-                current,
-                question,
-                Shown::Content(content),
-                texts,
-            )
+            let shown = Shown::Content(loops.content());
+            ask(alloc, message, current, question, shown, texts)
         }
         Need::Digest => {
             let digest = loops.digest(alloc)?;
-            ask(
-                alloc,
-                message,
-                current,
-                question,
-                Shown::Digest(&digest),
-                texts,
-            )
+            let shown = Shown::Digest(&digest);
+            ask(alloc, message, current, question, shown, texts)
         }
     }
 }

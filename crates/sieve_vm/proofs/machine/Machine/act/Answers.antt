@@ -59,7 +59,7 @@ returns-in-Literal c =
 
 pub returns-in-Not : goal.returns-in-Not
 returns-in-Not c =
-    rw c.in-Not.is (IfOk-weaker c.push-in-Not.result _ _ (λ done h s at. had_not c.args.program.now c.args.message.now c.requires.accepted c.requires.mail c.args.position c.args.self.now s at c.args.instruction.now c.requires.here (c.requires.named ∙ ap (λ o. Some o) c.in-Not.is) c.take-value.result c.take-value.new.self done c.push-in-Not.new.self (c.take-value.ensures c.args.message.now) (h.0, h.1 c.args.message.now)) c.push-in-Not.ensures.done)
+    rw c.in-Not.is (IfOk-weaker c.push.result _ _ (λ done h s at. had_not c.args.program.now c.args.message.now c.requires.accepted c.requires.mail c.args.position c.args.self.now s at c.args.instruction.now c.requires.here (c.requires.named ∙ ap (λ o. Some o) c.in-Not.is) c.take-value.result c.take-value.new.self done c.push.new.self (c.take-value.ensures c.args.message.now) (h.0, h.1 c.args.message.now)) c.push.ensures.done)
 
 pub returns-in-JumpIfTrue : goal.returns-in-JumpIfTrue
 returns-in-JumpIfTrue c = λ s at.

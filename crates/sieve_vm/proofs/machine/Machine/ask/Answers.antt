@@ -1,6 +1,6 @@
 use Rattle.std.proofs.Common.{◌≡◌, Some, sym, ap, subst, ◌∙◌}
 use Rattle.std.proofs.lemmas.Result.{IfOk-weaker}
-use Rattle.bytecode_format.specs.Questions.{counts_in}
+use Rattle.bytecode_format.specs.Questions.{counts_in, question_in}
 use Rattle.bytecode_format.specs.declared.question.Question.{Question}
 use Rattle.mail_matching.specs.Outcomes.{after}
 use Rattle.mail_matching.specs.Questions.{answer, question_cost}
