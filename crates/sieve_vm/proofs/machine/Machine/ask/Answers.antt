@@ -19,8 +19,8 @@ returns-clause-done c =
     IfOk-weaker c.settle.result _ _
     (λ done h s top question stands e asks.
     let mail = c.args.message.now in
-    let m : Machine = record c.args.self.now { loops = c.answer-answer.new.loops } in
-    let stands_now = same_loops mail s c.args.self.now stands c.answer-answer.new.loops c.in_ok-answer.ensures.loops in
+    let m : Machine = record c.args.self.now { loops = c.answer.new.loops } in
+    let stands_now = same_loops mail s c.args.self.now stands c.answer.new.loops c.in_ok-answer.ensures.loops in
     let there = lists_there mail s c.args.self.now stands c.counts_in-counts.result (counts_in c.args.test c.args.instruction.now) top c.counts_in-counts.ensures e in
     let lists = c.lists-lists.result in
     let texts = same_texts top (texts_of lists.names) (texts_of lists.params) (texts_of lists.keys) (c.lists-lists.ensures.names top there) (c.lists-lists.ensures.params top there) (c.lists-lists.ensures.keys top there) in
