@@ -1,6 +1,6 @@
 -- What acceptance says of the instruction at a place, for what is proved of runs.
 use Rattle.std.proofs.Common.{◌≡◌, ℕ, zero, suc, ◌+◌, ◌-◌, ◌<◌, ◌≤◌, ◌≢◌, nat_lt, Bool, true, false, not, ◌&&◌, ◌||◌, ◌==◌, nat_le, [], ◌∷◌, Option, Some, None, is_some, is_none, if◌then◌else◌, length, get_or, slice_get, refl, sym, ap, ◌∙◌, inl, inr, arith, leb-false, leb-true}
-use Rattle.std.proofs.lemmas.Bool.{cases_lt, eqb-true, eqb-false, ltb-true, ltb-false}
+use Rattle.std.proofs.lemmas.Bool.{cases_lt, eqb-true, eqb-false, ltb-false}
 use Rattle.std.proofs.lemmas.Option.{slice_get_within, slice_get-get_or}
 use Rattle.std.proofs.lemmas.Map.Keys.{any_passes_from_place}
 use Rattle.octets.specs.Limits.{max_loops, max_value}

@@ -3,8 +3,8 @@ ghost use Rattle.std.specs.Prelude.{◌≡◌, ◌&&◌};
 ghost use Rattle.bytecode_verifier.specs.Rows;
 
 use bytecode_format::{
-    FieldTest, Instruction, Modifiers, Operation, Order, Scope, Selector, TestCounts, TestOperation,
-    VERSION_TWO, match_of,
+    FieldTest, Instruction, Modifiers, Operation, Order, Scope, Selector, TestCounts,
+    TestOperation, VERSION_TWO, match_of,
 };
 use octets::MAX_VALUE;
 
