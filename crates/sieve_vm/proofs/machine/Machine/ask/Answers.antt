@@ -1,11 +1,9 @@
-use Rattle.std.proofs.Common.{◌≡◌, Some, sym, ap, subst, ◌∙◌}
+use Rattle.std.proofs.Common.{◌≡◌, Some, sym, ap, ◌∙◌}
 use Rattle.std.proofs.lemmas.Result.{IfOk-weaker}
 use Rattle.bytecode_format.specs.Questions.{counts_in, question_in}
-use Rattle.bytecode_format.specs.declared.question.Question.{Question}
 use Rattle.mail_matching.specs.Outcomes.{after}
 use Rattle.mail_matching.specs.Questions.{answer, question_cost}
 use Rattle.mail_matching.specs.Questions as questions
-use Rattle.mail_matching.specs.Texts.{AreTexts}
 use Rattle.sieve_vm.specs.declared.machine.Machine.{Machine}
 use Rattle.sieve_vm.specs.Charge.{cost_of_asking}
 use Rattle.sieve_vm.specs.Stack.{texts_in}
