@@ -6,8 +6,8 @@ pub mod Onward
 pub mod Pairs
 pub mod Scopes
 mod SelectionExamples
-pub mod Sources
 pub mod TenCaptures
 pub mod AskedFor
+pub mod Asking
 pub mod TypeTexts
 pub mod Typing

@@ -29,7 +29,7 @@ or_assoc : {A : Type 0} (a b c : Option A) → option_or (option_or a b) c ≡ o
 or_assoc None b c = refl
 or_assoc (Some x) b c = refl
 
-first_match-append : (how : Match) (values more keys captures : List (List ℕ)) → first_match how (values ++ more) keys captures ≡ option_or (first_match how values keys captures) (first_match how more keys captures)
+pub first_match-append : (how : Match) (values more keys captures : List (List ℕ)) → first_match how (values ++ more) keys captures ≡ option_or (first_match how values keys captures) (first_match how more keys captures)
 first_match-append how [] more keys captures = refl
 first_match-append how (value ∷ values) more keys captures =
     ap (option_or (first_key how value keys captures)) (first_match-append how values more keys captures)
@@ -143,6 +143,23 @@ pub goes_on_more : {A T : Type 0} (knows : ℕ → T → Finding → Type 0) (ho
 goes_on_more knows how keys f xs place x d first second third lt is one two =
     subst (λ values. GoesOn knows how values keys first third) (sym (values_more f xs place x d lt is))
     (goes_on knows how (flat_map f (take place xs)) (f x) keys first second third one two)
+
+-- one more value
+pub goes_on_next : {T : Type 0} (knows : ℕ → T → Finding → Type 0) (how : Match) (keys values : List (List ℕ)) (place : ℕ) (value : List ℕ) (first second third : Progress T) → place < length values → value ≡ get_or values place []
+    → GoesOn knows how (take place values) keys first second → GoesOn knows how (value ∷ []) keys second third → GoesOn knows how (take (place + 1) values) keys first third
+goes_on_next knows how keys values place value first second third lt is one two =
+    subst (λ vs. GoesOn knows how vs keys first third) (sym (take_more values place [] lt ∙ ap (λ v. take place values ++ v ∷ []) (sym is)))
+    (goes_on knows how (take place values) (value ∷ []) keys first second third one two)
+
+pub next_room : (values : List (List ℕ)) (place : ℕ) (value : List ℕ) → place < length values → value ≡ get_or values place []
+    → extent_of (take place values) + extent_of (value ∷ []) ≤ extent_of values
+next_room values place value lt is =
+    omega (
+      arith,
+      ap extent_of (take_more values place [] lt ∙ ap (λ v. take place values ++ v ∷ []) (sym is)),
+      extent-append (take place values) (value ∷ []),
+      sum_by-take-le (λ (text : List ℕ). length text + 1) values (place + 1),
+    )
 
 -- at the end
 pub goes_on_all : {A T : Type 0} (knows : ℕ → T → Finding → Type 0) (how : Match) (keys : List (List ℕ)) (f : A → List (List ℕ)) (xs : List A) (place : ℕ) (first last : Progress T) → length xs ≤ place

@@ -1,10 +1,10 @@
 // A value and the keys of a test.
-ghost use Rattle.std.specs.Prelude.{◌≡◌, ◌≤◌, ◌∷◌, [], ℕ, List, IfOk, IsOk, None, OnOk, Some, length, if◌then◌else◌};
+ghost use Rattle.std.specs.Prelude.{◌≡◌, ◌≤◌, ◌∷◌, [], ℕ, List, false, IsOk, None, OnOk, Some, length, if◌then◌else◌};
 ghost use Rattle.std.specs.Cow.{IsBorrowedSlice, cow_slice_items};
 ghost use Rattle.octets.specs.Limits.{max_message, max_string};
 ghost use Rattle.mail_matching.specs.Findings.{finding_of, is_matched_by, key_of};
 ghost use Rattle.mail_matching.specs.FirstMatch.{KeepsCaptures, after_match, first_key};
-ghost use Rattle.mail_matching.specs.Outcomes.{after};
+ghost use Rattle.mail_matching.specs.Outcomes.{after, holds};
 ghost use Rattle.mail_matching.specs.Private.{after_compared, further, key_in};
 ghost use Rattle.mail_matching.specs.Texts.{AreTexts};
 ghost use Rattle.mail_matching.specs.declared.finding.Finding.TheVariants.{NoneOf};
@@ -27,7 +27,8 @@ pub(crate) enum Compared<'k> {
     Sets(&'k [u8], Captures),
 }
 
-/// What comparing a value with each key in order comes to, up to the first that it matches; and tells it.
+/// What comparing a value with each key in order comes to, up to the first that it matches; and tells it. The outcome is set
+/// where it stands, and only where the value matches.
 ///
 /// An error comes only where memory was refused: where the value is owned and sets captures, these are copied.
 #[inline(always)]
@@ -37,13 +38,14 @@ pub(crate) fn first_key<'a, K: Texts, T: Telling>(
     keys: &K,
     how: Match,
     told: &mut T,
-) -> Result<Outcome<'a>, AllocError>
+    outcome: &mut Outcome<'a>,
+) -> Result<(), AllocError>
     requires value { length (cow_slice_items value.now) ≤ max_message }
     requires keys { AreTexts (K.texts keys.now) }
-    ensures outcome { IfOk result
-        (λ outcome. (captures : List (List ℕ))
-        → after outcome captures ≡ first_key how (cow_slice_items value.now) (K.texts keys.now)
-        captures) }
+    requires fails { holds outcome.old ≡ false }
+    ensures outcome { OnOk result ((captures : List (List ℕ))
+        → after outcome.new captures
+        ≡ first_key how (cow_slice_items value.now) (K.texts keys.now) captures) }
     ensures found { (most number : ℕ) → T.knows most told.old (NoneOf number)
         → OnOk result (T.knows most told.new (further (NoneOf number)
         (finding_of how (cow_slice_items value.now ∷ []) (K.texts keys.now)))) }
@@ -53,19 +55,17 @@ pub(crate) fn first_key<'a, K: Texts, T: Telling>(
         → IsOk result }
 {
     match first_comparison(value.as_slice(), keys, how) {
-        Compared::Differs => {
-            told.missed();
-            Ok(Outcome::Fails)
-        }
+        Compared::Differs => told.missed(),
         Compared::Matches(key) => {
             told.matched(alloc, value.as_slice(), key)?;
-            Ok(Outcome::Holds)
+            *outcome = Outcome::Holds;
         }
         Compared::Sets(key, stretches) => {
             told.matched(alloc, value.as_slice(), key)?;
-            Ok(Outcome::Captures(Captured::new(alloc, value, stretches)?))
+            *outcome = Outcome::Captures(Captured::new(alloc, value, stretches)?);
         }
     }
+    Ok(())
 }
 
 /// The same of a value that is lent for now: what is captured of it is copied.
@@ -78,12 +78,13 @@ pub(crate) fn first_key_of_lent<'a, K: Texts, T: Telling>(
     keys: &K,
     how: Match,
     told: &mut T,
-) -> Result<Outcome<'a>, AllocError>
+    outcome: &mut Outcome<'a>,
+) -> Result<(), AllocError>
     requires value { length value.now ≤ max_message }
     requires keys { AreTexts (K.texts keys.now) }
-    ensures outcome { IfOk result
-        (λ outcome. (captures : List (List ℕ))
-        → after outcome captures ≡ first_key how value.now (K.texts keys.now) captures) }
+    requires fails { holds outcome.old ≡ false }
+    ensures outcome { OnOk result ((captures : List (List ℕ))
+        → after outcome.new captures ≡ first_key how value.now (K.texts keys.now) captures) }
     ensures found { (most number : ℕ) → T.knows most told.old (NoneOf number)
         → OnOk result (T.knows most told.new (further (NoneOf number)
         (finding_of how (value.now ∷ []) (K.texts keys.now)))) }
@@ -91,19 +92,17 @@ pub(crate) fn first_key_of_lent<'a, K: Texts, T: Telling>(
         → IsOk result }
 {
     match first_comparison(value, keys, how) {
-        Compared::Differs => {
-            told.missed();
-            Ok(Outcome::Fails)
-        }
+        Compared::Differs => told.missed(),
         Compared::Matches(key) => {
             told.matched(alloc, value, key)?;
-            Ok(Outcome::Holds)
+            *outcome = Outcome::Holds;
         }
         Compared::Sets(key, stretches) => {
             told.matched(alloc, value, key)?;
-            Ok(Outcome::Captures(Captured::copied(alloc, value, &stretches)?))
+            *outcome = Outcome::Captures(Captured::copied(alloc, value, &stretches)?);
         }
     }
+    Ok(())
 }
 
 /// How a value compares with the first of the keys that it matches.

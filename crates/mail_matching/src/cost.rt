@@ -1,7 +1,7 @@
 // What comparing costs.
 ghost use Rattle.std.specs.Prelude.{◌≡◌, ◌+◌, ◌*◌, ◌≤◌};
 ghost use Rattle.octets.specs.Limits.{max_message};
-ghost use Rattle.mail_matching.specs.Costs.{extent_of, values_cost};
+ghost use Rattle.mail_matching.specs.Costs.{extent_of};
 ghost use Rattle.mail_matching.specs.Texts.{AreTexts};
 
 use crate::texts::Texts;
@@ -25,15 +25,6 @@ pub(crate) fn names_cost<N: Texts>(fields: usize, names: &N) -> u64
     ensures { result ≡ (fields + 1) * extent_of (N.texts names.now) }
 {
     (fields as u64 + 1) * extent_of(names)
-}
-
-/// The cost of comparing each value with each key.
-pub(crate) fn values_cost<V: Texts, K: Texts>(values: &V, keys: &K) -> u128
-    requires values { AreTexts (V.texts values.now) }
-    requires keys { AreTexts (K.texts keys.now) }
-    ensures { result ≡ values_cost (V.texts values.now) (K.texts keys.now) }
-{
-    product(extent_of(values), extent_of(keys))
 }
 
 /// The cost of comparing values of so many octets, and one more for each, with keys of so many.

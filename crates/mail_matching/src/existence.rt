@@ -2,29 +2,26 @@
 ghost use Rattle.std.specs.Prelude.{◌≡◌, ◌<◌, IfSome, length};
 ghost use Rattle.std.specs.List.{list_all};
 ghost use Rattle.octets.specs.Ascii.{is_word};
+ghost use Rattle.mail_matching.specs.Costs.{names_cost};
 ghost use Rattle.mail_matching.specs.Headers.{all_fields};
-ghost use Rattle.mail_matching.specs.HeaderTests.{exists_cost, exists_in, has_field};
+ghost use Rattle.mail_matching.specs.HeaderTests.{exists_in, fields_in_scope, has_field};
 ghost use Rattle.mail_matching.specs.Texts.{AreTexts};
 
 use crate::cost::names_cost;
-use crate::headers::{Headers, fields_number};
-use crate::selection::Reach;
+use crate::headers::{Headers, Reach, fields_number};
 use crate::texts::Texts;
 use header_fields::{Field, name_is};
 use mime_decode::Message;
 
-/// Whether each name is that of a field of the parts in scope, but for ASCII case, and what the test costs (RFC 5228,
-/// section 5.5; RFC 5703, section 4.3). The fields may be those of different parts.
-///
-/// It takes no memory. The cost counts each name with each field, whatever is found; that of 1,024 names of 16,384 octets in the
-/// largest message is below 2^51.
-pub fn exists<N: Texts>(message: &Message, reach: Reach, names: &N) -> (bool, u64)
+/// Whether each name is that of a field of the parts in scope, but for ASCII case, and what looking for them costs.
+#[inline(always)]
+pub(crate) fn exists<N: Texts>(message: &Message, reach: Reach, names: &N) -> (bool, u64)
     requires current { IfSome reach.current (λ current. current < length message.now.parts) }
     requires names { AreTexts (N.texts names.now) }
     ensures value { result.0 ≡ exists_in reach.scope reach.current (N.texts names.now)
         message.now }
-    ensures cost { result.1 ≡ exists_cost reach.scope reach.current (N.texts names.now)
-        message.now }
+    ensures cost { result.1
+        ≡ names_cost (fields_in_scope reach.scope reach.current message.now) (N.texts names.now) }
 {
     let headers = Headers::in_scope(message, reach);
     let cost = names_cost(fields_number(&headers), names);

@@ -63,6 +63,7 @@ pub(crate) struct Found {
 
 impl Found {
     /// Nothing yet.
+    #[inline(always)]
     pub(crate) fn new(most: usize) -> Found
         ensures { result ≡ record { most = most; finding = NoneOf 0 } }
     {

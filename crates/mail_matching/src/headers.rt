@@ -7,12 +7,19 @@ ghost use Rattle.mail_matching.specs.Selection.{parts_in_scope};
 ghost use Rattle.mail_matching.specs.Headers.{all_fields};
 ghost use Rattle.mail_matching.specs.HeaderTests.{headers_in_scope};
 
-use crate::selection::Reach;
 use crate::typed::TypedFields;
 use bytecode_format::Scope;
 use header_fields::Field;
 use mime_decode::Message;
 use std::marker::Model;
+
+/// Where a test looks: the parts in scope, as they are seen from the current part.
+#[derive(Clone, Copy)]
+pub(crate) struct Reach {
+    pub scope: Scope,
+    /// The current part, or `None` where no loop is open.
+    pub current: Option<usize>,
+}
 
 /// The headers of the parts in scope of a test: those of so many parts, from one on.
 ///

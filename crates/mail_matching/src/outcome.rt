@@ -41,6 +41,7 @@ impl<'a> Captured<'a> {
     // The captures of a value, by their stretches of it.
     //
     // An error comes only where memory was refused.
+    #[inline(always)]
     pub(crate) fn new(
         alloc: Global,
         value: &CowSlice<'a, u8>,

@@ -1,148 +1,141 @@
-// The tests of a part's content and of its digest.
-ghost use Rattle.std.specs.Prelude.{◌≡◌, ◌≤◌, ◌∷◌, [], ℕ, List, None, Some, IfOk, IsOk, if◌then◌else◌, length};
+// The tests of the current part: of its content's size, of its content, and of that one's digest. Outside of loops, where no
+// checked script asks them, they fail.
+ghost use Rattle.std.specs.Prelude.{◌≡◌, ◌≤◌, ◌∷◌, [], Option, IfOk, IsOk, length};
 ghost use Rattle.std.specs.Cow.{IsBorrowedSlice, cow_slice_items};
 ghost use Rattle.octets.specs.Limits.{max_message};
-ghost use Rattle.mail_matching.specs.Costs.{values_cost};
-ghost use Rattle.mail_matching.specs.Findings.{finding_of, shortened};
-ghost use Rattle.mail_matching.specs.FirstMatch.{KeepsCaptures, first_key, first_match};
-ghost use Rattle.mail_matching.specs.Outcomes.{after};
+ghost use Rattle.mail_matching.specs.FirstMatch.{KeepsCaptures, first_match};
 ghost use Rattle.mail_matching.specs.PartTests.{exactly};
+ghost use Rattle.mail_matching.specs.Private.{HasAsked, IsFresh};
+ghost use Rattle.mail_matching.specs.Questions.{IsShown, compares, decides, is_size, of_part};
 ghost use Rattle.mail_matching.specs.Texts.{AreTexts};
+ghost use Rattle.mail_matching.specs.declared.questions.Need.TheVariants as need;
+ghost use Rattle.mime_decode.specs.Content.{digest_of};
+ghost use Rattle.mime_decode.specs.Mail.{Part};
 
-use crate::comparing::{first_key, first_key_of_lent};
 use crate::cost::{extent_of, product};
-use crate::finding::{Finding, Found, Nobody};
-use crate::outcome::{Answer, Outcome};
+use crate::finding::Telling;
+use crate::progress::Progress;
+use crate::questions::Shown;
 use crate::texts::Texts;
-use glob_match::{Comparator, Match, MatchType, is};
+use bytecode_format::Order;
+use glob_match::{Comparator, Match, MatchType};
 use std::alloc::{AllocError, Global};
 use std::borrow::CowSlice;
 
-/// Whether the content of a part matches a key, the keys in order.
-///
-/// The cost of 1,024 keys of 16,384 octets and the largest content is below 2^51.
-///
-/// # Errors
-///
-/// An allocation was refused; none is made but where the content is owned and sets captures: what is captured is copied.
-pub fn body<'m, K: Texts>(
-    alloc: Global,
-    content: &CowSlice<'m, u8>,
-    keys: &K,
-    how: Match,
-) -> Result<Answer<'m>, AllocError>
-    requires content { length (cow_slice_items content.now) ≤ max_message }
-    requires keys { AreTexts (K.texts keys.now) }
-    ensures outcome { IfOk result
-        (λ answer. (captures : List (List ℕ))
-        → after answer.outcome captures
-        ≡ first_match how (cow_slice_items content.now ∷ []) (K.texts keys.now) captures) }
-    ensures cost { IfOk result (λ answer. answer.cost
-        ≡ values_cost (cow_slice_items content.now ∷ []) (K.texts keys.now)) }
-    ensures lent { IsBorrowedSlice content.now → IsOk result }
-    ensures told { KeepsCaptures
-        (first_match how (cow_slice_items content.now ∷ []) (K.texts keys.now)) → IsOk result }
+/// Whether so many octets are over or under the number.
+pub(crate) fn is_size(order: Order, number: u64, octets: u64) -> bool
+    ensures { result ≡ is_size order number octets }
 {
-    Ok(Answer {
-        outcome: first_key(alloc, content, keys, how, &mut Nobody)?,
-        cost: product(content.len() as u64 + 1, extent_of(keys)),
-    })
-}
-
-/// The same, and what was found: the content and the first key that it matches, each up to so many octets; or that it is one value
-/// that matches none.
-///
-/// # Errors
-///
-/// An allocation was refused; none is made but where the content matches, for what is kept of it and of the key, and for what is
-/// captured of content that is owned.
-pub fn find_body<'m, K: Texts>(
-    alloc: Global,
-    content: &CowSlice<'m, u8>,
-    keys: &K,
-    how: Match,
-    most: usize,
-) -> Result<(Answer<'m>, Finding), AllocError>
-    requires content { length (cow_slice_items content.now) ≤ max_message }
-    requires keys { AreTexts (K.texts keys.now) }
-    ensures outcome { IfOk result
-        (λ r. (captures : List (List ℕ))
-        → after r.0.outcome captures
-        ≡ first_match how (cow_slice_items content.now ∷ []) (K.texts keys.now) captures) }
-    ensures cost { IfOk result (λ r. r.0.cost
-        ≡ values_cost (cow_slice_items content.now ∷ []) (K.texts keys.now)) }
-    ensures found { IfOk result (λ r. r.1
-        ≡ shortened most (finding_of how (cow_slice_items content.now ∷ []) (K.texts keys.now))) }
-{
-    let mut found = Found::new(most);
-    let outcome = first_key(alloc, content, keys, how, &mut found)?;
-    let cost = product(content.len() as u64 + 1, extent_of(keys));
-    Ok((Answer { outcome, cost }, found.finding))
-}
-
-/// Whether the digest of a part equals a key, octet by octet. No captures are set, and no memory is taken.
-pub fn digest<'m, K: Texts>(digest: &[u8; 64], keys: &K) -> Answer<'m>
-    requires keys { AreTexts (K.texts keys.now) }
-    ensures outcome { (captures : List (List ℕ))
-        → after result.outcome captures
-        ≡ first_match exactly (digest.now ∷ []) (K.texts keys.now) captures }
-    ensures cost { result.cost ≡ values_cost (digest.now ∷ []) (K.texts keys.now) }
-{
-    let outcome = if equals_a_key(digest, keys) {
-        Outcome::Holds
-    } else {
-        Outcome::Fails
-    };
-    Answer {
-        outcome,
-        cost: product(digest.len() as u64 + 1, extent_of(keys)),
+    match order {
+        Order::Over => octets > number,
+        Order::Under => octets < number,
     }
 }
 
-/// The same, and what was found: the digest and the first key that it equals, each up to so many octets; or that it is one value
-/// that equals none.
+/// Whether the current part's content is over or under the number of octets.
+#[inline(always)]
+pub(crate) fn part_is_size(order: Order, number: u64, shown: Shown) -> bool
+    ensures { (part : Option Part) → IsShown need.Length part shown.entry
+        → of_part (λ p. decides (is_size order number (length p.content))) part ≡ decides result }
+{
+    match shown {
+        Shown::Length(octets) => is_size(order, number, octets),
+        _ => false,
+    }
+}
+
+/// Compares the current part's content with the keys, and says what that costs.
 ///
-/// # Errors
+/// An error comes only where memory was refused.
+#[inline(always)]
+pub(crate) fn part_body<'m, K: Texts, T: Telling>(
+    alloc: Global,
+    shown: Shown<'_, 'm>,
+    keys: &K,
+    how: Match,
+    progress: &mut Progress<'m, T>,
+) -> Result<u128, AllocError>
+    requires shown { (part : Option Part) × IsShown need.Content part shown }
+    requires keys { AreTexts (K.texts keys.now) }
+    requires fresh { IsFresh progress.old }
+    ensures { IfOk result (λ cost. (part : Option Part) → IsShown need.Content part shown.entry
+        → HasAsked T.knows (of_part (λ p. compares how (p.content ∷ [])) part)
+        (K.texts keys.now) 0 progress.old progress.new cost) }
+{
+    match shown {
+        Shown::Content(content) => body(alloc, content, keys, how, progress),
+        _ => Ok(progress.decide(false, 0)),
+    }
+}
+
+// Compares content with the keys, and says what that costs.
+//
+// An error comes only where memory was refused; none is taken but where the content is owned and sets captures: what is
+// captured is copied.
+#[inline(always)]
+fn body<'m, K: Texts, T: Telling>(
+    alloc: Global,
+    content: &CowSlice<'m, u8>,
+    keys: &K,
+    how: Match,
+    progress: &mut Progress<'m, T>,
+) -> Result<u128, AllocError>
+    requires content { length (cow_slice_items content.now) ≤ max_message }
+    requires keys { AreTexts (K.texts keys.now) }
+    requires fresh { IsFresh progress.old }
+    ensures asked { IfOk result (λ cost. HasAsked T.knows (compares how (cow_slice_items content.now ∷ []))
+        (K.texts keys.now) 0 progress.old progress.new cost) }
+    ensures lent { T.is_free → IsBorrowedSlice content.now → IsOk result }
+    ensures told { T.is_free → KeepsCaptures
+        (first_match how (cow_slice_items content.now ∷ []) (K.texts keys.now)) → IsOk result }
+{
+    progress.take(alloc, content, keys, how)?;
+    Ok(product(progress.extent, extent_of(keys)))
+}
+
+/// Compares the digest of the current part's content with the keys, octet by octet, and says what that costs.
 ///
-/// An allocation was refused; none is made but for what is kept of the digest and of the key.
-pub fn find_digest<'m, K: Texts>(
+/// An error comes only where memory was refused.
+#[inline(always)]
+pub(crate) fn part_digest<'m, K: Texts, T: Telling>(
+    alloc: Global,
+    shown: Shown<'_, 'm>,
+    keys: &K,
+    progress: &mut Progress<'m, T>,
+) -> Result<u128, AllocError>
+    requires keys { AreTexts (K.texts keys.now) }
+    requires fresh { IsFresh progress.old }
+    ensures { IfOk result (λ cost. (part : Option Part) → IsShown need.Digest part shown.entry
+        → HasAsked T.knows (of_part (λ p. compares exactly (digest_of p.content ∷ [])) part)
+        (K.texts keys.now) 0 progress.old progress.new cost) }
+{
+    match shown {
+        Shown::Digest(found) => digest(alloc, found, keys, progress),
+        _ => Ok(progress.decide(false, 0)),
+    }
+}
+
+// Compares a digest with the keys, octet by octet, and says what that costs. No captures are set, and nobody who isn't told
+// takes memory for it.
+//
+// An error comes only where memory was refused.
+#[inline(always)]
+fn digest<'m, K: Texts, T: Telling>(
     alloc: Global,
     digest: &[u8; 64],
     keys: &K,
-    most: usize,
-) -> Result<(Answer<'m>, Finding), AllocError>
+    progress: &mut Progress<'m, T>,
+) -> Result<u128, AllocError>
     requires keys { AreTexts (K.texts keys.now) }
-    ensures outcome { IfOk result
-        (λ r. (captures : List (List ℕ))
-        → after r.0.outcome captures
-        ≡ first_match exactly (digest.now ∷ []) (K.texts keys.now) captures) }
-    ensures cost { IfOk result (λ r. r.0.cost
-        ≡ values_cost (digest.now ∷ []) (K.texts keys.now)) }
-    ensures found { IfOk result (λ r. r.1
-        ≡ shortened most (finding_of exactly (digest.now ∷ []) (K.texts keys.now))) }
+    requires fresh { IsFresh progress.old }
+    ensures asked { IfOk result (λ cost. HasAsked T.knows (compares exactly (digest.now ∷ []))
+        (K.texts keys.now) 0 progress.old progress.new cost) }
+    ensures told { T.is_free → IsOk result }
 {
     let exactly = Match {
         kind: MatchType::Is,
         comparator: Comparator::Octet,
     };
-    let mut found = Found::new(most);
-    let outcome = first_key_of_lent(alloc, digest, keys, exactly, &mut found)?;
-    let cost = product(digest.len() as u64 + 1, extent_of(keys));
-    Ok((Answer { outcome, cost }, found.finding))
-}
-
-// Whether the value equals one of the keys.
-fn equals_a_key<K: Texts>(value: &[u8], keys: &K) -> bool
-    requires value { length value.now ≤ max_message }
-    requires keys { AreTexts (K.texts keys.now) }
-    ensures { (captures : List (List ℕ))
-        → first_key exactly value.now (K.texts keys.now) captures
-        ≡ (if result then Some captures else None) }
-{
-    for place in 0..keys.count() {
-        if is(value, keys.text(place), Comparator::Octet).0 {
-            return true;
-        }
-    }
-    false
+    progress.take_lent(alloc, digest, keys, exactly)?;
+    Ok(product(progress.extent, extent_of(keys)))
 }

@@ -1,5 +1,5 @@
 // The values that a test selects, compared one after the other.
-ghost use Rattle.std.specs.Prelude.{◌≡◌, ◌+◌, ◌<◌, ◌≤◌, ◌^◌, ◌∷◌, [], false, All, IfSome, IsOk, OnOk, length};
+ghost use Rattle.std.specs.Prelude.{◌≡◌, ◌+◌, ◌<◌, ◌≤◌, ◌^◌, ◌∷◌, [], ℕ, List, false, All, IfSome, IsOk, OnOk, length};
 ghost use Rattle.std.specs.Cow.{IsBorrowedSlice, cow_slice_items};
 ghost use Rattle.octets.specs.Limits.{max_message};
 ghost use Rattle.header_fields.specs.Extent.{fields_extent};
@@ -7,8 +7,12 @@ ghost use Rattle.mail_matching.specs.Selection.{given, params_of, reading_of, se
 ghost use Rattle.mail_matching.specs.Costs.{extent_of};
 ghost use Rattle.mail_matching.specs.Headers.{selected_among, selected_named, values_of_params};
 ghost use Rattle.mail_matching.specs.HeaderTests.{AreUnfolded, IsUnfolded};
-ghost use Rattle.mail_matching.specs.Private.{GoesOn};
+ghost use Rattle.mail_matching.specs.FirstMatch.{KeepsCaptures, first_key};
+ghost use Rattle.mail_matching.specs.Outcomes.{holds};
+ghost use Rattle.mail_matching.specs.Private.{GoesOn, HasAsked, IsFresh};
+ghost use Rattle.mail_matching.specs.Questions.{decides};
 ghost use Rattle.mail_matching.specs.Texts.{AreTexts};
+ghost use Rattle.mail_matching.specs.declared.outcome.Outcome.TheVariants.{Fails};
 ghost use Rattle.bytecode_format.specs.declared.selection.Selector.TheVariants.{Value};
 
 use crate::asked::{asked_params, asked_value};
@@ -44,7 +48,32 @@ pub(crate) struct Progress<'m, T> {
 }
 
 impl<'m, T: Telling> Progress<'m, T> {
+    /// Nothing was asked yet.
+    pub(crate) fn new(told: T) -> Progress<'m, T>
+        ensures { result ≡ record { outcome = Fails; extent = 0; told = told } }
+    {
+        Progress {
+            outcome: Outcome::Fails,
+            extent: 0,
+            told,
+        }
+    }
+
+    /// Takes what is decided without keys. Says what that costs: what it cost to find it out.
+    #[inline(always)]
+    pub(crate) fn decide(&mut self, value: bool, looked: u64) -> u128
+        requires { IsFresh self.old }
+        ensures { (keys : List (List ℕ))
+            → HasAsked T.knows (decides value) keys looked self.old self.new result }
+    {
+        if value {
+            self.outcome = Outcome::Holds;
+        }
+        looked as u128
+    }
+
     /// Goes on with what is selected in a header, name by name.
+    #[inline(always)]
     pub(crate) fn take_header<N: Texts, P: Texts, K: Texts>(
         &mut self,
         alloc: Global,
@@ -74,6 +103,7 @@ impl<'m, T: Telling> Progress<'m, T> {
     }
 
     // Goes on with what is selected of the fields of a name.
+    #[inline(always)]
     fn take_named<P: Texts, K: Texts>(
         &mut self,
         alloc: Global,
@@ -100,6 +130,7 @@ impl<'m, T: Telling> Progress<'m, T> {
     }
 
     // Goes on with what is selected of a field, where it has the name.
+    #[inline(always)]
     fn take_where_named<P: Texts, K: Texts>(
         &mut self,
         alloc: Global,
@@ -125,6 +156,7 @@ impl<'m, T: Telling> Progress<'m, T> {
     }
 
     // Goes on with what is selected of a field.
+    #[inline(always)]
     fn take_field<P: Texts, K: Texts>(
         &mut self,
         alloc: Global,
@@ -234,9 +266,9 @@ impl<'m, T: Telling> Progress<'m, T> {
         }
     }
 
-    // Goes on with a value.
+    /// Goes on with a value.
     #[inline(always)]
-    fn take<K: Texts>(
+    pub(crate) fn take<K: Texts>(
         &mut self,
         alloc: Global,
         value: &CowSlice<'m, u8>,
@@ -249,18 +281,21 @@ impl<'m, T: Telling> Progress<'m, T> {
         ensures goes { OnOk result (GoesOn T.knows how (cow_slice_items value.now ∷ []) (K.texts keys.now)
             self.old self.new) }
         ensures lent { T.is_free → IsBorrowedSlice value.now → IsOk result }
+        ensures told { T.is_free → (holds self.old.outcome ≡ false
+            → KeepsCaptures (first_key how (cow_slice_items value.now) (K.texts keys.now)))
+            → IsOk result }
     {
         self.extent += value.len() as u64 + 1;
         if self.outcome.holds() {
             return Ok(());
         }
-        self.outcome = first_key(alloc, value, keys, how, &mut self.told)?;
+        first_key(alloc, value, keys, how, &mut self.told, &mut self.outcome)?;
         Ok(())
     }
 
-    // Goes on with a value that is lent for now: what is captured of it is copied.
+    /// Goes on with a value that is lent for now: what is captured of it is copied.
     #[inline(always)]
-    fn take_lent<K: Texts>(
+    pub(crate) fn take_lent<K: Texts>(
         &mut self,
         alloc: Global,
         lent: &[u8],
@@ -270,13 +305,15 @@ impl<'m, T: Telling> Progress<'m, T> {
         requires keys { AreTexts (K.texts keys.now) }
         requires lent { length lent.now ≤ max_message }
         requires room { self.old.extent + extent_of (lent.now ∷ []) < 2 ^ 64 }
-        ensures { OnOk result (GoesOn T.knows how (lent.now ∷ []) (K.texts keys.now) self.old self.new) }
+        ensures goes { OnOk result (GoesOn T.knows how (lent.now ∷ []) (K.texts keys.now) self.old self.new) }
+        ensures told { T.is_free → (holds self.old.outcome ≡ false
+            → KeepsCaptures (first_key how lent.now (K.texts keys.now))) → IsOk result }
     {
         self.extent += lent.len() as u64 + 1;
         if self.outcome.holds() {
             return Ok(());
         }
-        self.outcome = first_key_of_lent(alloc, lent, keys, how, &mut self.told)?;
+        first_key_of_lent(alloc, lent, keys, how, &mut self.told, &mut self.outcome)?;
         Ok(())
     }
 }

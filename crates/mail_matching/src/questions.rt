@@ -1,14 +1,22 @@
 // Questions, asked.
-ghost use Rattle.std.specs.Prelude.{◌≡◌, ◌<◌, ℕ, List, IfOk, IfSome, length, option_map};
+ghost use Rattle.std.specs.Prelude.{◌≡◌, ◌<◌, ℕ, List, Option, IfOk, IfSome, is_some, length, option_map};
 ghost use Rattle.mail_matching.specs.Findings.{shortened};
 ghost use Rattle.mail_matching.specs.Outcomes.{after};
-ghost use Rattle.mail_matching.specs.Questions.{IsShown, answer, current as current_part, found, need_of, question_cost, texts_of};
+ghost use Rattle.mail_matching.specs.Private.{HasAsked, IsFresh};
+ghost use Rattle.mail_matching.specs.Questions.{IsShown, Texts as TextsOf, answer, asked, current as current_part, found, looked_cost, need_of, question_cost, texts_of};
 ghost use Rattle.mail_matching.specs.Texts.{AreTexts};
+ghost use Rattle.mime_decode.specs.Mail.{Mail};
 
-use crate::finding::Finding;
+use crate::existence::exists;
+use crate::finding::{Finding, Found, Nobody, Telling};
+use crate::header_test::header;
+use crate::headers::Reach;
 use crate::outcome::Answer;
+use crate::part_tests::{is_size, part_body, part_digest, part_is_size};
+use crate::progress::{Comparison, Progress};
+use crate::string_test::string;
 use crate::texts::Texts;
-use bytecode_format::Question;
+use bytecode_format::{FieldTest, Question};
 use mime_decode::Message;
 use std::alloc::{AllocError, Global};
 use std::borrow::CowSlice;
@@ -95,7 +103,20 @@ pub fn ask<'m, N: Texts, P: Texts, K: Texts>(
         ≡ question_cost message.now current question (texts_of (N.texts texts.entry.names.now)
         (P.texts texts.entry.params.now) (K.texts texts.entry.keys.now))) }
 {
-    Err(AllocError)
+    let mut progress = Progress::new(Nobody);
+    let cost = put(
+        alloc,
+        message,
+        current,
+        question,
+        shown,
+        texts,
+        &mut progress,
+    )?;
+    Ok(Answer {
+        outcome: progress.outcome,
+        cost,
+    })
 }
 
 /// The same, and what it finds, if it compares values with keys: the first value that matches a key and that key, each up to so many
@@ -129,5 +150,107 @@ pub fn ask_and_find<'m, N: Texts, P: Texts, K: Texts>(
         ≡ option_map (shortened most) (found message.now current question (texts_of (N.texts texts.entry.names.now)
         (P.texts texts.entry.params.now) (K.texts texts.entry.keys.now)))) }
 {
-    Err(AllocError)
+    let mut progress = Progress::new(Found::new(most));
+    let cost = put(
+        alloc,
+        message,
+        current,
+        question,
+        shown,
+        texts,
+        &mut progress,
+    )?;
+    let found = compares(question, shown).then_some(progress.told.finding);
+    let answer = Answer {
+        outcome: progress.outcome,
+        cost,
+    };
+    Ok((answer, found))
+}
+
+// Whether the question compares values with keys. Those of the current part compare none, where there is no such part.
+fn compares(question: Question, shown: Shown) -> bool
+    ensures { (mail : Mail) (part : Option ℕ) (texts : TextsOf)
+        → IsShown (need_of question) (current_part mail part) shown.entry
+        → is_some (found mail part question texts) ≡ result }
+{
+    match question {
+        Question::Header(_) | Question::String(_) => true,
+        Question::PartBody(_) | Question::PartDigest => !matches!(shown, Shown::Nothing),
+        Question::Constant(_) | Question::Exists(_) | Question::Size(..) | Question::PartSize(..) =>
+            false,
+    }
+}
+
+// Puts the question, and says what that costs. What it comes to is the outcome of the progress then.
+//
+// An error comes only where memory was refused.
+#[inline(always)]
+fn put<'m, N: Texts, P: Texts, K: Texts, T: Telling>(
+    alloc: Global,
+    message: &Message<'m>,
+    current: Option<usize>,
+    question: Question,
+    shown: Shown<'_, 'm>,
+    texts: TestTexts<'_, N, P, K>,
+    progress: &mut Progress<'m, T>,
+) -> Result<u128, AllocError>
+    requires current { IfSome current (λ number. number < length message.now.parts) }
+    requires shown { IsShown (need_of question) (current_part message.now current) shown }
+    requires names { AreTexts (N.texts texts.names.now) }
+    requires params { AreTexts (P.texts texts.params.now) }
+    requires keys { AreTexts (K.texts texts.keys.now) }
+    requires fresh { IsFresh progress.old }
+    ensures { IfOk result (λ cost. HasAsked T.knows
+        (asked message.now current question (texts_of (N.texts texts.entry.names.now)
+        (P.texts texts.entry.params.now) (K.texts texts.entry.keys.now)))
+        (K.texts texts.entry.keys.now)
+        (looked_cost message.now current question (texts_of (N.texts texts.entry.names.now)
+        (P.texts texts.entry.params.now) (K.texts texts.entry.keys.now)))
+        progress.old progress.new cost) }
+{
+    let TestTexts {
+        names,
+        params,
+        keys,
+    } = texts;
+    match question {
+        Question::Constant(value) => Ok(progress.decide(value, 0)),
+        Question::Header(
+            FieldTest {
+                scope,
+                selector,
+                how,
+            },
+        ) => {
+            let comparison = Comparison {
+                selector,
+                params,
+                keys,
+                how,
+            };
+            header(
+                alloc,
+                message,
+                Reach { scope, current },
+                names,
+                &comparison,
+                progress,
+            )
+        }
+        Question::Exists(scope) => {
+            let (all, looked) = exists(message, Reach { scope, current }, names);
+            Ok(progress.decide(all, looked))
+        }
+        Question::Size(order, number) => {
+            let octets = message.size() as u64;
+            Ok(progress.decide(is_size(order, number, octets), 0))
+        }
+        Question::String(how) => string(alloc, names, keys, how, progress),
+        Question::PartSize(order, number) => {
+            Ok(progress.decide(part_is_size(order, number, shown), 0))
+        }
+        Question::PartBody(how) => part_body(alloc, shown, keys, how, progress),
+        Question::PartDigest => part_digest(alloc, shown, keys, progress),
+    }
 }

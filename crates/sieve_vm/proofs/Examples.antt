@@ -72,7 +72,7 @@ module _ (root : Part) where
   matched : effect (referred_in code) mail (Test Header) (lists (Test Header) 1 1 1) (with_stack (text (codes "A") ∷ text (codes "Subject") ∷ [])) ≡ on (with_stack (truth true ∷ []))
   matched = refl
 
-  matched_charge : charge_of mail (Test Header) (lists (Test Header) 1 1 1) (with_stack (text (codes "A") ∷ text (codes "Subject") ∷ [])) ≡ 1 + 3 * 8 + 3 * 2
+  matched_charge : charge_of (referred_in code) mail (Test Header) (lists (Test Header) 1 1 1) (with_stack (text (codes "A") ∷ text (codes "Subject") ∷ [])) ≡ 1 + 3 * 8 + 3 * 2
   matched_charge = refl
 
   -- the captures of a match: the value, and what its wildcard stands for
@@ -104,14 +104,14 @@ module _ (root : Part) where
   joined : effect (referred_in code) mail Join (lists Join 0 2 0) (with_stack (text (codes "b") ∷ text (codes "aa") ∷ truth true ∷ [])) ≡ on (with_stack (text (codes "aab") ∷ truth true ∷ []))
   joined = refl
 
-  joined_charge : charge_of mail Join (lists Join 0 2 0) (with_stack (text (codes "b") ∷ text (codes "aa") ∷ truth true ∷ [])) ≡ 1 + 2 + 1
+  joined_charge : charge_of (referred_in code) mail Join (lists Join 0 2 0) (with_stack (text (codes "b") ∷ text (codes "aa") ∷ truth true ∷ [])) ≡ 1 + 2 + 1
   joined_charge = refl
 
   -- a is 9: lower case, and the first octet in upper case
   set : effect (referred_in code) mail Set (lists Set 9 0 1) (with_variables ([] ∷ codes "old" ∷ []) (text (codes "nEW") ∷ [])) ≡ on (with_variables ([] ∷ codes "New" ∷ []) [])
   set = refl
 
-  set_charge : charge_of mail Set (lists Set 9 0 1) (with_variables ([] ∷ codes "old" ∷ []) (text (codes "nEW") ∷ [])) ≡ 1 + 3
+  set_charge : charge_of (referred_in code) mail Set (lists Set 9 0 1) (with_variables ([] ∷ codes "old" ∷ []) (text (codes "nEW") ∷ [])) ≡ 1 + 3
   set_charge = refl
 
   no_modifiers : effect (referred_in code) mail Set (lists Set 3 0 0) (with_variables ([] ∷ []) (text (codes "new") ∷ [])) ≡ fails
@@ -126,13 +126,13 @@ module _ (root : Part) where
   source_matched = refl
 
   -- all sources and keys count: one octet and one more, two octets and one more, each times two octets and one more
-  source_charge : charge_of mail (Test String) (lists (Test String) 2 2 1) (with_stack (text (codes "b*") ∷ text (codes "bc") ∷ text (codes "a") ∷ [])) ≡ 1 + 2 * 3 + 3 * 3
+  source_charge : charge_of (referred_in code) mail (Test String) (lists (Test String) 2 2 1) (with_stack (text (codes "b*") ∷ text (codes "bc") ∷ text (codes "a") ∷ [])) ≡ 1 + 2 * 3 + 3 * 3
   source_charge = refl
 
   exists : effect (referred_in code) mail (Test Exists) (lists (Test Exists) 0 2 0) (with_stack (text (codes "x") ∷ text (codes "Subject") ∷ [])) ≡ on (with_stack (truth true ∷ []))
   exists = refl
 
-  exists_charge : charge_of mail (Test Exists) (lists (Test Exists) 0 2 0) (with_stack (text (codes "x") ∷ text (codes "Subject") ∷ [])) ≡ 1 + 3 * (8 + 2)
+  exists_charge : charge_of (referred_in code) mail (Test Exists) (lists (Test Exists) 0 2 0) (with_stack (text (codes "x") ∷ text (codes "Subject") ∷ [])) ≡ 1 + 3 * (8 + 2)
   exists_charge = refl
 
   not_there : effect (referred_in code) mail (Test Exists) (lists (Test Exists) 0 2 0) (with_stack (text (codes "y") ∷ text (codes "Subject") ∷ [])) ≡ on (with_stack (truth false ∷ []))

@@ -19,8 +19,7 @@ use Rattle.mime_decode.specs.Mail.{Mail, IsMail}
 use Rattle.sieve_vm.specs.State.{Value, truth, State}
 use Rattle.sieve_vm.specs.Stores.{NamesPart}
 use Rattle.sieve_vm.specs.Machine.{on, jumps, fails, push, tested, is_sound_jump, referred_in}
-use Rattle.glob_match.specs.declared.match_type.Match.{Match}
-use Rattle.mail_matching.specs.FirstMatch.{first_match}
+use Rattle.mail_matching.specs.Questions.{Asked, answered}
 use Rattle.bytecode_verifier.proofs.Nesting.{nesting}
 use Rattle.sieve_vm.proofs.Falls.{depth_at, end_of, potential-forward}
 use Rattle.sieve_vm.proofs.Opened.{AreOpen, open-length, inside}
@@ -127,14 +126,14 @@ module _ (code : Code) (mail : Mail) (is : IsAccepted code) (known : IsMail mail
         (leads_on (record t { stack = v ∷ t.stack }) after (ap is_plain e ∙ goes_on) (left o after e leaves) (subst (λ (x : Entries). Describes x (v ∷ t.stack)) w.1 described) place charge outside texts stores)
 
     -- a test's captures change neither the place nor the stack
-    pub leads_tested : (operation : Operation) (t : State) (below after : Entries) (how : Match) (values keys : List (List ℕ)) → operation_of i.op ≡ Some operation → is_plain (Some operation) ≡ true → LeavesBy operation after → with_entry Truth below ≡ Some after
-        → t.place ≡ s.place → t.charge ≡ s.charge → t.frames ≡ s.frames → HoldsTexts code.variables t.variables t.captures → All (NamesPart mail) t.actions → Describes below t.stack → Leads code mail s (tested t (first_match how values keys t.captures))
-    leads_tested operation t below after how values keys e goes_on leaves room place charge outside texts stores there = go (first_match how values keys t.captures) refl
+    pub leads_tested : (operation : Operation) (t : State) (below after : Entries) (what : Asked) (keys : List (List ℕ)) → operation_of i.op ≡ Some operation → is_plain (Some operation) ≡ true → LeavesBy operation after → with_entry Truth below ≡ Some after
+        → t.place ≡ s.place → t.charge ≡ s.charge → t.frames ≡ s.frames → HoldsTexts code.variables t.variables t.captures → All (NamesPart mail) t.actions → Describes below t.stack → Leads code mail s (tested t (answered what keys t.captures))
+    leads_tested operation t below after what keys e goes_on leaves room place charge outside texts stores there = go (answered what keys t.captures) refl
       where
-        go : (o : Option (List (List ℕ))) → first_match how values keys t.captures ≡ o → Leads code mail s (tested t o)
+        go : (o : Option (List (List ℕ))) → answered what keys t.captures ≡ o → Leads code mail s (tested t o)
         go None found = pushes operation t (truth false) Truth below after e goes_on leaves room place charge outside texts stores there there
         go (Some captures) found =
-            pushes operation (record t { captures = captures }) (truth true) Truth below after e goes_on leaves room place charge outside (captured_by code.variables t.variables t.captures captures how values keys texts found) stores there there
+            pushes operation (record t { captures = captures }) (truth true) Truth below after e goes_on leaves room place charge outside (captured_by code.variables t.variables t.captures captures what keys texts found) stores there there
 
     -- an instruction that leaves the stack alone
     pub leads_still : (o : Operation) (to : State) → operation_of i.op ≡ Some o → is_plain (Some o) ≡ true → ((x : Entries) → left_by code (Some o) i x ≡ Some x) → to.place ≡ s.place → to.stack ≡ s.stack → to.frames ≡ s.frames → to.charge ≡ s.charge → HoldsTexts code.variables to.variables to.captures → All (NamesPart mail) to.actions → Leads code mail s (on to)

@@ -10,12 +10,11 @@ use Rattle.bytecode_format.specs.declared.instruction.Instruction.{Instruction}
 use Rattle.bytecode_format.specs.declared.modifiers.Modifiers.{Modifiers}
 use Rattle.bytecode_format.specs.declared.operation.Operation.{Operation}
 use Rattle.bytecode_format.specs.declared.operation.Operation.TheVariants.{Halt, Literal, Variable, Capture, Join, Set, Not, Jump, JumpIfTrue, JumpIfFalse, Keep, Discard, File, Store, Each, Next, Break, Take, Test}
-use Rattle.bytecode_format.specs.declared.operation.TestOperation.TheVariants.{Constant, Header, Exists, String, Size, PartSize, PartBody, PartDigest}
 use Rattle.bytecode_format.specs.Action.{is_same}
 use Rattle.bytecode_format.specs.Actions.{first_occurrences, is_listed, with_implicit_keep}
 use Rattle.bytecode_format.specs.Modifiers.{modified, modifiers_numbered}
 use Rattle.bytecode_format.specs.Operations.{operation_of}
-use Rattle.bytecode_format.specs.Selection.{match_numbered, scope_numbered, field_test_numbered, keys_in, params_in}
+use Rattle.bytecode_format.specs.Questions.{counts_in, question_in}
 use Rattle.bytecode_format.specs.Code.{Code}
 use Rattle.bytecode_verifier.specs.Acceptance.{IsAccepted}
 use Rattle.bytecode_verifier.specs.Counting.{counts, counted_at, times_at, entries_at}
@@ -24,15 +23,13 @@ use Rattle.bytecode_verifier.specs.Rules.{row_in}
 use Rattle.bytecode_verifier.specs.declared.counting.Counted.{Counted}
 use Rattle.bytecode_verifier.specs.declared.counting.Counted.TheVariants.{Actions, Stores}
 use Rattle.bytecode_verifier.proofs.Nesting.{nesting}
-use Rattle.mime_decode.specs.Mail.{Mail, Part, IsMail, size_of}
+use Rattle.mime_decode.specs.Mail.{Mail, Part, IsMail}
 use Rattle.mime_decode.specs.Visited.{visited}
-use Rattle.mail_matching.specs.FirstMatch.{first_match}
-use Rattle.mail_matching.specs.HeaderTests.{exists_in}
-use Rattle.mail_matching.specs.PartTests.{body_match, digest_match}
-use Rattle.sieve_vm.specs.State.{Value, truth, text, Frame, State, current_part, Turn, goes, ends, traps, start}
-use Rattle.sieve_vm.specs.Stack.{OnTop, Lists, texts_on_top, lists_on_top}
+use Rattle.mail_matching.specs.Questions.{answer}
+use Rattle.sieve_vm.specs.State.{Referred, Value, truth, text, Frame, State, current_part, Turn, goes, ends, traps, start}
+use Rattle.sieve_vm.specs.Stack.{OnTop, Lists, texts_on_top, lists_counted, texts_in}
 use Rattle.sieve_vm.specs.Charge.{charge_of}
-use Rattle.sieve_vm.specs.Machine.{Effect, on, jumps, halts, fails, push, with_truth, with_text, with_texts, with_lists, with_number, with_string, with_part, with_meant, branch, is_sound_jump, join, compares, set_modified, set_variable, file, store, store_part, test_names, tested, found_in, test_values, test_sources, test_body, test_digest, set_content, open_loop, each, next_part, next, close, effect, turn, turn_of, turn_at, step, are_partners, referred_in, Referred}
+use Rattle.sieve_vm.specs.Machine.{Effect, on, jumps, halts, fails, push, with_truth, with_text, with_texts, with_lists, with_string, with_part, with_meant, branch, is_sound_jump, join, set_modified, set_variable, file, store, store_part, ask, is_about_part, is_outside, tested, set_content, open_loop, next_part, next, close, effect, turn, turn_of, turn_at, step, are_partners, referred_in}
 use Rattle.sieve_vm.specs.Runs.{Run, RunEnds}
 use Rattle.sieve_vm.specs.Ending.{IsOutcome}
 use Rattle.sieve_vm.specs.Listed.{is_counted, number_of}
@@ -55,16 +52,16 @@ has_if : (actions : List Action) (b : Bool) (e : Effect) → Has actions e → H
 has_if actions true e has = has
 has_if actions false e has = tt
 
+has_unless : (actions : List Action) (b : Bool) (e : Effect) → Has actions e → Has actions (cond b fails e)
+has_unless actions true e has = tt
+has_unless actions false e has = has
+
 has_push : (value : Value) (s : State) → Has s.actions (push value s)
 has_push value s = has_if s.actions (nat_lt (length s.stack) max_stack) (on (record s { stack = value ∷ s.stack })) refl
 
 has_string : (s : State) (o : Option (List ℕ)) → Has s.actions (with_string s o)
 has_string s None = tt
 has_string s (Some string) = has_push (text string) s
-
-has_number : (i : Instruction) (size : ℕ) (s : State) (o : Option ℕ) → Has s.actions (with_number i size s o)
-has_number i size s None = tt
-has_number i size s (Some number) = has_push (truth (compares i number size)) s
 
 has_tested : (s : State) (o : Option (List (List ℕ))) → Has s.actions (tested s o)
 has_tested s None = has_push (truth false) s
@@ -205,31 +202,15 @@ module _ (counted : Counted) where
     lists Capture = before Capture (has_push (text (slice_index_or s.captures i.a [])) s)
     lists Join = before Join (has_texts join s (texts_on_top i.b s.stack) (λ texts t. has_push (text (take max_string (concat texts))) t))
     lists Set = before Set (has_text (set_variable i) s s.stack (λ value t. has_set i.c (modifiers_numbered i.a) value t))
-    lists (Test Constant) = before (Test Constant) (has_push (truth (i.a == 1)) s)
+    lists (Test test) =
+        let counted_lists = lists_counted (counts_in test i) s.stack in
+        before (Test test) (has_unless s.actions (is_about_part test && is_outside s.frames) (with_meant (λ question. with_lists (ask mail question) s counted_lists) (question_in code.numbers test i))
+        (has_meant s.actions (λ question. with_lists (ask mail question) s counted_lists) (question_in code.numbers test i)
+        (λ question. has_lists (ask mail question) s counted_lists (λ lists t. has_tested t (answer mail (current_part t.frames) question (texts_in lists) t.captures)))))
     lists Not = before Not (has_truth (λ b t. on (record t { stack = truth (not b) ∷ t.stack })) s s.stack (λ b t. refl))
     lists Jump = before Jump (has_if s.actions (is_sound_jump (referred_in code) s i) (jumps i.c s) refl)
     lists JumpIfTrue = before JumpIfTrue (has_if s.actions (is_sound_jump (referred_in code) s i) (with_truth (branch i.c true) s s.stack) (has_truth (branch i.c true) s s.stack (λ b t. has_branch i.c true b t)))
     lists JumpIfFalse = before JumpIfFalse (has_if s.actions (is_sound_jump (referred_in code) s i) (with_truth (branch i.c false) s s.stack) (has_truth (branch i.c false) s s.stack (λ b t. has_branch i.c false b t)))
-    lists (Test Header) =
-        before (Test Header) (has_meant s.actions (λ test. with_lists (test_values mail test) s (lists_on_top i.b (params_in i.c) (keys_in i.c) s.stack)) (field_test_numbered i.a)
-        (λ test. has_lists (test_values mail test) s (lists_on_top i.b (params_in i.c) (keys_in i.c) s.stack) (λ texts t. has_tested t (found_in mail test texts t))))
-    lists (Test Exists) =
-        before (Test Exists) (has_meant s.actions (λ scope. with_texts (test_names mail scope) s (texts_on_top i.b s.stack)) (scope_numbered i.a)
-        (λ scope. has_texts (test_names mail scope) s (texts_on_top i.b s.stack) (λ names t. has_push (truth (exists_in scope (current_part t.frames) names mail)) t)))
-    lists (Test String) =
-        before (Test String) (has_meant s.actions (λ how. with_lists (test_sources how) s (lists_on_top i.b 0 i.c s.stack)) (match_numbered i.a)
-        (λ how. has_lists (test_sources how) s (lists_on_top i.b 0 i.c s.stack) (λ texts t. has_tested t (first_match how texts.names texts.keys t.captures))))
-    lists (Test Size) = before (Test Size) (has_number i (size_of mail) s (slice_get code.numbers i.c))
-    lists (Test PartSize) =
-        before (Test PartSize) (has_part (λ number part t. with_number i (length part.content) t (slice_get code.numbers i.c)) mail s s.frames
-        (λ number part. has_number i (length part.content) s (slice_get code.numbers i.c)))
-    lists (Test PartBody) =
-        before (Test PartBody) (has_meant s.actions (λ how. with_part (λ number part t. with_texts (test_body how part) t (texts_on_top i.c t.stack)) mail s s.frames) (match_numbered i.a)
-        (λ how. has_part (λ number part t. with_texts (test_body how part) t (texts_on_top i.c t.stack)) mail s s.frames
-        (λ number part. has_texts (test_body how part) s (texts_on_top i.c s.stack) (λ keys t. has_tested t (body_match how part keys t.captures)))))
-    lists (Test PartDigest) =
-        before (Test PartDigest) (has_part (λ number part t. with_texts (test_digest part) t (texts_on_top i.c t.stack)) mail s s.frames
-        (λ number part. has_texts (test_digest part) s (texts_on_top i.c s.stack) (λ keys t. has_tested t (digest_match part keys t.captures))))
     lists Keep = one_more s.actions action.Keep (counts counted (Some Keep)) (keep_counts counted)
     lists Discard = before Discard refl
     lists File = most_file (number_of counted s.actions + cond (counts counted (Some File)) 1 0) s s.stack (λ folder. one_more s.actions (action.File folder) (counts counted (Some File)) (file_counts counted folder))
@@ -263,8 +244,8 @@ module _ (counted : Counted) where
         named i None = tt
         named i (Some o) = formed (is_well_formed (row_in code i) i)
           where
-            formed : (b : Bool) → Turns-most (number_of counted s.actions + cond (counts counted (Some o)) 1 0) (cond b (turn (charge_of mail o i s) (effect (referred_in code) mail o i s)) traps)
-            formed true = most_turn _ (charge_of mail o i s) (effect (referred_in code) mail o i s) (lists code mail i s o)
+            formed : (b : Bool) → Turns-most (number_of counted s.actions + cond (counts counted (Some o)) 1 0) (cond b (turn (charge_of (referred_in code) mail o i s) (effect (referred_in code) mail o i s)) traps)
+            formed true = most_turn _ (charge_of (referred_in code) mail o i s) (effect (referred_in code) mail o i s) (lists code mail i s o)
             formed false = tt
 
         at : (o : Option Instruction) → Turns-most (number_of counted s.actions + option_map_or (λ (i : Instruction). cond (counts counted (operation_of i.op)) 1 0) o 0) (turn_at code mail s o)

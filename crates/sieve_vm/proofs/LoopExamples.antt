@@ -143,12 +143,12 @@ module _ (root : Part) where
   body_is : effect (referred_in code) mail (Test PartBody) (instruction (Test PartBody) 0 0 1) (in_loop (text (codes "ONE") ∷ [])) ≡ on (in_loop (truth true ∷ []))
   body_is = refl
 
-  body_charge : charge_of mail (Test PartBody) (instruction (Test PartBody) 0 0 1) (in_loop (text (codes "ON") ∷ [])) ≡ 1 + 4 * 3
+  body_charge : charge_of (referred_in code) mail (Test PartBody) (instruction (Test PartBody) 0 0 1) (in_loop (text (codes "ON") ∷ [])) ≡ 1 + 4 * 3
   body_charge = refl
 
   -- 64 octets and one more
-  digest_charge : charge_of mail (Test PartDigest) (instruction (Test PartDigest) 0 0 1) (in_loop (text (codes "ab") ∷ [])) ≡ 1 + 65 * 3
-  digest_charge = ap (λ n. 1 + n) (digest_cost-is (part 1 (codes "one") (codes "one")) (codes "ab" ∷ []))
+  digest_charge : charge_of (referred_in code) mail (Test PartDigest) (instruction (Test PartDigest) 0 0 1) (in_loop (text (codes "ab") ∷ [])) ≡ 1 + 65 * 3
+  digest_charge = ap (λ n. 1 + (0 + n)) (digest_cost-is (part 1 (codes "one") (codes "one")) (codes "ab" ∷ []))
 
   -- the part's number is stored, and the implicit keep stays
   stored : effect (referred_in code) mail Store (instruction Store 0 0 0) (in_loop (text (codes "box") ∷ [])) ≡ on (record (in_loop []) { actions = action.Store (codes "box") 1 ∷ [] })
@@ -165,10 +165,10 @@ module _ (root : Part) where
   takes_all : effect (referred_in code) mail Take (instruction Take 0 9 0) (with_variable (codes "old" ∷ [])) ≡ on (with_variable (codes "one" ∷ []))
   takes_all = refl
 
-  two_charge : charge_of mail Take (instruction Take 0 2 0) (with_variable (codes "old" ∷ [])) ≡ 3
+  two_charge : charge_of (referred_in code) mail Take (instruction Take 0 2 0) (with_variable (codes "old" ∷ [])) ≡ 3
   two_charge = refl
 
-  all_charge : charge_of mail Take (instruction Take 0 9 0) (with_variable (codes "old" ∷ [])) ≡ 4
+  all_charge : charge_of (referred_in code) mail Take (instruction Take 0 9 0) (with_variable (codes "old" ∷ [])) ≡ 4
   all_charge = refl
 
   no_variable : effect (referred_in code) mail Take (instruction Take 0 2 1) (with_variable (codes "old" ∷ [])) ≡ fails
@@ -209,10 +209,10 @@ module _ (root : Part) where
   current_and_below = refl
 
   -- two fields and one more, of a name of 7 octets and one more; values of 3 and 5 octets, each with one more, of a key of 1 and one more
-  scope_charge : charge_of mail (Test Header) (instruction (Test Header) 16 1 1) (in_loop (text (codes "x") ∷ text (codes "Subject") ∷ [])) ≡ 1 + 3 * 8 + (4 * 2 + 6 * 2)
+  scope_charge : charge_of (referred_in code) mail (Test Header) (instruction (Test Header) 16 1 1) (in_loop (text (codes "x") ∷ text (codes "Subject") ∷ [])) ≡ 1 + 3 * 8 + (4 * 2 + 6 * 2)
   scope_charge = refl
 
-  exists_charge : charge_of mail (Test Exists) (instruction (Test Exists) 1 1 0) (in_loop (text (codes "Subject") ∷ [])) ≡ 1 + 2 * 8
+  exists_charge : charge_of (referred_in code) mail (Test Exists) (instruction (Test Exists) 1 1 0) (in_loop (text (codes "Subject") ∷ [])) ≡ 1 + 2 * 8
   exists_charge = refl
 
   -- ---- brackets

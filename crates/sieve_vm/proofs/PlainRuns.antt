@@ -10,7 +10,6 @@ use Rattle.bytecode_format.specs.declared.action.Action.TheVariants as action
 use Rattle.bytecode_format.specs.declared.instruction.Instruction.{Instruction}
 use Rattle.bytecode_format.specs.declared.operation.Operation.{Operation}
 use Rattle.bytecode_format.specs.declared.operation.Operation.TheVariants.{Halt, Literal, Variable, Capture, Join, Set, Not, Jump, JumpIfTrue, JumpIfFalse, Keep, Discard, File, Store, Each, Next, Break, Take, Test}
-use Rattle.bytecode_format.specs.declared.operation.TestOperation.TheVariants.{Constant, Header, Exists, String, Size, PartSize, PartBody, PartDigest}
 use Rattle.bytecode_format.specs.Operations.{operation_of}
 use Rattle.bytecode_format.specs.Code.{Code}
 use Rattle.bytecode_format.specs.declared.modifiers.Modifiers.{Modifiers}
@@ -153,18 +152,18 @@ module _ (code : Code) (mail : Mail) (is : IsAccepted code) (known : IsMail mail
               let one : sum (bound ∷ []) ≡ bound + sum [] = sum_by-cons (λ x. x) bound [] in
               each t vs (subst (λ x. Fills x vs) same d.1) (omega (arith, price, one, d.0))
 
-    stays_literal : operation_of i.op ≡ Some Literal → Stays s (charge_of mail Literal i s) (effect (referred_in code) mail Literal i s)
+    stays_literal : operation_of i.op ≡ Some Literal → Stays s (charge_of (referred_in code) mail Literal i s) (effect (referred_in code) mail Literal i s)
     stays_literal e = let n = next_entries Literal e in go n.0 n.1 (slice_get code.strings i.c) refl n.1
       where
         go : (es : Entries) → left_by code (Some Literal) i entries ≡ Some es → (string : Option (List ℕ)) → slice_get code.strings i.c ≡ string → shape_string string entries ≡ Some es → Stays s 1 (machine.with_string s string)
         go es left None h f = tt
         go es left (Some octets) h f = stays_pushed Literal e octets (length octets) s es entries 1 left f (omega arith) full.fills refl refl refl (omega arith)
 
-    stays_join : operation_of i.op ≡ Some Join → Stays s (charge_of mail Join i s) (effect (referred_in code) mail Join i s)
+    stays_join : operation_of i.op ≡ Some Join → Stays s (charge_of (referred_in code) mail Join i s) (effect (referred_in code) mail Join i s)
     stays_join e = let n = next_entries Join e in go n.0 n.1 (take_texts i.b entries) refl n.1
       where
         go : (es : Entries) → left_by code (Some Join) i entries ≡ Some es → (bounds : Option Texts) → take_texts i.b entries ≡ bounds → option_and_then with_joined bounds ≡ Some es
-            → Stays s (charge_of mail Join i s) (effect (referred_in code) mail Join i s)
+            → Stays s (charge_of (referred_in code) mail Join i s) (effect (referred_in code) mail Join i s)
         go es left None h f = absurd cc
         go es left (Some bounds) h f =
             let top = fills_top i.b entries bounds s.stack h full.fills in
@@ -176,7 +175,7 @@ module _ (code : Code) (mail : Mail) (is : IsAccepted code) (known : IsMail mail
             (stays_pushed Join e joined (min (sum bounds.texts) max_string) (record s { stack = top.top.below }) es bounds.below (1 + sum_by length top.top.texts) left f
             (omega (arith, length-take max_string (concat top.top.texts), all, long)) top.below refl refl refl (omega (arith, price, long)))
 
-    stays_set : operation_of i.op ≡ Some Set → Stays s (charge_of mail Set i s) (effect (referred_in code) mail Set i s)
+    stays_set : operation_of i.op ≡ Some Set → Stays s (charge_of (referred_in code) mail Set i s) (effect (referred_in code) mail Set i s)
     stays_set e =
         let n = next_entries Set e in
         stays_taking Set e (machine.set_variable i) n.0 n.1 refl (λ t vs fills most. go n.0 n.1 t vs fills most (modifiers_numbered i.a))
@@ -188,13 +187,13 @@ module _ (code : Code) (mail : Mail) (is : IsAccepted code) (known : IsMail mail
             let to : State = record s { stack = vs; variables = slice_set s.variables i.c (take max_value (modified modifiers t)) } in
             stays_if Set e (nat_lt i.c (length s.variables)) (1 + length t) (on to) (stays_on Set e to es (1 + length t) left fills refl refl refl most)
 
-    stays_file : operation_of i.op ≡ Some File → Stays s (charge_of mail File i s) (effect (referred_in code) mail File i s)
+    stays_file : operation_of i.op ≡ Some File → Stays s (charge_of (referred_in code) mail File i s) (effect (referred_in code) mail File i s)
     stays_file e =
         let n = next_entries File e in
         stays_taking File e file n.0 n.1 refl
         (λ t vs fills most. stays_on File e (record s { stack = vs; actions = s.actions ++ action.File t ∷ []; implicit_keep = false }) n.0 (1 + length t) n.1 fills refl refl refl most)
 
-    stays_store : operation_of i.op ≡ Some Store → Stays s (charge_of mail Store i s) (effect (referred_in code) mail Store i s)
+    stays_store : operation_of i.op ≡ Some Store → Stays s (charge_of (referred_in code) mail Store i s) (effect (referred_in code) mail Store i s)
     stays_store e = go s.frames
       where
         stores : (number : ℕ) → Stays s (1 + length_on_top s.stack) (with_text (store number) s s.stack)
@@ -223,7 +222,7 @@ module _ (code : Code) (mail : Mail) (is : IsAccepted code) (known : IsMail mail
         let same : [] ≡ es = (let f : Some [] ≡ Some es = sym shape ∙ e in cc) in
         subst (λ (x : Entries). Fills x s.stack) same none
 
-    stays_each : operation_of i.op ≡ Some Each → Stays s (charge_of mail Each i s) (effect (referred_in code) mail Each i s)
+    stays_each : operation_of i.op ≡ Some Each → Stays s (charge_of (referred_in code) mail Each i s) (effect (referred_in code) mail Each i s)
     stays_each e =
         stays_if Each e (are_partners code s.place i.c && nat_lt (length s.frames) 3) 1 (open_loop i.c (visited (current_part s.frames) mail) s)
         (go (visited (current_part s.frames) mail) refl (are_visited mail known (current_part s.frames)))
@@ -271,7 +270,7 @@ module _ (code : Code) (mail : Mail) (is : IsAccepted code) (known : IsMail mail
               refl,
             )
 
-    stays_next : operation_of i.op ≡ Some Next → Stays s (charge_of mail Next i s) (effect (referred_in code) mail Next i s)
+    stays_next : operation_of i.op ≡ Some Next → Stays s (charge_of (referred_in code) mail Next i s) (effect (referred_in code) mail Next i s)
     stays_next e = go s.frames refl full.reached.opened
       where
         loop : Loop
@@ -330,7 +329,7 @@ module _ (code : Code) (mail : Mail) (is : IsAccepted code) (known : IsMail mail
             stays_if Next e (are_partners code i.c s.place && (f.each == i.c) && (f.next == s.place)) 1 (next_part f fs f.rest s)
             (turns f fs same each_is next_is (subst (AreOpen mail fs) (sym both.0) are.2) are.5 f.rest refl are.4)
 
-    stays_halt : operation_of i.op ≡ Some Halt → Stays s (charge_of mail Halt i s) (effect (referred_in code) mail Halt i s)
+    stays_halt : operation_of i.op ≡ Some Halt → Stays s (charge_of (referred_in code) mail Halt i s) (effect (referred_in code) mail Halt i s)
     stays_halt e = (go s.frames refl full.reached.opened, refl)
       where
         n : ℕ
@@ -355,40 +354,33 @@ module _ (code : Code) (mail : Mail) (is : IsAccepted code) (known : IsMail mail
     other : (o : Operation) → operation_of i.op ≡ Some o → is_plain o ≡ false → (e : Effect) (cost : ℕ) → Stays s cost e
     other o named not_plain e cost = absurd (let wrong : false ≡ true = sym not_plain ∙ plain.operations s.place i o here named in cc)
 
-    stays : (o : Operation) → operation_of i.op ≡ Some o → Stays s (charge_of mail o i s) (effect (referred_in code) mail o i s)
+    stays : (o : Operation) → operation_of i.op ≡ Some o → Stays s (charge_of (referred_in code) mail o i s) (effect (referred_in code) mail o i s)
     stays Halt e = stays_halt e
     stays Literal e = stays_literal e
-    stays Variable e = other Variable e refl (effect (referred_in code) mail Variable i s) (charge_of mail Variable i s)
-    stays Capture e = other Capture e refl (effect (referred_in code) mail Capture i s) (charge_of mail Capture i s)
+    stays Variable e = other Variable e refl (effect (referred_in code) mail Variable i s) (charge_of (referred_in code) mail Variable i s)
+    stays Capture e = other Capture e refl (effect (referred_in code) mail Capture i s) (charge_of (referred_in code) mail Capture i s)
     stays Join e = stays_join e
     stays Set e = stays_set e
-    stays (Test Constant) e = other (Test Constant) e refl (effect (referred_in code) mail (Test Constant) i s) (charge_of mail (Test Constant) i s)
-    stays Not e = other Not e refl (effect (referred_in code) mail Not i s) (charge_of mail Not i s)
-    stays Jump e = other Jump e refl (effect (referred_in code) mail Jump i s) (charge_of mail Jump i s)
-    stays JumpIfTrue e = other JumpIfTrue e refl (effect (referred_in code) mail JumpIfTrue i s) (charge_of mail JumpIfTrue i s)
-    stays JumpIfFalse e = other JumpIfFalse e refl (effect (referred_in code) mail JumpIfFalse i s) (charge_of mail JumpIfFalse i s)
-    stays (Test Header) e = other (Test Header) e refl (effect (referred_in code) mail (Test Header) i s) (charge_of mail (Test Header) i s)
-    stays (Test Exists) e = other (Test Exists) e refl (effect (referred_in code) mail (Test Exists) i s) (charge_of mail (Test Exists) i s)
-    stays (Test String) e = other (Test String) e refl (effect (referred_in code) mail (Test String) i s) (charge_of mail (Test String) i s)
-    stays (Test Size) e = other (Test Size) e refl (effect (referred_in code) mail (Test Size) i s) (charge_of mail (Test Size) i s)
-    stays (Test PartSize) e = other (Test PartSize) e refl (effect (referred_in code) mail (Test PartSize) i s) (charge_of mail (Test PartSize) i s)
-    stays (Test PartBody) e = other (Test PartBody) e refl (effect (referred_in code) mail (Test PartBody) i s) (charge_of mail (Test PartBody) i s)
-    stays (Test PartDigest) e = other (Test PartDigest) e refl (effect (referred_in code) mail (Test PartDigest) i s) (charge_of mail (Test PartDigest) i s)
+    stays (Test test) e = other (Test test) e refl (effect (referred_in code) mail (Test test) i s) (charge_of (referred_in code) mail (Test test) i s)
+    stays Not e = other Not e refl (effect (referred_in code) mail Not i s) (charge_of (referred_in code) mail Not i s)
+    stays Jump e = other Jump e refl (effect (referred_in code) mail Jump i s) (charge_of (referred_in code) mail Jump i s)
+    stays JumpIfTrue e = other JumpIfTrue e refl (effect (referred_in code) mail JumpIfTrue i s) (charge_of (referred_in code) mail JumpIfTrue i s)
+    stays JumpIfFalse e = other JumpIfFalse e refl (effect (referred_in code) mail JumpIfFalse i s) (charge_of (referred_in code) mail JumpIfFalse i s)
     stays Keep e = stays_on Keep e (record s { actions = s.actions ++ action.Keep ∷ []; implicit_keep = false }) entries 1 refl full.fills refl refl refl (omega arith)
     stays Discard e = stays_on Discard e (record s { implicit_keep = false }) entries 1 refl full.fills refl refl refl (omega arith)
     stays File e = stays_file e
     stays Store e = stays_store e
     stays Each e = stays_each e
     stays Next e = stays_next e
-    stays Break e = other Break e refl (effect (referred_in code) mail Break i s) (charge_of mail Break i s)
-    stays Take e = other Take e refl (effect (referred_in code) mail Take i s) (charge_of mail Take i s)
+    stays Break e = other Break e refl (effect (referred_in code) mail Break i s) (charge_of (referred_in code) mail Break i s)
+    stays Take e = other Take e refl (effect (referred_in code) mail Take i s) (charge_of (referred_in code) mail Take i s)
 
     stays_of : (o : Option Operation) → operation_of i.op ≡ o → StaysFull (turn_of code mail o i s)
     stays_of None e = tt
     stays_of (Some o) e = go (is_well_formed (row_in code i) i)
       where
-        go : (b : Bool) → StaysFull (cond b (turn (charge_of mail o i s) (effect (referred_in code) mail o i s)) traps)
-        go true = stays_turn s (charge_of mail o i s) (effect (referred_in code) mail o i s) full (stays o e)
+        go : (b : Bool) → StaysFull (cond b (turn (charge_of (referred_in code) mail o i s) (effect (referred_in code) mail o i s)) traps)
+        go true = stays_turn s (charge_of (referred_in code) mail o i s) (effect (referred_in code) mail o i s) full (stays o e)
         go false = tt
 
   full_step : (s : State) → IsFull code mail s → StaysFull (step code mail s)

@@ -1,27 +1,27 @@
 -- The states that a run of an accepted program may reach, the turns that are sound, and the effects that lead to such states.
-use Rattle.std.proofs.Common.{◌≡◌, ℕ, zero, suc, ◌+◌, ◌<◌, ◌≤◌, Bool, true, false, ◌&&◌, nat_lt, cond, List, [], ◌∷◌, Some, None, All, inl, inr, length, slice_get, slice_set, slice_index_or, refl, ap, ◌∙◌, arith}
+use Rattle.std.proofs.Common.{◌≡◌, ℕ, zero, suc, ◌+◌, ◌<◌, ◌≤◌, Bool, true, false, not, ◌&&◌, ◌==◌, nat_lt, cond, List, [], ◌∷◌, Some, None, All, inl, inr, length, slice_get, slice_set, slice_index_or, refl, sym, ap, subst, ◌∙◌, arith}
 use Rattle.std.proofs.lemmas.Bool.{cases_lt, ltb-true}
 use Rattle.std.proofs.lemmas.List.{length-set, get_or_past}
 use Rattle.std.proofs.lemmas.List.Elements.{All-set, All-get_or}
+use Rattle.std.specs.Option.{option_and_then}
 use Rattle.bytecode_format.specs.declared.instruction.Instruction.{Instruction}
-use Rattle.bytecode_format.specs.declared.operation.Operation.TheVariants.{Take}
+use Rattle.bytecode_format.specs.declared.operation.Operation.{Operation}
 use Rattle.bytecode_format.specs.Operations.{operation_of}
 use Rattle.bytecode_format.specs.Code.{Code}
 use Rattle.bytecode_verifier.specs.declared.shape.Entry.{Entry}
 use Rattle.bytecode_verifier.specs.declared.shape.Entry.TheVariants.{Truth, Text}
-use Rattle.bytecode_verifier.specs.Rows.{row_in_version, needs_part}
+use Rattle.bytecode_verifier.specs.Rows.{is_well_formed, row_of, row_in_version}
 use Rattle.bytecode_verifier.specs.Shape.{Entries, is_empty, has_truth, with_entry, without_truth, shape_at}
 use Rattle.bytecode_verifier.specs.Loops.{open_loops}
 use Rattle.bytecode_verifier.specs.Acceptance.{IsAccepted}
-use Rattle.bytecode_verifier.proofs.Consequences.{take_version}
+use Rattle.bytecode_verifier.proofs.Consequences.{well_formed}
 use Rattle.mime_decode.specs.Mail.{Mail, Part}
 use Rattle.sieve_vm.specs.State.{Value, truth, text, Frame, State, Turn, goes, ends, traps}
 use Rattle.sieve_vm.specs.Stores.{NamesPart}
 use Rattle.sieve_vm.specs.Machine.{Effect, on, jumps, halts, fails}
 use Rattle.sieve_vm.specs.Potential.{left_from}
 use Rattle.glob_match.specs.Matching.{max_captures}
-use Rattle.glob_match.specs.declared.match_type.Match.{Match}
-use Rattle.mail_matching.specs.FirstMatch.{first_match}
+use Rattle.mail_matching.specs.Questions.{Asked, compares, decides, answered}
 use Rattle.mail_matching.proofs.TenCaptures.{stay_ten, stay_short}
 use Rattle.octets.specs.Limits.{max_value}
 use Rattle.sieve_vm.proofs.Falls.{cap_there}
@@ -44,10 +44,12 @@ pub set_one : (count n : ℕ) (variables captures : List (List ℕ)) (value : Li
 set_one count n variables captures value held cut =
     record { number = length-set variables n value ∙ held.number; values = All-set IsCut variables n value cut held.values; ten = held.ten; captured = held.captured }
 
--- captures are set
-pub captured_by : (count : ℕ) (variables before after : List (List ℕ)) (how : Match) (values keys : List (List ℕ)) → HoldsTexts count variables before → first_match how values keys before ≡ Some after → HoldsTexts count variables after
-captured_by count variables before after how values keys held found =
+-- captures are set by what is asked
+pub captured_by : (count : ℕ) (variables before after : List (List ℕ)) (what : Asked) (keys : List (List ℕ)) → HoldsTexts count variables before → answered what keys before ≡ Some after → HoldsTexts count variables after
+captured_by count variables before after (compares how values) keys held found =
     record { number = held.number; values = held.values; ten = stay_ten how values keys before after held.ten found; captured = stay_short how values keys before after held.captured found }
+captured_by count variables before after (decides true) keys held found = let same : before ≡ after = cc in subst (HoldsTexts count variables) same held
+captured_by count variables before after (decides false) keys held found = absurd cc
 
 -- one of them is cut
 pub cut_at : (texts : List (List ℕ)) (n : ℕ) → All IsCut texts → length (slice_index_or texts n []) ≤ max_value
@@ -147,9 +149,13 @@ without_truth-some (Truth ∷ []) after e = (refl, cc)
 without_truth-some (Truth ∷ x ∷ xs) after e = absurd cc
 without_truth-some (Text bound ∷ xs) after e = absurd cc
 
--- a program that has Take is of a version in which it is on the current part
-pub take_needs_part : (code : Code) → IsAccepted code → (place : ℕ) (i : Instruction) → slice_get code.instructions place ≡ Some i → operation_of i.op ≡ Some Take → needs_part (row_in_version code.version Take) ≡ true
-take_needs_part code is place i here named = rw (take_version code is place i here named) refl
+-- an accepted program is of a version that has its operations
+pub row_there : (code : Code) → IsAccepted code → (place : ℕ) (i : Instruction) → slice_get code.instructions place ≡ Some i → (o : Operation) → operation_of i.op ≡ Some o → row_in_version code.version o ≡ Some (row_of o)
+row_there code is place i here o named = go ((row_of o).since_two && not (code.version == 2)) (ap (λ x. is_well_formed (option_and_then (row_in_version code.version) x) i) (sym named) ∙ well_formed code is place i here)
+  where
+    go : (missing : Bool) → is_well_formed (cond missing None (Some (row_of o))) i ≡ true → cond missing None (Some (row_of o)) ≡ Some (row_of o)
+    go true formed = absurd cc
+    go false formed = refl
 
 -- the part of this number
 pub part_there : (parts : List Part) (number : ℕ) → number < length parts → (part : Part) × (slice_get parts number ≡ Some part)

@@ -6,7 +6,6 @@ use Rattle.std.proofs.lemmas.List.Elements.{All-replicate, All-push, All-nil}
 use Rattle.bytecode_format.specs.declared.instruction.Instruction.{Instruction}
 use Rattle.bytecode_format.specs.declared.operation.Operation.{Operation}
 use Rattle.bytecode_format.specs.declared.operation.Operation.TheVariants.{Halt, Literal, Variable, Capture, Join, Set, Not, Jump, JumpIfTrue, JumpIfFalse, Keep, Discard, File, Store, Each, Next, Break, Take, Test}
-use Rattle.bytecode_format.specs.declared.operation.TestOperation.TheVariants.{Constant, Header, Exists, String, Size, PartSize, PartBody, PartDigest}
 use Rattle.bytecode_format.specs.Operations.{operation_of}
 use Rattle.bytecode_format.specs.Code.{Code}
 use Rattle.std.specs.Option.{option_and_then}
@@ -28,8 +27,8 @@ use Rattle.sieve_vm.proofs.Falls.{cap_there}
 use Rattle.sieve_vm.proofs.Taking.{Describes}
 use Rattle.sieve_vm.proofs.Reached.{IsCut, HoldsTexts, IsReached, Falls, IsSound, Leads}
 use Rattle.sieve_vm.proofs.Leading.{nested, after_of, leads_still}
-use Rattle.sieve_vm.proofs.StackEffects.{leads_bool, leads_size, leads_literal, leads_exists, leads_header, leads_string, leads_variable, leads_capture, leads_join, leads_set, leads_file, leads_not, leads_jump, leads_branch}
-use Rattle.sieve_vm.proofs.PartEffects.{leads_part_size, leads_part_body, leads_part_digest, leads_store, leads_take}
+use Rattle.sieve_vm.proofs.StackEffects.{leads_literal, leads_variable, leads_capture, leads_join, leads_set, leads_file, leads_not, leads_jump, leads_branch}
+use Rattle.sieve_vm.proofs.PartEffects.{leads_test, leads_store, leads_take}
 use Rattle.sieve_vm.proofs.LoopEffects.{leads_each, leads_next, leads_break}
 
 empty_cut : (n : ℕ) → All IsCut (replicate n [])
@@ -80,18 +79,11 @@ module _ (code : Code) (mail : Mail) (is : IsAccepted code) (known : IsMail mail
     leads Capture e = leads_capture code mail is known s i here from e
     leads Join e = leads_join code mail is known s i here from e
     leads Set e = leads_set code mail is known s i here from e
-    leads (Test Constant) e = leads_bool code mail is known s i here from e
+    leads (Test test) e = leads_test code mail is known s i here from test e
     leads Not e = leads_not code mail is known s i here from e
     leads Jump e = leads_jump code mail is known s i here from e
     leads JumpIfTrue e = leads_branch code mail is known s i here from JumpIfTrue true e refl refl refl
     leads JumpIfFalse e = leads_branch code mail is known s i here from JumpIfFalse false e refl refl refl
-    leads (Test Header) e = leads_header code mail is known s i here from e
-    leads (Test Exists) e = leads_exists code mail is known s i here from e
-    leads (Test String) e = leads_string code mail is known s i here from e
-    leads (Test Size) e = leads_size code mail is known s i here from e
-    leads (Test PartSize) e = leads_part_size code mail is known s i here from e
-    leads (Test PartBody) e = leads_part_body code mail is known s i here from e
-    leads (Test PartDigest) e = leads_part_digest code mail is known s i here from e
     leads Keep e = leads_still code mail is known s i here from Keep _ e refl (λ x. refl) refl refl refl refl held (All-push (NamesPart mail) s.actions action.Keep from.stores tt)
     leads Discard e = leads_still code mail is known s i here from Discard _ e refl (λ x. refl) refl refl refl refl held from.stores
     leads File e = leads_file code mail is known s i here from e
@@ -105,10 +97,10 @@ module _ (code : Code) (mail : Mail) (is : IsAccepted code) (known : IsMail mail
     sound : (o : Option Operation) → operation_of i.op ≡ o → IsSound code mail s (turn_of code mail o i s)
     sound None e = absurd (let g : false ≡ true = ap (λ x. is_well_formed (option_and_then (row_in_version code.version) x) i) (sym e) ∙ well_formed code is s.place i here in cc)
     sound (Some o) e =
-        let cost = charge_fits code mail known o i s entries d (after_of code mail is known s i here from (Some o) e).0 (after_of code mail is known s i here from (Some o) e).1 in
+        let cost = charge_fits code mail is known o i s here e entries d (after_of code mail is known s i here from (Some o) e).0 (after_of code mail is known s i here from (Some o) e).1 in
         let cap : cap_at code s.place ≡ cap_of (Some o) i entries = rw (here, at, e) refl in
-        subst (λ (b : Bool). IsSound code mail s (cond b (turn (charge_of mail o i s) (effect (referred_in code) mail o i s)) traps)) (sym (well_formed code is s.place i here))
-        (sound_turn code mail s (charge_of mail o i s) (effect (referred_in code) mail o i s) (leads o e) cost.some (rw cap cost.most))
+        subst (λ (b : Bool). IsSound code mail s (cond b (turn (charge_of (referred_in code) mail o i s) (effect (referred_in code) mail o i s)) traps)) (sym (well_formed code is s.place i here))
+        (sound_turn code mail s (charge_of (referred_in code) mail o i s) (effect (referred_in code) mail o i s) (leads o e) cost.some (rw cap cost.most))
 
   -- a step from a state that a run may reach
   pub step_is_sound : (s : State) → IsReached code mail s → IsSound code mail s (step code mail s)

@@ -1,5 +1,5 @@
--- The operations that push and take entries, test them, set variables, file and jump lead on.
-use Rattle.std.proofs.Common.{◌≡◌, ℕ, ◌<◌, ◌≤◌, Bool, true, false, not, ◌==◌, nat_lt, cond, List, [], ◌∷◌, ◌++◌, Option, Some, None, min, sum, sum_by, take, length, slice_get, slice_set, get_or, refl, sym, ap, subst, ◌∙◌, arith}
+-- The operations that push and take entries, set variables, file and jump lead on.
+use Rattle.std.proofs.Common.{◌≡◌, ℕ, ◌<◌, ◌≤◌, Bool, true, false, not, nat_lt, cond, List, [], ◌∷◌, ◌++◌, Option, Some, None, min, sum, sum_by, take, length, slice_get, slice_set, get_or, refl, sym, ap, subst, ◌∙◌, arith}
 use Rattle.std.proofs.lemmas.Bool.{lt-ltb}
 use Rattle.std.proofs.lemmas.Option.{slice_get-get_or}
 use Rattle.std.proofs.lemmas.List.{length-take}
@@ -8,36 +8,29 @@ use Rattle.std.proofs.lemmas.List.Concat.{concat_is, length-flat_map}
 use Rattle.std.specs.List.{concat}
 use Rattle.bytecode_format.specs.declared.instruction.Instruction.{Instruction}
 use Rattle.bytecode_format.specs.declared.operation.Operation.{Operation}
-use Rattle.bytecode_format.specs.declared.operation.Operation.TheVariants.{Literal, Variable, Capture, Join, Set, Not, Jump, File, Test}
-use Rattle.bytecode_format.specs.declared.operation.TestOperation.TheVariants.{Constant, Header, Exists, String, Size}
+use Rattle.bytecode_format.specs.declared.operation.Operation.TheVariants.{Literal, Variable, Capture, Join, Set, Not, Jump, File}
 use Rattle.bytecode_format.specs.Operations.{operation_of}
 use Rattle.bytecode_format.specs.Code.{Code}
 use Rattle.bytecode_verifier.specs.declared.shape.Entry.TheVariants.{Truth, Text}
 use Rattle.std.specs.Option.{option_and_then, option_map}
-use Rattle.bytecode_format.specs.declared.selection.Scope.{Scope}
-use Rattle.bytecode_format.specs.declared.selection.FieldTest.{FieldTest}
-use Rattle.bytecode_format.specs.Selection.{match_numbered, keys_in, params_in}
 use Rattle.bytecode_verifier.specs.Rows.{row_in_version, is_jump}
-use Rattle.bytecode_verifier.specs.Shape.{Entries, Texts, Lists as ListBounds, with_entry, with_string, with_joined, without_truth, take_texts, take_lists}
+use Rattle.bytecode_verifier.specs.Shape.{Entries, Texts, with_entry, with_string, with_joined, without_truth, take_texts}
 use Rattle.bytecode_verifier.specs.Rules.{row_in}
 use Rattle.bytecode_verifier.specs.Acceptance.{IsAccepted}
-use Rattle.bytecode_verifier.proofs.Consequences.{left_by, number_known, string_known, variable_known, set_known, modifiers_known, header_known, exists_known, sources_known, known as meant_by}
+use Rattle.bytecode_verifier.proofs.Consequences.{left_by, string_known, variable_known, set_known, modifiers_known}
 use Rattle.bytecode_format.specs.declared.action.Action.TheVariants as action
-use Rattle.mime_decode.specs.Mail.{Mail, IsMail, size_of}
-use Rattle.sieve_vm.specs.State.{Value, truth, text, State, current_part}
-use Rattle.sieve_vm.specs.Stack.{OnTop, Lists, texts_on_top, lists_on_top}
+use Rattle.mime_decode.specs.Mail.{Mail, IsMail}
+use Rattle.sieve_vm.specs.State.{Value, truth, text, State}
+use Rattle.sieve_vm.specs.Stack.{OnTop}
 use Rattle.sieve_vm.specs.Stores.{NamesPart}
 use Rattle.sieve_vm.specs.Machine as machine
-use Rattle.sieve_vm.specs.Machine.{on, jumps, fails, branch, with_truth, with_text, with_texts, with_lists, with_number, with_meant, file, test_names, test_values, test_sources, next, is_sound_jump, compares, effect, referred_in}
-use Rattle.mail_matching.specs.Selection.{selected_values}
-use Rattle.glob_match.specs.declared.match_type.Match.{Match}
+use Rattle.sieve_vm.specs.Machine.{on, jumps, fails, branch, with_truth, with_text, with_texts, file, is_sound_jump, effect, referred_in}
 use Rattle.octets.specs.Limits.{max_string, max_value}
 use Rattle.bytecode_format.specs.declared.modifiers.Modifiers.{Modifiers}
 use Rattle.bytecode_format.specs.Modifiers.{modified, modifiers_numbered}
-use Rattle.mail_matching.specs.HeaderTests.{exists_in}
-use Rattle.sieve_vm.proofs.Taking.{Describes, on_top, lists_are_on_top, octets_within}
+use Rattle.sieve_vm.proofs.Taking.{Describes, on_top, octets_within}
 use Rattle.sieve_vm.proofs.Reached.{HoldsTexts, set_one, cut_at, IsReached, Leads, empty-some, top_truth, no_stack, has_truth-some, without_truth-some}
-use Rattle.sieve_vm.proofs.Leading.{is_plain, leads_on, leads_target, sound_jump, after_of, left, pushes, leads_tested}
+use Rattle.sieve_vm.proofs.Leading.{is_plain, leads_on, leads_target, sound_jump, after_of, left, pushes}
 
 module _ (code : Code) (mail : Mail) (is : IsAccepted code) (known : IsMail mail) where
   module _ (s : State) (i : Instruction) (here : slice_get code.instructions s.place ≡ Some i) (from : IsReached code mail s) where
@@ -54,18 +47,6 @@ module _ (code : Code) (mail : Mail) (is : IsAccepted code) (known : IsMail mail
     abbrev LeavesBy : Operation → Entries → Type 0
     LeavesBy o after = left_by code (Some o) i entries ≡ Some after
 
-    pub leads_bool : operation_of i.op ≡ Some (Test Constant) → Leads code mail s (effect (referred_in code) mail (Test Constant) i s)
-    leads_bool e =
-        let a = after_of code mail is known s i here from (Some (Test Constant)) e in
-        pushes code mail is known s i here from (Test Constant) s (truth (i.a == 1)) Truth entries a.0 e refl a.1 a.1 refl refl refl held from.stores d d
-
-    pub leads_size : operation_of i.op ≡ Some (Test Size) → Leads code mail s (effect (referred_in code) mail (Test Size) i s)
-    leads_size e =
-        let a = after_of code mail is known s i here from (Some (Test Size)) e in
-        let number : slice_get code.numbers i.c ≡ Some (get_or code.numbers i.c 0) = slice_get-get_or code.numbers i.c 0 (number_known code is s.place i here e) in
-        subst (λ (o : Option ℕ). Leads code mail s (with_number i (size_of mail) s o)) (sym number)
-        (pushes code mail is known s i here from (Test Size) s (truth (compares i (get_or code.numbers i.c 0) (size_of mail))) Truth entries a.0 e refl a.1 a.1 refl refl refl held from.stores d d)
-
     pub leads_literal : operation_of i.op ≡ Some Literal → Leads code mail s (effect (referred_in code) mail Literal i s)
     leads_literal e =
         let a = after_of code mail is known s i here from (Some Literal) e in
@@ -74,48 +55,6 @@ module _ (code : Code) (mail : Mail) (is : IsAccepted code) (known : IsMail mail
         let room : with_entry (Text (length octets)) entries ≡ Some a.0 = ap (λ o. with_string o entries) (sym string) ∙ a.1 in
         subst (λ (o : Option (List ℕ)). Leads code mail s (machine.with_string s o)) (sym string)
         (pushes code mail is known s i here from Literal s (text octets) (Text (length octets)) entries a.0 e refl a.1 room refl refl refl held from.stores d (omega arith, d))
-
-    pub leads_exists : operation_of i.op ≡ Some (Test Exists) → Leads code mail s (effect (referred_in code) mail (Test Exists) i s)
-    leads_exists e =
-        let a = after_of code mail is known s i here from (Some (Test Exists)) e in
-        let says = exists_known code is s.place i here e in
-        subst (λ (o : Option Scope). Leads code mail s (with_meant (λ scope. with_texts (test_names mail scope) s (texts_on_top i.b s.stack)) o)) (sym says.1.0)
-        (go says.0 a.0 a.1 (take_texts i.b entries) refl a.1)
-      where
-        go : (scope : Scope) (after : Entries) → LeavesBy (Test Exists) after → (o : Option Texts) → take_texts i.b entries ≡ o → option_and_then (λ (names : Texts). with_entry Truth names.below) o ≡ Some after → Leads code mail s (with_texts (test_names mail scope) s (texts_on_top i.b s.stack))
-        go scope after leaves None h f = absurd cc
-        go scope after leaves (Some bounds) h f =
-            let names = on_top i.b entries bounds s.stack h d in
-            subst (λ (o : Option OnTop). Leads code mail s (with_texts (test_names mail scope) s o)) (sym names.is)
-            (pushes code mail is known s i here from (Test Exists) (record s { stack = names.top.below }) (truth (exists_in scope (current_part s.frames) names.top.texts mail)) Truth bounds.below after e refl leaves f refl refl refl held from.stores names.below names.below)
-
-    pub leads_header : operation_of i.op ≡ Some (Test Header) → Leads code mail s (effect (referred_in code) mail (Test Header) i s)
-    leads_header e =
-        let a = after_of code mail is known s i here from (Some (Test Header)) e in
-        let fields = header_known code is s.place i here e in
-        subst (λ (o : Option FieldTest). Leads code mail s (with_meant (λ test. with_lists (test_values mail test) s (lists_on_top i.b (params_in i.c) (keys_in i.c) s.stack)) o)) (sym fields.says)
-        (go fields.test a.0 a.1 (take_lists i.b (params_in i.c) (keys_in i.c) entries) refl a.1)
-      where
-        go : (test : FieldTest) (after : Entries) → LeavesBy (Test Header) after → (o : Option ListBounds) → take_lists i.b (params_in i.c) (keys_in i.c) entries ≡ o → option_and_then (λ (lists : ListBounds). with_entry Truth lists.below) o ≡ Some after → Leads code mail s (with_lists (test_values mail test) s (lists_on_top i.b (params_in i.c) (keys_in i.c) s.stack))
-        go test after leaves None h f = absurd cc
-        go test after leaves (Some bounds) h f =
-            let lists = lists_are_on_top i.b (params_in i.c) (keys_in i.c) entries bounds s.stack h d in
-            subst (λ (o : Option Lists). Leads code mail s (with_lists (test_values mail test) s o)) (sym lists.is)
-            (leads_tested code mail is known s i here from (Test Header) (record s { stack = lists.top.below }) bounds.below after test.how (selected_values test.scope (current_part s.frames) test.selector lists.top.params lists.top.names mail) lists.top.keys e refl leaves f refl refl refl held from.stores lists.below)
-
-    pub leads_string : operation_of i.op ≡ Some (Test String) → Leads code mail s (effect (referred_in code) mail (Test String) i s)
-    leads_string e =
-        let a = after_of code mail is known s i here from (Some (Test String)) e in
-        let says = meant_by (match_numbered i.a) (sources_known code is s.place i here e) in
-        subst (λ (o : Option Match). Leads code mail s (with_meant (λ how. with_lists (test_sources how) s (lists_on_top i.b 0 i.c s.stack)) o)) (sym says.1)
-        (go says.0 a.0 a.1 (take_lists i.b 0 i.c entries) refl a.1)
-      where
-        go : (how : Match) (after : Entries) → LeavesBy (Test String) after → (o : Option ListBounds) → take_lists i.b 0 i.c entries ≡ o → option_and_then (λ (lists : ListBounds). with_entry Truth lists.below) o ≡ Some after → Leads code mail s (with_lists (test_sources how) s (lists_on_top i.b 0 i.c s.stack))
-        go how after leaves None h f = absurd cc
-        go how after leaves (Some bounds) h f =
-            let lists = lists_are_on_top i.b 0 i.c entries bounds s.stack h d in
-            subst (λ (o : Option Lists). Leads code mail s (with_lists (test_sources how) s o)) (sym lists.is)
-            (leads_tested code mail is known s i here from (Test String) (record s { stack = lists.top.below }) bounds.below after how lists.top.names lists.top.keys e refl leaves f refl refl refl held from.stores lists.below)
 
     pub leads_variable : operation_of i.op ≡ Some Variable → Leads code mail s (effect (referred_in code) mail Variable i s)
     leads_variable e =

@@ -80,11 +80,11 @@ module _ (code : Code) (mail : Mail) (is : IsAccepted code) (known : IsMail mail
       after = after_of code mail is known s i here_is there (Some o) named
 
       -- the step is the turn of what the operation does
-      pub stepped : step code mail s ≡ turn (charge_of mail o i s) (effect (referred_in code) mail o i s)
+      pub stepped : step code mail s ≡ turn (charge_of (referred_in code) mail o i s) (effect (referred_in code) mail o i s)
       stepped =
           ap (turn_at code mail s) here_is ∙ ap (λ x. turn_of code mail x i s) named ∙ turned (is_well_formed (row_in code i) i) form
         where
-          turned : (b : Bool) → b ≡ true → cond b (turn (charge_of mail o i s) (effect (referred_in code) mail o i s)) traps ≡ turn (charge_of mail o i s) (effect (referred_in code) mail o i s)
+          turned : (b : Bool) → b ≡ true → cond b (turn (charge_of (referred_in code) mail o i s) (effect (referred_in code) mail o i s)) traps ≡ turn (charge_of (referred_in code) mail o i s) (effect (referred_in code) mail o i s)
           turned true e = refl
           turned false e = absurd (cc)
 
@@ -143,7 +143,7 @@ module _ (code : Code) (mail : Mail) (is : IsAccepted code) (known : IsMail mail
           (omega (arith, dearer, h.1.charge, at.stands.charge), omega (arith, all, h.1.charge))
       go traps one h = absurd h
 
-  module _ (i : Instruction) (here : slice_get code.instructions pos.place ≡ Some i) (o : Operation) (named : operation_of i.op ≡ Some o) (done : Done) (m' : Machine) (had : HasDone mail (effect (referred_in code) mail o i s) (charge_of mail o i s) done m') where
+  module _ (i : Instruction) (here : slice_get code.instructions pos.place ≡ Some i) (o : Operation) (named : operation_of i.op ≡ Some o) (done : Done) (m' : Machine) (had : HasDone mail (effect (referred_in code) mail o i s) (charge_of (referred_in code) mail o i s) done m') where
     -- with the effect of its instruction the machine stands for what the step comes to
     pub steps_to : StandsFor mail (step code mail s) (gone pos (1 + done.cost) done.flow) m'
     steps_to =

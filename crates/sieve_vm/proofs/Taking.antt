@@ -180,13 +180,6 @@ octets_within n bounds stack are =
     let most : one_more_each bounds.texts ≡ sum bounds.texts + length bounds.texts = one_more_each_is (λ b. b) bounds.texts in
     omega (arith, texts, most, are.extent, are.number)
 
-pub names_there : (n : ℕ) (entries after : Entries) (stack : List Value) → option_and_then (λ (names : Texts). with_entry Truth names.below) (take_texts n entries) ≡ Some after → Describes entries stack → (top : OnTop) × (texts_on_top n stack ≡ Some top)
-names_there n entries after stack e d = go (take_texts n entries) refl e
-  where
-    go : (o : Option Texts) → take_texts n entries ≡ o → option_and_then (λ (names : Texts). with_entry Truth names.below) o ≡ Some after → (top : OnTop) × (texts_on_top n stack ≡ Some top)
-    go None h f = absurd cc
-    go (Some bounds) h f = let are = on_top n entries bounds stack h d in (are.top, are.is)
-
 pub lists_there : (names params keys : ℕ) (entries after : Entries) (stack : List Value) → option_and_then (λ (lists : ListBounds). with_entry Truth lists.below) (take_lists names params keys entries) ≡ Some after → Describes entries stack
     → (top : Lists) × (lists_on_top names params keys stack ≡ Some top)
 lists_there names params keys entries after stack e d = go (take_lists names params keys entries) refl e

@@ -1,18 +1,27 @@
 -- What an operation on the workspace leaves of the state that the machine stands for.
-use Rattle.std.proofs.Common.{◌≡◌, ℕ, ◌+◌, Bool, false, List, [], ◌∷◌, Option, Some, None, drop, is_some, subst, ap, ◌∙◌, arith}
-use Rattle.std.specs.Option.{unwrap_or}
+use Rattle.std.proofs.Common.{◌≡◌, ℕ, ◌+◌, ◌<◌, ◌≤◌, Bool, false, cond, List, [], ◌∷◌, Option, Some, None, IfSome, drop, is_some, length, slice_get, refl, subst, ap, ◌∙◌, arith}
+use Rattle.std.specs.Option.{option_and_then, unwrap_or}
+use Rattle.octets.specs.Limits.{max_message}
+use Rattle.bytecode_format.specs.declared.question.Question.{Question}
 use Rattle.mail_matching.specs.Outcomes.{after}
+use Rattle.mail_matching.specs.Questions.{IsShown, current, need_of, texts_of}
+use Rattle.mail_matching.specs.declared.questions.Need.{Need}
+use Rattle.mail_matching.specs.declared.questions.Need.TheVariants as need
+use Rattle.mail_matching.specs.declared.questions.Shown.{Shown}
+use Rattle.mail_matching.specs.declared.questions.Shown.TheVariants as shown
 use Rattle.mail_matching.specs.declared.outcome.Outcome.{Outcome}
+use Rattle.bytecode_format.specs.declared.question.Counts.{Counts}
 use Rattle.sieve_vm.specs.declared.machine.Done.{Done}
 use Rattle.sieve_vm.specs.declared.machine.Machine.{Machine}
 use Rattle.sieve_vm.specs.declared.workspace.Workspace.{Workspace}
-use Rattle.mime_decode.specs.Mail.{Mail}
+use Rattle.mime_decode.specs.Mail.{Mail, Part, IsMail}
 use Rattle.sieve_vm.specs.declared.machine.Flow.TheVariants.{On, To}
 use Rattle.sieve_vm.specs.Machine.{next_part}
-use Rattle.sieve_vm.specs.Visits.{Visits, Continues, HasSameLoops}
-use Rattle.sieve_vm.specs.State.{Value, truth, Frame, State}
-use Rattle.sieve_vm.specs.Stack.{OnTop, texts_on_top, Lists, lists_on_top}
+use Rattle.sieve_vm.specs.Visits.{Visits, Continues, HasSameLoops, part_in}
+use Rattle.sieve_vm.specs.State.{Value, truth, Frame, State, current_part}
+use Rattle.sieve_vm.specs.Stack.{Lists, lists_counted, texts_in}
 use Rattle.sieve_vm.specs.Standing.{Held, held_of, held_by, Represents, GoesFrom}
+use Rattle.sieve_vm.proofs.Reached.{part_there}
 use Rattle.sieve_vm.proofs.Steps.{charged_at}
 
 module _ (mail : Mail) (s : State) (m : Machine) (stands : Represents mail s m) where
@@ -20,11 +29,8 @@ module _ (mail : Mail) (s : State) (m : Machine) (stands : Represents mail s m) 
   pub stack_is : (held_of m.work).stack ≡ s.stack
   stack_is = ap (λ (h : Held). h.stack) stands.work
 
-  pub texts_there : (n : ℕ) (top : OnTop) → texts_on_top n s.stack ≡ Some top → texts_on_top n (held_of m.work).stack ≡ Some top
-  texts_there n top e = ap (texts_on_top n) stack_is ∙ e
-
-  pub lists_there : (names params keys : ℕ) (top : Lists) → lists_on_top names params keys s.stack ≡ Some top → lists_on_top names params keys (held_of m.work).stack ≡ Some top
-  lists_there names params keys top e = ap (lists_on_top names params keys) stack_is ∙ e
+  pub lists_there : (counted counts : Counts) (top : Lists) → counted ≡ counts → lists_counted counts s.stack ≡ Some top → lists_counted counted (held_of m.work).stack ≡ Some top
+  lists_there counted counts top same e = ap (λ n. lists_counted n (held_of m.work).stack) same ∙ ap (lists_counted counts) stack_is ∙ e
 
   -- what the workspace holds has changed, and nothing else
   pub holds_now : (work : Workspace) (change : Held → Held) → held_of work ≡ change (held_of m.work)
@@ -91,3 +97,50 @@ module _ (mail : Mail) (s : State) (m : Machine) (stands : Represents mail s m) 
 pub continues_each : (frame : Frame) (frames : List Frame) (rest : List ℕ) (each : ℕ) (old new : Visits) → Continues frame frames rest (Some each) old new → each ≡ frame.each
 continues_each frame frames [] each old new h = absurd (let none = h.0 in cc)
 continues_each frame frames (part ∷ rest) each old new h = let is = h.0 in cc
+
+-- the texts of lists that are lent
+pub same_texts : (top : Lists) (names params keys : List (List ℕ)) → names ≡ top.names → params ≡ top.params → keys ≡ top.keys → texts_of names params keys ≡ texts_in top
+same_texts top names params keys n p k = rw (n, p, k) refl
+
+-- ---- what a question needs of the current part's content
+
+-- there is a current part, of which this is needed
+pub record IsNeeded (visits : Visits) (mail : Mail) (q : Question) (needs : Need) : Type 0 where
+  pub part : Part
+  pub is : part_in visits ≡ Some part
+  pub current_is : current mail (current_part visits.frames) ≡ Some part
+  pub small : length part.content ≤ max_message
+  pub needs_it : need_of q ≡ needs
+
+pub is_needed : (visits : Visits) (mail : Mail) → IsMail mail → visits.mail ≡ mail → IfSome (current_part visits.frames) (λ part. part < length mail.parts) → (q : Question) (needs : Need) → (need.Nothing ≡ needs → ⊥)
+    → cond (is_some (current_part visits.frames)) (need_of q) need.Nothing ≡ needs → IsNeeded visits mail q needs
+is_needed visits mail known same within q needs something e = go (current_part visits.frames) refl within e
+  where
+    go : (at : Option ℕ) → current_part visits.frames ≡ at → IfSome at (λ part. part < length mail.parts) → cond (is_some at) (need_of q) need.Nothing ≡ needs → IsNeeded visits mail q needs
+    go None at there f = absurd (something f)
+    go (Some number) at there f =
+        let p = part_there mail.parts number there in
+        let bounds = known.within number p.0 p.1 in
+        record {
+          part = p.0;
+          is = ap (λ (m : Mail). option_and_then (slice_get m.parts) (current_part visits.frames)) same ∙ ap (option_and_then (slice_get mail.parts)) at ∙ p.1;
+          current_is = ap (current mail) at ∙ p.1;
+          small = omega (arith, bounds.content, bounds.body, known.small);
+          needs_it = f;
+        }
+
+-- what is shown of it
+pub shown_of : (q : Question) (needs : Need) (at : Option Part) (part : Part) (known : Shown) → need_of q ≡ needs → at ≡ Some part → IsShown needs (Some part) known → IsShown (need_of q) at known
+shown_of q needs at part known needs_it there shows = rw (needs_it, there) shows
+
+-- nothing is shown where nothing is needed
+pub nothing_shown : (mail : Mail) (q : Question) (at : Option ℕ) → cond (is_some at) (need_of q) need.Nothing ≡ need.Nothing → IsShown (need_of q) (current mail at) shown.Nothing
+nothing_shown mail q None e = none (need_of q)
+  where
+    none : (needs : Need) → IsShown needs None shown.Nothing
+    none needs = refl
+nothing_shown mail q (Some number) e = rw e (free (slice_get mail.parts number))
+  where
+    free : (part : Option Part) → IsShown need.Nothing part shown.Nothing
+    free None = refl
+    free (Some part) = tt

@@ -1,5 +1,5 @@
 -- What a step costs.
-use Rattle.std.specs.Prelude.{ℕ, ◌+◌, List, Option, Some, None, length, min, slice_get, sum_by}
+use Rattle.std.specs.Prelude.{ℕ, ◌+◌, Option, Some, None, length, min, slice_get, sum_by}
 use Rattle.std.specs.Option.{option_map_or}
 use Rattle.bytecode_format.specs.declared.instruction.Instruction.{Instruction}
 use Rattle.bytecode_format.specs.declared.operation.Operation.{Operation}

@@ -16,7 +16,6 @@ mod known;
 pub mod laws;
 mod loops;
 mod machine;
-mod numbers;
 mod outcome;
 mod progress;
 mod shared_text;

@@ -3,11 +3,9 @@ ghost use Rattle.std.specs.Prelude.{◌≡◌};
 ghost use Rattle.sieve_vm.specs.Standing.{once};
 
 use crate::loops::Loops;
-use crate::numbers::{field_test_in, match_in, scope_in};
 use crate::shared_text::SharedText;
-use crate::testing::compares;
 use crate::workspace::Workspace;
-use bytecode_format::{Action, ActionList, Instruction, Modifiers, Operation, Program, TestOperation};
+use bytecode_format::{Action, ActionList, Instruction, Modifiers, Operation, Program};
 use mime_decode::Message;
 use std::alloc::{AllocError, Global};
 
@@ -181,7 +179,7 @@ impl<'p, 's, 'm> Machine<'p, 's, 'm> {
         requires running { IsRunning program.now message.now position self.old }
         ensures { IfOk result (λ done. (s : State) → IsIn program.now message.now s position self.old
             → HasDone message.now (effect (referred_in program.now) message.now operation instruction.now s)
-            (charge_of message.now operation instruction.now s) done self.new) }
+            (charge_of (referred_in program.now) message.now operation instruction.now s) done self.new) }
     {
         match operation {
             Operation::Halt => Ok(once(Flow::Ends)),
@@ -192,7 +190,7 @@ impl<'p, 's, 'm> Machine<'p, 's, 'm> {
             Operation::Capture => self.push_capture(alloc, instruction.a),
             Operation::Join => Ok(self.join(alloc, instruction.b as usize)?),
             Operation::Set => Ok(self.set(alloc, instruction)?),
-            Operation::Test(TestOperation::Constant) => self.push(instruction.a == 1),
+            Operation::Test(test) => Ok(self.ask(alloc, program, message, test, instruction)?),
             Operation::Not => {
                 let value = self.take();
                 self.push(!value)
@@ -200,21 +198,6 @@ impl<'p, 's, 'm> Machine<'p, 's, 'm> {
             Operation::Jump => Ok(once(Flow::To(instruction.c as usize))),
             Operation::JumpIfTrue => Ok(self.branch(instruction.c, true)),
             Operation::JumpIfFalse => Ok(self.branch(instruction.c, false)),
-            Operation::Test(TestOperation::Header) => {
-                Ok(self.header(alloc, message, instruction, field_test_in(instruction))?)
-            }
-            Operation::Test(TestOperation::Exists) => Ok(self.exists(message, instruction, scope_in(instruction))?),
-            Operation::Test(TestOperation::String) => Ok(self.string(alloc, instruction, match_in(instruction))?),
-            Operation::Test(TestOperation::Size) => {
-                let number = program.numbers()[instruction.c as usize];
-                self.push(compares(instruction, number, message.size() as u64))
-            }
-            Operation::Test(TestOperation::PartSize) => {
-                let number = program.numbers()[instruction.c as usize];
-                Ok(self.part_size(alloc, instruction, number)?)
-            }
-            Operation::Test(TestOperation::PartBody) => Ok(self.part_body(alloc, instruction, match_in(instruction))?),
-            Operation::Test(TestOperation::PartDigest) => Ok(self.part_digest(alloc, instruction.c as usize)?),
             Operation::Keep => self.keep(),
             Operation::Discard => Ok(self.discard()),
             Operation::File => Ok(self.file(alloc)?),

@@ -1,234 +1,85 @@
 // The machine's tests.
-ghost use Rattle.std.specs.Prelude.{◌≡◌};
-ghost use Rattle.sieve_vm.specs.Machine.{compares};
-ghost use Rattle.sieve_vm.specs.Standing.{once};
+ghost use Rattle.std.specs.Prelude.{◌≡◌, ◌<◌, ℕ, List, IfOk, IfSome, IsSome, OnOk, is_some, length, if◌then◌else◌};
+ghost use Rattle.mail_matching.specs.Outcomes.{after};
+ghost use Rattle.mail_matching.specs.Questions as questions;
+ghost use Rattle.mail_matching.specs.Questions.{answer, need_of, question_cost};
+ghost use Rattle.mail_matching.specs.Texts.{AreTexts};
+ghost use Rattle.mime_decode.specs.Mail.{IsMail};
+ghost use Rattle.sieve_vm.specs.Standing.{texts_of};
+ghost use Rattle.sieve_vm.specs.State.{current_part};
+ghost use Rattle.sieve_vm.specs.Visits.{HasSameLoops, holding};
 
-use crate::machine::{Done, Flow, Machine, once};
-use crate::numbers::{header_counts, header_test, string_counts};
-use bytecode_format::{FieldTest, Instruction, Scope};
-use glob_match::Match;
-use mail_matching::{Answer, Reach, body, digest, exists, header, string};
+use crate::loops::Loops;
+use crate::machine::{Done, Flow, Machine};
+use crate::workspace::PushedLists;
+use bytecode_format::{Instruction, Program, Question, TestOperation};
+use mail_matching::{Answer, Need, Shown, TestTexts, ask};
 use mime_decode::Message;
 use std::alloc::{AllocError, Global};
 
 impl<'p, 's, 'm> Machine<'p, 's, 'm> {
-    ghost use Rattle.std.specs.Prelude.{◌≡◌, ◌<◌, ◌≤◌, ◌-◌, ◌∷◌, Some, IfOk, IfSome, IsSome, OnOk, length, is_some};
-    ghost use Rattle.octets.specs.Limits.{max_message};
-    ghost use Rattle.mail_matching.specs.FirstMatch.{first_match};
+    ghost use Rattle.std.specs.Prelude.{◌≡◌, ◌<◌, ◌∷◌, Some, IfOk, IfSome, IsSome, OnOk, is_some, length};
     ghost use Rattle.std.specs.Option.{unwrap_or};
-    ghost use Rattle.mime_decode.specs.Mail.{Mail, Part};
-    ghost use Rattle.mail_matching.specs.HeaderTests.{exists_in};
-    ghost use Rattle.mail_matching.specs.PartTests.{body_cost, body_match, digest_cost, digest_match};
-    ghost use Rattle.bytecode_format.specs.Selection.{keys_in, params_in};
-    ghost use Rattle.sieve_vm.specs.Visits.{holding, part_in};
+    ghost use Rattle.bytecode_format.specs.declared.question.Question.{Question};
+    ghost use Rattle.bytecode_format.specs.Questions.{counts_in, question_in};
     ghost use Rattle.mail_matching.specs.Outcomes.{after};
+    ghost use Rattle.mail_matching.specs.Questions.{answer, need_of};
     ghost use Rattle.mail_matching.specs.Texts.{AreTexts};
-    ghost use Rattle.sieve_vm.specs.State.{State, truth, current_part};
-    ghost use Rattle.sieve_vm.specs.Stack.{OnTop, Lists, texts_on_top, lists_on_top};
-    ghost use Rattle.sieve_vm.specs.Charge.{cost_of_names, cost_of_matching, cost_of_comparing};
-    ghost use Rattle.sieve_vm.specs.Machine.{found_in};
+    ghost use Rattle.mime_decode.specs.Mail.{Mail, IsMail};
+    ghost use Rattle.sieve_vm.specs.Charge.{cost_of_asking};
+    ghost use Rattle.sieve_vm.specs.Stack.{Lists, lists_counted, texts_in};
     ghost use Rattle.sieve_vm.specs.Standing.{Represents};
+    ghost use Rattle.sieve_vm.specs.State.{State, truth, current_part};
+    ghost use Rattle.sieve_vm.specs.Visits.{holding};
 
-    /// Takes names, and pushes whether the parts in scope have a field of each.
-    pub fn exists(
-        &mut self,
-        message: &Message<'m>,
-        instruction: &Instruction,
-        scope: Scope,
-    ) -> Result<Done, AllocError>
-        requires current { IfSome (current_part self.old.loops.frames)
-            (λ part. part < length message.now.parts) }
-        requires top { (mail : Mail)
-            × ((s : State) × ((top : OnTop)
-            × (Represents mail s self.old
-            × (texts_on_top instruction.now.b s.stack ≡ Some top)
-            × AreTexts top.texts))) }
-        ensures { IfOk result (λ done. (s : State) (top : OnTop) → Represents message.now s self.old
-            → texts_on_top instruction.now.b s.stack ≡ Some top
-            → (done ≡ record {
-              flow = Flow.On;
-              cost = cost_of_names scope (current_part s.frames) message.now top;
-            })
-            × Represents message.now (record
-            s {
-              stack = truth (exists_in scope
-                  (current_part s.frames) top.texts message.now) ∷ top.below;
-            }) self.new) }
-    {
-        let number = instruction.b as usize;
-        let reach = Reach {
-            scope,
-            current: self.loops.current(),
-        };
-        let names = self.work.texts(number);
-        let (found, cost) = exists(message, reach, &names);
-        self.work.drop_texts(number);
-        self.push(found)?;
-        Ok(Done {
-            flow: Flow::On,
-            cost: cost as u128,
-        })
-    }
-
-    /// Takes names, parameters and keys, and pushes whether what is selected of the fields of these names, in
-    /// the parts in scope, matches a key.
-    pub fn header(
-        &mut self,
-        alloc: Global,
-        message: &Message<'m>,
-        instruction: &Instruction,
-        test: FieldTest,
-    ) -> Result<Done, AllocError>
-        requires current { IfSome (current_part self.old.loops.frames)
-            (λ part. part < length message.now.parts) }
-        requires top { (mail : Mail)
-            × ((s : State) × ((top : Lists)
-            × (Represents mail s self.old
-            × (lists_on_top instruction.now.b (params_in instruction.now.c)
-            (keys_in instruction.now.c) s.stack ≡ Some top) × AreTexts top.names
-            × AreTexts top.params × AreTexts top.keys))) }
-        ensures { IfOk result (λ done. (s : State) (top : Lists) → Represents message.now s self.old
-            → lists_on_top instruction.now.b (params_in instruction.now.c)
-            (keys_in instruction.now.c) s.stack ≡ Some top
-            → (done ≡ record {
-              flow = Flow.On;
-              cost = cost_of_matching test (current_part s.frames) message.now top;
-            })
-            × Represents message.now (record
-            s {
-              stack = truth (is_some (found_in message.now test top s))
-                  ∷ top.below;
-              captures = unwrap_or (found_in message.now test top s) s.captures;
-            }) self.new) }
-    {
-        let counts = header_counts(instruction);
-        let test = header_test(test, self.loops.current());
-        let lists = self.work.lists(counts);
-        let answer = header(
-            alloc,
-            message,
-            test,
-            &lists.names,
-            &lists.params,
-            &lists.keys,
-        )?;
-        self.work.drop_lists(counts);
-        self.settle(answer)
-    }
-
-    /// Takes sources and the keys above them, and pushes whether a source matches a key.
-    pub fn string(
-        &mut self,
-        alloc: Global,
-        instruction: &Instruction,
-        how: Match,
-    ) -> Result<Done, AllocError>
-        requires { (mail : Mail) × ((s : State)
-            × ((top : Lists) × (Represents mail s self.old
-            × (lists_on_top instruction.now.b 0 instruction.now.c s.stack ≡ Some top)
-            × AreTexts top.names × AreTexts top.keys))) }
-        ensures { IfOk result (λ done. (mail : Mail) (s : State) (top : Lists)
-            → Represents mail s self.old
-            → lists_on_top instruction.now.b 0 instruction.now.c s.stack ≡ Some top
-            → (done ≡ record { flow = Flow.On; cost = cost_of_comparing top })
-            × Represents mail (record s {
-              stack = truth
-                  (is_some (first_match how top.names top.keys s.captures)) ∷ top.below;
-              captures = unwrap_or (first_match how top.names top.keys s.captures)
-                  s.captures;
-            }) self.new) }
-    {
-        let counts = string_counts(instruction);
-        let lists = self.work.lists(counts);
-        let answer = string(alloc, &lists.names, &lists.keys, how)?;
-        self.work.drop_lists(counts);
-        self.settle(answer)
-    }
-
-    /// Pushes whether the current part's content is over or under the number.
-    pub fn part_size(
-        &mut self,
-        alloc: Global,
-        instruction: &Instruction,
-        number: u64,
-    ) -> Result<Done, AllocError>
-        requires { IsSome (part_in self.old.loops) }
-        ensures { IfOk result (λ done. (mail : Mail) (s : State) (part : Part)
-            → Represents mail s self.old → part_in self.old.loops ≡ Some part
-            → (done ≡ once Flow.On) × Represents mail
-            (record s {
-              stack = truth (compares instruction.now number (length part.content))
-                  ∷ s.stack;
-            }) self.new) }
-    {
-        let length = self.loops.length(alloc)?;
-        self.push(compares(instruction, number, length as u64))
-    }
-
-    /// Takes keys, and pushes whether the current part's content matches one. The loop holds the content from then on.
-    pub fn part_body(
-        &mut self,
-        alloc: Global,
-        instruction: &Instruction,
-        how: Match,
-    ) -> Result<Done, AllocError>
-        requires part { (part : Part)
-            × ((part_in self.old.loops ≡ Some part) × (length part.content ≤ max_message)) }
-        requires top { (mail : Mail)
-            × ((s : State) × ((top : OnTop)
-            × (Represents mail s self.old
-            × (texts_on_top instruction.now.c s.stack ≡ Some top)
-            × AreTexts top.texts))) }
-        ensures done { IfOk result (λ done. (mail : Mail) (s : State) (top : OnTop) (part : Part)
-            → Represents mail s self.old → texts_on_top instruction.now.c s.stack ≡ Some top
-            → part_in self.old.loops ≡ Some part
-            → (done ≡ record { flow = Flow.On; cost = body_cost part top.texts })
-            × Represents mail (record s {
-              stack = truth
-                  (is_some (body_match how part top.texts s.captures)) ∷ top.below;
-              captures = unwrap_or (body_match how part top.texts s.captures)
-                  s.captures;
-            }) self.new) }
-        ensures held { OnOk result (self.new.loops ≡ holding self.old.loops) }
-    {
-        let number = instruction.c as usize;
-        self.loops.fetch(alloc)?;
-        let content = self.loops.content();
-        let keys = self.work.texts(number);
-        let answer = body(alloc, content, &keys, how)?;
-        self.work.drop_texts(number);
-        self.settle(answer)
-    }
-
-    /// Takes so many keys, and pushes whether the digest of the current part's content equals one.
-    pub fn part_digest(&mut self, alloc: Global, number: usize) -> Result<Done, AllocError>
-        requires part { IsSome (part_in self.old.loops) }
-        requires top { (mail : Mail)
-            × ((s : State) × ((top : OnTop)
-            × (Represents mail s self.old × (texts_on_top number s.stack ≡ Some top)
-            × AreTexts top.texts))) }
-        ensures { IfOk result (λ done. (mail : Mail) (s : State) (top : OnTop) (part : Part)
-            → Represents mail s self.old → texts_on_top number s.stack ≡ Some top
-            → part_in self.old.loops ≡ Some part
-            → (done ≡ record { flow = Flow.On; cost = digest_cost part top.texts })
-            × Represents mail (record s {
-              stack = truth
-                  (is_some (digest_match part top.texts s.captures))
-                  ∷ top.below;
-              captures = unwrap_or (digest_match part top.texts s.captures)
-                  s.captures;
-            }) self.new) }
-    {
-        let found = self.loops.digest(alloc)?;
-        let keys = self.work.texts(number);
-        let answer = digest(&found, &keys);
-        self.work.drop_texts(number);
-        self.settle(answer)
-    }
-
-    /// Keeps the captures that a test has set, and pushes whether it has matched.
+    /// Takes the lists of a test, and pushes whether what it asks is true.
     #[inline(always)]
-    pub fn settle(&mut self, answer: Answer<'m>) -> Result<Done, AllocError>
+    pub fn ask(
+        &mut self,
+        alloc: Global,
+        program: &Program,
+        message: &Message<'m>,
+        test: TestOperation,
+        instruction: &Instruction,
+    ) -> Result<Done, AllocError>
+        requires question { IsSome (question_in program.now.numbers test instruction.now) }
+        requires mail { IsMail message.now }
+        requires current { IfSome (current_part self.old.loops.frames)
+            (λ part. part < length message.now.parts) }
+        requires top { (s : State) × ((top : Lists) × (Represents message.now s self.old
+            × (lists_counted (counts_in test instruction.now) s.stack ≡ Some top)
+            × AreTexts top.names × AreTexts top.params × AreTexts top.keys)) }
+        ensures done { IfOk result (λ done. (s : State) (top : Lists) (question : Question)
+            → Represents message.now s self.old
+            → lists_counted (counts_in test instruction.now) s.stack ≡ Some top
+            → question_in program.now.numbers test instruction.now ≡ Some question
+            → (done ≡ record {
+              flow = Flow.On;
+              cost = cost_of_asking message.now (current_part s.frames) question top;
+            })
+            × Represents message.now (record
+            s {
+              stack = truth (is_some (answer message.now (current_part s.frames)
+                  question (texts_in top) s.captures)) ∷ top.below;
+              captures = unwrap_or (answer message.now (current_part s.frames)
+                  question (texts_in top) s.captures) s.captures;
+            }) self.new) }
+        ensures held { OnOk result ((question : Question)
+            → question_in program.now.numbers test instruction.now ≡ Some question
+            → need_of question ≡ Need.Content → IsSome (current_part self.old.loops.frames)
+            → self.new.loops ≡ holding self.old.loops) }
+    {
+        let question = test.question_in(instruction, program.numbers()).unwrap();
+        let counts = test.counts_in(instruction);
+        let lists = self.work.lists(counts);
+        let answer = answer(alloc, message, &mut self.loops, question, lists)?;
+        self.work.drop_lists(counts);
+        self.settle(answer)
+    }
+
+    // Keeps the captures that a test has set, and pushes whether it has matched.
+    #[inline(always)]
+    fn settle(&mut self, answer: Answer<'m>) -> Result<Done, AllocError>
         ensures done { IfOk result (λ done.
             (done ≡ record { flow = Flow.On; cost = answer.entry.cost })
             × ((mail : Mail) (s : State) → Represents mail s self.old
@@ -250,14 +101,69 @@ impl<'p, 's, 'm> Machine<'p, 's, 'm> {
     }
 }
 
-/// Whether the size is over the number, where a is 0, or under it.
+// The answer to a question with these lists. What it needs of the current part's content is held by the innermost loop from then on, or
+// was known.
+//
+// An error comes only where memory was refused.
 #[inline(always)]
-pub fn compares(instruction: &Instruction, number: u64, size: u64) -> bool
-    ensures { result ≡ compares instruction.now number size }
+fn answer<'m>(
+    alloc: Global,
+    message: &Message<'m>,
+    loops: &mut Loops<'_, 'm>,
+    question: Question,
+    lists: PushedLists<'_, '_>,
+) -> Result<Answer<'m>, AllocError>
+    requires mail { IsMail message.now }
+    requires same { loops.old.mail ≡ message.now }
+    requires current { IfSome (current_part loops.old.frames) (λ part. part < length message.now.parts) }
+    requires names { AreTexts (texts_of lists.names) }
+    requires params { AreTexts (texts_of lists.params) }
+    requires keys { AreTexts (texts_of lists.keys) }
+    ensures outcome { IfOk result (λ reply. (captures : List (List ℕ))
+        → after reply.outcome captures
+        ≡ answer message.now (current_part loops.old.frames) question
+        (questions.texts_of (texts_of lists.entry.names) (texts_of lists.entry.params)
+        (texts_of lists.entry.keys)) captures) }
+    ensures cost { IfOk result (λ reply. reply.cost
+        ≡ question_cost message.now (current_part loops.old.frames) question
+        (questions.texts_of (texts_of lists.entry.names) (texts_of lists.entry.params)
+        (texts_of lists.entry.keys))) }
+    ensures loops { OnOk result (HasSameLoops loops.old loops.new) }
+    ensures held { OnOk result (IsSome (current_part loops.old.frames)
+        → need_of question ≡ Need.Content → loops.new ≡ holding loops.old) }
 {
-    if instruction.a == 0 {
-        number < size
-    } else {
-        size < number
+    let current = loops.current();
+    let texts = TestTexts {
+        names: &lists.names,
+        params: &lists.params,
+        keys: &lists.keys,
+    };
+    match needed(question, current) {
+        Need::Nothing => ask(alloc, message, current, question, Shown::Nothing, texts),
+        Need::Length => {
+            let shown = Shown::Length(loops.length(alloc)? as u64);
+            ask(alloc, message, current, question, shown, texts)
+        }
+        Need::Content => {
+            loops.fetch(alloc)?;
+            let shown = Shown::Content(loops.content());
+            ask(alloc, message, current, question, shown, texts)
+        }
+        Need::Digest => {
+            let digest = loops.digest(alloc)?;
+            let shown = Shown::Digest(&digest);
+            ask(alloc, message, current, question, shown, texts)
+        }
+    }
+}
+
+// What the question needs of the current part's content: nothing outside of loops.
+#[inline(always)]
+fn needed(question: Question, current: Option<usize>) -> Need
+    ensures { result ≡ if is_some current then need_of question else Need.Nothing }
+{
+    match current {
+        Some(_) => Need::of(question),
+        None => Need::Nothing,
     }
 }

@@ -11,7 +11,7 @@ ghost use Rattle.mail_matching.specs.Texts.{AreTexts};
 ghost use Rattle.sieve_vm.specs.Lent as lent;
 ghost use Rattle.sieve_vm.specs.Lent.{top};
 ghost use Rattle.sieve_vm.specs.State.{Value, truth, text};
-ghost use Rattle.sieve_vm.specs.Stack.{OnTop, Lists, texts_on_top, lists_on_top};
+ghost use Rattle.sieve_vm.specs.Stack.{OnTop, Lists, texts_on_top, lists_counted};
 ghost use Rattle.sieve_vm.specs.SharedTexts.{items_of};
 ghost use Rattle.sieve_vm.specs.Standing.{IsNew, held_of, value_of, octets_of, texts_of};
 
@@ -20,7 +20,7 @@ use crate::held_captures::HeldCaptures;
 use crate::joining::{joined, total_len};
 use crate::shared_text::{SharedText, copied};
 use crate::value::StackValue;
-use bytecode_format::Modifiers;
+use bytecode_format::{Counts, Modifiers};
 use mail_matching::{Outcome, Texts};
 use octets::{MAX_VALUE, Octets};
 use std::alloc::{AllocError, Global};
@@ -42,14 +42,6 @@ pub struct Workspace<'p, 'm> {
 #[derive(Clone, Copy)]
 pub struct Pushed<'s, 'p> {
     pub entries: &'s [Entry<'p>],
-}
-
-/// How many texts the lists of a test have.
-#[derive(Clone, Copy)]
-pub struct Counts {
-    pub names: usize,
-    pub params: usize,
-    pub keys: usize,
 }
 
 /// The lists of a test: names or sources, parameters above them, and keys above these.
@@ -272,8 +264,8 @@ impl<'p, 'm> Workspace<'p, 'm> {
         Ok(len)
     }
 
-    /// So many texts on top of the stack.
-    pub fn texts<'s>(&'s self, number: usize) -> Pushed<'s, 'p>
+    // So many texts on top of the stack.
+    fn texts<'s>(&'s self, number: usize) -> Pushed<'s, 'p>
         requires { (top : OnTop) × (texts_on_top number (held_of self.now).stack ≡ Some top) }
         ensures { (top : OnTop) → texts_on_top number (held_of self.now).stack ≡ Some top
             → texts_of result ≡ top.texts }
@@ -286,17 +278,13 @@ impl<'p, 'm> Workspace<'p, 'm> {
 
     /// So many names or sources on the stack, so many parameters above them, and so many keys above these.
     pub fn lists<'s>(&'s self, counts: Counts) -> PushedLists<'s, 'p>
-        requires { (top : Lists) × (lists_on_top counts.names counts.params counts.keys
-            (held_of self.now).stack ≡ Some top) }
-        ensures names { (top : Lists)
-            → lists_on_top counts.names counts.params counts.keys (held_of self.now).stack
-            ≡ Some top → texts_of result.names ≡ top.names }
-        ensures params { (top : Lists)
-            → lists_on_top counts.names counts.params counts.keys (held_of self.now).stack
-            ≡ Some top → texts_of result.params ≡ top.params }
-        ensures keys { (top : Lists)
-            → lists_on_top counts.names counts.params counts.keys (held_of self.now).stack
-            ≡ Some top → texts_of result.keys ≡ top.keys }
+        requires { (top : Lists) × (lists_counted counts (held_of self.now).stack ≡ Some top) }
+        ensures names { (top : Lists) → lists_counted counts (held_of self.now).stack ≡ Some top
+            → texts_of result.names ≡ top.names }
+        ensures params { (top : Lists) → lists_counted counts (held_of self.now).stack ≡ Some top
+            → texts_of result.params ≡ top.params }
+        ensures keys { (top : Lists) → lists_counted counts (held_of self.now).stack ≡ Some top
+            → texts_of result.keys ≡ top.keys }
     {
         let keys = self.entries.len() - counts.keys;
         let params = keys - counts.params;
@@ -319,8 +307,8 @@ impl<'p, 'm> Workspace<'p, 'm> {
         }
     }
 
-    /// Drops so many texts on top of the stack.
-    pub fn drop_texts(&mut self, number: usize)
+    // Drops so many texts on top of the stack.
+    fn drop_texts(&mut self, number: usize)
         requires { (top : OnTop) × (texts_on_top number (held_of self.old).stack ≡ Some top) }
         ensures { (top : OnTop) → texts_on_top number (held_of self.old).stack ≡ Some top
             → held_of self.new ≡ record (held_of self.old) { stack = top.below } }
@@ -331,10 +319,8 @@ impl<'p, 'm> Workspace<'p, 'm> {
 
     /// Drops so many names or sources on the stack, so many parameters above them, and so many keys above these.
     pub fn drop_lists(&mut self, counts: Counts)
-        requires { (top : Lists) × (lists_on_top counts.names counts.params counts.keys
-            (held_of self.old).stack ≡ Some top) }
-        ensures { (top : Lists) → lists_on_top counts.names counts.params counts.keys
-            (held_of self.old).stack ≡ Some top
+        requires { (top : Lists) × (lists_counted counts (held_of self.old).stack ≡ Some top) }
+        ensures { (top : Lists) → lists_counted counts (held_of self.old).stack ≡ Some top
             → held_of self.new ≡ record (held_of self.old) { stack = top.below } }
     {
         let keys = self.entries.len() - counts.keys;

@@ -1,10 +1,18 @@
-use Rattle.std.proofs.Common.{◌+◌, ◌*◌, ◌∙◌, ap, sym}
-use Rattle.mail_matching.proofs.Extents.{value_cost}
+use Rattle.std.proofs.Common.{◌∷◌, [], arith}
+use Rattle.std.proofs.lemmas.Bool.{false≢true}
+use Rattle.mail_matching.specs.PartTests.{exactly}
+use Rattle.mail_matching.proofs.Asking.{has_compared}
+use Rattle.mail_matching.proofs.Extents.{extent_one}
+use Rattle.mail_matching.proofs.Keeping.{equals_keep}
 use Rattle.mail_matching.proofs.part_tests.digest.Goals as goal
 
-pub returns-clause-cost : goal.returns-clause-cost
-returns-clause-cost g c =
-    c.product.ensures
-    ∙ ap (λ n. 65 * n) c.extent_of.ensures
-    ∙ ap (λ n. (n + 1) * Rattle.mail_matching.specs.Costs.extent_of (g.K.Texts.texts c.args.keys.now)) (sym c.told-digest)
-    ∙ sym (value_cost c.args.digest.now (g.K.Texts.texts c.args.keys.now))
+pub returns-clause-asked : goal.returns-clause-asked
+returns-clause-asked g c =
+    let value = c.args.digest.now in
+    has_compared g.T.Telling.knows exactly (value ∷ []) (g.K.Texts.texts c.args.keys.now) 0 c.args.progress.now c.take_lent.new.self c.extent_of.result c.product.result c.product.result c.requires.fresh c.in_ok-take_lent.ensures.goes
+    (omega (arith, extent_one value, c.told-digest))
+    c.extent_of.ensures c.product.ensures (omega arith)
+
+pub returns-in_err-take_lent-clause-told : goal.returns-in_err-take_lent-clause-told
+returns-in_err-take_lent-clause-told g c = λ free.
+    absurd (false≢true (c.in_err-take_lent.ensures.told free (λ missed. equals_keep c.args.digest.now (g.K.Texts.texts c.args.keys.now))))

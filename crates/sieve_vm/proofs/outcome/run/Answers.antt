@@ -1,4 +1,4 @@
-use Rattle.std.proofs.Common.{suc, true, false, sym, ap, subst, ◌∙◌, arith}
+use Rattle.std.proofs.Common.{suc, sym, ap, subst, ◌∙◌, arith}
 use Rattle.bytecode_verifier.specs.Acceptance.{IsAccepted}
 use Rattle.sieve_vm.specs.Ending.{IsOutcome}
 use Rattle.sieve_vm.specs.Moment.{come_to}

@@ -7,8 +7,8 @@ use Rattle.mail_matching.proofs.progress.Progress.take.Goals as goal
 pub returns-clause-goes : goal.returns-clause-goes
 returns-clause-goes g c =
     let value = cow_slice_items c.args.value.now in
-    goes_on_compared g.T.Telling.knows c.args.how value (g.K.Texts.texts c.args.keys.now) c.args.self.now c.in_ok-self.field-0 (c.args.self.now.extent + (c.len.result + 1)) c.first_key.new.told
+    goes_on_compared g.T.Telling.knows c.args.how value (g.K.Texts.texts c.args.keys.now) c.args.self.now c.first_key.new.outcome (c.args.self.now.extent + (c.len.result + 1)) c.first_key.new.told
     (sym c.holds.ensures ∙ c.if-holds.false)
     (omega (arith, c.len.ensures, extent_one value))
-    c.in_ok-self.ensures.outcome
-    c.in_ok-self.ensures.found
+    c.in_ok-first_key.ensures.outcome
+    c.in_ok-first_key.ensures.found

@@ -2,12 +2,9 @@ use Rattle.std.proofs.Common.{◌≡◌, ◌<◌, ◌∙◌, [], true, false, So
 use Rattle.std.proofs.lemmas.List.{get_or_read}
 use Rattle.bytecode_verifier.proofs.Consequences.{string_known, take_known}
 use Rattle.std.proofs.lemmas.Result.{IfOk-weaker}
-use Rattle.bytecode_format.specs.declared.operation.Operation.TheVariants.{JumpIfTrue, JumpIfFalse, Store, Take, Test}
-use Rattle.bytecode_format.specs.declared.operation.TestOperation.TheVariants.{PartSize, PartBody, PartDigest}
-use Rattle.sieve_vm.specs.Machine.{compares}
-use Rattle.sieve_vm.proofs.Reached.{take_needs_part}
-use Rattle.sieve_vm.proofs.StackSteps.{not_some, if_true_some, if_false_some, folder_some, names_some, lists_some, parts_some, sources_some, modifiers_some, field_test_some, scope_some, sources_match_some, value_some, had_variable, had_capture, had_join, had_set, had_string, had_bool, had_not, had_size, had_literal, had_branch, had_file, had_exists, had_header}
-use Rattle.sieve_vm.proofs.PartSteps.{body_match_some, had_part_size, had_part_body, had_part_digest, had_store, had_take, current_there, current_in_loops, part_some, part_small, keys_some, current_some, store_some, take_some}
+use Rattle.bytecode_format.specs.declared.operation.Operation.TheVariants.{JumpIfTrue, JumpIfFalse, Store, Take}
+use Rattle.sieve_vm.proofs.StackSteps.{not_some, if_true_some, if_false_some, folder_some, parts_some, modifiers_some, value_some, had_variable, had_capture, had_join, had_set, had_not, had_literal, had_branch, had_file}
+use Rattle.sieve_vm.proofs.PartSteps.{question_some, lists_some, had_test, had_store, had_take, current_there, current_in_loops, part_some, current_some, store_some, take_some}
 use Rattle.sieve_vm.proofs.LoopSteps.{had_each, had_next, had_break, room_there, next_some, break_some, break_there}
 use Rattle.sieve_vm.proofs.machine.Machine.act.Goals as goal
 
@@ -31,9 +28,18 @@ pub join-requires : goal.join-requires
 join-requires c =
     parts_some c.args.program.now c.args.message.now c.requires.accepted c.requires.mail c.args.position c.args.self.now c.requires.running.0 c.requires.running.1 c.args.instruction.now c.requires.here c.requires.program (c.requires.named ∙ ap (λ o. Some o) c.in-Join.is)
 
-pub string-requires : goal.string-requires
-string-requires c =
-    sources_some c.args.program.now c.args.message.now c.requires.accepted c.requires.mail c.args.position c.args.self.now c.requires.running.0 c.requires.running.1 c.args.instruction.now c.requires.here c.requires.program (c.requires.named ∙ ap (λ o. Some o) c.in-String.is)
+pub ask-requires-clause-question : goal.ask-requires-clause-question
+ask-requires-clause-question c = question_some c.args.program.now c.args.message.now c.requires.accepted c.requires.mail c.args.position c.args.self.now c.requires.running.0 c.requires.running.1 c.args.instruction.now c.requires.here c.in-Test.test (c.requires.named ∙ ap (λ o. Some o) c.in-Test.is)
+
+pub ask-requires-clause-current : goal.ask-requires-clause-current
+ask-requires-clause-current c = current_there c.args.program.now c.args.message.now c.requires.accepted c.requires.mail c.args.position c.args.self.now c.requires.running.0 c.requires.running.1 c.args.instruction.now c.requires.here
+
+pub ask-requires-clause-top : goal.ask-requires-clause-top
+ask-requires-clause-top c = lists_some c.args.program.now c.args.message.now c.requires.accepted c.requires.mail c.args.position c.args.self.now c.requires.running.0 c.requires.running.1 c.args.instruction.now c.requires.here c.in-Test.test (c.requires.named ∙ ap (λ o. Some o) c.in-Test.is) c.requires.program
+
+pub returns-in_ok-ask-in-Test : goal.returns-in_ok-ask-in-Test
+returns-in_ok-ask-in-Test c =
+    λ s at. rw c.in-Test.is (had_test c.args.program.now c.args.message.now c.requires.accepted c.requires.mail c.args.position c.args.self.now s at c.args.instruction.now c.requires.here c.in-Test.test (c.requires.named ∙ ap (λ o. Some o) c.in-Test.is) c.in_ok-ask-in-Test.field-0 c.ask.new.self c.in_ok-ask-in-Test.ensures.done)
 
 pub set-requires-clause-modifiers : goal.set-requires-clause-modifiers
 set-requires-clause-modifiers c =
@@ -42,10 +48,6 @@ set-requires-clause-modifiers c =
 pub set-requires-clause-top : goal.set-requires-clause-top
 set-requires-clause-top c =
     value_some c.args.program.now c.args.message.now c.requires.accepted c.requires.mail c.args.position c.args.self.now c.requires.running.0 c.requires.running.1 c.args.instruction.now c.requires.here (c.requires.named ∙ ap (λ o. Some o) c.in-Set.is)
-
-pub returns-in-Bool : goal.returns-in-Bool
-returns-in-Bool c =
-    rw c.in-Bool.is (IfOk-weaker c.push.result _ _ (λ done h s at. had_bool c.args.program.now c.args.message.now c.requires.accepted c.requires.mail c.args.position c.args.self.now s at c.args.instruction.now c.requires.here (c.requires.named ∙ ap (λ o. Some o) c.in-Bool.is) done c.push.new.self (h.0, h.1 c.args.message.now)) c.push.ensures.done)
 
 pub returns-in-Literal : goal.returns-in-Literal
 returns-in-Literal c =
@@ -57,7 +59,7 @@ returns-in-Literal c =
 
 pub returns-in-Not : goal.returns-in-Not
 returns-in-Not c =
-    rw c.in-Not.is (IfOk-weaker c.push-in-Not.result _ _ (λ done h s at. had_not c.args.program.now c.args.message.now c.requires.accepted c.requires.mail c.args.position c.args.self.now s at c.args.instruction.now c.requires.here (c.requires.named ∙ ap (λ o. Some o) c.in-Not.is) c.take-value.result c.take-value.new.self done c.push-in-Not.new.self (c.take-value.ensures c.args.message.now) (h.0, h.1 c.args.message.now)) c.push-in-Not.ensures.done)
+    rw c.in-Not.is (IfOk-weaker c.push.result _ _ (λ done h s at. had_not c.args.program.now c.args.message.now c.requires.accepted c.requires.mail c.args.position c.args.self.now s at c.args.instruction.now c.requires.here (c.requires.named ∙ ap (λ o. Some o) c.in-Not.is) c.take-value.result c.take-value.new.self done c.push.new.self (c.take-value.ensures c.args.message.now) (h.0, h.1 c.args.message.now)) c.push.ensures.done)
 
 pub returns-in-JumpIfTrue : goal.returns-in-JumpIfTrue
 returns-in-JumpIfTrue c = λ s at.
@@ -66,17 +68,6 @@ returns-in-JumpIfTrue c = λ s at.
 pub returns-in-JumpIfFalse : goal.returns-in-JumpIfFalse
 returns-in-JumpIfFalse c = λ s at.
     rw c.in-JumpIfFalse.is (had_branch c.args.program.now c.args.message.now c.requires.accepted c.requires.mail c.args.position c.args.self.now s at c.args.instruction.now c.requires.here JumpIfFalse false (c.requires.named ∙ ap (λ o. Some o) c.in-JumpIfFalse.is) refl refl c.branch-self-in-JumpIfFalse.result c.branch-self-in-JumpIfFalse.new.self (c.branch-self-in-JumpIfFalse.ensures c.args.message.now))
-
-pub returns-in-Size : goal.returns-in-Size
-returns-in-Size c =
-    let answer : c.compares.result ≡ compares c.args.instruction.now (get_or c.args.program.now.numbers c.args.instruction.now.c 0) _ =
-    c.compares.ensures ∙ ap (λ xs. compares c.args.instruction.now (get_or xs c.args.instruction.now.c 0) c.size.result) c.numbers.ensures.value ∙ ap (compares c.args.instruction.now (get_or c.args.program.now.numbers c.args.instruction.now.c 0)) c.size.ensures.value in
-    rw c.in-Size.is (IfOk-weaker c.push-in-Size.result _ _ (λ done h s at. had_size c.args.program.now c.args.message.now c.requires.accepted c.requires.mail c.args.position c.args.self.now s at c.args.instruction.now c.requires.here (c.requires.named ∙ ap (λ o. Some o) c.in-Size.is) c.compares.result done c.push-in-Size.new.self answer (h.0, h.1 c.args.message.now)) c.push-in-Size.ensures.done)
-
-pub returns-in_ok-part_size-in-(Test PartSize) : goal.returns-in_ok-part_size-in-(Test PartSize)
-returns-in_ok-part_size-in-(Test PartSize) c =
-    let number = ap (λ xs. get_or xs c.args.instruction.now.c 0) c.numbers-in-PartSize.ensures.value in
-    λ s at. rw c.in-PartSize.is (had_part_size c.args.program.now c.args.message.now c.requires.accepted c.requires.mail c.args.position c.args.self.now s at c.args.instruction.now c.requires.here (c.requires.named ∙ ap (λ o. Some o) c.in-PartSize.is) _ c.in_ok-part_size-in-PartSize.field-0 c.part_size.new.self number (c.in_ok-part_size-in-PartSize.ensures c.args.message.now))
 
 pub returns-in-Each : goal.returns-in-Each
 returns-in-Each c = λ s at. rw c.in-Each.is (had_each c.args.program.now c.args.message.now c.requires.accepted c.requires.mail c.args.position c.args.self.now s at c.args.instruction.now c.requires.here (c.requires.named ∙ ap (λ o. Some o) c.in-Each.is) c.each.result c.each.new.self (c.each.ensures c.args.message.now))
@@ -95,22 +86,6 @@ pub returns-in_ok-store-in-Store : goal.returns-in_ok-store-in-Store
 returns-in_ok-store-in-Store c =
     λ s at. rw c.in-Store.is (had_store c.args.program.now c.args.message.now c.requires.accepted c.requires.mail c.args.position c.args.self.now s at c.args.instruction.now c.requires.here (c.requires.named ∙ ap (λ o. Some o) c.in-Store.is) c.in_ok-store-in-Store.field-0 c.store.new.self (c.in_ok-store-in-Store.ensures c.args.message.now))
 
-pub returns-in_ok-exists-in-Exists : goal.returns-in_ok-exists-in-Exists
-returns-in_ok-exists-in-Exists c =
-    λ s at. rw c.in-Exists.is (had_exists c.args.program.now c.args.message.now c.requires.accepted c.requires.mail c.args.position c.args.self.now s at c.args.instruction.now c.requires.here (c.requires.named ∙ ap (λ o. Some o) c.in-Exists.is) c.scope_in.result c.scope_in.ensures c.in_ok-exists-in-Exists.field-0 c.exists.new.self c.in_ok-exists-in-Exists.ensures)
-
-pub returns-in_ok-header-in-Header : goal.returns-in_ok-header-in-Header
-returns-in_ok-header-in-Header c =
-    λ s at. rw c.in-Header.is (had_header c.args.program.now c.args.message.now c.requires.accepted c.requires.mail c.args.position c.args.self.now s at c.args.instruction.now c.requires.here (c.requires.named ∙ ap (λ o. Some o) c.in-Header.is) c.field_test_in.result c.field_test_in.ensures c.in_ok-header-in-Header.field-0 c.header.new.self c.in_ok-header-in-Header.ensures)
-
-pub returns-in_ok-part_body-in-(Test PartBody) : goal.returns-in_ok-part_body-in-(Test PartBody)
-returns-in_ok-part_body-in-(Test PartBody) c =
-    λ s at. rw c.in-PartBody.is (had_part_body c.args.program.now c.args.message.now c.requires.accepted c.requires.mail c.args.position c.args.self.now s at c.args.instruction.now c.requires.here (c.requires.named ∙ ap (λ o. Some o) c.in-PartBody.is) c.match_in-in-PartBody.result c.match_in-in-PartBody.ensures c.in_ok-part_body-in-PartBody.field-0 c.part_body.new.self (c.in_ok-part_body-in-PartBody.ensures.done c.args.message.now))
-
-pub returns-in_ok-part_digest-in-(Test PartDigest) : goal.returns-in_ok-part_digest-in-(Test PartDigest)
-returns-in_ok-part_digest-in-(Test PartDigest) c =
-    λ s at. rw c.in-PartDigest.is (had_part_digest c.args.program.now c.args.message.now c.requires.accepted c.requires.mail c.args.position c.args.self.now s at c.args.instruction.now c.requires.here (c.requires.named ∙ ap (λ o. Some o) c.in-PartDigest.is) c.in_ok-part_digest-in-PartDigest.field-0 c.part_digest.new.self (c.in_ok-part_digest-in-PartDigest.ensures c.args.message.now))
-
 pub returns-in-Variable : goal.returns-in-Variable
 returns-in-Variable c =
     rw c.in-Variable.is (IfOk-weaker c.push_variable.result _ _ (λ done h s at. had_variable c.args.program.now c.args.message.now c.requires.accepted c.requires.mail c.args.position c.args.self.now s at c.args.instruction.now c.requires.here (c.requires.named ∙ ap (λ o. Some o) c.in-Variable.is) done c.push_variable.new.self (h.0, h.1 c.args.message.now s at.stands.holds)) c.push_variable.ensures)
@@ -126,37 +101,6 @@ returns-in_ok-join-in-Join c =
 pub returns-in_ok-set-in-Set : goal.returns-in_ok-set-in-Set
 returns-in_ok-set-in-Set c =
     λ s at. rw c.in-Set.is (had_set c.args.program.now c.args.message.now c.requires.accepted c.requires.mail c.args.position c.args.self.now s at c.args.instruction.now c.requires.here (c.requires.named ∙ ap (λ o. Some o) c.in-Set.is) c.in_ok-set-in-Set.field-0 c.set.new.self (c.in_ok-set-in-Set.ensures c.args.message.now))
-
-pub returns-in_ok-string-in-String : goal.returns-in_ok-string-in-String
-returns-in_ok-string-in-String c =
-    λ s at. rw c.in-String.is (had_string c.args.program.now c.args.message.now c.requires.accepted c.requires.mail c.args.position c.args.self.now s at c.args.instruction.now c.requires.here (c.requires.named ∙ ap (λ o. Some o) c.in-String.is) c.match_in.result c.match_in.ensures c.in_ok-string-in-String.field-0 c.string.new.self (c.in_ok-string-in-String.ensures c.args.message.now))
-
-pub header-requires-clause-current : goal.header-requires-clause-current
-header-requires-clause-current c = current_there c.args.program.now c.args.message.now c.requires.accepted c.requires.mail c.args.position c.args.self.now c.requires.running.0 c.requires.running.1 c.args.instruction.now c.requires.here
-
-pub exists-requires-clause-current : goal.exists-requires-clause-current
-exists-requires-clause-current c = current_there c.args.program.now c.args.message.now c.requires.accepted c.requires.mail c.args.position c.args.self.now c.requires.running.0 c.requires.running.1 c.args.instruction.now c.requires.here
-
-pub header-requires-clause-top : goal.header-requires-clause-top
-header-requires-clause-top c = lists_some c.args.program.now c.args.message.now c.requires.accepted c.requires.mail c.args.position c.args.self.now c.requires.running.0 c.requires.running.1 c.args.instruction.now c.requires.here c.requires.program (c.requires.named ∙ ap (λ o. Some o) c.in-Header.is)
-
-pub exists-requires-clause-top : goal.exists-requires-clause-top
-exists-requires-clause-top c = names_some c.args.program.now c.args.message.now c.requires.accepted c.requires.mail c.args.position c.args.self.now c.requires.running.0 c.requires.running.1 c.args.instruction.now c.requires.here c.requires.program (c.requires.named ∙ ap (λ o. Some o) c.in-Exists.is)
-
-pub part_size-requires : goal.part_size-requires
-part_size-requires c = part_some c.args.program.now c.args.message.now c.requires.accepted c.requires.mail c.args.position c.args.self.now c.requires.running.0 c.requires.running.1 c.args.instruction.now c.requires.here (Test PartSize) (c.requires.named ∙ ap (λ o. Some o) c.in-PartSize.is) refl
-
-pub part_body-requires-clause-part : goal.part_body-requires-clause-part
-part_body-requires-clause-part c = part_small c.args.program.now c.args.message.now c.requires.accepted c.requires.mail c.args.position c.args.self.now c.requires.running.0 c.requires.running.1 c.args.instruction.now c.requires.here (Test PartBody) (c.requires.named ∙ ap (λ o. Some o) c.in-PartBody.is) refl
-
-pub part_body-requires-clause-top : goal.part_body-requires-clause-top
-part_body-requires-clause-top c = keys_some c.args.program.now c.args.message.now c.requires.accepted c.requires.mail c.args.position c.args.self.now c.requires.running.0 c.requires.running.1 c.args.instruction.now c.requires.here (Test PartBody) (c.requires.named ∙ ap (λ o. Some o) c.in-PartBody.is) refl (λ es. refl) c.requires.program
-
-pub part_digest-requires-clause-part : goal.part_digest-requires-clause-part
-part_digest-requires-clause-part c = part_some c.args.program.now c.args.message.now c.requires.accepted c.requires.mail c.args.position c.args.self.now c.requires.running.0 c.requires.running.1 c.args.instruction.now c.requires.here (Test PartDigest) (c.requires.named ∙ ap (λ o. Some o) c.in-PartDigest.is) refl
-
-pub part_digest-requires-clause-top : goal.part_digest-requires-clause-top
-part_digest-requires-clause-top c = keys_some c.args.program.now c.args.message.now c.requires.accepted c.requires.mail c.args.position c.args.self.now c.requires.running.0 c.requires.running.1 c.args.instruction.now c.requires.here (Test PartDigest) (c.requires.named ∙ ap (λ o. Some o) c.in-PartDigest.is) refl (λ es. refl) c.requires.program
 
 pub store-requires-clause-part : goal.store-requires-clause-part
 store-requires-clause-part c = current_some c.args.program.now c.args.message.now c.requires.accepted c.requires.mail c.args.position c.args.self.now c.requires.running.0 c.requires.running.1 c.args.instruction.now c.requires.here Store (c.requires.named ∙ ap (λ o. Some o) c.in-Store.is) refl
@@ -180,7 +124,7 @@ pub close-requires-clause-there : goal.close-requires-clause-there
 close-requires-clause-there c = break_there c.args.program.now c.args.message.now c.requires.accepted c.requires.mail c.args.position c.args.self.now c.requires.running.0 c.requires.running.1 c.args.instruction.now c.requires.here c.requires.program (c.requires.named ∙ ap (λ o. Some o) c.in-Break.is)
 
 pub set_content-requires-clause-part : goal.set_content-requires-clause-part
-set_content-requires-clause-part c = part_some c.args.program.now c.args.message.now c.requires.accepted c.requires.mail c.args.position c.args.self.now c.requires.running.0 c.requires.running.1 c.args.instruction.now c.requires.here Take (c.requires.named ∙ ap (λ o. Some o) c.in-Take.is) (take_needs_part c.args.program.now c.requires.accepted c.args.position.place c.args.instruction.now c.requires.here (c.requires.named ∙ ap (λ o. Some o) c.in-Take.is))
+set_content-requires-clause-part c = part_some c.args.program.now c.args.message.now c.requires.accepted c.requires.mail c.args.position c.args.self.now c.requires.running.0 c.requires.running.1 c.args.instruction.now c.requires.here Take (c.requires.named ∙ ap (λ o. Some o) c.in-Take.is) refl
 
 pub set_content-requires-clause-few : goal.set_content-requires-clause-few
 set_content-requires-clause-few c = (take_known c.args.program.now c.requires.accepted c.args.position.place c.args.instruction.now c.requires.here (c.requires.named ∙ ap (λ o. Some o) c.in-Take.is)).1
@@ -191,22 +135,6 @@ set_content-requires-clause-variable c = take_some c.args.program.now c.args.mes
 pub returns-in_ok-set_content-in-Take : goal.returns-in_ok-set_content-in-Take
 returns-in_ok-set_content-in-Take c =
     λ s at. rw c.in-Take.is (had_take c.args.program.now c.args.message.now c.requires.accepted c.requires.mail c.args.position c.args.self.now s at c.args.instruction.now c.requires.here (c.requires.named ∙ ap (λ o. Some o) c.in-Take.is) c.in_ok-set_content-in-Take.field-0 c.set_content.new.self (c.in_ok-set_content-in-Take.ensures c.args.message.now))
-
-pub field_test_in-requires : goal.field_test_in-requires
-field_test_in-requires c =
-    field_test_some c.args.program.now c.args.message.now c.requires.accepted c.requires.mail c.args.position c.args.self.now c.requires.running.0 c.requires.running.1 c.args.instruction.now c.requires.here (c.requires.named ∙ ap (λ o. Some o) c.in-Header.is)
-
-pub scope_in-requires : goal.scope_in-requires
-scope_in-requires c =
-    scope_some c.args.program.now c.args.message.now c.requires.accepted c.requires.mail c.args.position c.args.self.now c.requires.running.0 c.requires.running.1 c.args.instruction.now c.requires.here (c.requires.named ∙ ap (λ o. Some o) c.in-Exists.is)
-
-pub match_in-requires : goal.match_in-requires
-match_in-requires c =
-    sources_match_some c.args.program.now c.args.message.now c.requires.accepted c.requires.mail c.args.position c.args.self.now c.requires.running.0 c.requires.running.1 c.args.instruction.now c.requires.here (c.requires.named ∙ ap (λ o. Some o) c.in-String.is)
-
-pub match_in-requires-in-(Test PartBody) : goal.match_in-requires-in-(Test PartBody)
-match_in-requires-in-(Test PartBody) c =
-    body_match_some c.args.program.now c.args.message.now c.requires.accepted c.requires.mail c.args.position c.args.self.now c.requires.running.0 c.requires.running.1 c.args.instruction.now c.requires.here (c.requires.named ∙ ap (λ o. Some o) c.in-PartBody.is)
 
 pub returns-in-Discard : goal.returns-in-Discard
 returns-in-Discard c = λ s at. rw (c.in-Discard.is, c.discard.ensures.flow) (c.discard.ensures.stands c.args.message.now s at.stands.holds, refl)

@@ -2,10 +2,9 @@ use Rattle.std.proofs.Common.{◌<◌, [], arith, length, subst, sym}
 use Rattle.std.proofs.lemmas.Bool.{false≢true}
 use Rattle.mail_matching.specs.Headers.{selected_among}
 use Rattle.mail_matching.specs.HeaderTests.{AreUnfolded}
-use Rattle.mail_matching.specs.declared.outcome.Outcome.TheVariants.{Fails}
 use Rattle.mail_matching.proofs.Extents.{all_few}
 use Rattle.mail_matching.proofs.Onward.{goes_on_more, values_room}
-use Rattle.mail_matching.proofs.header_test.compared.Goals as goal
+use Rattle.mail_matching.proofs.header_test.take_headers.Goals as goal
 
 pub take_header-requires-clause-room : goal.take_header-requires-clause-room
 take_header-requires-clause-room g c =
@@ -28,7 +27,7 @@ loop-place-preserved g c =
     let names = g.N.Texts.texts c.args.names.now in
     let headers = c.args.headers.now in
     let lt : c.loop-place.place < length headers = omega (arith, c.loop-place-test.true, c.count-place-end.ensures.count) in
-    goes_on_more g.T.Telling.knows c.args.test.now.how (g.K.Texts.texts c.args.test.now.keys.now) (selected_among selector params names) headers c.loop-place.place c.typed.result [] (record { outcome = Fails; extent = 0; told = c.args.told }) c.loop-place.progress c.take_header.new.self lt c.typed.ensures c.loop-place.invariant c.in_ok-take_header.ensures.goes
+    goes_on_more g.T.Telling.knows c.args.test.now.how (g.K.Texts.texts c.args.test.now.keys.now) (selected_among selector params names) headers c.loop-place.place c.typed.result [] c.args.progress.now c.loop-place.progress c.take_header.new.self lt c.typed.ensures c.loop-place.invariant c.in_ok-take_header.ensures.goes
 
 pub returns-in_err-take_header-clause-told : goal.returns-in_err-take_header-clause-told
 returns-in_err-take_header-clause-told g c = λ free value plain.

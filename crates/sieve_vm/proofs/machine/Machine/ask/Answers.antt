@@ -1,0 +1,36 @@
+use Rattle.std.proofs.Common.{◌≡◌, Some, sym, ap, ◌∙◌}
+use Rattle.std.proofs.lemmas.Result.{IfOk-weaker}
+use Rattle.bytecode_format.specs.Questions.{counts_in, question_in}
+use Rattle.mail_matching.specs.Outcomes.{after}
+use Rattle.mail_matching.specs.Questions.{answer, question_cost}
+use Rattle.mail_matching.specs.Questions as questions
+use Rattle.sieve_vm.specs.declared.machine.Machine.{Machine}
+use Rattle.sieve_vm.specs.Charge.{cost_of_asking}
+use Rattle.sieve_vm.specs.Stack.{texts_in}
+use Rattle.sieve_vm.specs.Standing.{texts_of}
+use Rattle.sieve_vm.specs.State.{current_part}
+use Rattle.sieve_vm.proofs.Tests.{lists_there, same_loops, same_texts, settled}
+use Rattle.sieve_vm.proofs.machine.Machine.ask.Goals as goal
+
+pub returns-clause-done : goal.returns-clause-done
+returns-clause-done c =
+    IfOk-weaker c.settle.result _ _
+    (λ done h s top question stands e asks.
+    let mail = c.args.message.now in
+    let m : Machine = record c.args.self.now { loops = c.answer.new.loops } in
+    let stands_now = same_loops mail s c.args.self.now stands c.answer.new.loops c.in_ok-answer.ensures.loops in
+    let there = lists_there mail s c.args.self.now stands c.counts_in-counts.result (counts_in c.args.test c.args.instruction.now) top c.counts_in-counts.ensures e in
+    let lists = c.lists-lists.result in
+    let texts = same_texts top (texts_of lists.names) (texts_of lists.params) (texts_of lists.keys) (c.lists-lists.ensures.names top there) (c.lists-lists.ensures.params top there) (c.lists-lists.ensures.keys top there) in
+    let lent = questions.texts_of (texts_of lists.names) (texts_of lists.params) (texts_of lists.keys) in
+    let is : Some c.unwrap-question.result ≡ Some question = sym c.unwrap-question.ensures ∙ c.question_in.ensures ∙ ap (λ ns. question_in ns c.args.test c.args.instruction.now) c.numbers.ensures.value ∙ asks in
+    let same : c.unwrap-question.result ≡ question = cc in
+    let at = ap current_part stands.frames in
+    let reply = c.in_ok-answer.answer in
+    let right : after reply.outcome s.captures ≡ answer mail (current_part s.frames) question (texts_in top) s.captures =
+    c.in_ok-answer.ensures.outcome s.captures ∙ ap (λ x. answer mail x c.unwrap-question.result lent s.captures) at ∙ ap (λ q. answer mail (current_part s.frames) q lent s.captures) same ∙ ap (λ t. answer mail (current_part s.frames) question t s.captures) texts in
+    let spent : reply.cost ≡ cost_of_asking mail (current_part s.frames) question top =
+    c.in_ok-answer.ensures.cost ∙ ap (λ x. question_cost mail x c.unwrap-question.result lent) at ∙ ap (λ q. question_cost mail (current_part s.frames) q lent) same ∙ ap (λ t. question_cost mail (current_part s.frames) question t) texts in
+    settled mail s m stands_now top.below c.drop_lists.new.self reply.outcome reply.cost (cost_of_asking mail (current_part s.frames) question top) (answer mail (current_part s.frames) question (texts_in top) s.captures) done c.settle.new.self
+    (c.drop_lists.ensures top there) right spent h)
+    c.settle.ensures.done
