@@ -169,11 +169,7 @@ fn put_selection(out: &mut Vec<u8>, a: u8, counts: u32) -> Result<(), AllocError
 }
 
 // Appends what the fields of an instruction say in words, as a comment.
-fn put_words(
-    out: &mut Vec<u8>,
-    range: Range,
-    instruction: Instruction,
-) -> Result<(), AllocError>
+fn put_words(out: &mut Vec<u8>, range: Range, instruction: Instruction) -> Result<(), AllocError>
     ensures { OnOk result (out.new.items ≡ out.old.items ++ comment (in_words range instruction)) }
 {
     match range {
