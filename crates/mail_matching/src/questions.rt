@@ -1,9 +1,9 @@
 // Questions, asked.
-ghost use Rattle.std.specs.Prelude.{◌≡◌, ◌<◌, ℕ, List, Option, IfOk, IfSome, is_some, length, option_map};
+ghost use Rattle.std.specs.Prelude.{◌≡◌, ◌<◌, ℕ, List, Option, IfOk, IfSome, IsOk, is_some, length, option_map};
 ghost use Rattle.mail_matching.specs.Findings.{shortened};
 ghost use Rattle.mail_matching.specs.Outcomes.{after};
 ghost use Rattle.mail_matching.specs.Private.{HasAsked, IsFresh};
-ghost use Rattle.mail_matching.specs.Questions.{IsShown, Texts as TextsOf, answer, asked, current as current_part, found, looked_cost, need_of, question_cost, texts_of};
+ghost use Rattle.mail_matching.specs.Questions.{IsShown, TakesNoMemory, Texts as TextsOf, answer, asked, current as current_part, found, looked_cost, need_of, question_cost, texts_of};
 ghost use Rattle.mail_matching.specs.Texts.{AreTexts};
 ghost use Rattle.mime_decode.specs.Mail.{Mail};
 
@@ -81,7 +81,8 @@ pub struct TestTexts<'t, N: Texts, P: Texts, K: Texts> {
 ///
 /// # Errors
 ///
-/// An allocation was refused.
+/// An allocation was refused. None is made but for values of fields that are folded, for types and parameters, and for what is captured
+/// of these, of texts, and of content that isn't lent.
 pub fn ask<'m, N: Texts, P: Texts, K: Texts>(
     alloc: Global,
     message: &Message<'m>,
@@ -102,6 +103,9 @@ pub fn ask<'m, N: Texts, P: Texts, K: Texts>(
     ensures cost { IfOk result (λ reply. reply.cost
         ≡ question_cost message.now current question (texts_of (N.texts texts.entry.names.now)
         (P.texts texts.entry.params.now) (K.texts texts.entry.keys.now))) }
+    ensures no_memory { TakesNoMemory message.now current question (texts_of (N.texts texts.entry.names.now)
+        (P.texts texts.entry.params.now) (K.texts texts.entry.keys.now)) shown.entry
+        → IsOk result }
 {
     let mut progress = Progress::new(Nobody);
     let cost = put(
@@ -201,13 +205,16 @@ fn put<'m, N: Texts, P: Texts, K: Texts, T: Telling>(
     requires params { AreTexts (P.texts texts.params.now) }
     requires keys { AreTexts (K.texts texts.keys.now) }
     requires fresh { IsFresh progress.old }
-    ensures { IfOk result (λ cost. HasAsked T.knows
+    ensures asked { IfOk result (λ cost. HasAsked T.knows
         (asked message.now current question (texts_of (N.texts texts.entry.names.now)
         (P.texts texts.entry.params.now) (K.texts texts.entry.keys.now)))
         (K.texts texts.entry.keys.now)
         (looked_cost message.now current question (texts_of (N.texts texts.entry.names.now)
         (P.texts texts.entry.params.now) (K.texts texts.entry.keys.now)))
         progress.old progress.new cost) }
+    ensures no_memory { T.is_free → TakesNoMemory message.now current question
+        (texts_of (N.texts texts.entry.names.now) (P.texts texts.entry.params.now)
+        (K.texts texts.entry.keys.now)) shown.entry → IsOk result }
 {
     let TestTexts {
         names,
