@@ -4,6 +4,7 @@ pub mod Keeping
 pub mod Lengths
 pub mod Onward
 pub mod Pairs
+pub mod QuestionLemmas
 pub mod Scopes
 mod SelectionExamples
 pub mod TenCaptures

@@ -10,6 +10,8 @@ pub mod HeaderTests
 pub mod PartTests
 -- what all questions of simple tests come to
 pub mod Questions
+-- what asking them costs at most
+pub mod QuestionCosts
 -- where tests look, and what they select there
 pub mod Selection
 -- what the code hands over and what it is handed

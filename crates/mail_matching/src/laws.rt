@@ -1,44 +1,24 @@
-//! The laws of the tests: how much they cost at most.
-ghost use Rattle.std.specs.Prelude.{◌≡◌, ◌+◌, ◌*◌, ◌≤◌, ℕ, List, Option, Some, is_some, length, slice_get};
+//! The laws of questions: how much asking costs at most, and which captures are left.
+ghost use Rattle.std.specs.Prelude.{◌≡◌, ◌*◌, ◌≤◌, ℕ, List, Option, Some, is_some, length};
 ghost use Rattle.glob_match.specs.Matching.{max_captures};
 ghost use Rattle.glob_match.specs.declared.match_type.Match.{Match};
-ghost use Rattle.mime_decode.specs.Mail.{IsMail, Mail, Part, size_of};
-ghost use Rattle.bytecode_format.specs.declared.selection.Scope.{Scope};
-ghost use Rattle.bytecode_format.specs.declared.selection.Selector.{Selector};
-ghost use Rattle.mail_matching.specs.Costs.{extent_of, names_cost, values_cost};
+ghost use Rattle.mime_decode.specs.Mail.{IsMail, Mail, size_of};
+ghost use Rattle.bytecode_format.specs.Questions.{operation_asking};
+ghost use Rattle.bytecode_format.specs.declared.question.Question.{Question};
+ghost use Rattle.mail_matching.specs.Costs.{extent_of, values_cost};
 ghost use Rattle.mail_matching.specs.Findings.{after_pair, first_pair};
 ghost use Rattle.mail_matching.specs.FirstMatch.{first_match};
-ghost use Rattle.mail_matching.specs.HeaderTests.{fields_in_scope};
-ghost use Rattle.mail_matching.specs.PartTests.{body_cost, digest_cost};
-ghost use Rattle.mail_matching.specs.Selection.{selected_values, values_of_a_field};
+ghost use Rattle.mail_matching.specs.QuestionCosts.{AreWithin, Sizes, most_of, value_of};
+ghost use Rattle.mail_matching.specs.Questions.{Texts, answer, question_cost};
 
-/// Looking for fields by their names costs at most one more than the message has octets, for each octet of a name and for one more.
-pub fn names_cost_is_within_the_message()
+/// Asking costs no more than this, where the texts are no larger: for names, for each octet of the message, what the names have; for
+/// what they select, that many times what the keys have, and that for each value that may be selected of a field; for a part's
+/// content, what the keys have for each octet of the message.
+pub fn question_cost_is_within_the_message()
     ensures { (mail : Mail) → IsMail mail
-        → (scope : Scope) (current : Option ℕ) (names : List (List ℕ))
-        → names_cost (fields_in_scope scope current mail) names
-        ≤ (size_of mail + 1) * extent_of names }
-{}
-
-/// Comparing what is selected of the fields of so many names costs at most that many times what the message's octets do, for
-/// each value that may be selected of a field.
-pub fn values_cost_is_within_the_message()
-    ensures { (mail : Mail) → IsMail mail
-        → (scope : Scope) (current : Option ℕ) (selector : Selector) (params names keys : List (List ℕ))
-        → values_cost (selected_values scope current selector params names mail) keys
-        ≤ length names * values_of_a_field selector params * size_of mail * extent_of keys }
-{}
-
-/// Comparing the content of a part costs at most what the message's octets do.
-pub fn body_cost_is_within_the_message()
-    ensures { (mail : Mail) → IsMail mail → (place : ℕ) (part : Part)
-        → slice_get mail.parts place ≡ Some part → (keys : List (List ℕ))
-        → body_cost part keys ≤ (size_of mail + 1) * extent_of keys }
-{}
-
-/// Comparing the digest of a part costs the same for each.
-pub fn digest_cost_is_fixed()
-    ensures { (part : Part) (keys : List (List ℕ)) → digest_cost part keys ≡ 65 * extent_of keys }
+        → (current : Option ℕ) (question : Question) (texts : Texts) (sizes : Sizes)
+        → AreWithin sizes texts → question_cost mail current question texts
+        ≤ value_of (most_of (operation_asking question) sizes) (size_of mail) }
 {}
 
 /// The cost of comparing is a product.
@@ -49,8 +29,9 @@ pub fn values_cost_is_a_product()
 
 /// There are always ten captures.
 pub fn captures_stay_ten()
-    ensures { (how : Match) (values keys captures after : List (List ℕ))
-        → length captures ≡ max_captures → first_match how values keys captures ≡ Some after
+    ensures { (mail : Mail) (current : Option ℕ) (question : Question) (texts : Texts)
+        (captures after : List (List ℕ))
+        → length captures ≡ max_captures → answer mail current question texts captures ≡ Some after
         → length after ≡ max_captures }
 {}
 
