@@ -20,6 +20,8 @@ pub type Lists<'l, 't> = TestTexts<'l, ExpandedList<'t>, ExpandedList<'t>, Expan
 /// octets are kept, at most so many of the value and of the key.
 ///
 /// An error comes only where memory was refused.
+// Apart, since most questions need no such thing.
+#[inline(never)]
 pub fn asked_of_part<'m>(
     alloc: Global,
     subject: Subject<'_, 'm>,
@@ -59,16 +61,9 @@ pub fn asked_of_part<'m>(
             ask_and_find(alloc, message, part, question, content, texts, most)
         }
         Need::Digest => {
-            let digest = digest_of(content.as_slice());
-            ask_and_find(
-                alloc,
-                message,
-                part,
-                question,
-                Shown::Digest(&digest),
-                texts,
-                most,
-            )
+            let digits = digest_of(content.as_slice());
+            let digest = Shown::Digest(&digits);
+            ask_and_find(alloc, message, part, question, digest, texts, most)
         }
     }
 }
