@@ -5,11 +5,14 @@ use Rattle.std.proofs.Math.Nat.{mul-le-mul}
 use Rattle.std.proofs.lemmas.List.Sums.{sum_by-le-sum_by}
 use Rattle.std.specs.Option.{option_map_or}
 use Rattle.std.proofs.lemmas.List.Elements.{All-cons, All-nil}
-use Rattle.octets.specs.Limits.{max_message, max_parts}
+use Rattle.octets.specs.Limits.{max_message, max_parts, max_stack}
 use Rattle.bytecode_format.specs.declared.instruction.Instruction.{Instruction}
 use Rattle.bytecode_format.specs.declared.operation.Operation.{Operation}
 use Rattle.bytecode_format.specs.declared.operation.Operation.TheVariants.{Join, Set, File, Store, Take, Test}
+use Rattle.bytecode_format.specs.declared.operation.TestOperation.{TestOperation}
 use Rattle.bytecode_format.specs.declared.operation.TestOperation.TheVariants.{Header, Exists, String, PartBody, PartDigest}
+use Rattle.bytecode_format.specs.declared.question.Counts.{Counts}
+use Rattle.bytecode_format.specs.Questions.{counts_in}
 use Rattle.bytecode_format.specs.Operations.{operation_of}
 use Rattle.bytecode_format.specs.Code.{Code}
 use Rattle.bytecode_format.specs.Spelling.{IsProgram}
@@ -17,12 +20,11 @@ use Rattle.bytecode_cost.specs.Sums.{IsBudget, budget_at}
 use Rattle.bytecode_cost.proofs.Powers.{budget_bound}
 use Rattle.bytecode_verifier.specs.Places.{sum_below}
 use Rattle.bytecode_verifier.specs.Loops.{open_loops}
-use Rattle.bytecode_format.specs.Selection.{keys_in, params_in}
-use Rattle.bytecode_verifier.specs.Shape.{Entries, Texts, Lists, take_texts, take_lists, shape_at}
+use Rattle.bytecode_verifier.specs.Shape.{Entries, Texts, Lists, take_texts, take_counted, shape_at}
 use Rattle.bytecode_verifier.specs.declared.cap.Cap.{Cap}
-use Rattle.bytecode_verifier.specs.Budget.{one_more_each, cap_of_octets, cap_of_names, cap_of_matching, cap_of_comparing, cap_of_body, cap_of_digest, one_charge, cap_of, cap_found, cap_at, sum_inside, sums_inside, budget_of}
+use Rattle.bytecode_verifier.specs.Budget.{one_more_each, cap_of_octets, cap_of_test, one_charge, cap_of, cap_found, cap_at, sum_inside, sums_inside, budget_of}
 use Rattle.bytecode_verifier.specs.Pass.{IsSmall, max_cap}
-use Rattle.bytecode_verifier.proofs.Taking.{taken, taken_lists}
+use Rattle.bytecode_verifier.proofs.Taking.{TakenLists, taken, taken_lists}
 use Rattle.bytecode_verifier.proofs.Short.{length_short, shape_small}
 
 -- no cap is larger than this
@@ -76,35 +78,26 @@ octets_fit number entries small (Some texts) h =
     let less : sum texts.texts ≤ one_more_each texts.texts = sum_by-le-sum_by (λ b. b) (λ b. b + 1) texts.texts (λ b. omega arith) in
     (omega (arith, t.total, t.left, small.few, less), lit≤ tt)
 
-texts_fit : (number : ℕ) (entries : Entries) → IsSmall entries → (cap : Texts → Cap) → ((texts : Texts) → one_more_each texts.texts ≤ 16778240 → Fits (cap texts)) → Fits (option_map_or cap (take_texts number entries) one_charge)
-texts_fit number entries small cap fits = go (take_texts number entries) refl
-  where
-    go : (o : Option Texts) → take_texts number entries ≡ o → Fits (option_map_or cap o one_charge)
-    go None h = one_fits
-    go (Some texts) h = let t = taken number entries texts small.short h in fits texts (omega (arith, t.total, t.left, small.few))
+test_fits : (test : TestOperation) (counts : Counts) (entries : Entries) (lists : Lists) → length entries ≤ max_stack → TakenLists counts entries lists → Fits (cap_of_test test lists)
+test_fits Header counts entries lists few t =
+    (lit≤ tt, matching_fits counts.names counts.params counts.keys (one_more_each lists.names) (one_more_each lists.keys) (length lists.names) (length lists.params) (omega (arith, t.left, few)) t.names_total t.keys_total t.names_are t.params_are)
+test_fits Exists counts entries lists few t = (lit≤ tt, omega (arith, t.names_total, t.left, few))
+test_fits String counts entries lists few t =
+    (comparing_fits counts.names counts.keys (one_more_each lists.names) (one_more_each lists.keys) (omega (arith, t.left, few)) t.names_total t.keys_total, lit≤ tt)
+test_fits PartBody counts entries lists few t = (lit≤ tt, omega (arith, t.keys_total, t.left, few))
+test_fits PartDigest counts entries lists few t = (omega (arith, t.keys_total, t.left, few), lit≤ tt)
+test_fits _ counts entries lists few t = one_fits
 
 pub cap_fits : (o : Option Operation) (i : Instruction) (entries : Entries) → i.b < 2 ^ 16 → IsSmall entries → Fits (cap_of o i entries)
-cap_fits (Some (Test Header)) i entries below small = go (take_lists i.b (params_in i.c) (keys_in i.c) entries) refl
+cap_fits (Some (Test test)) i entries below small = go (take_counted (counts_in test i) entries) refl
   where
-    go : (o : Option Lists) → take_lists i.b (params_in i.c) (keys_in i.c) entries ≡ o → Fits (option_map_or cap_of_matching o one_charge)
+    go : (o : Option Lists) → take_counted (counts_in test i) entries ≡ o → Fits (option_map_or (cap_of_test test) o one_charge)
     go None h = one_fits
-    go (Some lists) h =
-        let t = taken_lists i.b (params_in i.c) (keys_in i.c) entries lists small.short h in
-        (lit≤ tt, matching_fits i.b (params_in i.c) (keys_in i.c) (one_more_each lists.names) (one_more_each lists.keys) (length lists.names) (length lists.params) (omega (arith, t.left, small.few)) t.names_total t.keys_total t.names_are t.params_are)
-cap_fits (Some (Test Exists)) i entries below small = texts_fit i.b entries small cap_of_names (λ names total. (lit≤ tt, omega (arith, total)))
-cap_fits (Some (Test PartBody)) i entries below small = texts_fit i.c entries small cap_of_body (λ keys total. (lit≤ tt, omega (arith, total)))
-cap_fits (Some (Test PartDigest)) i entries below small = texts_fit i.c entries small cap_of_digest (λ keys total. (omega (arith, total), lit≤ tt))
+    go (Some lists) h = test_fits test (counts_in test i) entries lists small.few (taken_lists (counts_in test i) entries lists small.short h)
 cap_fits (Some File) i entries below small = octets_fit 1 entries small (take_texts 1 entries) refl
 cap_fits (Some Store) i entries below small = octets_fit 1 entries small (take_texts 1 entries) refl
 cap_fits (Some Join) i entries below small = octets_fit i.b entries small (take_texts i.b entries) refl
 cap_fits (Some Set) i entries below small = octets_fit 1 entries small (take_texts 1 entries) refl
-cap_fits (Some (Test String)) i entries below small = go (take_lists i.b 0 i.c entries) refl
-  where
-    go : (o : Option Lists) → take_lists i.b 0 i.c entries ≡ o → Fits (option_map_or cap_of_comparing o one_charge)
-    go None h = one_fits
-    go (Some lists) h =
-        let t = taken_lists i.b 0 i.c entries lists small.short h in
-        (comparing_fits i.b i.c (one_more_each lists.names) (one_more_each lists.keys) (omega (arith, t.left, small.few)) t.names_total t.keys_total, lit≤ tt)
 cap_fits (Some Take) i entries below small = (omega (arith, below), lit≤ tt)
 cap_fits _ i entries below small = one_fits
 

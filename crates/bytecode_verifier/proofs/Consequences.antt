@@ -1,24 +1,27 @@
 -- What acceptance says of the instruction at a place, for what is proved of runs.
-use Rattle.std.proofs.Common.{◌≡◌, ℕ, zero, suc, ◌+◌, ◌-◌, ◌<◌, ◌≤◌, ◌≢◌, nat_lt, Bool, true, false, not, ◌&&◌, ◌||◌, ◌==◌, nat_le, [], ◌∷◌, Option, Some, None, is_some, is_none, if◌then◌else◌, length, slice_get, refl, sym, ap, ◌∙◌, inl, inr, arith, leb-false, leb-true}
-use Rattle.std.proofs.lemmas.Bool.{cases_lt, eqb-true, eqb-false, ltb-true, ltb-false}
-use Rattle.std.proofs.lemmas.Option.{slice_get_within}
+use Rattle.std.proofs.Common.{◌≡◌, ℕ, zero, suc, ◌+◌, ◌-◌, ◌<◌, ◌≤◌, ◌≢◌, nat_lt, Bool, true, false, not, ◌&&◌, ◌||◌, ◌==◌, nat_le, [], ◌∷◌, Option, Some, None, is_some, is_none, if◌then◌else◌, length, get_or, slice_get, refl, sym, ap, ◌∙◌, inl, inr, arith, leb-false, leb-true}
+use Rattle.std.proofs.lemmas.Bool.{cases_lt, eqb-true, eqb-false, ltb-false}
+use Rattle.std.proofs.lemmas.Option.{slice_get_within, slice_get-get_or}
 use Rattle.std.proofs.lemmas.Map.Keys.{any_passes_from_place}
-use Rattle.octets.specs.Limits.{max_test_strings, max_loops, max_value}
+use Rattle.octets.specs.Limits.{max_loops, max_value}
 use Rattle.bytecode_format.specs.declared.instruction.Instruction.{Instruction}
 use Rattle.bytecode_format.specs.declared.operation.Operation.TheVariants.{Literal, Variable, Set, Break, Take, Test}
-use Rattle.bytecode_format.specs.declared.operation.TestOperation.TheVariants.{Size, Header, Exists, String, PartSize, PartBody, PartDigest}
+use Rattle.bytecode_format.specs.declared.operation.TestOperation.{TestOperation}
+use Rattle.bytecode_format.specs.declared.operation.TestOperation.TheVariants.{Constant, Header, Exists, String, Size, PartSize, PartBody, PartDigest}
+use Rattle.bytecode_format.specs.declared.question.Order.{Order}
+use Rattle.bytecode_format.specs.declared.question.Question.{Question}
+use Rattle.bytecode_format.specs.declared.question.Question.TheVariants as question
+use Rattle.bytecode_format.specs.Questions.{question_in}
 use Rattle.bytecode_format.specs.Operations.{operation_of}
 use Rattle.bytecode_format.specs.Code.{Code}
 use Rattle.bytecode_format.specs.declared.modifiers.Modifiers.{Modifiers}
 use Rattle.bytecode_format.specs.Modifiers.{modifiers_numbered}
-use Rattle.bytecode_format.specs.declared.selection.Scope.{Scope}
-use Rattle.bytecode_format.specs.declared.selection.FieldTest.{FieldTest}
-use Rattle.bytecode_format.specs.Selection.{match_numbered, scope_numbered, field_test_numbered, keys_in, params_in}
+use Rattle.bytecode_format.specs.Selection.{field_test_numbered, match_numbered, order_numbered, scope_numbered, truth_numbered}
 use Rattle.bytecode_verifier.specs.Loops.{open_loops, same_loops}
-use Rattle.std.specs.Option.{option_and_then}
+use Rattle.std.specs.Option.{option_and_then, option_map}
 use Rattle.bytecode_format.specs.declared.operation.Operation.{Operation}
 use Rattle.bytecode_verifier.specs.declared.row.Row.{Row}
-use Rattle.bytecode_verifier.specs.Rows.{row_of, row_in_version, selects_params, is_list, are_counts, is_well_formed, is_jump, needs_part}
+use Rattle.bytecode_verifier.specs.Rows.{row_of, test_row, row_in_version, takes, is_well_formed, is_jump, needs_part}
 use Rattle.bytecode_verifier.specs.Shape.{Entries, is_empty, is_target, entries_after, shape_after, shape_at}
 use Rattle.bytecode_verifier.specs.Rules.{row_in, misses_index, is_halt, breaks_form}
 use Rattle.bytecode_verifier.specs.Acceptance.{IsAccepted}
@@ -52,10 +55,6 @@ pub known : {A : Type 0} (o : Option A) → is_some o ≡ true → (x : A) × (o
 known None h = absurd (cc)
 known (Some x) h = (x, refl)
 
-first_of_three : (a b c : Bool) → (a && b && c) ≡ true → a ≡ true
-first_of_three true b c h = refl
-first_of_three false b c h = absurd (cc)
-
 both : (a b : Bool) → (a && b) ≡ true → (a ≡ true) × (b ≡ true)
 both true b h = (refl, h)
 both false b h = absurd cc
@@ -65,28 +64,24 @@ all_three true true c h = (refl, refl, h)
 all_three true false c h = absurd cc
 all_three false b c h = absurd cc
 
-list_size : (n : ℕ) → is_list n ≡ true → (1 ≤ n) × (n ≤ max_test_strings)
-list_size n h = let parts = both (nat_le 1 n) (nat_le n max_test_strings) h in (leb-true 1 n parts.0, leb-true n max_test_strings parts.1)
-
-counts_of : (selected : Bool) (keys params : Bool) (none : Bool) → (keys && (if selected then params else none)) ≡ true → (keys ≡ true) × (selected ≡ true → params ≡ true) × (selected ≡ false → none ≡ true)
-counts_of true true params none h = (refl, λ s. h, λ s. absurd cc)
-counts_of true false params none h = absurd cc
-counts_of false true params none h = (refl, λ s. absurd cc, λ s. h)
-counts_of false false params none h = absurd cc
+-- the first field is in its range
+in_range : (row : Row) (i : Instruction) → is_well_formed (Some row) i ≡ true → takes i.a row.a i.a ≡ true
+in_range row i h = (all_three (takes i.a row.a i.a) (takes i.a row.b i.b) (takes i.a row.c i.c) h).0
 
 -- an operation of version 2 alone that is allowed is so in version 2
 in_two : (row : Row) (i : Instruction) (two : Bool) → is_well_formed (if not two then None else Some row) i ≡ true → two ≡ true
 in_two row i true h = refl
 in_two row i false h = absurd cc
 
--- what the fields of a test of fields say
-pub record IsFieldTest (i : Instruction) : Type 0 where
-  pub test : FieldTest
-  pub says : field_test_numbered i.a ≡ Some test
-  pub names : (1 ≤ i.b) × (i.b ≤ max_test_strings)
-  pub keys : (1 ≤ keys_in i.c) × (keys_in i.c ≤ max_test_strings)
-  pub params : selects_params i.a ≡ true → (1 ≤ params_in i.c) × (params_in i.c ≤ max_test_strings)
-  pub no_params : selects_params i.a ≡ false → params_in i.c ≡ 0
+-- what a field means, where it means something, with a number that is there
+meant : {A : Type 0} (o : Option A) (make : A → Question) → is_some o ≡ true → (q : Question) × (option_map make o ≡ Some q)
+meant None make h = absurd cc
+meant (Some x) make h = (make x, refl)
+
+compared : (order : Option Order) (number : Option ℕ) (make : Order → ℕ → Question) → is_some order ≡ true → (n : ℕ) × (number ≡ Some n)
+    → (q : Question) × (option_and_then (λ o. option_map (make o) number) order ≡ Some q)
+compared None number make h there = absurd cc
+compared (Some order) number make h there = (make order there.0, rw there.1 refl)
 
 -- the form of the instruction at a place, where the rule isn't broken there
 pub form_at : (code : Code) (place : ℕ) (i : Instruction) → breaks_form code place ≡ false → slice_get code.instructions place ≡ Some i → is_well_formed (row_in code i) i ≡ true
@@ -102,84 +97,58 @@ module _ (code : Code) (is : IsAccepted code) where
     pub well_formed : is_well_formed (row_in code i) i ≡ true
     well_formed = form_at code place i (is.form place) here
 
-    -- the index is below the count of numbers
-    pub number_known : operation_of i.op ≡ Some (Test Size) → i.c < length code.numbers
-    number_known size =
-        let broken : misses_index code (row_in code i) i ≡ false = rw here at (is.index place) in
-        leb-false (length code.numbers) i.c (ap (λ o. misses_index code (option_and_then (row_in_version code.version) o) i) (sym size) ∙ broken)
-
-    -- the index is below the count of strings
-    pub string_known : operation_of i.op ≡ Some Literal → i.c < length code.strings
-    string_known literal =
-        let broken : misses_index code (row_in code i) i ≡ false = rw here at (is.index place) in
-        leb-false (length code.strings) i.c (ap (λ o. misses_index code (option_and_then (row_in_version code.version) o) i) (sym literal) ∙ broken)
-
-    -- the index is below the count of variables
-    pub variable_known : operation_of i.op ≡ Some Variable → i.c < code.variables
-    variable_known variable =
-        let broken : misses_index code (row_in code i) i ≡ false = rw here at (is.index place) in
-        leb-false code.variables i.c (ap (λ o. misses_index code (option_and_then (row_in_version code.version) o) i) (sym variable) ∙ broken)
-
-    pub set_known : operation_of i.op ≡ Some Set → i.c < code.variables
-    set_known set =
-        let broken : misses_index code (row_in code i) i ≡ false = rw here at (is.index place) in
-        leb-false code.variables i.c (ap (λ o. misses_index code (option_and_then (row_in_version code.version) o) i) (sym set) ∙ broken)
-
-    pub part_number_known : operation_of i.op ≡ Some (Test PartSize) → i.c < length code.numbers
-    part_number_known size =
-        let broken : misses_index code (row_in code i) i ≡ false = rw here at (is.index place) in
-        leb-false (length code.numbers) i.c (ap (λ o. misses_index code (option_and_then (row_in_version code.version) o) i) (sym size) ∙ broken)
-
     formed_as : (operation : Operation) → operation_of i.op ≡ Some operation → is_well_formed (row_in_version code.version operation) i ≡ true
     formed_as operation named = ap (λ o. is_well_formed (option_and_then (row_in_version code.version) o) i) (sym named) ∙ well_formed
 
-    -- the fields of a test of fields are in their ranges
-    pub header_known : operation_of i.op ≡ Some (Test Header) → IsFieldTest i
-    header_known header =
-        let parts = all_three (is_some (field_test_numbered i.a)) (is_list i.b) (are_counts i.a i.c) (formed_as (Test Header) header) in
-        let says = known (field_test_numbered i.a) parts.0 in
-        let counts = counts_of (selects_params i.a) (is_list (keys_in i.c)) (is_list (params_in i.c)) (params_in i.c == 0) parts.2 in
-        record {
-          test = says.0;
-          says = says.1;
-          names = list_size i.b parts.1;
-          keys = list_size (keys_in i.c) counts.0;
-          params = λ selected. list_size (params_in i.c) (counts.1 selected);
-          no_params = λ other. eqb-true (params_in i.c) 0 (counts.2 other);
-        }
+    indexed_as : (operation : Operation) → operation_of i.op ≡ Some operation → misses_index code (row_in_version code.version operation) i ≡ false
+    indexed_as operation named =
+        let broken : misses_index code (row_in code i) i ≡ false = rw here at (is.index place) in
+        ap (λ o. misses_index code (option_and_then (row_in_version code.version) o) i) (sym named) ∙ broken
 
-    -- the scope of a test that fields exist, and how many names it has
-    pub exists_known : operation_of i.op ≡ Some (Test Exists) → (scope : Scope) × ((scope_numbered i.a ≡ Some scope) × (1 ≤ i.b) × (i.b ≤ max_test_strings))
-    exists_known exists =
-        let parts = all_three (is_some (scope_numbered i.a)) (is_list i.b) (i.c == 0) (formed_as (Test Exists) exists) in
-        let names = list_size i.b parts.1 in
-        let scope = known (scope_numbered i.a) parts.0 in
-        (scope.0, (scope.1, names.0, names.1))
+    -- the index is below the count of strings
+    pub string_known : operation_of i.op ≡ Some Literal → i.c < length code.strings
+    string_known literal = leb-false (length code.strings) i.c (indexed_as Literal literal)
 
-    -- how sources are matched
-    pub sources_known : operation_of i.op ≡ Some (Test String) → is_some (match_numbered i.a) ≡ true
-    sources_known string = (all_three (is_some (match_numbered i.a)) (is_list i.b) (is_list i.c) (formed_as (Test String) string)).0
+    -- the index is below the count of variables
+    pub variable_known : operation_of i.op ≡ Some Variable → i.c < code.variables
+    variable_known variable = leb-false code.variables i.c (indexed_as Variable variable)
 
-    -- how the current part's size is compared
-    pub part_size_known : operation_of i.op ≡ Some (Test PartSize) → i.a < 2
-    part_size_known size = ltb-true i.a 2 (all_three (nat_lt i.a 2) (i.b == 0) true (formed_as (Test PartSize) size)).0
+    pub set_known : operation_of i.op ≡ Some Set → i.c < code.variables
+    set_known set = leb-false code.variables i.c (indexed_as Set set)
 
-    -- how the current part's content is matched, and with how many keys
-    pub part_body_known : operation_of i.op ≡ Some (Test PartBody) → (is_some (match_numbered i.a) ≡ true) × (1 ≤ i.c) × (i.c ≤ max_test_strings)
-    part_body_known body =
-        let parts = all_three (is_some (match_numbered i.a)) (i.b == 0) (is_list i.c) (formed_as (Test PartBody) body) in
-        let keys = list_size i.c parts.2 in
-        (parts.0, keys.0, keys.1)
+    -- a test asks something
+    pub question_known : (test : TestOperation) → operation_of i.op ≡ Some (Test test) → (q : Question) × (question_in code.numbers test i ≡ Some q)
+    question_known test named = asks test (formed_as (Test test) named) (indexed_as (Test test) named)
+      where
+        number : nat_le (length code.numbers) i.c ≡ false → (n : ℕ) × (slice_get code.numbers i.c ≡ Some n)
+        number below = (get_or code.numbers i.c 0, slice_get-get_or code.numbers i.c 0 (leb-false (length code.numbers) i.c below))
 
-    -- with how many keys the current part's digest is compared
-    pub part_digest_known : operation_of i.op ≡ Some (Test PartDigest) → (1 ≤ i.c) × (i.c ≤ max_test_strings)
-    part_digest_known digest = list_size i.c (all_three (i.a == 0) (i.b == 0) (is_list i.c) (formed_as (Test PartDigest) digest)).2
+        asks : (test : TestOperation) → is_well_formed (row_in_version code.version (Test test)) i ≡ true → misses_index code (row_in_version code.version (Test test)) i ≡ false
+            → (q : Question) × (question_in code.numbers test i ≡ Some q)
+        asks Constant formed indexed = meant (truth_numbered i.a) question.Constant (in_range (test_row Constant) i formed)
+        asks Header formed indexed = meant (field_test_numbered i.a) question.Header (in_range (test_row Header) i formed)
+        asks Exists formed indexed = meant (scope_numbered i.a) question.Exists (in_range (test_row Exists) i formed)
+        asks String formed indexed = meant (match_numbered i.a) question.String (in_range (test_row String) i formed)
+        asks Size formed indexed = compared (order_numbered i.a) (slice_get code.numbers i.c) question.Size (in_range (test_row Size) i formed) (number indexed)
+        asks PartSize formed indexed = compared (order_numbered i.a) (slice_get code.numbers i.c) question.PartSize (in_range (test_row PartSize) i formed) (number indexed)
+        asks PartBody formed indexed = meant (match_numbered i.a) question.PartBody (in_range (test_row PartBody) i formed)
+        asks PartDigest formed indexed = (question.PartDigest, refl)
 
     -- an operation on the current part stands in a loop
     pub part_known : needs_part (row_in code i) ≡ true → length (open_loops code place) ≢ 0
     part_known needs =
         let outside : (length (open_loops code place) == 0) ≡ false = rw (here, needs) at (is.no_part place) in
         eqb-false (length (open_loops code place)) 0 outside
+
+    -- and so does a test about it
+    pub about_part_known : (test : TestOperation) → operation_of i.op ≡ Some (Test test) → (test_row test).needs_part ≡ true → length (open_loops code place) ≢ 0
+    about_part_known test named needs = part_known (ap (λ o. needs_part (option_and_then (row_in_version code.version) o)) named ∙ about test needs)
+      where
+        about : (test : TestOperation) → (test_row test).needs_part ≡ true → needs_part (row_in_version code.version (Test test)) ≡ true
+        about PartSize needs = refl
+        about PartBody needs = refl
+        about PartDigest needs = refl
+        about _ needs = absurd cc
 
     -- a Break is of one loop or more, and of no more than are open
     pub break_known : operation_of i.op ≡ Some Break → (1 ≤ i.a) × (i.a ≤ length (open_loops code place))
@@ -190,9 +159,7 @@ module _ (code : Code) (is : IsAccepted code) where
 
     -- the number is that of modifiers
     pub modifiers_known : operation_of i.op ≡ Some Set → (modifiers : Modifiers) × (modifiers_numbered i.a ≡ Some modifiers)
-    modifiers_known set =
-        let formed : is_well_formed (row_in_version code.version Set) i ≡ true = ap (λ o. is_well_formed (option_and_then (row_in_version code.version) o) i) (sym set) ∙ well_formed in
-        known (modifiers_numbered i.a) (first_of_three _ _ _ formed)
+    modifiers_known set = known (modifiers_numbered i.a) (in_range (row_of Set) i (formed_as Set set))
 
     -- a Take stands in programs of version 2 alone
     pub take_version : operation_of i.op ≡ Some Take → code.version ≡ 2

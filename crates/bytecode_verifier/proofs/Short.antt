@@ -8,14 +8,14 @@ use Rattle.octets.specs.Limits.{max_string, max_stack, max_value}
 use Rattle.bytecode_format.specs.declared.instruction.Instruction.{Instruction}
 use Rattle.bytecode_format.specs.declared.operation.Operation.{Operation}
 use Rattle.bytecode_format.specs.declared.operation.Operation.TheVariants.{Halt, Literal, Variable, Capture, Join, Set, Not, Jump, JumpIfTrue, JumpIfFalse, Keep, Discard, File, Store, Each, Next, Break, Take, Test}
-use Rattle.bytecode_format.specs.declared.operation.TestOperation.TheVariants.{Constant, Header, Exists, String, Size, PartSize, PartBody, PartDigest}
+use Rattle.bytecode_format.specs.declared.question.Counts.{Counts}
+use Rattle.bytecode_format.specs.Questions.{counts_in}
 use Rattle.bytecode_format.specs.Operations.{operation_of}
 use Rattle.bytecode_format.specs.Code.{Code}
 use Rattle.bytecode_format.specs.Spelling.{Fits, IsProgram}
 use Rattle.bytecode_verifier.specs.declared.shape.Entry.{Entry}
 use Rattle.bytecode_verifier.specs.declared.shape.Entry.TheVariants.{Truth, Text}
-use Rattle.bytecode_format.specs.Selection.{keys_in, params_in}
-use Rattle.bytecode_verifier.specs.Shape.{Entries, Texts, Lists, with_entry, is_empty, has_truth, without_truth, take_texts, take_lists, with_string, with_joined, entries_after, shape_after, is_target, shape_at}
+use Rattle.bytecode_verifier.specs.Shape.{Entries, Texts, Lists, with_entry, is_empty, has_truth, without_truth, take_texts, take_counted, with_string, with_joined, entries_after, shape_after, is_target, shape_at}
 use Rattle.bytecode_verifier.specs.Pass.{AreShort, IsSmall}
 use Rattle.bytecode_verifier.proofs.Taking.{taken, taken_lists}
 
@@ -72,19 +72,12 @@ cleared true after e = let same : [] ≡ after = cc in subst IsSmall same none
 cleared false after e = absurd cc
 
 -- a test takes texts
-tested : (number : ℕ) (entries after : Entries) → IsSmall entries → option_and_then (λ (texts : Texts). with_entry Truth texts.below) (take_texts number entries) ≡ Some after → IsSmall after
-tested number entries after small e = go (take_texts number entries) refl e
+tested : (counts : Counts) (entries after : Entries) → IsSmall entries → option_and_then (λ (lists : Lists). with_entry Truth lists.below) (take_counted counts entries) ≡ Some after → IsSmall after
+tested counts entries after small e = go (take_counted counts entries) refl e
   where
-    go : (o : Option Texts) → take_texts number entries ≡ o → option_and_then (λ (texts : Texts). with_entry Truth texts.below) o ≡ Some after → IsSmall after
+    go : (o : Option Lists) → take_counted counts entries ≡ o → option_and_then (λ (lists : Lists). with_entry Truth lists.below) o ≡ Some after → IsSmall after
     go None h f = absurd cc
-    go (Some texts) h f = pushed Truth texts.below after (taken number entries texts small.short h).short f
-
-tested_lists : (names params keys : ℕ) (entries after : Entries) → IsSmall entries → option_and_then (λ (lists : Lists). with_entry Truth lists.below) (take_lists names params keys entries) ≡ Some after → IsSmall after
-tested_lists names params keys entries after small e = go (take_lists names params keys entries) refl e
-  where
-    go : (o : Option Lists) → take_lists names params keys entries ≡ o → option_and_then (λ (lists : Lists). with_entry Truth lists.below) o ≡ Some after → IsSmall after
-    go None h f = absurd cc
-    go (Some lists) h f = pushed Truth lists.below after (taken_lists names params keys entries lists small.short h).short f
+    go (Some lists) h f = pushed Truth lists.below after (taken_lists counts entries lists small.short h).short f
 
 module _ (code : Code) (fits : IsProgram code) where
   lent : (k : ℕ) (o : Option (List ℕ)) (entries after : Entries) → slice_get code.strings k ≡ o → IsSmall entries → with_string o entries ≡ Some after → IsSmall after
@@ -100,17 +93,10 @@ module _ (code : Code) (fits : IsProgram code) where
   small_after Next i entries after small e = cleared (is_empty entries) after e
   small_after Break i entries after small e = cleared (is_empty entries) after e
   small_after Literal i entries after small e = lent i.c (slice_get code.strings i.c) entries after refl small e
-  small_after (Test Constant) i entries after small e = pushed Truth entries after small.short e
-  small_after (Test Size) i entries after small e = pushed Truth entries after small.short e
-  small_after (Test PartSize) i entries after small e = pushed Truth entries after small.short e
+  small_after (Test test) i entries after small e = tested (counts_in test i) entries after small e
   small_after Not i entries after small e = guarded (has_truth entries) entries after small e
   small_after JumpIfTrue i entries after small e = emptied entries after e
   small_after JumpIfFalse i entries after small e = emptied entries after e
-  small_after (Test Header) i entries after small e = tested_lists i.b (params_in i.c) (keys_in i.c) entries after small e
-  small_after (Test String) i entries after small e = tested_lists i.b 0 i.c entries after small e
-  small_after (Test Exists) i entries after small e = tested i.b entries after small e
-  small_after (Test PartBody) i entries after small e = tested i.c entries after small e
-  small_after (Test PartDigest) i entries after small e = tested i.c entries after small e
   small_after Variable i entries after small e = pushed (Text max_value) entries after (lit≤ tt, small.short) e
   small_after Capture i entries after small e = pushed (Text max_value) entries after (lit≤ tt, small.short) e
   small_after Join i entries after small e = go (take_texts i.b entries) refl e

@@ -3,9 +3,10 @@ use Rattle.std.proofs.Common.{◌≡◌, ℕ, zero, suc, ◌+◌, ◌-◌, ◌*�
 use Rattle.std.proofs.lemmas.List.Sums.{sum_by-cons, sum_by_push}
 use Rattle.std.specs.Bool.{then_some}
 use Rattle.std.specs.Option.{option_and_then, option_map, option_map_or}
+use Rattle.bytecode_format.specs.declared.question.Counts.{Counts}
 use Rattle.bytecode_verifier.specs.declared.shape.Entry.TheVariants.{Truth, Text}
 use Rattle.bytecode_verifier.specs.Taken.{with_last, with_params_and_keys, lists_below}
-use Rattle.bytecode_verifier.specs.Shape.{Entries, Texts, Lists, bound_in, with_entry, with_joined, take_texts, take_lists}
+use Rattle.bytecode_verifier.specs.Shape.{Entries, Texts, Lists, bound_in, with_entry, with_joined, take_texts, take_counted}
 use Rattle.bytecode_verifier.specs.Budget.{one_more_each, one_charge, cap_of_octets}
 use Rattle.bytecode_verifier.specs.Pass.{AreShort, Passes, Takes}
 
@@ -120,22 +121,22 @@ taken (suc n) (Text bound ∷ entries) texts short e = go (take_texts n entries)
         })
 
 -- three lists that were taken from short entries
-pub record TakenLists (names params keys : ℕ) (entries : Entries) (lists : Lists) : Type 0 where
-  pub names_are : length lists.names ≡ names
-  pub params_are : length lists.params ≡ params
-  pub keys_are : length lists.keys ≡ keys
-  pub left : keys + params + names + length lists.below ≡ length entries
+pub record TakenLists (counts : Counts) (entries : Entries) (lists : Lists) : Type 0 where
+  pub names_are : length lists.names ≡ counts.names
+  pub params_are : length lists.params ≡ counts.params
+  pub keys_are : length lists.keys ≡ counts.keys
+  pub left : counts.keys + counts.params + counts.names + length lists.below ≡ length entries
   pub short : AreShort lists.below
-  pub names_total : one_more_each lists.names ≤ names * 16385
-  pub keys_total : one_more_each lists.keys ≤ keys * 16385
+  pub names_total : one_more_each lists.names ≤ counts.names * 16385
+  pub keys_total : one_more_each lists.keys ≤ counts.keys * 16385
 
-pub taken_lists : (names params keys : ℕ) (entries : Entries) (lists : Lists) → AreShort entries → take_lists names params keys entries ≡ Some lists → TakenLists names params keys entries lists
-taken_lists names params keys entries lists short e = go (take_texts keys entries) refl e
+pub taken_lists : (counts : Counts) (entries : Entries) (lists : Lists) → AreShort entries → take_counted counts entries ≡ Some lists → TakenLists counts entries lists
+taken_lists counts entries lists short e = go (take_texts counts.keys entries) refl e
   where
-    all : (above between below : Texts) → Taken keys entries above → Taken params above.below between → Taken names between.below below → with_params_and_keys between.texts above.texts below ≡ lists
-        → TakenLists names params keys entries lists
+    all : (above between below : Texts) → Taken counts.keys entries above → Taken counts.params above.below between → Taken counts.names between.below below → with_params_and_keys between.texts above.texts below ≡ lists
+        → TakenLists counts entries lists
     all above between below k p n same =
-        subst (TakenLists names params keys entries) same
+        subst (TakenLists counts entries) same
         (record {
           names_are = n.number_is;
           params_are = p.number_is;
@@ -146,16 +147,16 @@ taken_lists names params keys entries lists short e = go (take_texts keys entrie
           keys_total = k.total;
         })
 
-    then_names : (above between : Texts) → Taken keys entries above → Taken params above.below between → (o : Option Texts) → take_texts names between.below ≡ o
-        → option_map (with_params_and_keys between.texts above.texts) o ≡ Some lists → TakenLists names params keys entries lists
+    then_names : (above between : Texts) → Taken counts.keys entries above → Taken counts.params above.below between → (o : Option Texts) → take_texts counts.names between.below ≡ o
+        → option_map (with_params_and_keys between.texts above.texts) o ≡ Some lists → TakenLists counts entries lists
     then_names above between k p None h f = absurd cc
-    then_names above between k p (Some below) h f = all above between below k p (taken names between.below below p.short h) cc
+    then_names above between k p (Some below) h f = all above between below k p (taken counts.names between.below below p.short h) cc
 
-    then_params : (above : Texts) → Taken keys entries above → (o : Option Texts) → take_texts params above.below ≡ o
-        → option_and_then (λ (between : Texts). option_map (with_params_and_keys between.texts above.texts) (take_texts names between.below)) o ≡ Some lists → TakenLists names params keys entries lists
+    then_params : (above : Texts) → Taken counts.keys entries above → (o : Option Texts) → take_texts counts.params above.below ≡ o
+        → option_and_then (λ (between : Texts). option_map (with_params_and_keys between.texts above.texts) (take_texts counts.names between.below)) o ≡ Some lists → TakenLists counts entries lists
     then_params above k None h f = absurd cc
-    then_params above k (Some between) h f = then_names above between k (taken params above.below between k.short h) (take_texts names between.below) refl f
+    then_params above k (Some between) h f = then_names above between k (taken counts.params above.below between k.short h) (take_texts counts.names between.below) refl f
 
-    go : (o : Option Texts) → take_texts keys entries ≡ o → option_and_then (lists_below bound_in names params) o ≡ Some lists → TakenLists names params keys entries lists
+    go : (o : Option Texts) → take_texts counts.keys entries ≡ o → option_and_then (lists_below bound_in counts.names counts.params) o ≡ Some lists → TakenLists counts entries lists
     go None h f = absurd cc
-    go (Some above) h f = then_params above (taken keys entries above short h) (take_texts params above.below) refl f
+    go (Some above) h f = then_params above (taken counts.keys entries above short h) (take_texts counts.params above.below) refl f

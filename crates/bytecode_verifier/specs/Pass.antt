@@ -2,11 +2,13 @@
 use Rattle.std.specs.Prelude.{◌≡◌, ℕ, ◌*◌, ◌^◌, ◌-◌, ◌≤◌, ◌==◌, length, List, [], ◌∷◌, Option, Some, None, if◌then◌else◌, is_none, nat_le, slice_index}
 use Rattle.octets.specs.Limits.{max_stack, max_string, max_loops}
 use Rattle.bytecode_format.specs.Code.{Code}
+use Rattle.bytecode_format.specs.declared.question.Counts.{Counts}
 use Rattle.bytecode_verifier.specs.declared.pass.Pass.{Pass}
 use Rattle.bytecode_cost.specs.Sums.{Sums, with_cap}
 use Rattle.bytecode_verifier.specs.Places.{least_below, sum_below}
 use Rattle.bytecode_verifier.specs.Loops.{open_loops}
 use Rattle.bytecode_verifier.specs.declared.shape.Entry.TheVariants.{Truth, Text}
+use Rattle.bytecode_verifier.specs.declared.shape.Totals.{Totals}
 use Rattle.bytecode_verifier.specs.Shape.{Entries, Texts, Lists, shape_at}
 use Rattle.bytecode_verifier.specs.Rules.{breaks_index, breaks_form, breaks_loop, breaks_jump, breaks_no_part, breaks_stack}
 use Rattle.bytecode_verifier.specs.declared.cap.Cap.{Cap}
@@ -37,13 +39,18 @@ Takes number (Some total) now (Some texts) = (total ≡ one_more_each texts.text
     × (now ≡ texts.below)
 Takes number _ now _ = ⊥
 
--- the same of names and of keys, with as many names and parameters as are wanted
-abbrev pub TakesLists : ℕ → ℕ → Option (ℕ × ℕ) → Entries → Option Lists → Type 0
-TakesLists names params None now None = Unit {0}
-TakesLists names params (Some totals) now (Some lists) =
-    (totals.0 ≡ one_more_each lists.names) × (totals.1 ≡ one_more_each lists.keys) × (length lists.names ≡ names)
-    × (length lists.params ≡ params) × (now ≡ lists.below)
-TakesLists names params _ now _ = ⊥
+-- so many names and parameters, and the sums of the bounds of the names and keys, each with one more
+pub record AreTotals (counts : Counts) (totals : Totals) (lists : Lists) : Type 0 where
+  pub names_are : length lists.names ≡ counts.names
+  pub params_are : length lists.params ≡ counts.params
+  pub names : totals.names ≡ one_more_each lists.names
+  pub keys : totals.keys ≡ one_more_each lists.keys
+
+-- the same of lists that were taken
+abbrev pub TakesLists : Counts → Option Totals → Entries → Option Lists → Type 0
+TakesLists counts None now None = Unit {0}
+TakesLists counts (Some totals) now (Some lists) = AreTotals counts totals lists × (now ≡ lists.below)
+TakesLists counts _ now _ = ⊥
 
 -- the shape goes on to these entries with this cap, or it fails
 abbrev pub Passes : Option Cap → Entries → Cap → Option Entries → Type 0

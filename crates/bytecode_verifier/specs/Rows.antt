@@ -2,6 +2,7 @@
 use Rattle.std.specs.Prelude.{ℕ, Bool, true, false, ◌&&◌, not, Option, Some, None, nat_lt, nat_le, ◌==◌, is_some, if◌then◌else◌}
 use Rattle.std.specs.Option.{option_and_then, option_map_or}
 use Rattle.octets.specs.Limits.{max_loops, max_segments, max_test_strings, max_value}
+use Rattle.glob_match.specs.Matching.{max_captures}
 use Rattle.bytecode_format.specs.declared.instruction.Instruction.{Instruction}
 use Rattle.bytecode_format.specs.declared.operation.Operation.{Operation}
 use Rattle.bytecode_format.specs.declared.operation.Operation.TheVariants.{Halt, Literal, Variable, Capture, Join, Set, Not, Jump, JumpIfTrue, JumpIfFalse, Keep, Discard, File, Store, Each, Next, Break, Take, Test}
@@ -17,10 +18,6 @@ use Rattle.bytecode_verifier.specs.declared.row.Range.{Range}
 use Rattle.bytecode_verifier.specs.declared.row.Range.TheVariants.{Unnamed, Below, Between, Truth, Order, Match, Scope, FieldTest, Counts, Modifiers, Any}
 use Rattle.bytecode_verifier.specs.declared.row.Table.TheVariants.{Variables, Numbers, Strings}
 use Rattle.bytecode_verifier.specs.declared.row.Row.{Row}
-
--- how many captures there are: the whole value, and what nine wildcards stand for
-abbrev pub captures : ℕ
-captures = 10
 
 -- an operation that names no field
 abbrev pub plain : Row
@@ -46,7 +43,7 @@ abbrev pub row_of : Operation → Row
 row_of Halt = plain
 row_of Literal = record plain { c = Any; index = Some Strings }
 row_of Variable = record plain { c = Any; index = Some Variables }
-row_of Capture = record plain { a = Below captures }
+row_of Capture = record plain { a = Below max_captures }
 row_of Join = record plain { b = Between 2 max_segments }
 row_of Set = record plain { a = Modifiers; c = Any; index = Some Variables }
 row_of (Test test) = test_row test

@@ -3,9 +3,9 @@ ghost use Rattle.std.specs.Prelude.{◌≡◌, ◌&&◌};
 ghost use Rattle.bytecode_verifier.specs.Rows;
 
 use bytecode_format::{
-    FieldTest, Instruction, Modifiers, Operation, Scope, Selector, TestCounts, VERSION_TWO,
-    match_of,
-, TestOperation};
+    FieldTest, Instruction, Modifiers, Operation, Order, Scope, Selector, TestCounts,
+    TestOperation, VERSION_TWO, match_of,
+};
 use octets::MAX_VALUE;
 
 /// The most strings in the lists of a test.
@@ -29,6 +29,10 @@ pub enum Range {
     Below(u32),
     /// The numbers from the first to the second, both included.
     Between(u32, u32),
+    /// The numbers of truth values.
+    Truth,
+    /// The numbers of orders.
+    Order,
     /// The numbers of ways to match values with keys.
     Match,
     /// The numbers of scopes.
@@ -88,7 +92,7 @@ const JUMP: Row = Row {
 
 /// A size compared with a number.
 const SIZE: Row = Row {
-    a: Range::Below(2),
+    a: Range::Order,
     c: Range::Any,
     index: Some(Table::Numbers),
     ..PLAIN
@@ -147,39 +151,8 @@ pub fn row_of(operation: Operation) -> Row
             index: Some(Table::Variables),
             ..PLAIN
         },
-        Operation::Test(TestOperation::Constant) => Row {
-            a: Range::Below(2),
-            ..PLAIN
-        },
+        Operation::Test(test) => test_row(test),
         Operation::Jump | Operation::JumpIfTrue | Operation::JumpIfFalse => JUMP,
-        Operation::Test(TestOperation::Size) => SIZE,
-        Operation::Test(TestOperation::Header) => Row {
-            a: Range::FieldTest,
-            b: LIST,
-            c: Range::Counts,
-            ..PLAIN
-        },
-        Operation::Test(TestOperation::Exists) => Row {
-            a: Range::Scope,
-            b: LIST,
-            ..PLAIN
-        },
-        Operation::Test(TestOperation::String) => Row {
-            a: Range::Match,
-            b: LIST,
-            c: LIST,
-            ..PLAIN
-        },
-        Operation::Test(TestOperation::PartSize) => Row {
-            needs_part: true,
-            ..SIZE
-        },
-        Operation::Test(TestOperation::PartBody) => Row {
-            a: Range::Match,
-            c: LIST,
-            ..PART
-        },
-        Operation::Test(TestOperation::PartDigest) => Row { c: LIST, ..PART },
         Operation::Store => PART,
         Operation::Each | Operation::Next => Row {
             c: Range::Any,
@@ -199,6 +172,47 @@ pub fn row_of(operation: Operation) -> Row
     }
 }
 
+// The row of a test.
+#[inline(always)]
+fn test_row(test: TestOperation) -> Row
+    ensures { result ≡ Rows.test_row test }
+{
+    match test {
+        TestOperation::Constant => Row {
+            a: Range::Truth,
+            ..PLAIN
+        },
+        TestOperation::Header => Row {
+            a: Range::FieldTest,
+            b: LIST,
+            c: Range::Counts,
+            ..PLAIN
+        },
+        TestOperation::Exists => Row {
+            a: Range::Scope,
+            b: LIST,
+            ..PLAIN
+        },
+        TestOperation::String => Row {
+            a: Range::Match,
+            b: LIST,
+            c: LIST,
+            ..PLAIN
+        },
+        TestOperation::Size => SIZE,
+        TestOperation::PartSize => Row {
+            needs_part: true,
+            ..SIZE
+        },
+        TestOperation::PartBody => Row {
+            a: Range::Match,
+            c: LIST,
+            ..PART
+        },
+        TestOperation::PartDigest => Row { c: LIST, ..PART },
+    }
+}
+
 impl Range {
     /// Whether the field of an instruction that has `a` takes the value.
     #[inline(always)]
@@ -209,6 +223,8 @@ impl Range {
             Range::Unnamed => value == 0,
             Range::Below(bound) => value < bound,
             Range::Between(least, most) => least <= value && value <= most,
+            Range::Truth => matches!(value, 0 | 1),
+            Range::Order => value < 256 && Order::of(value as u8).is_some(),
             Range::Match => value < 256 && match_of(value as u8).is_some(),
             Range::Scope => value < 256 && Scope::of(value as u8).is_some(),
             Range::FieldTest => value < 256 && FieldTest::of(value as u8).is_some(),

@@ -2,12 +2,14 @@
 ghost use Rattle.std.specs.Prelude.{◌≡◌, ◌+◌, ◌*◌, ◌≤◌, [], ◌∷◌, Some, None, IfOk, IfSome, OnSome, MatchOption, if◌then◌else◌, slice_get};
 ghost use Rattle.std.specs.Option.{option_and_then, option_map, option_map_or};
 ghost use Rattle.octets.specs.Limits.{max_stack, max_string};
-ghost use Rattle.bytecode_verifier.specs.Shape.{Texts, Lists, is_empty, has_truth, with_entry, without_truth, with_string, with_joined, take_texts, take_lists, entries_after};
-ghost use Rattle.bytecode_verifier.specs.Budget.{one_charge, cap_of_octets, cap_of_names, cap_of_matching, cap_of_comparing, cap_of_body, cap_of_digest, cap_of_content, cap_of};
-ghost use Rattle.bytecode_verifier.specs.Pass.{IsSmall, Passes, Takes, TakesLists};
+ghost use Rattle.bytecode_format.specs.Questions.{counts_in};
+ghost use Rattle.bytecode_format.specs.declared.operation.Operation.TheVariants.{Test};
+ghost use Rattle.bytecode_verifier.specs.Shape.{Texts, Lists, is_empty, has_truth, with_entry, without_truth, with_string, with_joined, take_texts, take_counted, entries_after};
+ghost use Rattle.bytecode_verifier.specs.Budget.{one_charge, cap_of_octets, cap_of_content, cap_of_test, cap_of};
+ghost use Rattle.bytecode_verifier.specs.Pass.{AreTotals, IsSmall, Passes, Takes, TakesLists};
 
 use crate::cap::{Cap, ONE_CHARGE};
-use bytecode_format::{Instruction, Operation, Program, TestCounts, TestOperation};
+use bytecode_format::{Counts, Instruction, Operation, Program, TestOperation};
 use octets::{MAX_STRING, MAX_VALUE};
 use std::alloc::{AllocError, Global};
 use std::marker::Model;
@@ -25,6 +27,13 @@ pub enum Entry {
     Truth,
     /// A text of at most so many octets.
     Text(usize),
+}
+
+/// The sums of the bounds of a test's names or sources, and of its keys, each bound with one more.
+#[derive(Clone, Copy)]
+pub struct Totals {
+    pub names: u64,
+    pub keys: u64,
 }
 
 /// The entries of the stack. A contract sees their list, the top one first.
@@ -103,11 +112,7 @@ impl Shape {
     {
         let Instruction { b, c, .. } = *instruction;
         let fine = match operation {
-            Some(Operation::Test(TestOperation::Header)) => return self.take_fields(b, TestCounts::of(c)),
-            Some(Operation::Test(TestOperation::String)) => return self.take_sources(b, c),
-            Some(Operation::Test(TestOperation::Exists)) => return self.take_names(b),
-            Some(Operation::Test(TestOperation::PartBody)) => return self.take_body_keys(c),
-            Some(Operation::Test(TestOperation::PartDigest)) => return self.take_digest_keys(c),
+            Some(Operation::Test(test)) => return self.take_test(test, instruction),
             Some(Operation::Join) => return self.join(b),
             Some(Operation::Take) => return Ok(Some(cap_of_content(b))),
             Some(Operation::Set | Operation::File | Operation::Store) => return Ok(
@@ -122,9 +127,6 @@ impl Shape {
             ) => self.is_empty(),
             Some(Operation::Literal) => self.push_string(program, c)?,
             Some(Operation::Variable | Operation::Capture) => self.push(Entry::Text(MAX_VALUE))?,
-            Some(Operation::Test(TestOperation::Constant) | Operation::Test(TestOperation::Size) | Operation::Test(TestOperation::PartSize)) => self.push(
-                Entry::Truth,
-            )?,
             Some(Operation::Not) => self.has_truth(),
             Some(Operation::JumpIfTrue | Operation::JumpIfFalse) => self.take_truth(),
             Some(Operation::Keep | Operation::Discard) => true,
@@ -174,7 +176,7 @@ impl Shape {
             (option_map_or cap_of_octets (take_texts parts self.old) one_charge)
             (option_and_then with_joined (take_texts parts self.old))) }
     {
-        let Some(total) = self.take_texts(u32::from(parts)) else {
+        let Some(total) = self.take_texts(usize::from(parts)) else {
             return Ok(None);
         };
         let octets = total - u64::from(parts);
@@ -185,107 +187,45 @@ impl Shape {
         }))
     }
 
-    // Takes the names of fields, and pushes whether they are there.
-    fn take_names(&mut self, names: u16) -> Result<Option<Cap>, AllocError>
+    // Takes the lists of a test, and pushes its truth value.
+    #[inline(always)]
+    fn take_test(
+        &mut self,
+        test: TestOperation,
+        instruction: &Instruction,
+    ) -> Result<Option<Cap>, AllocError>
         requires { IsSmall self.old }
         ensures { IfOk result (λ cap. Passes cap self.new
-            (option_map_or cap_of_names (take_texts names self.old) one_charge)
-            (option_and_then (λ (taken : Texts). with_entry Entry.Truth taken.below)
-            (take_texts names self.old))) }
-    {
-        let Some(scaled) = self.take_texts(u32::from(names)) else {
-            return Ok(None);
-        };
-        let fine = self.push(Entry::Truth)?;
-        Ok(fine.then_some(Cap { fixed: 1, scaled }))
-    }
-
-    // Takes the keys that the current part's content is matched with, and pushes whether one does.
-    fn take_body_keys(&mut self, keys: u32) -> Result<Option<Cap>, AllocError>
-        requires { IsSmall self.old }
-        ensures { IfOk result (λ cap. Passes cap self.new
-            (option_map_or cap_of_body (take_texts keys self.old) one_charge)
-            (option_and_then (λ (taken : Texts). with_entry Entry.Truth taken.below)
-            (take_texts keys self.old))) }
-    {
-        let Some(scaled) = self.take_texts(keys) else {
-            return Ok(None);
-        };
-        let fine = self.push(Entry::Truth)?;
-        Ok(fine.then_some(Cap { fixed: 1, scaled }))
-    }
-
-    // Takes the keys that the current part's digest is compared with, and pushes whether one is equal.
-    fn take_digest_keys(&mut self, keys: u32) -> Result<Option<Cap>, AllocError>
-        requires { IsSmall self.old }
-        ensures { IfOk result (λ cap. Passes cap self.new
-            (option_map_or cap_of_digest (take_texts keys self.old) one_charge)
-            (option_and_then (λ (taken : Texts). with_entry Entry.Truth taken.below)
-            (take_texts keys self.old))) }
-    {
-        let Some(total) = self.take_texts(keys) else {
-            return Ok(None);
-        };
-        let fixed = 1 + (DIGEST_LENGTH + 1) * total;
-        let fine = self.push(Entry::Truth)?;
-        Ok(fine.then_some(Cap { fixed, scaled: 0 }))
-    }
-
-    // Takes the names of fields, the parameters above them and the keys above these, and pushes
-    // whether one matches.
-    fn take_fields(&mut self, names: u16, counts: TestCounts) -> Result<Option<Cap>, AllocError>
-        requires { IsSmall self.old }
-        ensures { IfOk result (λ cap. Passes cap self.new
-            (option_map_or cap_of_matching (take_lists names counts.params counts.keys self.old)
-            one_charge)
+            (cap_of (Some (Test test)) instruction.now self.old)
             (option_and_then (λ (lists : Lists). with_entry Entry.Truth lists.below)
-            (take_lists names counts.params counts.keys self.old))) }
+            (take_counted (counts_in test instruction.now) self.old))) }
     {
-        let TestCounts { params, keys } = counts;
-        let taken = self.take_lists(names, u32::from(params), u32::from(keys));
-        let Some((names_total, keys_total)) = taken else {
+        let counts = test.counts_in(instruction);
+        let Some(totals) = self.take_lists(counts) else {
             return Ok(None);
         };
-        let selected = u64::from(names) * u64::from(params.max(1));
-        let scaled = names_total + selected * keys_total;
+        let cap = cap_of_test(test, counts, totals);
         let fine = self.push(Entry::Truth)?;
-        Ok(fine.then_some(Cap { fixed: 1, scaled }))
+        Ok(fine.then_some(cap))
     }
 
-    // Takes sources and the keys above them, and pushes whether one matches.
-    fn take_sources(&mut self, sources: u16, keys: u32) -> Result<Option<Cap>, AllocError>
+    // Takes so many names or sources, so many parameters above them and so many keys above these.
+    fn take_lists(&mut self, counts: Counts) -> Option<Totals>
         requires { IsSmall self.old }
-        ensures { IfOk result (λ cap. Passes cap self.new
-            (option_map_or cap_of_comparing (take_lists sources 0 keys self.old) one_charge)
-            (option_and_then (λ (lists : Lists). with_entry Entry.Truth lists.below)
-            (take_lists sources 0 keys self.old))) }
+        ensures texts { TakesLists counts result self.new (take_counted counts self.old) }
+        ensures names { IfSome result (λ totals. counts.names ≤ max_stack) }
+        ensures params { IfSome result (λ totals. counts.params ≤ max_stack) }
+        ensures total { IfSome result (λ totals. totals.names ≤ max_stack * (max_string + 1)) }
+        ensures keys { IfSome result (λ totals. totals.keys ≤ max_stack * (max_string + 1)) }
     {
-        let Some((sources_total, keys_total)) = self.take_lists(sources, 0, keys) else {
-            return Ok(None);
-        };
-        let fixed = 1 + sources_total * keys_total;
-        let fine = self.push(Entry::Truth)?;
-        Ok(fine.then_some(Cap { fixed, scaled: 0 }))
-    }
-
-    // Takes so many names or sources, so many parameters above them and so many keys above these: the
-    // sums of the bounds of the first and the last, each bound with one more.
-    fn take_lists(&mut self, names: u16, params: u32, keys: u32) -> Option<(u64, u64)>
-        requires { IsSmall self.old }
-        ensures texts { TakesLists names params result self.new
-            (take_lists names params keys self.old) }
-        ensures names { IfSome result (λ totals. totals.0 ≤ max_stack * (max_string + 1)) }
-        ensures params { IfSome result (λ totals. params ≤ max_stack) }
-        ensures keys { IfSome result (λ totals. totals.1 ≤ max_stack * (max_string + 1)) }
-    {
-        let keys_total = self.take_texts(keys)?;
-        self.take_texts(params)?;
-        let names_total = self.take_texts(u32::from(names))?;
-        Some((names_total, keys_total))
+        let keys = self.take_texts(counts.keys)?;
+        self.take_texts(counts.params)?;
+        let names = self.take_texts(counts.names)?;
+        Some(Totals { names, keys })
     }
 
     // Takes so many texts from the top: the sum of their bounds, each with one more.
-    fn take_texts(&mut self, number: u32) -> Option<u64>
+    fn take_texts(&mut self, number: usize) -> Option<u64>
         requires { IsSmall self.old }
         ensures texts { Takes number result self.new (take_texts number self.old) }
         ensures bound { IfSome result (λ total. total ≤ max_stack * (max_string + 1)) }
@@ -300,6 +240,43 @@ impl Shape {
             total += bound as u64 + 1;
         }
         Some(total)
+    }
+}
+
+// What a test may charge that takes so many texts.
+#[inline(always)]
+fn cap_of_test(test: TestOperation, counts: Counts, totals: Totals) -> Cap
+    requires names { counts.names ≤ max_stack }
+    requires params { counts.params ≤ max_stack }
+    requires total { totals.names ≤ max_stack * (max_string + 1) }
+    requires keys { totals.keys ≤ max_stack * (max_string + 1) }
+    ensures { (lists : Lists) → AreTotals counts totals lists → result ≡ cap_of_test test lists }
+{
+    match test {
+        TestOperation::Constant | TestOperation::Size | TestOperation::PartSize => ONE_CHARGE,
+        TestOperation::Header => {
+            let selected = counts.names as u64 * counts.params.max(1) as u64;
+            Cap {
+                fixed: 1,
+                scaled: totals.names + selected * totals.keys,
+            }
+        }
+        TestOperation::Exists => Cap {
+            fixed: 1,
+            scaled: totals.names,
+        },
+        TestOperation::String => Cap {
+            fixed: 1 + totals.names * totals.keys,
+            scaled: 0,
+        },
+        TestOperation::PartBody => Cap {
+            fixed: 1,
+            scaled: totals.keys,
+        },
+        TestOperation::PartDigest => Cap {
+            fixed: 1 + (DIGEST_LENGTH + 1) * totals.keys,
+            scaled: 0,
+        },
     }
 }
 
