@@ -1,5 +1,5 @@
 -- The first octets of what a test finds are enough for its line.
-use Rattle.std.proofs.Common.{◌≡◌, IfSome, OnOk, Result, Ok, Err, is_ok, is_some, ℕ, Bool, true, false, List, [], ◌∷◌, ◌++◌, slice_get, nat_le, length, take, Option, None, Some, option_map, refl, sym, ◌∙◌, ap, subst, inl, inr, arith, codes, if◌then◌else◌}
+use Rattle.std.proofs.Common.{◌≡◌, IfSome, OnOk, Result, Ok, Err, is_ok, is_some, ℕ, Bool, true, false, List, [], ◌∷◌, ◌++◌, slice_get, nat_le, length, take, Option, None, Some, option_map, refl, sym, append_assoc, ◌∙◌, ap, subst, inl, inr, arith, codes, if◌then◌else◌}
 use Rattle.std.proofs.lemmas.Bool.{cases_Bool, leb-false, leb-true}
 use Rattle.std.proofs.lemmas.List.{length-take, take-take, take_all}
 use Rattle.bytecode_listing.specs.Quoted.{max_start, quoted, quoted_start}
@@ -9,7 +9,7 @@ use Rattle.mail_matching.specs.declared.finding.Finding.{Finding}
 use Rattle.mail_matching.specs.declared.finding.Finding.TheVariants.{Pair, NoneOf}
 use Rattle.mime_decode.specs.Mail.{Mail}
 use Rattle.bytecode_format.specs.declared.question.Question.{Question}
-use Rattle.sieve_meaning.specs.Traced.{asked, event}
+use Rattle.sieve_meaning.specs.Traced.{asked, event, turned}
 use Rattle.sieve_trace.specs.Printed.{Sheet, event_line, event_text, finding_text, occurrence_text, part_text, place_in, told, value_text}
 use Rattle.sieve_trace.specs.Private.{occurrence_of}
 use Rattle.sieve_trace.specs.Words.{comparison_word, question_word}
@@ -84,3 +84,29 @@ text_told mail part (Not value) = refl
 text_told mail part (AllOf value) = refl
 text_told mail part (AnyOf value) = refl
 text_told mail part (Acted act text) = refl
+
+-- ---- a line is what it is made of
+
+pub line_told : (page : Sheet) (at : ℕ) (part : Option ℕ) (what : Told) (begun lead : List ℕ) → begun ≡ page.label ++ place_in (slice_get page.places at) → lead ≡ part_text page.mail part ++ codes " "
+    → begun ++ lead ++ occurrence_text (occurrence_of what) ++ 10 ∷ [] ≡ event_line page (event at part (occurrence_of what))
+unfolding event_line
+line_told page at part what begun lead as_begun as_led =
+    let start = page.label ++ place_in (slice_get page.places at) in
+    let word = occurrence_text (occurrence_of what) in
+    ap (λ t. t ++ 10 ∷ [])
+    (ap (λ t. t ++ lead ++ word) as_begun ∙ ap (λ t. start ++ t ++ word) as_led ∙ append_assoc start (part_text page.mail part ++ codes " ") word
+    ∙ ap (λ t. start ++ t) (sym (text_told page.mail part what)))
+
+pub turn_line_told : (page : Sheet) (at : ℕ) (part : Option ℕ) (begun text : List ℕ) → begun ≡ page.label ++ place_in (slice_get page.places at) → text ≡ part_text page.mail part
+    → begun ++ codes " foreverypart" ++ text ++ 10 ∷ [] ≡ event_line page (event at part turned)
+unfolding event_line event_text occurrence_text
+turn_line_told page at part begun text as_begun as_shown =
+    let start = page.label ++ place_in (slice_get page.places at) in
+    ap (λ t. t ++ 10 ∷ [])
+    (ap (λ t. t ++ codes " foreverypart" ++ text) as_begun ∙ ap (λ t. start ++ codes " foreverypart" ++ t) as_shown
+    ∙ append_assoc start (codes " foreverypart") (part_text page.mail part))
+
+-- what a call leaves that appends, or changes nothing
+pub appended : {T E : Type 0} (r : Result T E) (new old all : List ℕ) → new ≡ (if is_ok r then all else old) → OnOk r (new ≡ all)
+appended (Ok x) new old all is = is
+appended (Err e) new old all is = tt

@@ -1,6 +1,6 @@
 // Where the tokens of a script stand.
 ghost use Rattle.std.specs.Prelude.{◌≡◌, ◌≤◌, ◌<◌, ◌+◌, ◌++◌, ◌^◌, List, IfOk, IfErr, OnOk, length, min};
-ghost use Rattle.std.specs.Prelude.{if◌then◌else◌, slice_get};
+ghost use Rattle.std.specs.Prelude.{if◌then◌else◌, slice_get, slice_range};
 ghost use Rattle.octets.specs.Limits.{max_script};
 ghost use Rattle.sieve_explain.specs.Places.{is_line_feed};
 ghost use Rattle.sieve_lexer.specs.Tokens.{AreTokens, IsLexicalRefusal};
@@ -46,14 +46,24 @@ impl Places {
         if at < self.bounds.len() - 1 {
             let start = self.bounds[at] as usize;
             let end = self.bounds[at + 1] as usize;
-            &self.texts[start..end]
+            piece(&self.texts, start, end)
         } else {
             b":"
         }
     }
 }
 
-// A place in a script: its line and its column in octets, each counted from 1.
+// A piece of a text.
+#[inline(always)]
+fn piece(text: &[u8], start: usize, end: usize) -> &[u8]
+    requires rises { start ≤ end }
+    requires within { end ≤ length text.now }
+    ensures { result.now ≡ slice_range text.now start end }
+{
+    &text[start..end]
+}
+
+/// A place in a script: its line and its column in octets, each counted from 1.
 #[derive(Clone, Copy)]
 pub struct Place {
     pub line: usize,
