@@ -1,9 +1,12 @@
 -- Pieces of a text that others are appended to.
-use Rattle.std.proofs.Common.{◌≡◌, ◌∙◌, ◌+◌, ◌-◌, ◌<◌, ◌≤◌, ℕ, zero, suc, ap, refl, sym, subst, arith, length-append, List, [], ◌∷◌, ◌++◌, get_or, length, drop, take, Some, slice_get}
+use Rattle.std.proofs.Common.{◌≡◌, ◌∙◌, ◌+◌, ◌-◌, ◌<◌, ◌≤◌, ℕ, zero, suc, ap, codes, refl, sym, arith, length-append, List, [], ◌∷◌, ◌++◌, get_or, length, drop, take, Some, slice_get}
 use Rattle.std.proofs.Math.Seq.{drop-append_seam}
 use Rattle.std.proofs.lemmas.List.{drop-append-le, length-drop, take-append-le, take_all}
+use Rattle.std.proofs.lemmas.Grind.{get_or_default_zero}
+use Rattle.std.proofs.lemmas.Option.{slice_get_past}
 use Rattle.std.specs.List.{slice_range}
 use Rattle.sieve_trace.specs.Pieces.{Rise, RiseFrom, pieces, pieces_from}
+use Rattle.sieve_trace.specs.Printed.{place_in}
 
 -- what has come behind a piece doesn't change it
 same_piece : (text more : List ℕ) (start end : ℕ) → start ≤ end → end ≤ length text → slice_range (text ++ more) start end ≡ slice_range text start end
@@ -56,29 +59,50 @@ from_piece text start [] at lt = absurd (omega (arith, lt))
 from_piece text start (end ∷ ends) zero lt = refl
 from_piece text start (end ∷ ends) (suc at) lt = from_piece text end ends at (omega (arith, lt))
 
-none_from : (text : List ℕ) (start : ℕ) (ends : List ℕ) → length (pieces_from text start ends) ≡ length ends
-none_from text start [] = refl
-none_from text start (end ∷ ends) = ap suc (none_from text end ends)
-
-pub some_bound : (bounds : List ℕ) (whole : ℕ) → Rise bounds whole → 1 ≤ length bounds
-some_bound [] whole rise = absurd rise
-some_bound (start ∷ ends) whole rise = omega arith
+count_from : (text : List ℕ) (start : ℕ) (ends : List ℕ) → length (pieces_from text start ends) ≡ length ends
+count_from text start [] = refl
+count_from text start (end ∷ ends) = ap suc (count_from text end ends)
 
 -- it lies between its bounds
-pub piece_bounds : (bounds : List ℕ) (whole at : ℕ) → Rise bounds whole → at + 1 < length bounds
+piece_bounds : (bounds : List ℕ) (whole at : ℕ) → Rise bounds whole → at + 1 < length bounds
     → (get_or bounds at 0 ≤ get_or bounds (at + 1) 0) × (get_or bounds (at + 1) 0 ≤ whole)
 piece_bounds [] whole at rise lt = absurd rise
 piece_bounds (start ∷ ends) whole at rise lt =
     let next : at + 1 ≡ suc at = omega arith in
     rw next (from_bounds start ends whole at rise (omega (arith, lt)))
 
-pub piece_at : (text bounds : List ℕ) (at : ℕ) → at + 1 < length bounds → slice_get (pieces text bounds) at ≡ Some (slice_range text (get_or bounds at 0) (get_or bounds (at + 1) 0))
+piece_at : (text bounds : List ℕ) (at : ℕ) → at + 1 < length bounds → slice_get (pieces text bounds) at ≡ Some (slice_range text (get_or bounds at 0) (get_or bounds (at + 1) 0))
 piece_at text [] at lt = absurd (omega (arith, lt))
 piece_at text (start ∷ ends) at lt =
     let next : at + 1 ≡ suc at = omega arith in
     rw next (from_piece text start ends at (omega (arith, lt)))
 
 -- there are one fewer than bounds
-pub piece_count : (text bounds : List ℕ) → length (pieces text bounds) ≡ length bounds - 1
+piece_count : (text bounds : List ℕ) → length (pieces text bounds) ≡ length bounds - 1
 piece_count text [] = refl
-piece_count text (start ∷ ends) = none_from text start ends ∙ (let e : length ends ≡ length (start ∷ ends) - 1 = omega arith in e)
+piece_count text (start ∷ ends) = count_from text start ends ∙ (let e : length ends ≡ length (start ∷ ends) - 1 = omega arith in e)
+
+-- ---- as code has read the bounds
+
+first_read : (bounds : List ℕ) (at start : ℕ) → at + 1 < length bounds → start ≡ get_or bounds at start → start ≡ get_or bounds at 0
+first_read bounds at start lt is = is ∙ get_or_default_zero bounds at start (omega (arith, lt))
+
+last_read : (bounds : List ℕ) (at end : ℕ) → at + 1 < length bounds → end ≡ get_or bounds (at + 1) end → end ≡ get_or bounds (at + 1) 0
+last_read bounds at end lt is = is ∙ get_or_default_zero bounds (at + 1) end lt
+
+pub read_rise : (bounds : List ℕ) (whole at start end : ℕ) → Rise bounds whole → at + 1 < length bounds → start ≡ get_or bounds at start → end ≡ get_or bounds (at + 1) end
+    → (start ≤ end) × (end ≤ whole)
+read_rise bounds whole at start end rise lt first last =
+    let between = piece_bounds bounds whole at rise lt in (
+      omega (arith, between.0, first_read bounds at start lt first, last_read bounds at end lt last),
+      omega (arith, between.1, last_read bounds at end lt last),
+    )
+
+pub piece_read : (text bounds : List ℕ) (at start end : ℕ) → at + 1 < length bounds → start ≡ get_or bounds at start → end ≡ get_or bounds (at + 1) end
+    → slice_range text start end ≡ place_in (slice_get (pieces text bounds) at)
+piece_read text bounds at start end lt first last =
+    ap (λ n. slice_range text n end) (first_read bounds at start lt first) ∙ ap (λ n. slice_range text (get_or bounds at 0) n) (last_read bounds at end lt last)
+    ∙ sym (ap place_in (piece_at text bounds at lt))
+
+pub no_piece : (text bounds : List ℕ) (at : ℕ) → length bounds ≤ at + 1 → codes ":" ≡ place_in (slice_get (pieces text bounds) at)
+no_piece text bounds at le = sym (ap place_in (slice_get_past (pieces text bounds) at (omega (arith, piece_count text bounds, le))))

@@ -1,5 +1,5 @@
 -- The first octets of what a test finds are enough for its line.
-use Rattle.std.proofs.Common.{◌≡◌, IfSome, OnOk, Result, Ok, Err, is_ok, is_some, ℕ, Bool, true, false, List, [], ◌∷◌, ◌++◌, slice_get, nat_le, length, take, Option, None, Some, option_map, refl, sym, append_assoc, ◌∙◌, ap, subst, inl, inr, arith, codes, if◌then◌else◌}
+use Rattle.std.proofs.Common.{◌≡◌, OnOk, Result, Ok, Err, is_ok, ℕ, Bool, false, List, [], ◌∷◌, ◌++◌, slice_get, nat_le, length, take, Option, None, Some, option_map, refl, sym, append_assoc, ◌∙◌, ap, subst, inl, inr, arith, codes, if◌then◌else◌}
 use Rattle.std.proofs.lemmas.Bool.{cases_Bool, leb-false, leb-true}
 use Rattle.std.proofs.lemmas.List.{length-take, take-take, take_all}
 use Rattle.bytecode_listing.specs.Quoted.{max_start, quoted, quoted_start}

@@ -1,5 +1,5 @@
 -- A script has no more tokens than octets.
-use Rattle.std.proofs.Common.{◌≡◌, ◌+◌, ◌≤◌, ℕ, List, [], ◌∷◌, length, arith, inl, inr}
+use Rattle.std.proofs.Common.{◌+◌, ◌≤◌, ℕ, List, [], ◌∷◌, length, arith, inl, inr}
 use Rattle.sieve_lexer.specs.Chain.{Chain}
 use Rattle.sieve_lexer.specs.Separators.{IsGap, IsSeparator}
 use Rattle.sieve_lexer.specs.Tokens.{AreTokens, TokensUpTo}
@@ -8,7 +8,7 @@ use Rattle.sieve_lexer.specs.declared.token.Token.{Token}
 separator_forward : (script : List ℕ) (a b : ℕ) → IsSeparator script a b → a ≤ b
 separator_forward script a b (inl white) = omega (arith, white.0)
 separator_forward script a b (inr (inl comment)) = comment.1.from
-separator_forward script a b (inr (inr (end, comment))) = omega (arith, comment.0, comment.1.0)
+separator_forward script a b (inr (inr (end, comment))) = omega (arith, comment.0, comment.1)
 
 chain_forward : (script : List ℕ) (places : List ℕ) (a b : ℕ) → Chain (IsSeparator script) places a b → a ≤ b
 chain_forward script [] a b chain = omega (arith, chain)

@@ -1,7 +1,6 @@
-use Rattle.std.proofs.Common.{◌≡◌, ◌<◌, ◌≤◌, ◌^◌, ◌∙◌, ◌++◌, [], ◌∷◌, ap, sym, subst, arith, length, length-append, refl, take}
+use Rattle.std.proofs.Common.{◌≡◌, ◌≤◌, ◌∙◌, ◌++◌, [], ◌∷◌, ap, sym, subst, arith, length, length-append, refl, take}
 use Rattle.sieve_trace.specs.declared.places.Place.{Place}
-use Rattle.sieve_trace.specs.Pieces.{pieces}
-use Rattle.sieve_trace.specs.Places.{place_at, place_text, places_of}
+use Rattle.sieve_trace.specs.Places.{place_text, places_of}
 use Rattle.sieve_trace.proofs.PieceLemmas.{piece_more, rise_more}
 use Rattle.sieve_trace.proofs.PlaceLemmas.{first_place, one_more_place, place_short}
 use Rattle.sieve_trace.proofs.places.texts_of.Goals as goal
@@ -32,7 +31,7 @@ tokens-preserved c =
     let before = c.tokens.invariant.short in
     let grown : c.push_place.new.out.items ≡ texts ++ place = c.in_ok-push_place.ensures in
     let bound : c.push-in-tokens.new.self.items ≡ bounds ++ length (texts ++ place) ∷ [] =
-    c.in_ok-push-2.ensures.items ∙ ap (λ n. bounds ++ n ∷ []) (c.len.ensures ∙ ap length grown) in
+    c.in_ok-push-2.ensures.items ∙ ap (λ n. bounds ++ n ∷ []) (c.len.ensures ∙ c.push_place.new.out.ok.0 ∙ ap length grown) in
     let size : length place ≤ 14 = subst (λ p. length (place_text p) ≤ 14) (sym c.moved-place.ensures) (place_short script start c.requires.short) in
     record {
       within = omega (arith, e);
@@ -53,4 +52,4 @@ overflow_cast-len c =
     let few = c.requires.few in
     let more = c.tokens-test.true in
     let size : length place ≤ 14 = subst (λ p. length (place_text p) ≤ 14) (sym c.moved-place.ensures) (place_short script c.start_in-start.result c.requires.short) in
-    omega (arith, c.len.ensures, ap length c.in_ok-push_place.ensures, length-append texts place, size, before, few, more)
+    omega (arith, c.len.ensures, c.push_place.new.out.ok.0, ap length c.in_ok-push_place.ensures, length-append texts place, size, before, few, more)

@@ -2,7 +2,7 @@ use Rattle.std.proofs.Common.{◌∙◌}
 use Rattle.sieve_check.specs.Typed.{asks}
 use Rattle.sieve_check.specs.TypedView.{strings_form}
 use Rattle.sieve_meaning.specs.Meaning.{test_does, texts_of}
-use Rattle.sieve_meaning.specs.Traced.{found}
+use Rattle.mail_matching.specs.Questions.{found}
 use Rattle.sieve_trace.specs.Private.{sheet_of}
 use Rattle.sieve_trace.proofs.Nested.{passed_on}
 use Rattle.sieve_trace.proofs.Shown.{shown_stopped, shown_told}
