@@ -1,5 +1,5 @@
 -- What was asked was answered.
-use Rattle.std.proofs.Common.{◌≡◌, ℕ, ◌+◌, ◌*◌, ◌<◌, ◌^◌, true, false, List, [], ◌∷◌, length, Option, None, Some, IfSome, refl, sym, ◌∙◌, ap, subst, arith}
+use Rattle.std.proofs.Common.{◌≡◌, ℕ, ◌+◌, ◌*◌, ◌<◌, ◌^◌, true, false, List, length, Option, None, Some, IfSome, refl, sym, ◌∙◌, ap, subst, arith}
 use Rattle.std.specs.Prelude.{Bool, Result, Ok, Err, IfOk, is_some, option_map}
 use Rattle.std.specs.Bool.{then_some}
 use Rattle.std.specs.Option.{option_or}
@@ -14,7 +14,6 @@ use Rattle.mail_matching.specs.Questions.{Asked, IsShown, compares, decides, of_
 use Rattle.mail_matching.specs.declared.finding.Finding.{Finding}
 use Rattle.mail_matching.specs.declared.finding.Finding.TheVariants.{Pair as Matched, NoneOf}
 use Rattle.mail_matching.specs.declared.finding.Found.{Found}
-use Rattle.mail_matching.specs.declared.outcome.Outcome.TheVariants.{Fails}
 use Rattle.mail_matching.specs.declared.progress.Progress.{Progress}
 use Rattle.mail_matching.specs.declared.questions.Need.TheVariants as need
 use Rattle.mail_matching.specs.declared.questions.Shown.{Shown}
