@@ -1,5 +1,5 @@
 -- What the questions of simple tests come to on a message, what they find there, and what asking them costs.
-use Rattle.std.specs.Prelude.{◌≡◌, ◌⊎◌, All, ℕ, ◌+◌, ◌≤◌, Bool, true, false, nat_lt, List, [], ◌∷◌, Option, None, Some, length, slice_get}
+use Rattle.std.specs.Prelude.{◌≡◌, ◌⊎◌, All, ℕ, ◌+◌, ◌≤◌, Bool, false, nat_lt, List, [], ◌∷◌, Option, None, Some, length, slice_get}
 use Rattle.std.specs.Bool.{then_some}
 use Rattle.std.specs.Cow.{IsBorrowedSlice, cow_slice_items}
 use Rattle.octets.specs.Limits.{max_message}

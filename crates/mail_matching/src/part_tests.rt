@@ -23,6 +23,7 @@ use std::alloc::{AllocError, Global};
 use std::borrow::CowSlice;
 
 /// Whether so many octets are over or under the number.
+#[inline(always)]
 pub(crate) fn is_size(order: Order, number: u64, octets: u64) -> bool
     ensures { result ≡ is_size order number octets }
 {

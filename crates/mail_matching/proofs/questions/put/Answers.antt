@@ -1,4 +1,4 @@
-use Rattle.std.proofs.Common.{◌≡◌, ◌∙◌, ◌∷◌, [], Option, ap, length, subst, sym}
+use Rattle.std.proofs.Common.{◌∙◌, ◌∷◌, [], ap, subst, sym}
 use Rattle.mime_decode.specs.Mail.{Part}
 use Rattle.mail_matching.specs.Private.{HasAsked}
 use Rattle.mail_matching.specs.Questions.{IsShown, TakesNoMemory, asked, compares, current, decides, is_size, looked_cost, need_of, of_part, texts_of}
