@@ -16,7 +16,7 @@ use Rattle.bytecode_format.specs.declared.selection.Selector.{Selector}
 use Rattle.bytecode_format.specs.declared.selection.Selector.TheVariants.{Value, ContentType, Param}
 use Rattle.mail_matching.specs.FirstMatch.{no_captures}
 use Rattle.mail_matching.specs.HeaderTests.{exists_in}
-use Rattle.mail_matching.specs.PartTests.{body_cost}
+use Rattle.mail_matching.proofs.Extents.{body_cost}
 use Rattle.mail_matching.specs.Questions.{answer, question_cost, texts_of}
 
 -- ---- the root, one part with another below it, and one more

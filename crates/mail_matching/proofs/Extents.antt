@@ -26,10 +26,25 @@ use Rattle.bytecode_format.specs.declared.selection.Selector.TheVariants.{Value,
 use Rattle.mail_matching.specs.Costs.{extent_of, names_cost, values_cost}
 use Rattle.mail_matching.specs.Headers.{AreWithin, selected_among, selected_in_all, selected_named, values_of_params}
 use Rattle.mail_matching.specs.HeaderTests.{fields_in_scope, headers_in_scope}
-use Rattle.mail_matching.specs.PartTests.{body_cost, digest_cost}
-use Rattle.mail_matching.specs.Selection.{content_type_of, current_or_root, first_and_below, given, main_of, params_of, parts_in_scope, reading_of, selected_of, selected_values, sub_of, values_of_a_field}
+use Rattle.mail_matching.specs.Selection.{content_type_of, current_or_root, first_and_below, given, main_of, params_of, parts_in_scope, reading_of, selected_of, selected_values, sub_of}
 use Rattle.mail_matching.specs.Texts.{AreTexts}
 use Rattle.mail_matching.proofs.Lengths.{given_in, reading_in}
+
+-- how many values are selected of a field at most, and 1 where that is none
+abbrev pub values_of_a_field : Selector → List (List ℕ) → ℕ
+values_of_a_field Value params = 1
+values_of_a_field Main params = 1
+values_of_a_field Sub params = 1
+values_of_a_field ContentType params = 1
+values_of_a_field Param params = max (length params) 1
+
+-- what comparing the content with the keys costs
+abbrev pub body_cost : Part → List (List ℕ) → ℕ
+body_cost part keys = values_cost (part.content ∷ []) keys
+
+-- and what comparing its digest does
+abbrev pub digest_cost : Part → List (List ℕ) → ℕ
+digest_cost part keys = values_cost (digest_of part.content ∷ []) keys
 
 -- ---- sums
 

@@ -1,5 +1,5 @@
 -- The parts that a test looks at, and the values that it selects in their headers (RFC 5228, section 5.7; RFC 5703, section 4).
-use Rattle.std.specs.Prelude.{ℕ, List, [], ◌∷◌, ◌++◌, length, max, take, drop, flat_map, filter, Option, None, Some, codes, if◌then◌else◌}
+use Rattle.std.specs.Prelude.{ℕ, List, [], ◌∷◌, ◌++◌, take, drop, flat_map, filter, Option, None, Some, codes, if◌then◌else◌}
 use Rattle.bytecode_format.specs.declared.selection.Scope.{Scope}
 use Rattle.bytecode_format.specs.declared.selection.Scope.TheVariants as scopes
 use Rattle.bytecode_format.specs.declared.selection.Selector.{Selector}
@@ -96,14 +96,6 @@ selected_of Main params field = main_of (reading_of field) ∷ []
 selected_of Sub params field = sub_of (reading_of field) ∷ []
 selected_of ContentType params field = content_type_of (reading_of field) ∷ []
 selected_of Param params field = flat_map (λ name. given (value_named name (params_of (reading_of field)))) params
-
--- how many values that is at most, and 1 where it is none
-abbrev pub values_of_a_field : Selector → List (List ℕ) → ℕ
-values_of_a_field Value params = 1
-values_of_a_field Main params = 1
-values_of_a_field Sub params = 1
-values_of_a_field ContentType params = 1
-values_of_a_field Param params = max (length params) 1
 
 -- the fields of a name, in order
 abbrev pub fields_named : List ℕ → List Field → List Field

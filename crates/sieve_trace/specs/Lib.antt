@@ -1,5 +1,7 @@
 -- where the tokens of a script stand
 pub mod Places
+-- the pieces of a text, as those of the tokens' places
+pub mod Pieces
 -- tests and actions in words
 pub mod Words
 -- the line of an event
@@ -8,4 +10,3 @@ pub mod Printed
 pub mod Written
 -- private: how the code goes; no public contract names these
 pub mod Private
-pub mod Pieces

@@ -1,4 +1,4 @@
--- Private: the pieces of a text.
+-- The pieces of a text.
 use Rattle.std.specs.Prelude.{◌≡◌, ℕ, ◌≤◌, List, [], ◌∷◌, slice_range}
 
 -- those from a place on, one after the other, each up to the next of these ends

@@ -25,9 +25,8 @@ use Rattle.mime_decode.specs.Mail.{Mail, Part, IsMail, size_of}
 use Rattle.mime_decode.specs.Content.{digest_of}
 use Rattle.mail_matching.specs.PartTests.{exactly}
 use Rattle.mail_matching.specs.Questions.{Asked, compares, decides, compared_cost, current, is_size, of_part}
-use Rattle.mail_matching.specs.Selection.{values_of_a_field}
 use Rattle.mail_matching.specs.Costs.{extent_of}
-use Rattle.mail_matching.proofs.Extents.{names_cost-within, values_cost-within, values_cost-product, body_cost-within, digest_cost-is}
+use Rattle.mail_matching.proofs.Extents.{names_cost-within, values_cost-within, values_cost-product, body_cost-within, digest_cost-is, values_of_a_field}
 use Rattle.sieve_vm.specs.State.{Value, truth, text, State, current_part}
 use Rattle.sieve_vm.specs.Stack.{Lists, texts_on_top, lists_counted, length_on_top}
 use Rattle.sieve_vm.specs.Charge.{cost_of_asking, octets_on_top, octets_taken, charge_of}
