@@ -1,5 +1,5 @@
 -- How many octets texts have, and one more for each.
-use Rattle.std.proofs.Common.{◌≡◌, ℕ, ◌+◌, ◌*◌, ◌≤◌, List, [], ◌∷◌, ◌++◌, flat_map, map, length, take, drop, refl, sym, ◌∙◌, ap, arith, mul-add, add-mul, mul-zero, zero-mul, mul_assoc, mul-le-mul_left, mul-le-mul_right, le_trans, add-zero, inl, inr}
+use Rattle.std.proofs.Common.{max, ◌≡◌, ℕ, ◌+◌, ◌*◌, ◌≤◌, List, [], ◌∷◌, ◌++◌, flat_map, map, length, take, drop, refl, sym, ◌∙◌, ap, arith, mul-add, add-mul, mul-zero, zero-mul, mul_assoc, mul-le-mul_left, mul-le-mul_right, le_trans, add-zero, inl, inr}
 use Rattle.std.specs.Prelude.{MatchOption, None, Option, Some, slice_get, sum_by}
 use Rattle.std.proofs.Math.Nat.{le-max_left, max-le}
 use Rattle.std.proofs.lemmas.Nat.{mul-le}
