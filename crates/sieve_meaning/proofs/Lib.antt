@@ -1,4 +1,3 @@
-pub mod Agreeing
 pub mod Accounting
 pub mod Joining
 pub mod MeaningLemmas

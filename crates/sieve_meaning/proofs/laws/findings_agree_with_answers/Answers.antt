@@ -1,5 +1,5 @@
-use Rattle.sieve_meaning.proofs.Agreeing.{agrees}
+use Rattle.mail_matching.proofs.QuestionLemmas.{found_holds}
 use Rattle.sieve_meaning.proofs.laws.findings_agree_with_answers.Goals as goal
 
 pub returns : goal.returns
-returns c = agrees
+returns c = found_holds
