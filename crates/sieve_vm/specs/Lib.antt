@@ -14,5 +14,6 @@ pub mod Ending
 -- private: how the code goes; no public contract names these
 pub mod SharedTexts
 pub mod Visits
+pub mod Decided
 pub mod Standing
 pub mod Going

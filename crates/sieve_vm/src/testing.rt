@@ -2,9 +2,10 @@
 ghost use Rattle.std.specs.Prelude.{◌≡◌, ◌<◌, ℕ, List, IfOk, IfSome, IsSome, OnOk, is_some, length, if◌then◌else◌};
 ghost use Rattle.mail_matching.specs.Outcomes.{after};
 ghost use Rattle.mail_matching.specs.Questions as questions;
-ghost use Rattle.mail_matching.specs.Questions.{answer, need_of, question_cost};
+ghost use Rattle.mail_matching.specs.Questions.{answer, is_size, need_of, question_cost};
 ghost use Rattle.mail_matching.specs.Texts.{AreTexts};
 ghost use Rattle.mime_decode.specs.Mail.{IsMail};
+ghost use Rattle.sieve_vm.specs.Decided.{decided};
 ghost use Rattle.sieve_vm.specs.Standing.{texts_of};
 ghost use Rattle.sieve_vm.specs.State.{current_part};
 ghost use Rattle.sieve_vm.specs.Visits.{HasSameLoops, holding};
@@ -12,7 +13,7 @@ ghost use Rattle.sieve_vm.specs.Visits.{HasSameLoops, holding};
 use crate::loops::Loops;
 use crate::machine::{Done, Flow, Machine};
 use crate::workspace::PushedLists;
-use bytecode_format::{Instruction, Program, Question, TestOperation};
+use bytecode_format::{Instruction, Order, Program, Question, TestOperation};
 use mail_matching::{Answer, Need, Shown, TestTexts, ask};
 use mime_decode::Message;
 use std::alloc::{AllocError, Global};
@@ -70,6 +71,9 @@ impl<'p, 's, 'm> Machine<'p, 's, 'm> {
             → self.new.loops ≡ holding self.old.loops) }
     {
         let question = test.question_in(instruction, program.numbers()).unwrap();
+        if let Some(value) = decided(message, question) {
+            return self.push(value);
+        }
         let counts = test.counts_in(instruction);
         let lists = self.work.lists(counts);
         let answer = answer(alloc, message, &mut self.loops, question, lists)?;
@@ -98,6 +102,29 @@ impl<'p, 's, 'm> Machine<'p, 's, 'm> {
             flow: Flow::On,
             cost: answer.cost,
         })
+    }
+}
+
+// Whether a question without lists is true of the whole message. It takes no memory and no call, since tests don't come shorter.
+#[inline(always)]
+fn decided(message: &Message, question: Question) -> Option<bool>
+    ensures { result ≡ decided message.now question }
+{
+    match question {
+        Question::Constant(value) => Some(value),
+        Question::Size(order, number) => Some(is_size(order, number, message.size() as u64)),
+        _ => None,
+    }
+}
+
+// Whether so many octets are over or under the number.
+#[inline(always)]
+fn is_size(order: Order, number: u64, octets: u64) -> bool
+    ensures { result ≡ is_size order number octets }
+{
+    match order {
+        Order::Over => number < octets,
+        Order::Under => octets < number,
     }
 }
 
