@@ -35,10 +35,14 @@ abbrev pub powers_left : ℕ → ℕ → ℕ → ℕ
 powers_left parts visited zero = 1
 powers_left parts visited (suc k) = visited * parts ^ k
 
--- how often what stands inside k further loops may run, where a loop that is opened now visits so many of the parts: chains in programs
--- of version 2, powers in those of version 1
+-- the version of the programs whose turns are counted by chains
+abbrev pub by_chains : ℕ
+by_chains = 2
+
+-- how often what stands inside k further loops may run, where a loop that is opened now visits so many of the parts: by chains in
+-- programs of that version, and by powers in those of any other
 abbrev pub turns_left : ℕ → ℕ → ℕ → ℕ → ℕ
-turns_left version parts visited k = if version == 2 then chains visited k else powers_left parts visited k
+turns_left version parts visited k = if version == by_chains then chains visited k else powers_left parts visited k
 
 -- how often what stands inside k loops may run, over so many parts
 abbrev pub turns : ℕ → ℕ → ℕ → ℕ

@@ -1,7 +1,7 @@
 -- The printed line of a budget.
 use Rattle.std.specs.Prelude.{ℕ, ◌==◌, List, [], ◌++◌, codes, slice_index, if◌then◌else◌}
 use Rattle.std.specs.Fmt.{decimal}
-use Rattle.bytecode_cost.specs.Sums.{Sums}
+use Rattle.bytecode_cost.specs.Sums.{Sums, by_chains}
 
 -- the sums of k open loops, as A0=2 B0=0
 unfoldable pub level_text : ℕ → ℕ → ℕ → List ℕ
@@ -11,9 +11,9 @@ level_text k fixed scaled = codes "A" ++ decimal k ++ codes "=" ++ decimal fixed
 abbrev pub level_of : Sums → ℕ → List ℕ
 level_of sums k = level_text k (slice_index sums.fixed k) (slice_index sums.scaled k)
 
--- what a line of version 2 says after its sums
+-- what a line says of a version whose turns are counted by chains after its sums
 unfoldable pub turns_text : ℕ → List ℕ
-turns_text version = if version == 2 then codes " by chains" else []
+turns_text version = if version == by_chains then codes " by chains" else []
 
 -- the printed line, without its end
 abbrev pub budget_text : Sums → List ℕ

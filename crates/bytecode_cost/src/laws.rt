@@ -1,7 +1,7 @@
 //! What holds of every budget.
 ghost use Rattle.std.specs.Prelude.{◌≡◌, ◌==◌, ℕ, ◌+◌, ◌*◌, ◌-◌, ◌^◌, ◌<◌, ◌≤◌, if◌then◌else◌};
 ghost use Rattle.octets.specs.Limits.{max_message, max_parts};
-ghost use Rattle.bytecode_cost.specs.Sums.{Sums, IsBudget, budget_at, chains, turns};
+ghost use Rattle.bytecode_cost.specs.Sums.{Sums, IsBudget, budget_at, by_chains, chains, turns};
 
 /// At a message of at most 2^26 octets and 4,096 parts every budget is below 2^128.
 pub fn budget_fits()
@@ -32,14 +32,14 @@ pub fn chains_within_powers()
 /// The budget of version 2 is nowhere larger than that of another version with the same sums.
 pub fn chains_never_cost_more()
     ensures { (sums : Sums) → (n p : ℕ)
-        → budget_at (record sums { version = 2 }) n p ≤ budget_at sums n p }
+        → budget_at (record sums { version = by_chains }) n p ≤ budget_at sums n p }
 {}
 
 /// What stands inside `k` loops may run once for each set of `k` parts in version 2, and `parts ^ k`
 /// times in version 1.
 pub fn turns_are_sets_or_powers()
     ensures { (version parts k : ℕ)
-        → turns version parts k ≡ (if version == 2 then chains parts k else parts ^ k) }
+        → turns version parts k ≡ (if version == by_chains then chains parts k else parts ^ k) }
 {}
 
 /// The budget is nowhere smaller at a message of more octets and more parts, and neither are the turns.

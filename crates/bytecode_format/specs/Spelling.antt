@@ -4,7 +4,7 @@ use Rattle.std.specs.List.{flat_map}
 use Rattle.std.specs.Int.{w16, w32, w64, to_be_bytes}
 use Rattle.octets.specs.Limits.{max_program, max_instructions, max_variables, max_string}
 use Rattle.bytecode_format.specs.declared.instruction.Instruction.{Instruction}
-use Rattle.bytecode_format.specs.Code.{Code}
+use Rattle.bytecode_format.specs.Code.{Code, version_one, version_two}
 
 -- an octet, numbers of two, four and eight octets
 abbrev pub octet : ℕ → List ℕ
@@ -49,9 +49,9 @@ pub record Fits (i : Instruction) : Type 0 where
   pub b : i.b < 2 ^ 16
   pub c : i.c < 2 ^ 32
 
--- the versions of the format: all operations are there in version 2, and all but Take in version 1
+-- the format has this version
 abbrev pub is_version : ℕ → Bool
-is_version n = (n == 1) || (n == 2)
+is_version n = (n == version_one) || (n == version_two)
 
 -- the limits of a program
 pub record IsProgram (code : Code) : Type 0 where

@@ -12,7 +12,7 @@ ghost use Rattle.bytecode_format.specs.declared.question.Order.{Order};
 ghost use Rattle.bytecode_format.specs.declared.question.Question.{Question};
 ghost use Rattle.bytecode_format.specs.Questions.{AreCountsOf, StandsIn, counts_in, instruction_of, operation_asking, question_in, row_of};
 ghost use Rattle.glob_match.specs.declared.match_type.Match.{Match};
-ghost use Rattle.bytecode_format.specs.Code.{Code};
+ghost use Rattle.bytecode_format.specs.Code.{Code, version_two};
 ghost use Rattle.bytecode_format.specs.Spelling.{IsProgram, spelling};
 ghost use Rattle.bytecode_format.specs.Action.{is_same};
 ghost use Rattle.bytecode_format.specs.Actions.{first_occurrences, with_action};
@@ -26,7 +26,7 @@ pub fn one_program_for_octets()
 
 /// What is a program in one version is a program in version 2.
 pub fn programs_go_on_in_version_two()
-    ensures { (code : Code) → IsProgram code → IsProgram (record code { version = 2 }) }
+    ensures { (code : Code) → IsProgram code → IsProgram (record code { version = version_two }) }
 {}
 
 /// What one more action at the end of a run changes.

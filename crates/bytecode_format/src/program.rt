@@ -1,5 +1,6 @@
 // A program as a value.
 ghost use Rattle.std.specs.Prelude.{◌≡◌};
+ghost use Rattle.bytecode_format.specs.Code.{version_two};
 ghost use Rattle.bytecode_format.specs.Spelling.{is_version};
 
 use crate::instruction::Instruction;
@@ -103,7 +104,7 @@ impl Program {
     /// The same program in version 2 of the format. Takes no memory.
     #[tactic(auto, using(crate::proofs::Versions::in_two))]
     pub fn in_version_two(self) -> Program
-        ensures { result ≡ record self { version = 2 } }
+        ensures { result ≡ record self { version = version_two } }
     {
         Program::assemble(
             VERSION_TWO,

@@ -1,5 +1,5 @@
 -- Names of operations, one octet after the other.
-use Rattle.std.proofs.Common.{◌≡◌, ℕ, zero, suc, ◌+◌, ◌-◌, ◌≤◌, true, false, if◌then◌else◌, List, [], ◌∷◌, drop, Some, None, refl, sym, ap, subst, ◌∙◌, inl, inr, arith}
+use Rattle.std.proofs.Common.{◌≡◌, ℕ, zero, suc, ◌+◌, ◌-◌, ◌<◌, ◌≤◌, true, false, if◌then◌else◌, List, [], ◌∷◌, drop, length, Some, None, refl, sym, ap, subst, ◌∙◌, inl, inr, arith}
 use Rattle.std.specs.Prelude.{slice_get, bytes_eq}
 use Rattle.std.proofs.lemmas.Bool.{cases_lt}
 use Rattle.std.proofs.lemmas.Option.{slice_get_past}
@@ -18,16 +18,17 @@ past [] (suc k) e = refl
 past (y ∷ ys) zero e = absurd cc
 past (y ∷ ys) (suc k) e = past ys k e
 
--- an operation's octet isn't above the last one
-pub known : (octet : ℕ) (operation : Operation) → 1 ≤ octet → operation_of octet ≡ Some operation → octet ≤ 26
-known octet operation one e = elim (cases_lt octet 27) [
+-- an operation's octet isn't the last octet
+pub known : (octet : ℕ) (operation : Operation) → 1 ≤ octet → operation_of octet ≡ Some operation → octet < 255
+known octet operation one e = elim (cases_lt octet 255) [
   | inl lt ↦ omega arith
   | inr ge ↦ beyond octet (octet - 1) (omega arith) (omega arith) e
 ]
   where
-    beyond : (n m : ℕ) → n ≡ suc m → 26 ≤ m → operation_of n ≡ Some operation → octet ≤ 26
+    beyond : (n m : ℕ) → n ≡ suc m → 254 ≤ m → operation_of n ≡ Some operation → octet < 255
     beyond n m s h e =
-        let none : operation_of n ≡ None = rw s (slice_get_past operations m h) in
+        let far : length operations ≤ m = omega (arith, h) in
+        let none : operation_of n ≡ None = rw s (slice_get_past operations m far) in
         absurd cc
 
 -- what is left of the table where an operation stands

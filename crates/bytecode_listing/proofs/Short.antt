@@ -11,10 +11,11 @@ use Rattle.bytecode_format.specs.Code.{Code}
 use Rattle.bytecode_format.specs.Operations.{operation_of}
 use Rattle.bytecode_format.specs.declared.instruction.Instruction.{Instruction}
 use Rattle.bytecode_format.specs.declared.operation.Operation.{Operation}
-use Rattle.bytecode_format.specs.declared.operation.Operation.TheVariants.{Test}
-use Rattle.bytecode_format.specs.declared.operation.TestOperation.TheVariants.{Header, Exists, String, PartBody}
 use Rattle.bytecode_format.specs.Spelling.{IsProgram}
 use Rattle.bytecode_verifier.specs.Budget.{share_at}
+use Rattle.bytecode_verifier.specs.Rows.{row_of}
+use Rattle.bytecode_verifier.specs.declared.row.Range.{Range}
+use Rattle.bytecode_verifier.specs.declared.row.Range.TheVariants as ranges
 use Rattle.bytecode_verifier.specs.Loops.{Loop as Pair, is_open, loop_from, loops, open_loops}
 use Rattle.bytecode_verifier.specs.declared.error.Refusal.{Refusal}
 use Rattle.bytecode_verifier.specs.declared.error.Refusal.TheVariants.{Memory, Index, Form, End, Loop, Jump, NoPart, Stack}
@@ -121,18 +122,17 @@ with_rest : (most : ℕ) (text : Option (List ℕ)) (rest : List ℕ) → IsWith
 with_rest most None rest h k = tt
 with_rest most (Some words) rest h k = omega (arith, length-append (said_a words) rest)
 
-words_length : (i : Instruction) (operation : Operation) → IsShort (in_words operation i)
-words_length i (Test Header) = with_rest 36 (selection_words i.a) (counts_words i.c) (both_length 16 19 (match_words (i.a % 8)) (scope_words i.a) (match_length (i.a % 8)) (scope_length i.a)) (omega (arith, counts_length i.c))
-words_length i (Test Exists) = with_rest 7 (word_of Scope i.a) [] (one_of 7 (words Scope) i.a refl) (omega arith)
-words_length i (Test String) = with_rest 16 (match_words i.a) [] (match_length i.a) (omega arith)
-words_length i (Test PartBody) = with_rest 16 (match_words i.a) [] (match_length i.a) (omega arith)
+words_length : (i : Instruction) (range : Range) → IsShort (in_words range i)
+words_length i ranges.FieldTest = with_rest 36 (selection_words i.a) (counts_words i.c) (both_length 16 19 (match_words (i.a % 8)) (scope_words i.a) (match_length (i.a % 8)) (scope_length i.a)) (omega (arith, counts_length i.c))
+words_length i ranges.Scope = with_rest 7 (word_of Scope i.a) [] (one_of 7 (words Scope) i.a refl) (omega arith)
+words_length i ranges.Match = with_rest 16 (match_words i.a) [] (match_length i.a) (omega arith)
 words_length i _ = tt
 
 meant_length : (code : Code) (i : Instruction) → IsShort (meant code i)
 meant_length code i = by_operation (operation_of i.op)
   where
     by_table : (operation : Operation) (table : Option Table) → IsShort (told code i operation table)
-    by_table operation None = words_length i operation
+    by_table operation None = words_length i (row_of operation).a
     by_table operation (Some table) = entry_length code i.c table
 
     by_operation : (operation : Option Operation) → IsShort (option_and_then (λ o. told code i o (table_of o)) operation)

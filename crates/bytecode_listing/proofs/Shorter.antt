@@ -9,14 +9,15 @@ use Rattle.bytecode_listing.specs.declared.drafts.Line.TheVariants.{Label, Step}
 use Rattle.bytecode_listing.specs.Labels.{◌>>=◌, count}
 use Rattle.bytecode_format.specs.Operations.{operation_of}
 use Rattle.bytecode_format.specs.declared.operation.Operation.{Operation}
-use Rattle.bytecode_format.specs.declared.operation.Operation.TheVariants.{Test}
-use Rattle.bytecode_format.specs.declared.operation.TestOperation.TheVariants.{Header, Exists, String, PartBody}
+use Rattle.bytecode_verifier.specs.Rows.{row_of}
+use Rattle.bytecode_verifier.specs.declared.row.Range.{Range}
+use Rattle.bytecode_verifier.specs.declared.row.Range.TheVariants as ranges
 use Rattle.bytecode_listing.specs.declared.wording.Facet.{Facet}
 use Rattle.bytecode_listing.specs.declared.wording.Facet.TheVariants.{Match, Comparator, Scope, Selector}
 use Rattle.bytecode_listing.specs.Wording.{number_of}
 use Rattle.bytecode_listing.specs.Names.{octet_named}
 use Rattle.bytecode_listing.specs.Tokens.{Token, Word, Text, Wrong}
-use Rattle.bytecode_listing.specs.Items.{Tokens, left_at, word_in, word_at, text_in, text_at, begins_with, begins_number, keyword_at, value_from, is_within, number_at, octet_in, found, octet_at, operation_at, field_number, field_at, Fields, round_at, fields_at, Said, facet_in, facet_from, facet_at, joined, then_said, match_at, selection_at, worded_at, words_at, a_value, a_field, a_at, keys_after, counts_at, counted_at, name_at, target_at, target_field, c_at, place_at, draft_at, label_at, line_at, number_item, string_item}
+use Rattle.bytecode_listing.specs.Items.{Tokens, left_at, word_in, word_at, text_in, text_at, begins_with, begins_number, keyword_at, value_from, is_within, number_at, octet_in, found, octet_at, operation_at, field_number, field_at, Fields, round_at, fields_at, Said, facet_in, facet_from, facet_at, joined, then_said, match_at, selection_at, worded_as, worded_at, words_at, a_value, a_field, a_at, keys_after, counts_at, counted_at, name_at, target_at, target_field, c_at, place_at, draft_at, label_at, line_at, number_item, string_item}
 
 -- fewer tokens than that are left, where something was read
 abbrev pub Leaves : {A : Type 0} → ℕ → Result (A × Tokens) ℕ → Type 0
@@ -158,13 +159,15 @@ selection_took tokens =
     (then_took (length tokens) 8 (match_at tokens) (facet_at Scope) (match_took tokens) (facet_took Scope))
     (facet_took Selector)
 
+range_took : (range : Range) (tokens : Tokens) → Took (length tokens) (worded_as range tokens)
+range_took ranges.FieldTest tokens = selection_took tokens
+range_took ranges.Scope tokens = facet_took Scope tokens
+range_took ranges.Match tokens = match_took tokens
+range_took _ tokens = omega arith
+
 worded_took : (operation : Option Operation) (tokens : Tokens) → Took (length tokens) (worded_at operation tokens)
 worded_took None tokens = omega arith
-worded_took (Some (Test Header)) tokens = selection_took tokens
-worded_took (Some (Test Exists)) tokens = facet_took Scope tokens
-worded_took (Some (Test String)) tokens = match_took tokens
-worded_took (Some (Test PartBody)) tokens = match_took tokens
-worded_took (Some _) tokens = omega arith
+worded_took (Some operation) tokens = range_took (row_of operation).a tokens
 
 words_leave : (operation : Option Operation) (tokens : Tokens) → Leaves (length tokens) (words_at operation tokens)
 words_leave operation tokens = by_said (worded_at operation tokens) (worded_took operation tokens)

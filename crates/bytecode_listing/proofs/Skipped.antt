@@ -10,9 +10,10 @@ use Rattle.bytecode_format.specs.Code.{Code}
 use Rattle.bytecode_format.specs.Operations.{operation_of}
 use Rattle.bytecode_format.specs.declared.instruction.Instruction.{Instruction}
 use Rattle.bytecode_format.specs.declared.operation.Operation.{Operation}
-use Rattle.bytecode_format.specs.declared.operation.Operation.TheVariants.{Test}
-use Rattle.bytecode_format.specs.declared.operation.TestOperation.TheVariants.{Header, Exists, String, PartBody}
 use Rattle.bytecode_verifier.specs.Budget.{share_at}
+use Rattle.bytecode_verifier.specs.Rows.{row_of}
+use Rattle.bytecode_verifier.specs.declared.row.Range.{Range}
+use Rattle.bytecode_verifier.specs.declared.row.Range.TheVariants as ranges
 use Rattle.bytecode_verifier.specs.declared.error.Refusal.{Refusal}
 use Rattle.bytecode_verifier.specs.declared.error.Refusal.TheVariants.{Memory, Index, Form, End, Loop, Jump, NoPart, Stack}
 use Rattle.bytecode_verifier.specs.declared.share.Share.{Share}
@@ -142,18 +143,17 @@ with_rest : (text : Option (List ℕ)) (rest : List ℕ) → AreLines text → I
 with_rest None rest h k = tt
 with_rest (Some words) rest h k = appended (said_a words) rest (appended (codes "a ") words refl h) k
 
-words_line : (code : Code) (i : Instruction) (operation : Operation) → AreLines (in_words operation i)
-words_line code i (Test Header) = with_rest (selection_words i.a) (counts_words i.c) (both_line (match_words (i.a % 8)) (scope_words i.a) (match_line (i.a % 8)) (scope_line i.a)) (counts_line i.c)
-words_line code i (Test Exists) = with_rest (word_of Scope i.a) [] (word_line Scope i.a) refl
-words_line code i (Test String) = with_rest (match_words i.a) [] (match_line i.a) refl
-words_line code i (Test PartBody) = with_rest (match_words i.a) [] (match_line i.a) refl
-words_line code i _ = tt
+words_line : (i : Instruction) (range : Range) → AreLines (in_words range i)
+words_line i ranges.FieldTest = with_rest (selection_words i.a) (counts_words i.c) (both_line (match_words (i.a % 8)) (scope_words i.a) (match_line (i.a % 8)) (scope_line i.a)) (counts_line i.c)
+words_line i ranges.Scope = with_rest (word_of Scope i.a) [] (word_line Scope i.a) refl
+words_line i ranges.Match = with_rest (match_words i.a) [] (match_line i.a) refl
+words_line i _ = tt
 
 meant_line : (code : Code) (i : Instruction) → AreLines (meant code i)
 meant_line code i = by_operation (operation_of i.op)
   where
     by_table : (operation : Operation) (table : Option Table) → AreLines (told code i operation table)
-    by_table operation None = words_line code i operation
+    by_table operation None = words_line i (row_of operation).a
     by_table operation (Some table) = entry_line code i.c table
 
     by_operation : (operation : Option Operation) → AreLines (option_and_then (λ o. told code i o (table_of o)) operation)

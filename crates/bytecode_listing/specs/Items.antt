@@ -8,8 +8,9 @@ use Rattle.bytecode_format.specs.Code.{Code}
 use Rattle.bytecode_format.specs.Spelling.{IsProgram}
 use Rattle.bytecode_format.specs.Operations.{operation_of}
 use Rattle.bytecode_format.specs.declared.operation.Operation.{Operation}
-use Rattle.bytecode_format.specs.declared.operation.Operation.TheVariants.{Test}
-use Rattle.bytecode_format.specs.declared.operation.TestOperation.TheVariants.{Header, Exists, String, PartBody}
+use Rattle.bytecode_verifier.specs.Rows.{row_of}
+use Rattle.bytecode_verifier.specs.declared.row.Range.{Range}
+use Rattle.bytecode_verifier.specs.declared.row.Range.TheVariants as ranges
 use Rattle.bytecode_listing.specs.Names.{octet_named}
 use Rattle.bytecode_listing.specs.Wording.{number_of}
 use Rattle.bytecode_listing.specs.declared.wording.Facet.{Facet}
@@ -175,14 +176,17 @@ unfoldable pub selection_at : Tokens → Said
 selection_at tokens =
     then_said (then_said (match_at tokens) 8 (facet_at Scope)) 32 (facet_at Selector)
 
--- the field a of an operation in words, where it says how a test compares or what it looks at
+-- the field a in words, where its numbers are those of ways to compare or of what is looked at
+abbrev pub worded_as : Range → Tokens → Said
+worded_as ranges.FieldTest tokens = selection_at tokens
+worded_as ranges.Scope tokens = facet_at Scope tokens
+worded_as ranges.Match tokens = match_at tokens
+worded_as _ tokens = (None, tokens)
+
+-- the field a of an operation in words
 abbrev pub worded_at : Option Operation → Tokens → Said
 worded_at None tokens = (None, tokens)
-worded_at (Some (Test Header)) tokens = selection_at tokens
-worded_at (Some (Test Exists)) tokens = facet_at Scope tokens
-worded_at (Some (Test String)) tokens = match_at tokens
-worded_at (Some (Test PartBody)) tokens = match_at tokens
-worded_at (Some _) tokens = (None, tokens)
+worded_at (Some operation) tokens = worded_as (row_of operation).a tokens
 
 -- the number of a in words; at least one has to stand there
 abbrev pub words_at : Option Operation → Tokens → Read ℕ

@@ -7,6 +7,7 @@ use Rattle.bytecode_format.specs.Operations.{operation_of}
 use Rattle.bytecode_format.specs.declared.instruction.Instruction.{Instruction}
 use Rattle.bytecode_format.specs.declared.operation.Operation.{Operation}
 use Rattle.bytecode_verifier.specs.Rows.{row_of}
+use Rattle.bytecode_verifier.specs.declared.row.Range.{Range}
 use Rattle.bytecode_verifier.specs.declared.row.Table as index
 use Rattle.bytecode_verifier.specs.declared.row.Table.TheVariants as indices
 use Rattle.bytecode_verifier.specs.Budget.{share_at}
@@ -76,15 +77,14 @@ entry_text code place Numbers = option_map decimal (slice_get code.numbers place
 entry_text code place Instructions =
     if nat_lt place (length code.instructions) then Some (codes "to " ++ decimal place) else None
 
--- what the fields of an operation say in words
-abbrev pub in_words : Operation → Instruction → Option (List ℕ)
-in_words operation i =
-    option_map (λ words. said_a words ++ after_a operation i.c) (a_words operation i.a)
+-- what the fields of an instruction say in words
+abbrev pub in_words : Range → Instruction → Option (List ℕ)
+in_words range i = option_map (λ words. said_a words ++ after_a range i.c) (a_words range i.a)
 
 -- what an operation's fields refer to, or say in words
 abbrev pub told : Code → Instruction → Operation → Option Table → Option (List ℕ)
 told code i operation (Some table) = entry_text code i.c table
-told code i operation None = in_words operation i
+told code i operation None = in_words (row_of operation).a i
 
 -- what an instruction refers to, or says in words
 abbrev pub meant : Code → Instruction → Option (List ℕ)

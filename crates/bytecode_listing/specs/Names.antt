@@ -3,7 +3,19 @@ use Rattle.std.specs.Prelude.{ℕ, suc, List, [], ◌∷◌, Option, Some, None,
 use Rattle.bytecode_format.specs.Operations.{operations}
 use Rattle.bytecode_format.specs.declared.operation.Operation.{Operation}
 use Rattle.bytecode_format.specs.declared.operation.Operation.TheVariants.{Halt, Literal, Variable, Capture, Join, Set, Not, Jump, JumpIfTrue, JumpIfFalse, Keep, Discard, File, Store, Each, Next, Break, Take, Test}
+use Rattle.bytecode_format.specs.declared.operation.TestOperation.{TestOperation}
 use Rattle.bytecode_format.specs.declared.operation.TestOperation.TheVariants.{Constant, Header, Exists, String, Size, PartSize, PartBody, PartDigest}
+
+-- the name of a test
+abbrev pub test_name : TestOperation → List ℕ
+test_name Constant = codes "BOOL"
+test_name Header = codes "HEADER"
+test_name Exists = codes "EXISTS"
+test_name String = codes "STRING"
+test_name Size = codes "SIZE"
+test_name PartSize = codes "PARTSIZE"
+test_name PartBody = codes "PARTBODY"
+test_name PartDigest = codes "PARTDIGEST"
 
 -- the name of an operation
 abbrev pub name_of : Operation → List ℕ
@@ -13,18 +25,11 @@ name_of Variable = codes "VAR"
 name_of Capture = codes "CAP"
 name_of Join = codes "JOIN"
 name_of Set = codes "SET"
-name_of (Test Constant) = codes "BOOL"
+name_of (Test test) = test_name test
 name_of Not = codes "NOT"
 name_of Jump = codes "JMP"
 name_of JumpIfTrue = codes "JT"
 name_of JumpIfFalse = codes "JF"
-name_of (Test Header) = codes "HEADER"
-name_of (Test Exists) = codes "EXISTS"
-name_of (Test String) = codes "STRING"
-name_of (Test Size) = codes "SIZE"
-name_of (Test PartSize) = codes "PARTSIZE"
-name_of (Test PartBody) = codes "PARTBODY"
-name_of (Test PartDigest) = codes "PARTDIGEST"
 name_of Keep = codes "KEEP"
 name_of Discard = codes "DISCARD"
 name_of File = codes "FILE"

@@ -2,10 +2,9 @@
 use Rattle.std.specs.Prelude.{ℕ, ◌/◌, ◌%◌, List, [], ◌∷◌, ◌++◌, Option, Some, None, slice_get, bytes_eq, codes}
 use Rattle.std.specs.List.{position}
 use Rattle.std.specs.Fmt.{decimal}
-use Rattle.bytecode_format.specs.declared.operation.Operation.{Operation}
-use Rattle.bytecode_format.specs.declared.operation.Operation.TheVariants.{Test}
-use Rattle.bytecode_format.specs.declared.operation.TestOperation.TheVariants.{Header, Exists, String, PartBody}
 use Rattle.bytecode_format.specs.Selection.{keys_in, params_in}
+use Rattle.bytecode_verifier.specs.declared.row.Range.{Range}
+use Rattle.bytecode_verifier.specs.declared.row.Range.TheVariants as ranges
 use Rattle.bytecode_listing.specs.declared.wording.Facet.{Facet}
 use Rattle.bytecode_listing.specs.declared.wording.Facet.TheVariants.{Match, Comparator, Scope, Selector}
 
@@ -43,12 +42,11 @@ scope_words a = both (word_of Scope (a / 8 % 4)) (word_of Selector (a / 32))
 abbrev pub selection_words : ℕ → Option (List ℕ)
 selection_words a = both (match_words (a % 8)) (scope_words a)
 
--- the field a of an operation in words, where it says how a test compares or what it looks at
-abbrev pub a_words : Operation → ℕ → Option (List ℕ)
-a_words (Test Header) a = selection_words a
-a_words (Test Exists) a = word_of Scope a
-a_words (Test String) a = match_words a
-a_words (Test PartBody) a = match_words a
+-- the field a in words, where its numbers are those of ways to compare or of what is looked at
+abbrev pub a_words : Range → ℕ → Option (List ℕ)
+a_words ranges.FieldTest a = selection_words a
+a_words ranges.Scope a = word_of Scope a
+a_words ranges.Match a = match_words a
 a_words _ a = None
 
 -- the counts of HEADER: of parameters, and of keys
@@ -60,6 +58,6 @@ abbrev pub said_a : List ℕ → List ℕ
 said_a words = codes "a " ++ words
 
 -- what follows the words of a
-abbrev pub after_a : Operation → ℕ → List ℕ
-after_a (Test Header) c = counts_words c
+abbrev pub after_a : Range → ℕ → List ℕ
+after_a ranges.FieldTest c = counts_words c
 after_a _ c = []

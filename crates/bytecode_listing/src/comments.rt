@@ -8,8 +8,8 @@ ghost use Rattle.bytecode_listing.specs.Wording.{counts_words, match_words, said
 use crate::quoting::put_cut;
 use crate::wording::{Facet, word_of};
 use crate::writing::put_number;
-use bytecode_format::{Instruction, Operation, Program, TestCounts, TestOperation};
-use bytecode_verifier::row_of;
+use bytecode_format::{Instruction, Operation, Program, TestCounts};
+use bytecode_verifier::{Range, row_of};
 use std::alloc::AllocError;
 
 /// The most octets of a string that a comment has.
@@ -168,19 +168,14 @@ fn put_selection(out: &mut Vec<u8>, a: u8, counts: u32) -> Result<(), AllocError
     }
 }
 
-// Appends what the fields of an operation say in words, as a comment.
-fn put_words(
-    out: &mut Vec<u8>,
-    operation: Operation,
-    instruction: Instruction,
-) -> Result<(), AllocError>
-    ensures { OnOk result
-        (out.new.items ≡ out.old.items ++ comment (in_words operation instruction)) }
+// Appends what the fields of an instruction say in words, as a comment.
+fn put_words(out: &mut Vec<u8>, range: Range, instruction: Instruction) -> Result<(), AllocError>
+    ensures { OnOk result (out.new.items ≡ out.old.items ++ comment (in_words range instruction)) }
 {
-    match operation {
-        Operation::Test(TestOperation::Header) => put_selection(out, instruction.a, instruction.c),
-        Operation::Test(TestOperation::Exists) => put_scope(out, instruction.a),
-        Operation::Test(TestOperation::String) | Operation::Test(TestOperation::PartBody) => put_match(out, instruction.a),
+    match range {
+        Range::FieldTest => put_selection(out, instruction.a, instruction.c),
+        Range::Scope => put_scope(out, instruction.a),
+        Range::Match => put_match(out, instruction.a),
         _ => Ok(()),
     }
 }
@@ -197,7 +192,7 @@ fn put_told(
 {
     match table_of(operation) {
         Some(table) => put_entry(out, program, instruction.c as usize, table),
-        None => put_words(out, operation, instruction),
+        None => put_words(out, row_of(operation).a, instruction),
     }
 }
 

@@ -5,6 +5,7 @@ ghost use Rattle.bytecode_format.specs.Code.{Code};
 ghost use Rattle.bytecode_format.specs.Spelling.{IsProgram};
 ghost use Rattle.bytecode_format.specs.declared.instruction.Instruction.{Instruction};
 ghost use Rattle.bytecode_listing.specs.Listing.{AreOctets, accepted_listing, comment, listing_of, meant, refusal_notes, refused_listing, share_notes};
+ghost use Rattle.bytecode_verifier.specs.Rows.{row_of};
 ghost use Rattle.bytecode_verifier.specs.declared.error.Refusal.{Refusal};
 ghost use Rattle.bytecode_listing.specs.Items.{FaultsAt, Lists, worded_at};
 ghost use Rattle.bytecode_listing.specs.Tokens.{tokens_of};
@@ -64,7 +65,7 @@ pub fn words_and_numbers()
 /// of a's number.
 pub fn words_say_their_numbers()
     ensures { (operation : Operation) (a : ℕ) (words : List ℕ)
-        → a < 2 ^ 8 → a_words operation a ≡ Some words
+        → a < 2 ^ 8 → a_words (row_of operation).a a ≡ Some words
         → worded_at (Some operation) (tokens_of words) ≡ (Some a, []) }
 {}
 

@@ -1,6 +1,6 @@
 // What operations are called.
 ghost use Rattle.std.specs.Prelude.{◌≡◌};
-ghost use Rattle.bytecode_listing.specs.Names.{name_of, octet_named};
+ghost use Rattle.bytecode_listing.specs.Names.{name_of, octet_named, test_name};
 
 use bytecode_format::{Operation, TestOperation};
 
@@ -15,18 +15,11 @@ pub fn name_of(operation: Operation) -> &'static [u8]
         Operation::Capture => b"CAP",
         Operation::Join => b"JOIN",
         Operation::Set => b"SET",
-        Operation::Test(TestOperation::Constant) => b"BOOL",
+        Operation::Test(test) => test_name(test),
         Operation::Not => b"NOT",
         Operation::Jump => b"JMP",
         Operation::JumpIfTrue => b"JT",
         Operation::JumpIfFalse => b"JF",
-        Operation::Test(TestOperation::Header) => b"HEADER",
-        Operation::Test(TestOperation::Exists) => b"EXISTS",
-        Operation::Test(TestOperation::String) => b"STRING",
-        Operation::Test(TestOperation::Size) => b"SIZE",
-        Operation::Test(TestOperation::PartSize) => b"PARTSIZE",
-        Operation::Test(TestOperation::PartBody) => b"PARTBODY",
-        Operation::Test(TestOperation::PartDigest) => b"PARTDIGEST",
         Operation::Keep => b"KEEP",
         Operation::Discard => b"DISCARD",
         Operation::File => b"FILE",
@@ -35,6 +28,22 @@ pub fn name_of(operation: Operation) -> &'static [u8]
         Operation::Next => b"NEXT",
         Operation::Break => b"BREAK",
         Operation::Take => b"TAKE",
+    }
+}
+
+// The test's name in a listing.
+fn test_name(test: TestOperation) -> &'static [u8]
+    ensures { result.now ≡ test_name test }
+{
+    match test {
+        TestOperation::Constant => b"BOOL",
+        TestOperation::Header => b"HEADER",
+        TestOperation::Exists => b"EXISTS",
+        TestOperation::String => b"STRING",
+        TestOperation::Size => b"SIZE",
+        TestOperation::PartSize => b"PARTSIZE",
+        TestOperation::PartBody => b"PARTBODY",
+        TestOperation::PartDigest => b"PARTDIGEST",
     }
 }
 

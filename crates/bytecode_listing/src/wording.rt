@@ -2,11 +2,12 @@
 ghost use Rattle.std.specs.Prelude.{◌≡◌, ◌+◌, ◌*◌, ◌<◌, map, bytes_eq, unwrap_or, length, option_map, IfSome};
 ghost use Rattle.std.specs.List.{position};
 ghost use Rattle.bytecode_listing.specs.Tokens.{tokens_of};
-ghost use Rattle.bytecode_listing.specs.Items.{facet_at, joined, match_at, worded_at, selection_at};
+ghost use Rattle.bytecode_listing.specs.Items.{facet_at, joined, match_at, selection_at, worded_as, worded_at};
 ghost use Rattle.bytecode_listing.specs.Wording.{number_of, word_of, words};
 
 use crate::tokens::leading_word;
-use bytecode_format::{Operation, TestOperation};
+use bytecode_format::Operation;
+use bytecode_verifier::{Range, row_of};
 
 /// What words say of a test.
 #[derive(Clone, Copy)]
@@ -128,14 +129,24 @@ fn selection_of(octets: &[u8]) -> (Option<u8>, &[u8])
     )
 }
 
-/// Reads the field a of an operation in words, where it says how a test compares or what it looks at.
+// Reads the field a in words, where its numbers are those of ways to compare or of what is looked at.
+fn worded_as(octets: &[u8], range: Range) -> (Option<u8>, &[u8])
+    ensures { (result.0, tokens_of result.1.now) ≡ worded_as range (tokens_of octets.now) }
+{
+    match range {
+        Range::FieldTest => selection_of(octets),
+        Range::Scope => facet_of(octets, Facet::Scope),
+        Range::Match => match_of(octets),
+        _ => (None, octets),
+    }
+}
+
+/// Reads the field a of an operation in words.
 pub fn worded_of(octets: &[u8], operation: Option<Operation>) -> (Option<u8>, &[u8])
     ensures { (result.0, tokens_of result.1.now) ≡ worded_at operation (tokens_of octets.now) }
 {
     match operation {
-        Some(Operation::Test(TestOperation::Header)) => selection_of(octets),
-        Some(Operation::Test(TestOperation::Exists)) => facet_of(octets, Facet::Scope),
-        Some(Operation::Test(TestOperation::String) | Operation::Test(TestOperation::PartBody)) => match_of(octets),
-        _ => (None, octets),
+        Some(operation) => worded_as(octets, row_of(operation).a),
+        None => (None, octets),
     }
 }

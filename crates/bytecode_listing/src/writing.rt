@@ -166,10 +166,10 @@ fn listing_with(alloc: Global, program: &Program, notes: Notes<'_>) -> Result<Ve
 /// number, string and instruction. LF ends each line. `assemble` reads it as the same program.
 ///
 /// A comment after an instruction tells the string or the number that its c refers to, or the place
-/// that it jumps to: LIT has a string, SIZE and PARTSIZE a number, JMP, JT and JF a place. Of a
-/// string it has at most 40 octets, and dots where there are more. There is none where c is outside
-/// of the tables. HEADER, EXISTS, STRING and PARTBODY have their a in words, and HEADER its counts
-/// after it, as `assemble` takes them; there is no comment where a has no words.
+/// that it jumps to. Of a string it has at most 40 octets, and dots where there are more. There is
+/// none where c is outside of the tables. Of another test it tells in words how that compares or what
+/// it looks at, which is its a, and of HEADER also its counts, as `assemble` takes them; there is no
+/// comment where a has no words.
 ///
 /// An error comes only where memory was refused. A listing takes time and memory in proportion to
 /// the program, whatever its strings are.

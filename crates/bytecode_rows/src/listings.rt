@@ -42,7 +42,7 @@ fn small_program(rt: HostRuntime) -> Result<(), Fail> {
     let mut strings = Vec::new(alloc);
     strings.push(Octets::from_vec(b"a\0a\"b".to_vec(alloc)?))?;
     let header = Instruction {
-        op: Operation::Test(TestOperation::Header).octet(),
+        op: TestOperation::Header.octet(),
         a: 1,
         b: 2,
         c: 3,

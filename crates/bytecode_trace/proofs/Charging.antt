@@ -38,13 +38,13 @@ module _ (code : Code) (mail : Mail) (is : IsAccepted code) (known : IsMail mail
   pub charged_step : (s t : State) → IsReached code mail s → state_in (step code mail s) ≡ Some t → IsCharged code mail (record { before = s; after = t })
   charged_step s t there e = at_place (slice_get code.instructions s.place) refl e
     where
-      formed : (i : Instruction) (o : Operation) (b : Bool) → is_well_formed (row_in code i) i ≡ b → slice_get code.instructions s.place ≡ Some i → operation_of i.op ≡ Some o → state_in (cond b (turn (charge_of mail o i s) (effect (referred_in code) mail o i s)) traps) ≡ Some t → IsCharged code mail (record { before = s; after = t })
+      formed : (i : Instruction) (o : Operation) (b : Bool) → is_well_formed (row_in code i) i ≡ b → slice_get code.instructions s.place ≡ Some i → operation_of i.op ≡ Some o → state_in (cond b (turn (charge_of (referred_in code) mail o i s) (effect (referred_in code) mail o i s)) traps) ≡ Some t → IsCharged code mail (record { before = s; after = t })
       formed i o true well here named f = record {
         instruction = i;
         operation = o;
         here = here;
         named = named;
-        charge_is = charged_by code mail s (charge_of mail o i s) (effect (referred_in code) mail o i s) t (leads code mail is known s i here there o named) f;
+        charge_is = charged_by code mail s (charge_of (referred_in code) mail o i s) (effect (referred_in code) mail o i s) t (leads code mail is known s i here there o named) f;
       }
       formed i o false well here named f = absurd cc
 

@@ -8,6 +8,7 @@ use Rattle.bytecode_format.specs.declared.operation.Operation.{Operation}
 use Rattle.bytecode_format.specs.declared.operation.Operation.TheVariants.{Halt, Literal, Variable, Capture, Join, Set, Not, Jump, JumpIfTrue, JumpIfFalse, Keep, Discard, File, Store, Each, Next, Break, Take, Test}
 use Rattle.bytecode_format.specs.declared.operation.TestOperation.{TestOperation}
 use Rattle.bytecode_format.specs.declared.operation.TestOperation.TheVariants.{Constant, Header, Exists, String, Size, PartSize, PartBody, PartDigest}
+use Rattle.bytecode_format.specs.Code.{version_two}
 use Rattle.bytecode_format.specs.Operations.{operation_of}
 use Rattle.bytecode_format.specs.Modifiers.{modifiers_numbered}
 use Rattle.bytecode_format.specs.declared.selection.FieldTest as field
@@ -62,7 +63,7 @@ row_of Take = record plain { b = Between 1 max_value; c = Any; index = Some Vari
 
 -- the row of an operation in programs of a version, or None where they don't have it
 abbrev pub row_in_version : ℕ → Operation → Option Row
-row_in_version version operation = if (row_of operation).since_two && not (version == 2) then None else Some (row_of operation)
+row_in_version version operation = if (row_of operation).since_two && not (version == version_two) then None else Some (row_of operation)
 
 -- the row of an octet, where it names an operation of the version
 abbrev pub row_named : ℕ → ℕ → Option Row

@@ -2,7 +2,7 @@
 ghost use Rattle.std.specs.Prelude.{◌≡◌, ◌↔◌, ℕ, ◌+◌, ◌*◌, ◌<◌, ◌≤◌, ◌^◌, None};
 ghost use Rattle.octets.specs.Limits.{max_depth, max_message, max_parts};
 ghost use Rattle.bytecode_cost.specs.Sums.{budget_at};
-ghost use Rattle.bytecode_format.specs.Code.{Code};
+ghost use Rattle.bytecode_format.specs.Code.{Code, version_two};
 ghost use Rattle.bytecode_format.specs.Spelling.{IsProgram};
 ghost use Rattle.bytecode_verifier.specs.Budget.{budget_of};
 ghost use Rattle.bytecode_verifier.specs.Acceptance.{IsAccepted, refusal_of};
@@ -21,15 +21,15 @@ pub fn budgets_fit_every_message()
 
 /// What is accepted in one version is accepted in version 2.
 pub fn accepted_programs_go_on_in_version_two()
-    ensures { (code : Code) → IsAccepted code → IsAccepted (record code { version = 2 }) }
+    ensures { (code : Code) → IsAccepted code → IsAccepted (record code { version = version_two }) }
 {}
 
 /// In version 2 a program has the same sums, and its budget is nowhere larger.
 pub fn budgets_do_not_grow_in_version_two()
     ensures sums { (code : Code)
-        → budget_of (record code { version = 2 }) ≡ record (budget_of code) { version = 2 } }
+        → budget_of (record code { version = version_two }) ≡ record (budget_of code) { version = version_two } }
     ensures values { (code : Code) → (n p : ℕ)
-        → budget_at (budget_of (record code { version = 2 })) n p ≤ budget_at (budget_of code) n p }
+        → budget_at (budget_of (record code { version = version_two })) n p ≤ budget_at (budget_of code) n p }
 {}
 
 /// What a program may charge, and what a delivery to it files, is nowhere less at a message of more

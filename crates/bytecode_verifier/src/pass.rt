@@ -8,6 +8,7 @@ ghost use Rattle.bytecode_verifier.specs.Budget.{cap_of};
 ghost use Rattle.bytecode_verifier.specs.Nests.{AreNests};
 ghost use Rattle.bytecode_verifier.specs.Noting.{Notes};
 ghost use Rattle.bytecode_format.specs.Operations.{operation_of};
+ghost use Rattle.bytecode_format.specs.declared.operation.Operation.TheVariants.{Test};
 ghost use Rattle.bytecode_verifier.specs.Pass.{HasPassed, IsSmall, Passes, unless_failed, with_charge};
 
 use crate::cap::{Cap, ONE_CHARGE};
@@ -106,42 +107,11 @@ impl Pass {
             Some(Operation::Capture) => self.take_as(here, Some(Operation::Capture)),
             Some(Operation::Join) => self.take_as(here, Some(Operation::Join)),
             Some(Operation::Set) => self.take_as(here, Some(Operation::Set)),
-            Some(Operation::Test(TestOperation::Constant)) => self.take_as(
-                here,
-                Some(Operation::Test(TestOperation::Constant)),
-            ),
+            Some(Operation::Test(test)) => self.take_test(here, test),
             Some(Operation::Not) => self.take_as(here, Some(Operation::Not)),
             Some(Operation::Jump) => self.take_as(here, Some(Operation::Jump)),
             Some(Operation::JumpIfTrue) => self.take_as(here, Some(Operation::JumpIfTrue)),
             Some(Operation::JumpIfFalse) => self.take_as(here, Some(Operation::JumpIfFalse)),
-            Some(Operation::Test(TestOperation::Header)) => self.take_as(
-                here,
-                Some(Operation::Test(TestOperation::Header)),
-            ),
-            Some(Operation::Test(TestOperation::Exists)) => self.take_as(
-                here,
-                Some(Operation::Test(TestOperation::Exists)),
-            ),
-            Some(Operation::Test(TestOperation::String)) => self.take_as(
-                here,
-                Some(Operation::Test(TestOperation::String)),
-            ),
-            Some(Operation::Test(TestOperation::Size)) => self.take_as(
-                here,
-                Some(Operation::Test(TestOperation::Size)),
-            ),
-            Some(Operation::Test(TestOperation::PartSize)) => self.take_as(
-                here,
-                Some(Operation::Test(TestOperation::PartSize)),
-            ),
-            Some(Operation::Test(TestOperation::PartBody)) => self.take_as(
-                here,
-                Some(Operation::Test(TestOperation::PartBody)),
-            ),
-            Some(Operation::Test(TestOperation::PartDigest)) => self.take_as(
-                here,
-                Some(Operation::Test(TestOperation::PartDigest)),
-            ),
             Some(Operation::Keep) => self.take_as(here, Some(Operation::Keep)),
             Some(Operation::Discard) => self.take_as(here, Some(Operation::Discard)),
             Some(Operation::File) => self.take_as(here, Some(Operation::File)),
@@ -151,6 +121,54 @@ impl Pass {
             Some(Operation::Break) => self.take_as(here, Some(Operation::Break)),
             Some(Operation::Take) => self.take_as(here, Some(Operation::Take)),
             None => self.take_as(here, None),
+        }
+    }
+
+    // The same of a test.
+    #[inline(always)]
+    fn take_test(&mut self, here: &Here<'_>, test: TestOperation) -> Result<(), AllocError>
+        requires named { Some (Test test) ≡ operation_of here.now.instruction.now.op }
+        requires small { here.now.place < max_instructions }
+        requires here { slice_get here.now.program.now.instructions here.now.place
+            ≡ Some here.now.instruction.now }
+        requires nests { AreNests here.now.program.now.instructions here.now.nests.now }
+        requires target { here.now.targeted
+            ≡ is_target here.now.program.now.version here.now.program.now.instructions
+            here.now.place }
+        requires before { HasPassed here.now.program.now here.now.place self.old }
+        ensures { OnOk result
+            (HasPassed here.now.program.now (here.now.place + 1) self.new) }
+    {
+        match test {
+            TestOperation::Constant => self.take_as(
+                here,
+                Some(Operation::Test(TestOperation::Constant)),
+            ),
+            TestOperation::Header => self.take_as(
+                here,
+                Some(Operation::Test(TestOperation::Header)),
+            ),
+            TestOperation::Exists => self.take_as(
+                here,
+                Some(Operation::Test(TestOperation::Exists)),
+            ),
+            TestOperation::String => self.take_as(
+                here,
+                Some(Operation::Test(TestOperation::String)),
+            ),
+            TestOperation::Size => self.take_as(here, Some(Operation::Test(TestOperation::Size))),
+            TestOperation::PartSize => self.take_as(
+                here,
+                Some(Operation::Test(TestOperation::PartSize)),
+            ),
+            TestOperation::PartBody => self.take_as(
+                here,
+                Some(Operation::Test(TestOperation::PartBody)),
+            ),
+            TestOperation::PartDigest => self.take_as(
+                here,
+                Some(Operation::Test(TestOperation::PartDigest)),
+            ),
         }
     }
 
@@ -169,7 +187,7 @@ impl Pass {
         ensures { OnOk result
             (HasPassed here.now.program.now (here.now.place + 1) self.new) }
     {
-        let row = row_named(here.program.version(), here.instruction.op);
+        let row = row_named(here.program.version(), operation);
         let passed = advance(
             self.stack,
             &mut self.shape,

@@ -1,6 +1,6 @@
 // The rules that look at one instruction.
 ghost use Rattle.std.specs.Prelude.{◌≡◌};
-ghost use Rattle.std.specs.Option.{option_map};
+ghost use Rattle.std.specs.Option.{option_and_then, option_map};
 ghost use Rattle.bytecode_format.specs.Operations.{operation_of};
 ghost use Rattle.bytecode_verifier.specs.Rows;
 ghost use Rattle.bytecode_verifier.specs.Rules;
@@ -8,12 +8,12 @@ ghost use Rattle.bytecode_verifier.specs.Rules;
 use crate::row::{Row, Table, row_in_version, row_of};
 use bytecode_format::{Instruction, Operation, Program};
 
-/// The row of an octet, if it names an operation of the version.
+/// The row of an operation, if there is one and the version has it.
 #[inline(always)]
-pub fn row_named(version: u8, octet: u8) -> Option<Row>
-    ensures { result ≡ Rows.row_named version octet }
+pub fn row_named(version: u8, operation: Option<Operation>) -> Option<Row>
+    ensures { result ≡ option_and_then (Rows.row_in_version version) operation }
 {
-    row_in_version(version, Operation::of(octet)?)
+    row_in_version(version, operation?)
 }
 
 /// Whether there is a row, the fields are in its ranges, and the others are 0.

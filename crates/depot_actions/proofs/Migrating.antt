@@ -15,7 +15,7 @@ use Rattle.sqlite_rules.specs.Lists.{Has}
 use Rattle.sqlite_rules.proofs.ListLemmas.{all_has, has_at}
 use Rattle.sqlite_rules.proofs.ProbeLemmas.{mapped_has}
 use Rattle.sqlite_trees.specs.Tree.{IsAscending, Trees}
-use Rattle.bytecode_format.specs.Code.{Code}
+use Rattle.bytecode_format.specs.Code.{Code, latest_version}
 use Rattle.bytecode_format.specs.Spelling.{spelling}
 use Rattle.sieve_engine.specs.Execution.{IsChecked}
 use Rattle.part_store.specs.Entries.{AreProgramsOf, Entries, IsBefore, UserProgram, program_named, with_programs}
@@ -24,7 +24,7 @@ use Rattle.part_store.specs.Refusals.{HaveNoUserRoom}
 use Rattle.refusals.specs.declared.refusal.Refusal.{Refusal}
 use Rattle.refusals.specs.declared.refusal.Refusal.TheVariants as refusal
 use Rattle.depot_actions.specs.Causes.{IsFault, IsHindered, IsSpoilt, IsStoreFault}
-use Rattle.depot_actions.specs.DepotState.{Accepts, Does, IsRenewed, MayLeave, Migrate, Migrated, Migrates, is_latest, latest_version}
+use Rattle.depot_actions.specs.DepotState.{Accepts, Does, IsRenewed, MayLeave, Migrate, Migrated, Migrates, is_latest}
 use Rattle.depot_actions.specs.Renewing.{AreRenewals, renewal, renewals, renewed_octets, with_renewal}
 use Rattle.depot_actions.proofs.Commands.{left_alone, stands_still}
 use Rattle.depot_actions.proofs.StoreFaults.{later_fault, weaker_fault}

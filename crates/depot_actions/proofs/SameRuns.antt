@@ -1,6 +1,6 @@
 -- A migrated program does what it did.
 use Rattle.std.proofs.Common.{◌≡◌, ℕ, List, Option, Some, None, length, refl, sym, subst, arith}
-use Rattle.bytecode_format.specs.Code.{Code}
+use Rattle.bytecode_format.specs.Code.{Code, latest_version}
 use Rattle.bytecode_format.specs.declared.action.Action.{Action}
 use Rattle.bytecode_format.proofs.Versions.{in_two}
 use Rattle.bytecode_verifier.specs.Acceptance.{IsAccepted}
@@ -12,7 +12,7 @@ use Rattle.sieve_vm.specs.Ending.{IsOutcome}
 use Rattle.sieve_vm.specs.Potential.{limit_of}
 use Rattle.sieve_vm.proofs.Versions.{ends_before, ends_later}
 use Rattle.part_store.specs.Entries.{Entries}
-use Rattle.depot_actions.specs.DepotState.{Accepts, AreActions, IsRenewed, Migrate, Reply, latest_version}
+use Rattle.depot_actions.specs.DepotState.{Accepts, AreActions, IsRenewed, Migrate, Reply}
 use Rattle.depot_actions.specs.Renewing.{RunsAs, renewed_octets}
 use Rattle.depot_actions.proofs.NoCause.{one_code}
 

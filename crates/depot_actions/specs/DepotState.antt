@@ -5,7 +5,7 @@ use Rattle.std.specs.Prelude.{◌≡◌, ◌⊎◌, ◌==◌, ℕ, ◌+◌, Bool
 use Rattle.std.specs.List.{AllZip}
 use Rattle.sqlite.specs.State.{State}
 use Rattle.sqlite_trees.specs.Tree.{Trees}
-use Rattle.bytecode_format.specs.Code.{Code}
+use Rattle.bytecode_format.specs.Code.{Code, latest_version}
 use Rattle.bytecode_format.specs.Spelling.{spelling}
 use Rattle.bytecode_format.specs.declared.action.Action.{Action}
 use Rattle.bytecode_format.specs.declared.action.Action.TheVariants.{Keep}
@@ -79,10 +79,6 @@ pub record Delivers (before : Entries) (user message : List ℕ) (reply : Reply)
   pub listed : reply ≡ Listed (map listing_of
       (numbered user (before.lasts user + 1) (drafts_of (mail_of message) actions)))
   pub filed : after ≡ filed user (drafts_of (mail_of message) actions) before
-
--- the version that a migration gives
-abbrev pub latest_version : ℕ
-latest_version = 2
 
 -- a user's program, which is accepted, has the latest version now: its code is the same
 abbrev pub IsRenewed : Option (List ℕ) → Option (List ℕ) → Type 0

@@ -1,12 +1,12 @@
 -- How the code makes programs of the latest version, and what such a program is to the one before.
 use Rattle.std.specs.Prelude.{◌≡◌, ℕ, ◌≤◌, List, [], ◌∷◌, Option, None, Some, if◌then◌else◌}
 use Rattle.std.specs.List.{AllZip}
-use Rattle.bytecode_format.specs.Code.{Code}
+use Rattle.bytecode_format.specs.Code.{Code, latest_version}
 use Rattle.bytecode_format.specs.Spelling.{spelling}
 use Rattle.bytecode_format.specs.declared.action.Action.{Action}
 use Rattle.sieve_engine.specs.Execution.{IsChecked, IsExecution}
 use Rattle.part_store.specs.Entries.{UserProgram}
-use Rattle.depot_actions.specs.DepotState.{is_latest, latest_version}
+use Rattle.depot_actions.specs.DepotState.{is_latest}
 
 -- the octets of the code with the latest version
 abbrev pub renewed_octets : Code → List ℕ

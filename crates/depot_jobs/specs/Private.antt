@@ -56,7 +56,7 @@ refusal_in _ = None
 -- the text of a trace and of the report that is behind it
 abbrev pub script_text : TracedScript → List ℕ
 script_text traced =
-    trace_text (sheet traced.name.now traced.places.items traced.message) (commands_form traced.checked.commands)
+    trace_text (sheet traced.name.now traced.places traced.message) (commands_form traced.checked.commands)
     ++ report_text traced.report.outcome.actions.items traced.report.outcome.charged traced.report.limit
 
 abbrev pub program_text : TracedProgram → List ℕ

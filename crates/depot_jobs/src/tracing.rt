@@ -20,7 +20,7 @@ use refusals::Refusal;
 use sieve_check::Checked;
 use sieve_engine::{Report, check_program, check_script, evaluate, execute};
 use sieve_parser::ParseError;
-use sieve_trace::{Place, TraceError, token_places};
+use sieve_trace::{Places, TraceError, token_places};
 use std::alloc::Global;
 
 /// What a trace is made of.
@@ -38,7 +38,7 @@ pub struct TracedScript<'a> {
     /// The name of the script's file.
     pub name: &'a str,
     /// Where the script's tokens stand.
-    pub places: Vec<Place>,
+    pub places: Places,
     /// The script.
     pub checked: Checked,
     /// The message.
@@ -138,9 +138,9 @@ fn script_trace<'a>(
 }
 
 // The places of a script's tokens.
-fn places_in(alloc: Global, script: &[u8]) -> Result<Vec<Place>, Refusal>
+fn places_in(alloc: Global, script: &[u8]) -> Result<Places, Refusal>
     ensures places { IfOk result (λ places. (tokens : List Token) × AreTokens script.now tokens
-        × (places.items ≡ places_of script.now tokens)) }
+        × (places ≡ places_of script.now tokens)) }
     ensures refused { IfErr result (λ e. IsScriptRefusal script.now e) }
 {
     match token_places(alloc, script) {

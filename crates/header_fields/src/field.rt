@@ -72,7 +72,7 @@ pub fn name_is(field: &Field, name: &[u8]) -> bool
 pub fn unfold<'a>(alloc: Global, field: &Field<'a>) -> Result<CowSlice<'a, u8>, AllocError>
     ensures value { IfOk result (λ value. cow_slice_items value ≡ field.now.value) }
     ensures lent { field.now.folded ≡ false → IfOk result (λ value. IsBorrowedSlice value) }
-    ensures told { field.now.folded ≡ false → IsOk result }
+    ensures no_memory { field.now.folded ≡ false → IsOk result }
 {
     unfold_start(alloc, field, field.lines.len())
 }
@@ -89,7 +89,7 @@ pub fn unfold_start<'a>(
     ensures start { IfOk result (λ start. cow_slice_items start
         ≡ beginning_of most field.now.value) }
     ensures lent { field.now.folded ≡ false → IfOk result (λ start. IsBorrowedSlice start) }
-    ensures told { field.now.folded ≡ false → IsOk result }
+    ensures no_memory { field.now.folded ≡ false → IsOk result }
 {
     let text = after_colon(field.lines);
     match Lines::new(text).next() {

@@ -1,20 +1,20 @@
 -- What was asked was answered.
-use Rattle.std.proofs.Common.{◌≡◌, ℕ, ◌+◌, ◌*◌, ◌<◌, ◌^◌, true, false, List, [], ◌∷◌, length, Option, None, Some, IfSome, refl, sym, ◌∙◌, ap, subst, arith}
+use Rattle.std.proofs.Common.{◌≡◌, ℕ, ◌+◌, ◌*◌, ◌<◌, ◌^◌, ◌⊎◌, inl, inr, true, false, List, [], ◌∷◌, length, Option, None, Some, IfSome, refl, sym, ◌∙◌, ap, subst, arith}
 use Rattle.std.specs.Prelude.{Bool, Result, Ok, Err, IfOk, is_some, option_map}
 use Rattle.std.specs.Bool.{then_some}
+use Rattle.std.specs.Cow.{IsBorrowedSlice, cow_slice_items}
 use Rattle.std.specs.Option.{option_or}
 use Rattle.glob_match.specs.declared.match_type.Match.{Match}
 use Rattle.mime_decode.specs.Mail.{Part}
 use Rattle.mail_matching.specs.Costs.{extent_of}
 use Rattle.mail_matching.specs.Findings.{Pair, finding_from, finding_of, first_pair, shortened}
-use Rattle.mail_matching.specs.FirstMatch.{first_match}
+use Rattle.mail_matching.specs.FirstMatch.{KeepsCaptures, first_match}
 use Rattle.mail_matching.specs.Outcomes.{after, holds}
 use Rattle.mail_matching.specs.Private.{GoesOn, HasAsked, IsCounted, IsFew, IsFresh, counted}
-use Rattle.mail_matching.specs.Questions.{Asked, IsShown, compares, decides, of_part}
+use Rattle.mail_matching.specs.Questions.{Asked, IsLent, IsShown, answered, compares, decides, of_part}
 use Rattle.mail_matching.specs.declared.finding.Finding.{Finding}
 use Rattle.mail_matching.specs.declared.finding.Finding.TheVariants.{Pair as Matched, NoneOf}
 use Rattle.mail_matching.specs.declared.finding.Found.{Found}
-use Rattle.mail_matching.specs.declared.outcome.Outcome.TheVariants.{Fails}
 use Rattle.mail_matching.specs.declared.progress.Progress.{Progress}
 use Rattle.mail_matching.specs.declared.questions.Need.TheVariants as need
 use Rattle.mail_matching.specs.declared.questions.Shown.{Shown}
@@ -51,6 +51,21 @@ pub no_digest : (asks : Part → Asked) (part : Option Part) (known : Shown) →
 no_digest asks None known other is = refl
 no_digest asks (Some part) (shown.Digest digest) other is = absurd (other digest refl)
 no_digest asks (Some part) _ other is = absurd is
+
+-- content of which nothing is captured, or that is lent
+pub content_takes : (how : Match) (keys : List (List ℕ)) (part : Option Part) (known : Shown) (content : _) → known ≡ shown.Content content → IsShown need.Content part known
+    → KeepsCaptures (answered (of_part (λ (p : Part). compares how (p.content ∷ [])) part) keys) ⊎ IsLent known
+    → KeepsCaptures (first_match how (cow_slice_items content.now ∷ []) keys) ⊎ IsBorrowedSlice content.now
+content_takes how keys part known content same is takes = go part (subst (IsShown need.Content part) same is) (subst (λ k. KeepsCaptures (answered (of_part (λ (p : Part). compares how (p.content ∷ [])) part) keys) ⊎ IsLent k) same takes)
+  where
+    go : (at : Option Part) → IsShown need.Content at (shown.Content content) → KeepsCaptures (answered (of_part (λ (p : Part). compares how (p.content ∷ [])) at) keys) ⊎ IsLent (shown.Content content)
+        → KeepsCaptures (first_match how (cow_slice_items content.now ∷ []) keys) ⊎ IsBorrowedSlice content.now
+    go None h t = absurd cc
+    go (Some p) h t =
+        elim t [
+          | inl keeps ↦ inl (subst (λ (x : List ℕ). KeepsCaptures (first_match how (x ∷ []) keys)) (sym h.0) keeps)
+          | inr lent ↦ inr lent
+        ]
 
 -- what is kept of a finding that is few enough is all of it
 few_kept : (most : ℕ) (finding : Finding) → IsFew finding → counted (shortened most finding) ≡ shortened most finding

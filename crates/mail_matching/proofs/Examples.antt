@@ -8,13 +8,16 @@ use Rattle.mime_params.specs.MediaValue.{disposition_of, media_type_of, param_at
 use Rattle.mime_params.specs.declared.encoding.TransferEncoding.TheVariants.{SevenBit}
 use Rattle.mime_tree.specs.PartTree.{text_plain}
 use Rattle.mime_decode.specs.Mail.{Mail, Part}
+use Rattle.bytecode_format.specs.declared.question.Question.{Question}
+use Rattle.bytecode_format.specs.declared.question.Question.TheVariants.{Header}
 use Rattle.bytecode_format.specs.declared.selection.Scope.{Scope}
 use Rattle.bytecode_format.specs.declared.selection.Scope.TheVariants as scopes
 use Rattle.bytecode_format.specs.declared.selection.Selector.{Selector}
 use Rattle.bytecode_format.specs.declared.selection.Selector.TheVariants.{Value, ContentType, Param}
 use Rattle.mail_matching.specs.FirstMatch.{no_captures}
-use Rattle.mail_matching.specs.HeaderTests.{exists_in, header_cost, header_match}
+use Rattle.mail_matching.specs.HeaderTests.{exists_in}
 use Rattle.mail_matching.specs.PartTests.{body_cost}
+use Rattle.mail_matching.specs.Questions.{answer, question_cost, texts_of}
 
 -- ---- the root, one part with another below it, and one more
 
@@ -43,8 +46,14 @@ equal = record { kind = Is; comparator = Casemap }
 abbrev containing : Match
 containing = record { kind = Contains; comparator = Casemap }
 
+abbrev asking : Match → Scope → Selector → Question
+asking how scope selector = Header (record { scope = scope; selector = selector; how = how })
+
 abbrev finds : Match → Scope → Option ℕ → Selector → List (List ℕ) → List (List ℕ) → List (List ℕ) → Option (List (List ℕ))
-finds how scope current selector params names keys = header_match how scope current selector params names keys mail no_captures
+finds how scope current selector params names keys = answer mail current (asking how scope selector) (texts_of names params keys) no_captures
+
+abbrev costs : Scope → Option ℕ → Selector → List (List ℕ) → List (List ℕ) → List (List ℕ) → ℕ
+costs scope current selector params names keys = question_cost mail current (asking equal scope selector) (texts_of names params keys)
 
 -- ---- a part, and those below it
 
@@ -58,7 +67,7 @@ not_above_the_part : finds equal scopes.PartAndBelow (Some 1) Value [] (codes "S
 not_above_the_part = refl
 
 -- 3 fields in 2 parts, and values of 3 and 5 octets
-what_it_costs : header_cost scopes.PartAndBelow (Some 1) Value [] (codes "Subject" ∷ []) (codes "abc" ∷ []) mail ≡ 4 * 8 + (4 + 6) * 4
+what_it_costs : costs scopes.PartAndBelow (Some 1) Value [] (codes "Subject" ∷ []) (codes "abc" ∷ []) ≡ 4 * 8 + (4 + 6) * 4
 what_it_costs = refl
 
 names_of_different_parts : exists_in scopes.PartAndBelow None (codes "subject" ∷ codes "content-type" ∷ codes "content-disposition" ∷ []) mail ≡ true
@@ -79,7 +88,7 @@ unfolding media_type_of disposition_of param_at
 an_absent_parameter = refl
 
 -- it costs nothing but the looking for fields
-its_cost : header_cost scopes.Part (Some 1) Param (codes "name" ∷ []) (codes "Content-Type" ∷ []) (codes "abc" ∷ []) mail ≡ 3 * 13
+its_cost : costs scopes.Part (Some 1) Param (codes "name" ∷ []) (codes "Content-Type" ∷ []) (codes "abc" ∷ []) ≡ 3 * 13
 unfolding media_type_of disposition_of param_at
 its_cost = refl
 

@@ -11,7 +11,6 @@ use Rattle.mime_decode.specs.Content.{digest_of}
 use Rattle.mime_decode.specs.Mail.{IsMail, Mail, Part, size_of}
 use Rattle.mail_matching.specs.Costs.{extent_of, names_cost, values_cost}
 use Rattle.mail_matching.specs.Findings.{is_pair}
-use Rattle.mail_matching.specs.FirstMatch.{first_match}
 use Rattle.mail_matching.specs.HeaderTests.{fields_in_scope}
 use Rattle.mail_matching.specs.PartTests.{exactly}
 use Rattle.mail_matching.specs.QuestionCosts.{AreWithin, Sizes, most_of, value_of}

@@ -1,19 +1,20 @@
 -- What the questions of simple tests come to on a message, what they find there, and what asking them costs.
-use Rattle.std.specs.Prelude.{◌≡◌, ℕ, ◌+◌, ◌≤◌, Bool, true, false, nat_lt, List, [], ◌∷◌, Option, None, Some, length, slice_get}
+use Rattle.std.specs.Prelude.{◌≡◌, ◌⊎◌, All, ℕ, ◌+◌, ◌≤◌, Bool, false, nat_lt, List, [], ◌∷◌, Option, None, Some, length, slice_get}
 use Rattle.std.specs.Bool.{then_some}
-use Rattle.std.specs.Cow.{cow_slice_items}
+use Rattle.std.specs.Cow.{IsBorrowedSlice, cow_slice_items}
 use Rattle.octets.specs.Limits.{max_message}
 use Rattle.glob_match.specs.declared.match_type.Match.{Match}
 use Rattle.bytecode_format.specs.declared.question.Order.{Order}
 use Rattle.bytecode_format.specs.declared.question.Order.TheVariants.{Over, Under}
 use Rattle.bytecode_format.specs.declared.question.Question.{Question}
 use Rattle.bytecode_format.specs.declared.question.Question.TheVariants.{Constant, Header, Exists, Size, String, PartSize, PartBody, PartDigest}
+use Rattle.bytecode_format.specs.declared.selection.Selector.TheVariants.{Value}
 use Rattle.mime_decode.specs.Content.{digest_of}
 use Rattle.mime_decode.specs.Mail.{Mail, Part, size_of}
 use Rattle.mail_matching.specs.Costs.{names_cost, values_cost}
 use Rattle.mail_matching.specs.Findings.{finding_of}
-use Rattle.mail_matching.specs.FirstMatch.{first_match}
-use Rattle.mail_matching.specs.HeaderTests.{exists_in, fields_in_scope}
+use Rattle.mail_matching.specs.FirstMatch.{KeepsCaptures, first_match}
+use Rattle.mail_matching.specs.HeaderTests.{AreUnfolded, exists_in, fields_in_scope, headers_in_scope}
 use Rattle.mail_matching.specs.PartTests.{exactly}
 use Rattle.mail_matching.specs.Selection.{selected_values}
 use Rattle.mail_matching.specs.declared.finding.Finding.{Finding}
@@ -127,3 +128,23 @@ IsShown need.Content (Some part) (shown.Content content) =
     (cow_slice_items content.now ≡ part.content) × (length part.content ≤ max_message)
 IsShown need.Digest (Some part) (shown.Digest digest) = digest.now ≡ digest_of part.content
 IsShown _ (Some part) _ = ⊥
+
+-- ---- whether asking takes memory
+
+-- content that the message lends
+abbrev pub IsLent : Shown → Type 0
+IsLent (shown.Content content) = IsBorrowedSlice content.now
+IsLent _ = ⊥
+
+-- none is taken: of fields whole values are compared, of which none is folded; of texts, and of content that was decoded,
+-- nothing is captured
+abbrev pub TakesNoMemory : Mail → Option ℕ → Question → Texts → Shown → Type 0
+TakesNoMemory mail part (Constant value) texts known = Unit {0}
+TakesNoMemory mail part (Header fields) texts known =
+    (fields.selector ≡ Value) × All (AreUnfolded texts.names) (headers_in_scope fields.scope part mail)
+TakesNoMemory mail part (Exists scope) texts known = Unit {0}
+TakesNoMemory mail part (Size order number) texts known = Unit {0}
+TakesNoMemory mail part (String how) texts known = KeepsCaptures (answer mail part (String how) texts)
+TakesNoMemory mail part (PartSize order number) texts known = Unit {0}
+TakesNoMemory mail part (PartBody how) texts known = KeepsCaptures (answer mail part (PartBody how) texts) ⊎ IsLent known
+TakesNoMemory mail part PartDigest texts known = Unit {0}

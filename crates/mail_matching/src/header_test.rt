@@ -13,7 +13,9 @@ use crate::cost::{extent_of, names_cost, product};
 use crate::finding::Telling;
 use crate::headers::{Headers, Reach, fields_number};
 use crate::progress::{Comparison, Progress};
+use crate::questions::TestTexts;
 use crate::texts::Texts;
+use bytecode_format::FieldTest;
 use mime_decode::Message;
 use std::alloc::{AllocError, Global};
 
@@ -25,31 +27,41 @@ use std::alloc::{AllocError, Global};
 pub(crate) fn header<'m, N: Texts, P: Texts, K: Texts, T: Telling>(
     alloc: Global,
     message: &Message<'m>,
-    reach: Reach,
-    names: &N,
-    test: &Comparison<'_, P, K>,
+    current: Option<usize>,
+    test: FieldTest,
+    texts: TestTexts<'_, N, P, K>,
     progress: &mut Progress<'m, T>,
 ) -> Result<u128, AllocError>
-    requires current { IfSome reach.current (λ current. current < length message.now.parts) }
-    requires names { AreTexts (N.texts names.now) }
-    requires params { AreTexts (P.texts test.now.params.now) }
-    requires keys { AreTexts (K.texts test.now.keys.now) }
+    requires current { IfSome current (λ number. number < length message.now.parts) }
+    requires names { AreTexts (N.texts texts.names.now) }
+    requires params { AreTexts (P.texts texts.params.now) }
+    requires keys { AreTexts (K.texts texts.keys.now) }
     requires fresh { IsFresh progress.old }
     ensures asked { IfOk result (λ cost. HasAsked T.knows
-        (compares test.now.how (selected_values reach.scope reach.current
-        test.now.selector (P.texts test.now.params.now) (N.texts names.now)
-        message.now)) (K.texts test.now.keys.now)
-        (names_cost (fields_in_scope reach.scope reach.current message.now)
-        (N.texts names.now)) progress.old progress.new cost) }
-    ensures told { T.is_free → test.now.selector ≡ Value
-        → All (AreUnfolded (N.texts names.now))
-        (headers_in_scope reach.scope reach.current message.now)
+        (compares test.how (selected_values test.scope current test.selector
+        (P.texts texts.entry.params.now) (N.texts texts.entry.names.now) message.now))
+        (K.texts texts.entry.keys.now)
+        (names_cost (fields_in_scope test.scope current message.now)
+        (N.texts texts.entry.names.now)) progress.old progress.new cost) }
+    ensures told { T.is_free → test.selector ≡ Value
+        → All (AreUnfolded (N.texts texts.entry.names.now))
+        (headers_in_scope test.scope current message.now)
         → IsOk result }
 {
+    let reach = Reach {
+        scope: test.scope,
+        current,
+    };
     let headers = Headers::in_scope(message, reach);
-    take_headers(alloc, &headers, names, test, progress)?;
-    let looked = names_cost(fields_number(&headers), names);
-    Ok(looked as u128 + product(progress.extent, extent_of(test.keys)))
+    let comparison = Comparison {
+        selector: test.selector,
+        params: texts.params,
+        keys: texts.keys,
+        how: test.how,
+    };
+    take_headers(alloc, &headers, texts.names, &comparison, progress)?;
+    let looked = names_cost(fields_number(&headers), texts.names);
+    Ok(looked as u128 + product(progress.extent, extent_of(texts.keys)))
 }
 
 // Goes on with what is selected in the headers, one by one.

@@ -1,12 +1,12 @@
 // The tests of the current part: of its content's size, of its content, and of that one's digest. Outside of loops, where no
 // checked script asks them, they fail.
-ghost use Rattle.std.specs.Prelude.{◌≡◌, ◌≤◌, ◌∷◌, [], Option, IfOk, IsOk, length};
+ghost use Rattle.std.specs.Prelude.{◌≡◌, ◌⊎◌, ◌≤◌, ◌∷◌, [], Option, IfOk, IsOk, length};
 ghost use Rattle.std.specs.Cow.{IsBorrowedSlice, cow_slice_items};
 ghost use Rattle.octets.specs.Limits.{max_message};
 ghost use Rattle.mail_matching.specs.FirstMatch.{KeepsCaptures, first_match};
 ghost use Rattle.mail_matching.specs.PartTests.{exactly};
 ghost use Rattle.mail_matching.specs.Private.{HasAsked, IsFresh};
-ghost use Rattle.mail_matching.specs.Questions.{IsShown, compares, decides, is_size, of_part};
+ghost use Rattle.mail_matching.specs.Questions.{IsLent, IsShown, answered, compares, decides, is_size, of_part};
 ghost use Rattle.mail_matching.specs.Texts.{AreTexts};
 ghost use Rattle.mail_matching.specs.declared.questions.Need.TheVariants as need;
 ghost use Rattle.mime_decode.specs.Content.{digest_of};
@@ -23,6 +23,7 @@ use std::alloc::{AllocError, Global};
 use std::borrow::CowSlice;
 
 /// Whether so many octets are over or under the number.
+#[inline(always)]
 pub(crate) fn is_size(order: Order, number: u64, octets: u64) -> bool
     ensures { result ≡ is_size order number octets }
 {
@@ -58,9 +59,12 @@ pub(crate) fn part_body<'m, K: Texts, T: Telling>(
     requires shown { (part : Option Part) × IsShown need.Content part shown }
     requires keys { AreTexts (K.texts keys.now) }
     requires fresh { IsFresh progress.old }
-    ensures { IfOk result (λ cost. (part : Option Part) → IsShown need.Content part shown.entry
+    ensures asked { IfOk result (λ cost. (part : Option Part) → IsShown need.Content part shown.entry
         → HasAsked T.knows (of_part (λ p. compares how (p.content ∷ [])) part)
         (K.texts keys.now) 0 progress.old progress.new cost) }
+    ensures no_memory { T.is_free → (part : Option Part) → IsShown need.Content part shown.entry
+        → (KeepsCaptures (answered (of_part (λ p. compares how (p.content ∷ [])) part)
+        (K.texts keys.now)) ⊎ IsLent shown.entry) → IsOk result }
 {
     match shown {
         Shown::Content(content) => body(alloc, content, keys, how, progress),
@@ -105,9 +109,10 @@ pub(crate) fn part_digest<'m, K: Texts, T: Telling>(
 ) -> Result<u128, AllocError>
     requires keys { AreTexts (K.texts keys.now) }
     requires fresh { IsFresh progress.old }
-    ensures { IfOk result (λ cost. (part : Option Part) → IsShown need.Digest part shown.entry
+    ensures asked { IfOk result (λ cost. (part : Option Part) → IsShown need.Digest part shown.entry
         → HasAsked T.knows (of_part (λ p. compares exactly (digest_of p.content ∷ [])) part)
         (K.texts keys.now) 0 progress.old progress.new cost) }
+    ensures no_memory { T.is_free → IsOk result }
 {
     match shown {
         Shown::Digest(found) => digest(alloc, found, keys, progress),

@@ -49,6 +49,7 @@ pub(crate) struct Progress<'m, T> {
 
 impl<'m, T: Telling> Progress<'m, T> {
     /// Nothing was asked yet.
+    #[inline(always)]
     pub(crate) fn new(told: T) -> Progress<'m, T>
         ensures { result ≡ record { outcome = Fails; extent = 0; told = told } }
     {

@@ -1,9 +1,9 @@
 // Questions, asked.
-ghost use Rattle.std.specs.Prelude.{◌≡◌, ◌<◌, ℕ, List, Option, IfOk, IfSome, is_some, length, option_map};
+ghost use Rattle.std.specs.Prelude.{◌≡◌, ◌<◌, ℕ, List, Option, IfOk, IfSome, IsOk, is_some, length, option_map};
 ghost use Rattle.mail_matching.specs.Findings.{shortened};
 ghost use Rattle.mail_matching.specs.Outcomes.{after};
 ghost use Rattle.mail_matching.specs.Private.{HasAsked, IsFresh};
-ghost use Rattle.mail_matching.specs.Questions.{IsShown, Texts as TextsOf, answer, asked, current as current_part, found, looked_cost, need_of, question_cost, texts_of};
+ghost use Rattle.mail_matching.specs.Questions.{IsShown, TakesNoMemory, Texts as TextsOf, answer, asked, current as current_part, found, looked_cost, need_of, question_cost, texts_of};
 ghost use Rattle.mail_matching.specs.Texts.{AreTexts};
 ghost use Rattle.mime_decode.specs.Mail.{Mail};
 
@@ -13,10 +13,10 @@ use crate::header_test::header;
 use crate::headers::Reach;
 use crate::outcome::Answer;
 use crate::part_tests::{is_size, part_body, part_digest, part_is_size};
-use crate::progress::{Comparison, Progress};
+use crate::progress::Progress;
 use crate::string_test::string;
 use crate::texts::Texts;
-use bytecode_format::{FieldTest, Question};
+use bytecode_format::Question;
 use mime_decode::Message;
 use std::alloc::{AllocError, Global};
 use std::borrow::CowSlice;
@@ -52,6 +52,7 @@ impl Need {
     ghost use Rattle.mail_matching.specs.Questions.{need_of};
 
     /// What the question needs.
+    #[inline(always)]
     pub fn of(question: Question) -> Need
         ensures { result ≡ need_of question }
     {
@@ -79,9 +80,20 @@ pub struct TestTexts<'t, N: Texts, P: Texts, K: Texts> {
 /// What the question comes to on the message, and what asking it costs. `current` is the current part, by its number, or `None`
 /// outside of loops; `shown` is what the question needs of its content.
 ///
+/// Values are compared in order, and each with the keys in order, up to the first that matches. Those of fields are taken part by
+/// part, in each name by name, for each field by field, and for each parameter name by name. A field's value is unfolded at most once
+/// for each name that selects it, and none after the one that matches, but where its type or its parameters have to be read: of a
+/// type's value 128 octets at first, and all where these don't settle it; a longer field's type is kept with the message then, and
+/// isn't read again. The parameters of a value are gone over once, however many are asked for.
+///
+/// The cost counts all values and keys, and all names and fields, whichever were compared. That of 1,024 names, 1,024 parameters and
+/// 1,024 keys of 16,384 octets in the largest message is below 2^71.
+///
 /// # Errors
 ///
-/// An allocation was refused.
+/// An allocation was refused; none is made but for values that are folded, for types and parameters, and for what is captured of a
+/// value that the message doesn't lend.
+#[inline(always)]
 pub fn ask<'m, N: Texts, P: Texts, K: Texts>(
     alloc: Global,
     message: &Message<'m>,
@@ -102,6 +114,9 @@ pub fn ask<'m, N: Texts, P: Texts, K: Texts>(
     ensures cost { IfOk result (λ reply. reply.cost
         ≡ question_cost message.now current question (texts_of (N.texts texts.entry.names.now)
         (P.texts texts.entry.params.now) (K.texts texts.entry.keys.now))) }
+    ensures no_memory { TakesNoMemory message.now current question (texts_of (N.texts texts.entry.names.now)
+        (P.texts texts.entry.params.now) (K.texts texts.entry.keys.now)) shown.entry
+        → IsOk result }
 {
     let mut progress = Progress::new(Nobody);
     let cost = put(
@@ -124,7 +139,8 @@ pub fn ask<'m, N: Texts, P: Texts, K: Texts>(
 ///
 /// # Errors
 ///
-/// An allocation was refused.
+/// An allocation was refused. Where a value matches, some are made for what is kept of it and of the key, too.
+#[inline(always)]
 pub fn ask_and_find<'m, N: Texts, P: Texts, K: Texts>(
     alloc: Global,
     message: &Message<'m>,
@@ -169,6 +185,7 @@ pub fn ask_and_find<'m, N: Texts, P: Texts, K: Texts>(
 }
 
 // Whether the question compares values with keys. Those of the current part compare none, where there is no such part.
+#[inline(always)]
 fn compares(question: Question, shown: Shown) -> bool
     ensures { (mail : Mail) (part : Option ℕ) (texts : TextsOf)
         → IsShown (need_of question) (current_part mail part) shown.entry
@@ -201,56 +218,33 @@ fn put<'m, N: Texts, P: Texts, K: Texts, T: Telling>(
     requires params { AreTexts (P.texts texts.params.now) }
     requires keys { AreTexts (K.texts texts.keys.now) }
     requires fresh { IsFresh progress.old }
-    ensures { IfOk result (λ cost. HasAsked T.knows
+    ensures asked { IfOk result (λ cost. HasAsked T.knows
         (asked message.now current question (texts_of (N.texts texts.entry.names.now)
         (P.texts texts.entry.params.now) (K.texts texts.entry.keys.now)))
         (K.texts texts.entry.keys.now)
         (looked_cost message.now current question (texts_of (N.texts texts.entry.names.now)
         (P.texts texts.entry.params.now) (K.texts texts.entry.keys.now)))
         progress.old progress.new cost) }
+    ensures no_memory { T.is_free → TakesNoMemory message.now current question
+        (texts_of (N.texts texts.entry.names.now) (P.texts texts.entry.params.now)
+        (K.texts texts.entry.keys.now)) shown.entry → IsOk result }
 {
-    let TestTexts {
-        names,
-        params,
-        keys,
-    } = texts;
     match question {
         Question::Constant(value) => Ok(progress.decide(value, 0)),
-        Question::Header(
-            FieldTest {
-                scope,
-                selector,
-                how,
-            },
-        ) => {
-            let comparison = Comparison {
-                selector,
-                params,
-                keys,
-                how,
-            };
-            header(
-                alloc,
-                message,
-                Reach { scope, current },
-                names,
-                &comparison,
-                progress,
-            )
-        }
+        Question::Header(test) => header(alloc, message, current, test, texts, progress),
         Question::Exists(scope) => {
-            let (all, looked) = exists(message, Reach { scope, current }, names);
+            let (all, looked) = exists(message, Reach { scope, current }, texts.names);
             Ok(progress.decide(all, looked))
         }
         Question::Size(order, number) => {
             let octets = message.size() as u64;
             Ok(progress.decide(is_size(order, number, octets), 0))
         }
-        Question::String(how) => string(alloc, names, keys, how, progress),
+        Question::String(how) => string(alloc, texts.names, texts.keys, how, progress),
         Question::PartSize(order, number) => {
             Ok(progress.decide(part_is_size(order, number, shown), 0))
         }
-        Question::PartBody(how) => part_body(alloc, shown, keys, how, progress),
-        Question::PartDigest => part_digest(alloc, shown, keys, progress),
+        Question::PartBody(how) => part_body(alloc, shown, texts.keys, how, progress),
+        Question::PartDigest => part_digest(alloc, shown, texts.keys, progress),
     }
 }

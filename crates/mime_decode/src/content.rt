@@ -23,7 +23,7 @@ pub(crate) fn decoded<'a>(
     ensures content { IfOk result (λ content. cow_slice_items content
         ≡ content_of encoding body.now) }
     ensures lent { is_decoded encoding ≡ false → IfOk result (λ content. IsBorrowedSlice content) }
-    ensures told { is_decoded encoding ≡ false → IsOk result }
+    ensures no_memory { is_decoded encoding ≡ false → IsOk result }
 {
     match encoding {
         TransferEncoding::Base64 => Ok(CowSlice::Owned(decoded_base64(alloc, body)?)),

@@ -120,7 +120,7 @@ impl<'a> Message<'a> {
             ≡ p.content)) self.now.parts part }
         ensures lent { HoldsAt (λ p. is_decoded p.encoding ≡ false
             → IfOk result (λ content. IsBorrowedSlice content)) self.now.parts part }
-        ensures told { HoldsAt (λ p. is_decoded p.encoding ≡ false
+        ensures no_memory { HoldsAt (λ p. is_decoded p.encoding ≡ false
             → IsOk result) self.now.parts part }
     {
         decoded(alloc, self.tree.encoding(part), self.tree.body(part))
@@ -135,7 +135,7 @@ impl<'a> Message<'a> {
         requires { part < length self.now.parts }
         ensures digest { HoldsAt (λ p. IfOk result (λ digest. digest ≡ digest_of p.content))
             self.now.parts part }
-        ensures told { HoldsAt (λ p. is_decoded p.encoding ≡ false
+        ensures no_memory { HoldsAt (λ p. is_decoded p.encoding ≡ false
             → IsOk result) self.now.parts part }
     {
         let content = self.content(alloc, part)?;

@@ -17,7 +17,7 @@ use Rattle.part_store.specs.Changes.{columns, new_row, IsFound, Reads, Steps, Is
 use Rattle.part_store.specs.Entries.{Draft, Entries, Entry, entry_of, numbered, with_entries, with_last}
 use Rattle.part_store.specs.Filing.{entry_values, HasRoom}
 use Rattle.part_store.specs.Additions.{CanFile, Claims, HasDraft, IsNext, RisesWithin, Stocks}
-use Rattle.part_store.specs.Refusals.{content_values, refusal_of, OnlyWhenFailed, OnlyWhenNoEntriesFit, HasFailed, HasNoUserRoom, HaveNoRoom, RunsOut}
+use Rattle.part_store.specs.Refusals.{content_values, refusal_of, OnlyWhenFailed, OnlyWhenFailedOrNoEntryRoom, HasFailed, HasNoUserRoom, HaveNoRoom, RunsOut}
 use Rattle.part_store.specs.Causes.{AddFaults, OnlyWhenNoRowsFit, HasNoContent, HasNoRoom, HasSome, IsFree, LacksRoom}
 use Rattle.part_store.specs.Standing.{IsEntryRow, Stands, StandsFor}
 use Rattle.part_store.specs.Inside.{Stays}
@@ -125,7 +125,7 @@ files_refused old mid new user last count drafts e one two clean claims cause is
 -- what was read before leaves the tables as they were
 pub entries_after : (old mid new : State) (user : List ℕ) (drafts : List Draft) (e : Error) → Survives old mid (λ _. ⊥) → Survives mid new (λ _. ⊥) → HasCleanDisk new → Stays old mid
     → ((before : Entries) → Stands old.now before → HasRoom before user (length drafts)) → ((before : Entries) → Stands old.now before → OnlyWhenNoRowsFit user drafts mid new (refusal_of e))
-    → OnlyWhenNoEntriesFit user drafts old new (refusal_of e)
+    → OnlyWhenFailedOrNoEntryRoom user drafts old new (refusal_of e)
 entries_after old mid new user drafts e one two clean stays room cause is before stands =
     let same = (stays stands.schema).1 in
     elim (cause before stands is before (stands_still old mid before stays stands)) [
@@ -134,7 +134,7 @@ entries_after old mid new user drafts e one two clean stays room cause is before
       | inr (inr none) ↦ inr (room before stands, inr (subst (HaveNoRoom user drafts) same none))
     ]
 
-pub entries_blamed : (old new : State) (user : List ℕ) (drafts : List Draft) (e : Error) → OnlyWhenFailed old new (refusal_of e) → OnlyWhenNoEntriesFit user drafts old new (refusal_of e)
+pub entries_blamed : (old new : State) (user : List ℕ) (drafts : List Draft) (e : Error) → OnlyWhenFailed old new (refusal_of e) → OnlyWhenFailedOrNoEntryRoom user drafts old new (refusal_of e)
 entries_blamed old new user drafts e h is before stands = inl (h is before stands)
 
 -- what the tables stand for after they were read they stood for before

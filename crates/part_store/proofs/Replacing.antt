@@ -12,7 +12,7 @@ use Rattle.part_store.specs.Tables.{store_schema, users_table, users_tree}
 use Rattle.part_store.specs.Entries.{Entries, UserProgram, program_named, with_program, with_programs}
 use Rattle.part_store.specs.Inside.{Brings, Stays}
 use Rattle.part_store.specs.Standing.{Stands, pair_of}
-use Rattle.part_store.specs.Refusals.{refusal_of, user_values, OnlyWhenNoProgramsFit, OnlyWhenNoRowFits, IsTooBig, RunsOut}
+use Rattle.part_store.specs.Refusals.{refusal_of, user_values, OnlyWhenFailedOrNoProgramRoom, OnlyWhenFailedOrNoUserRoom, IsTooBig, RunsOut}
 use Rattle.part_store.specs.Causes.{RisesFrom}
 use Rattle.part_store.proofs.Apart.{bytes_same, same_bytes}
 use Rattle.part_store.proofs.Failing.{later_failed}
@@ -135,7 +135,7 @@ own_program user program before = rw (bytes_same user)
 
 pub one_refused : (old mid new : State) (user program : List ℕ) (e : Error) → Stays old mid → Survives old mid (λ _. ⊥) → Survives mid new (λ _. ⊥) → HasCleanDisk new
     → (old.now.schema ≡ store_schema → IsTrue old.in_transaction → IsTrue mid.in_transaction)
-    → (IsTrue mid.in_transaction → OnlyWhenNoRowFits user (with_program user program) mid new (refusal_of e)) → IsTrue old.in_transaction → OnlyWhenNoProgramsFit ((user, program) ∷ []) old new (refusal_of e)
+    → (IsTrue mid.in_transaction → OnlyWhenFailedOrNoUserRoom user (with_program user program) mid new (refusal_of e)) → IsTrue old.in_transaction → OnlyWhenFailedOrNoProgramRoom ((user, program) ∷ []) old new (refusal_of e)
 one_refused old mid new user program e stays one two clean inside cause begun is before stands =
     let same = (stays stands.schema).1 in
     elim (cause (inside stands.schema begun) is before (stands_still old mid before stays stands)) [
@@ -145,7 +145,7 @@ one_refused old mid new user program e stays one two clean inside cause begun is
     ]
 
 pub pairs_refused : (pairs later whole : List UserProgram) (pair : UserProgram) (old mid new : State) (e : Error) → whole ≡ pairs ++ pair ∷ later → Replacing pairs old mid → Survives mid new (λ _. ⊥) → HasCleanDisk new
-    → (IsTrue mid.in_transaction → OnlyWhenNoProgramsFit (pair ∷ []) mid new (refusal_of e)) → IsTrue old.in_transaction → OnlyWhenNoProgramsFit whole old new (refusal_of e)
+    → (IsTrue mid.in_transaction → OnlyWhenFailedOrNoProgramRoom (pair ∷ []) mid new (refusal_of e)) → IsTrue old.in_transaction → OnlyWhenFailedOrNoProgramRoom whole old new (refusal_of e)
 pairs_refused pairs later whole pair old mid new e place so_far survives clean cause begun is before stands =
     let early : HasCleanDisk mid = omega (arith, clean, survives.clean) in
     let brought = so_far.brought early before stands in

@@ -18,7 +18,7 @@ use Rattle.sqlite.specs.declared.error.Error.{Error}
 use Rattle.part_store.specs.Tables.{store_schema, users_table, users_tree, equals}
 use Rattle.part_store.specs.Changes.{columns, user_row, IsAdded, IsFound, IsOnlyRow, IsTaken, Reads, Steps, IsTableIn}
 use Rattle.part_store.specs.Entries.{Entries, with_last, with_program}
-use Rattle.part_store.specs.Refusals.{refusal_of, user_values, OnlyWhenNoRowFits, HasFailed, HasNoUserRoom, IsRowidIn, RunsOut}
+use Rattle.part_store.specs.Refusals.{refusal_of, user_values, OnlyWhenFailedOrNoUserRoom, HasFailed, HasNoUserRoom, IsRowidIn, RunsOut}
 use Rattle.part_store.specs.Causes.{AddFaults, HasNoRow, PutFaults, RisesFrom}
 use Rattle.part_store.specs.Readings.{ShowsLast, last_in}
 use Rattle.part_store.specs.Standing.{IsUserRow, Stands, StandsFor}
@@ -130,7 +130,7 @@ pub program_unplaced : (old one two new : State) (user program : List ℕ) (last
     → Steps (Reads (λ db. IsFound users_tree (equals 1 (Text user)) (columns (2 ∷ 3 ∷ [])) db found)) old one → last_in found last → Steps (IsTaken users_tree (equals 1 (Text user))) one two
     → Survives old one (λ _. ⊥) → Survives one two (λ _. ⊥) → Survives two new (λ _. ⊥) → HasCleanDisk new
     → (IsTableIn users_tree two.now.trees → HasNoRow user two.now.trees → AddFaults users_table (Text user ∷ Int (pos last) ∷ Blob program ∷ []) two new e)
-    → IsTrue old.in_transaction → OnlyWhenNoRowFits user (with_program user program) old new (refusal_of e)
+    → IsTrue old.in_transaction → OnlyWhenFailedOrNoUserRoom user (with_program user program) old new (refusal_of e)
 program_unplaced old one two new user program last found e reads number takes first second third clean adds inside is before stands =
     let early : HasCleanDisk two = omega (arith, clean, third.clean) in
     let a = reads stands.schema in

@@ -67,8 +67,8 @@ HasNoUserRoom user after db = RunsOut (db users_tree) 1
 
 -- where the tables stand for a state, a change of a user's row is refused only by a database that
 -- can't work or has no room for the row
-abbrev pub OnlyWhenNoRowFits : List ℕ → (Entries → Entries) → State → State → StoreError → Type 0
-OnlyWhenNoRowFits user change = OnlyWhenFailedOr (λ before. HasNoUserRoom user (change before))
+abbrev pub OnlyWhenFailedOrNoUserRoom : List ℕ → (Entries → Entries) → State → State → StoreError → Type 0
+OnlyWhenFailedOrNoUserRoom user change = OnlyWhenFailedOr (λ before. HasNoUserRoom user (change before))
 
 -- the rows of users with these programs have no room
 abbrev pub HaveNoUserRoom : List UserProgram → Entries → Trees → Type 0
@@ -78,8 +78,8 @@ HaveNoUserRoom pairs before db =
     × IsTooBig users_table (user_values pair.0 (before.lasts pair.0) (Some pair.1)))
 
 -- where the tables stand for a state, programs are refused only by a database that can't work or has no room for a row
-abbrev pub OnlyWhenNoProgramsFit : List UserProgram → State → State → StoreError → Type 0
-OnlyWhenNoProgramsFit pairs = OnlyWhenFailedOr (HaveNoUserRoom pairs)
+abbrev pub OnlyWhenFailedOrNoProgramRoom : List UserProgram → State → State → StoreError → Type 0
+OnlyWhenFailedOrNoProgramRoom pairs = OnlyWhenFailedOr (HaveNoUserRoom pairs)
 
 -- the octets of a draft, or its row as an entry of the user, are too big
 abbrev pub IsDraftTooBig : List ℕ → Draft → Type 0
@@ -102,8 +102,8 @@ LackRoom user drafts before db = HasRoom before user (length drafts) × HaveNoRo
 
 -- where the tables stand for a state, entries of a user are refused only by a database that can't
 -- work, or, where their numbers suffice, has no room for them or for his row
-abbrev pub OnlyWhenNoEntriesFit : List ℕ → List Draft → State → State → StoreError → Type 0
-OnlyWhenNoEntriesFit user drafts = OnlyWhenFailedOr (LackRoom user drafts)
+abbrev pub OnlyWhenFailedOrNoEntryRoom : List ℕ → List Draft → State → State → StoreError → Type 0
+OnlyWhenFailedOrNoEntryRoom user drafts = OnlyWhenFailedOr (LackRoom user drafts)
 
 -- each user's name is UTF-8, as is each that a store was given
 abbrev pub AreNamed : Trees → Type 0

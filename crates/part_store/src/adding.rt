@@ -6,7 +6,7 @@ ghost use Rattle.part_store.specs.Standing.{Stands, draft_of};
 ghost use Rattle.part_store.specs.Blaming.{AsRefusal, AsRefusalInside};
 ghost use Rattle.part_store.specs.Inside.{Stays, IsInside, KeepsStored, KeepsTables, StaysInside};
 ghost use Rattle.part_store.specs.Entries.{with_last};
-ghost use Rattle.part_store.specs.Refusals.{refusal_of, OnlyWhenFailed, OnlyWhenNoEntriesFit, HasFailed, HasNoUserRoom, HaveNoRoom};
+ghost use Rattle.part_store.specs.Refusals.{refusal_of, OnlyWhenFailed, OnlyWhenFailedOrNoEntryRoom, HasFailed, HasNoUserRoom, HaveNoRoom};
 ghost use Rattle.part_store.specs.Causes.{OnlyWhenNoRowsFit, TellsOfRow};
 ghost use Rattle.part_store.specs.declared.error.StoreError.TheVariants.{Database};
 ghost use Rattle.part_store.specs.Additions.{Adds, CanFile, Claims, Enters, FilesAll, IsFrom};
@@ -47,7 +47,7 @@ pub(crate) fn put_entries<S: Alter>(
         (λ adding _ new. IsFrom adding → IsTrue new.in_transaction) }
     ensures schema { OnDone S.Store tx.old.conn.now tx.new.conn.now result KeepsTables }
     ensures cause { IfRefused S.Store tx.old.conn.now tx.new.conn.now result
-        (AsRefusalInside (OnlyWhenNoEntriesFit user.now (map draft_of entries.now))) }
+        (AsRefusalInside (OnlyWhenFailedOrNoEntryRoom user.now (map draft_of entries.now))) }
     ensures within { InTransaction S.Store tx.old.conn.now tx.new.conn.now result }
 {
     let (last, is_known) = last_of(tx, user)?;

@@ -9,7 +9,7 @@ ghost use Rattle.part_store.specs.Blaming.{AsRefusal, AsRefusalInside};
 ghost use Rattle.part_store.specs.Inside.{Brings, Stays, IsInside, KeepsStored, StaysInside};
 ghost use Rattle.part_store.specs.Standing.{IsStored, Makes, MayMake, Stands, HasContent, IsEntryAt, HasNone, draft_of, listed, pair_of};
 ghost use Rattle.part_store.specs.Readings.{NamesDigest};
-ghost use Rattle.part_store.specs.Refusals.{refusal_of, OnlyWhenFailed, OnlyWhenNoEntriesFit, OnlyWhenUnnamed, OnlyWhenFailedOr, OnlyWhenNoProgramsFit, OnlyWhenNoRowFits};
+ghost use Rattle.part_store.specs.Refusals.{refusal_of, OnlyWhenFailed, OnlyWhenFailedOrNoEntryRoom, OnlyWhenUnnamed, OnlyWhenFailedOr, OnlyWhenFailedOrNoProgramRoom, OnlyWhenFailedOrNoUserRoom};
 ghost use Rattle.part_store.specs.declared.error.StoreError.TheVariants.{Memory, NoSuchEntry, NumberFull, Collision, Database};
 ghost use Rattle.part_store.specs.Crashes.{KeepsState};
 ghost use Rattle.part_store.specs.Looking.{are_tables};
@@ -278,7 +278,7 @@ impl<S: Alter> PartStore<S> {
             (with_program user.now program.now)
             (MayMakeOpen (with_program user.now program.now)) }
         ensures refused { IsRefusedAs S.Store self.old self.new result IsFailure
-            (OnlyWhenNoRowFits user.now (with_program user.now program.now)) }
+            (OnlyWhenFailedOrNoUserRoom user.now (with_program user.now program.now)) }
     {
         let mut tx = begin(&mut self.conn);
         put_program(&mut tx, user, program)?;
@@ -344,7 +344,7 @@ impl<S: Alter> PartStore<S> {
             (λ old trees. (0 < length programs.now → IsTrue old.is_open)
             × MayMake (with_programs (map pair_of programs.now)) old trees) }
         ensures refused { IsRefusedAs S.Store self.old self.new result IsFailure
-            (OnlyWhenNoProgramsFit (map pair_of programs.now)) }
+            (OnlyWhenFailedOrNoProgramRoom (map pair_of programs.now)) }
     {
         let mut tx = begin(&mut self.conn);
         replace_all(&mut tx, programs)?;
@@ -365,7 +365,7 @@ impl<S: Alter> PartStore<S> {
             (with_entries user.now (map draft_of entries.now))
             (MayMakeOpen (with_entries user.now (map draft_of entries.now))) }
         ensures refused { IsRefusedAs S.Store self.old self.new result IsFailureOrObstacle
-            (OnlyWhenNoEntriesFit user.now (map draft_of entries.now)) }
+            (OnlyWhenFailedOrNoEntryRoom user.now (map draft_of entries.now)) }
     {
         self.add_sharing_entries(user, entries, &mut [])
     }
@@ -386,7 +386,7 @@ impl<S: Alter> PartStore<S> {
             (with_entries user.now (map draft_of entries.now))
             (MayMakeOpen (with_entries user.now (map draft_of entries.now))) }
         ensures refused { IsRefusedAs S.Store self.old self.new result IsFailureOrObstacle
-            (OnlyWhenNoEntriesFit user.now (map draft_of entries.now)) }
+            (OnlyWhenFailedOrNoEntryRoom user.now (map draft_of entries.now)) }
     {
         let mut tx = begin(&mut self.conn);
         let first = add_within(&mut tx, user, entries, shared)?;

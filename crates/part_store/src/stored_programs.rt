@@ -9,7 +9,7 @@ ghost use Rattle.part_store.specs.Inside.{Brings, Stays, IsInside, KeepsStored, 
 ghost use Rattle.part_store.specs.Standing.{Stands, pair_of};
 ghost use Rattle.part_store.specs.Readings.{last_in, row_of, ShowsLast, ShowsProgram};
 ghost use Rattle.std.specs.List.{AllByRecursion};
-ghost use Rattle.part_store.specs.Refusals.{refusal_of, OnlyWhenFailed, OnlyWhenUnnamed, OnlyWhenNoProgramsFit, OnlyWhenNoRowFits};
+ghost use Rattle.part_store.specs.Refusals.{refusal_of, OnlyWhenFailed, OnlyWhenUnnamed, OnlyWhenFailedOrNoProgramRoom, OnlyWhenFailedOrNoUserRoom};
 ghost use Rattle.part_store.specs.Causes.{RisesFrom};
 ghost use Rattle.part_store.specs.declared.error.StoreError.TheVariants.{Memory, Database};
 ghost use Rattle.part_store.specs.Calls.{Always, CommitsNothing, IfRefused, OnDone, StaysClosed, Tells};
@@ -41,7 +41,7 @@ pub(crate) fn put_program<S: Alter>(
     ensures inside { OnDone S.Store tx.old.conn.now tx.new.conn.now result IsInside }
     ensures schema { OnDone S.Store tx.old.conn.now tx.new.conn.now result KeepsTables }
     ensures cause { IfRefused S.Store tx.old.conn.now tx.new.conn.now result
-        (AsRefusalInside (OnlyWhenNoRowFits user.now (with_program user.now program.now))) }
+        (AsRefusalInside (OnlyWhenFailedOrNoUserRoom user.now (with_program user.now program.now))) }
     ensures rowids { OnDone S.Store tx.old.conn.now tx.new.conn.now result
         (λ old new. (before : _) → Stands old.now before
         → RisesFrom 1 (old.now.trees users_tree) (new.now.trees users_tree)) }
@@ -120,7 +120,7 @@ fn replace_program<S: Alter>(
         (λ old new. (before : _) → Stands old.now before
         → RisesFrom 1 (old.now.trees users_tree) (new.now.trees users_tree)) }
     ensures cause { IfRefused S.Store tx.old.conn.now tx.new.conn.now result
-        (AsRefusalInside (OnlyWhenNoProgramsFit ((user.now, program.now) ∷ []))) }
+        (AsRefusalInside (OnlyWhenFailedOrNoProgramRoom ((user.now, program.now) ∷ []))) }
     ensures within { InTransaction S.Store tx.old.conn.now tx.new.conn.now result }
 {
     let Some(_before) = read_program(tx, user)? else {
@@ -143,7 +143,7 @@ pub(crate) fn replace_all<S: Alter>(
     ensures stays_closed { Always S.Store tx.old.conn.now tx.new.conn.now StaysClosed }
     ensures kept { Always S.Store tx.old.conn.now tx.new.conn.now KeepsStored }
     ensures cause { IfRefused S.Store tx.old.conn.now tx.new.conn.now result
-        (AsRefusalInside (OnlyWhenNoProgramsFit (map pair_of programs.now))) }
+        (AsRefusalInside (OnlyWhenFailedOrNoProgramRoom (map pair_of programs.now))) }
     ensures survives { CommitsNothing S.Store tx.old.conn.now tx.new.conn.now }
 {
     for (user, program) in programs {

@@ -6,7 +6,7 @@ ghost use Rattle.part_store.specs.Access.{AddsEntries, InTransaction, IsFailure,
 ghost use Rattle.part_store.specs.Calls.{OnDone, Tells};
 ghost use Rattle.part_store.specs.Entries.{with_entries};
 ghost use Rattle.part_store.specs.Inside.{Brings, IfInside, IsInside, KeepsTables, Stays, StaysInside};
-ghost use Rattle.part_store.specs.Refusals.{OnlyWhenFailed, OnlyWhenNoEntriesFit};
+ghost use Rattle.part_store.specs.Refusals.{OnlyWhenFailed, OnlyWhenFailedOrNoEntryRoom};
 ghost use Rattle.part_store.specs.Sharing.{SharesContents, first_of};
 ghost use Rattle.part_store.specs.Standing.{draft_of};
 ghost use Rattle.part_store.specs.declared.error.StoreError.TheVariants.{Memory, NumberFull, Collision, Database};
@@ -75,7 +75,7 @@ pub fn add_within<S: Alter>(
     ensures inside { OnDone S.Store tx.old.conn.now tx.new.conn.now result IsInside }
     ensures schema { OnDone S.Store tx.old.conn.now tx.new.conn.now result KeepsTables }
     ensures refused { IsRefusedAs S.Store tx.old.conn.now tx.new.conn.now result IsFailureOrObstacle
-        (IfInside (OnlyWhenNoEntriesFit user.now (map draft_of entries.now))) }
+        (IfInside (OnlyWhenFailedOrNoEntryRoom user.now (map draft_of entries.now))) }
     ensures within { InTransaction S.Store tx.old.conn.now tx.new.conn.now result }
 {
     match put_entries(tx, user, entries, shared)? {

@@ -1,12 +1,12 @@
 -- Rows that were worked out by hand.
 use Rattle.std.proofs.Common.{◌≡◌, ℕ, zero, suc, ◌+◌, List, [], ◌∷◌, Some, None, refl}
 use Rattle.std.specs.Prelude.{codes, map}
+use Rattle.bytecode_format.specs.declared.question.Order.TheVariants.{Over}
 use Rattle.sieve_parser.specs.Tree.{ArgumentTree, text_list, amount, InvocationTree, invocation, test_list, last, next, CommandsTree, no_command}
 use Rattle.sieve_check.specs.declared.error.CheckError.TheVariants.{MissingCapability, UnknownCapability, BadArguments, Limit}
 use Rattle.sieve_check.specs.declared.causes.ReasonKind.TheVariants as kind
 use Rattle.sieve_check.specs.declared.names.Capability.TheVariants.{Mime, FileInto, Depot}
 use Rattle.sieve_check.specs.declared.table.TestName.TheVariants.{Header, Exists, Size}
-use Rattle.bytecode_format.specs.declared.question.Order.TheVariants.{Over}
 use Rattle.sieve_check.specs.Causes.{plain, refusal_for}
 use Rattle.sieve_check.specs.Rules.{Visit, refused_among, fault_of, after_invocation}
 use Rattle.sieve_check.specs.Arguments.{reading}

@@ -6,6 +6,11 @@ use Rattle.std.proofs.lemmas.List.Sums.{sum_by-append}
 use Rattle.std.proofs.lemmas.Option.{same_Some}
 use Rattle.octets.specs.Ascii.{lowercase_of}
 use Rattle.octets.specs.Limits.{max_script}
+use Rattle.bytecode_format.specs.declared.question.Order.{Order}
+use Rattle.bytecode_format.specs.declared.question.Order.TheVariants.{Over}
+use Rattle.bytecode_format.specs.declared.question.Question.{Question}
+use Rattle.bytecode_format.specs.declared.question.Takes.{Takes}
+use Rattle.bytecode_format.specs.Questions.{no_list, row_of}
 use Rattle.sieve_parser.specs.Tree.{ArgumentTree, text, text_list, amount, label, InvocationTree, invocation, TestsTree, no_test, one_test, test_list, MoreTests, last as no_more, next, CommandTree, simple, block, CommandsTree, no_command as no_tree, command as tree}
 use Rattle.sieve_parser.specs.Lexemes.{semicolon, closing_parenthesis, closing_bracket, opening_brace, closing_brace}
 use Rattle.sieve_parser.specs.Grammar.{at_depth, more_strings_spelled, arguments_spelled, argument_spelled, invocation_spelled, tests_spelled, more_tests_spelled, command_spelled, commands_spelled}
@@ -19,10 +24,6 @@ use Rattle.sieve_check.specs.declared.table.TestName.{TestName}
 use Rattle.sieve_check.specs.declared.table.TestName.TheVariants.{Not, AllOf, AnyOf}
 use Rattle.sieve_check.specs.declared.typed.Act.{Act}
 use Rattle.sieve_check.specs.declared.typed.Act.TheVariants as act
-use Rattle.bytecode_format.specs.declared.question.Order.{Order}
-use Rattle.bytecode_format.specs.declared.question.Order.TheVariants.{Over}
-use Rattle.bytecode_format.specs.declared.question.Question.{Question}
-use Rattle.bytecode_format.specs.declared.question.Takes.{Takes}
 use Rattle.sieve_check.specs.declared.names.Tag.{Tag}
 use Rattle.sieve_check.specs.declared.signature.Signature.{Signature}
 use Rattle.sieve_check.specs.declared.signature.Tags.{Tags}
@@ -33,7 +34,6 @@ use Rattle.sieve_check.specs.Rules.{after_invocation, invocation_of, loops_opene
 use Rattle.sieve_check.specs.Surroundings.{Context, at_start, has_capability, inside, loops_left}
 use Rattle.sieve_check.specs.Typed.{Template, Strings, in_order, TestForm, asks, negation, all_of, any_of, TestForms, no_test as no_other, test, for_every_part, CommandForms, no_command, command, BranchForms, no_branch, otherwise}
 use Rattle.sieve_check.specs.Acts.{Acting, act_row, act_strings, acting, bare, filing, setting, taking, leaving, inactive}
-use Rattle.bytecode_format.specs.Questions.{no_list, row_of}
 use Rattle.sieve_check.specs.Questions.{Asking, asking, by_number, by_tags, unasked}
 use Rattle.sieve_check.specs.Extent.{string_extent, strings_extent, names_extent, test_extent, tests_extent, command_extent, commands_extent, branches_extent}
 use Rattle.sieve_check.specs.FormOf.{InnerForms, none, one, bracketed, number_in, template_of, text_in, list_in, list_taken, strings_in, size_of, question_by, question_of, test_of, test_form_of, inner_forms_of, more_forms_of, PartForm, nothing, action, first, next_branch, last, with_text, setting_in, taking_in, act_by, act_of, action_at, simple_of, block_of, simple_part, block_part, Forms, closed, closed_by, after_none, put, part_of, forms_of, IsFormOf}

@@ -6,6 +6,9 @@ use Rattle.glob_match.specs.declared.comparator.Comparator.TheVariants.{Octet, C
 use Rattle.glob_match.specs.declared.match_type.Match.{Match}
 use Rattle.glob_match.specs.declared.match_type.MatchType.{MatchType}
 use Rattle.glob_match.specs.declared.match_type.MatchType.TheVariants.{Is, Contains, Matches}
+use Rattle.bytecode_format.specs.declared.question.Order.TheVariants.{Over}
+use Rattle.bytecode_format.specs.declared.question.Question.TheVariants as question
+use Rattle.bytecode_format.specs.declared.question.Question.TheVariants.{Constant, Header, Exists, Size}
 use Rattle.sieve_parser.specs.Tree.{ArgumentTree, amount, InvocationTree, CommandsTree, no_command}
 use Rattle.sieve_check.specs.declared.table.CommandName.TheVariants.{Set}
 use Rattle.sieve_check.specs.declared.table.TestName.TheVariants as test
@@ -15,9 +18,6 @@ use Rattle.bytecode_format.specs.declared.selection.Selector.{Selector}
 use Rattle.bytecode_format.specs.declared.selection.Selector.TheVariants.{Value, Main, Sub, ContentType, Param}
 use Rattle.sieve_check.specs.declared.typed.Act.TheVariants as act
 use Rattle.sieve_check.specs.declared.typed.Act.TheVariants.{Keep, FileInto, Stop}
-use Rattle.bytecode_format.specs.declared.question.Order.TheVariants.{Over}
-use Rattle.bytecode_format.specs.declared.question.Question.TheVariants as question
-use Rattle.bytecode_format.specs.declared.question.Question.TheVariants.{Constant, Header, Exists, Size}
 use Rattle.bytecode_format.specs.declared.selection.Scope.TheVariants.{Message, Part, PartAndBelow}
 use Rattle.sieve_check.specs.declared.typed.Segment.TheVariants.{Text, Variable, Capture}
 use Rattle.sieve_check.specs.FormOf.{IsFormOf, form_of, template_of, test_form_of}

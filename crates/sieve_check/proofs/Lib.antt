@@ -17,6 +17,7 @@ pub mod Faultless
 pub mod TagSteps
 pub mod Templates
 pub mod Regular
+pub mod Named
 pub mod Extent
 pub mod Lists
 pub mod TestExistence

@@ -8,6 +8,8 @@ use Rattle.std.proofs.lemmas.List.{append-nil, length-map, map-append}
 use Rattle.std.proofs.lemmas.List.Elements.{All-nil, All-cons, All-head, All-tail}
 use Rattle.std.proofs.lemmas.List.Folds.{list_any-append}
 use Rattle.octets.specs.Limits.{max_segments, max_string, max_test_strings}
+use Rattle.bytecode_format.specs.declared.question.Takes.{Takes}
+use Rattle.bytecode_format.specs.Questions.{no_list}
 use Rattle.sieve_references.specs.References.{segments}
 use Rattle.sieve_parser.specs.Tree.{ArgumentTree, text, text_list}
 use Rattle.sieve_check.specs.declared.names.Capability.TheVariants.{Variables}
@@ -18,8 +20,6 @@ use Rattle.sieve_check.specs.declared.signature.Positional.TheVariants as positi
 use Rattle.sieve_check.specs.declared.signature.Signature.{Signature}
 use Rattle.sieve_check.specs.Bounded.{IsBoundedString, IsAsTaken, AreBoundedStrings}
 use Rattle.sieve_check.specs.FormOf.{list_in, list_taken, template_of, strings_in as strings_taken}
-use Rattle.bytecode_format.specs.declared.question.Takes.{Takes}
-use Rattle.bytecode_format.specs.Questions.{no_list}
 use Rattle.sieve_check.specs.Rules.{is_long, string_has, strings_in, strings_of, lists_read}
 use Rattle.sieve_check.specs.Arguments.{reading}
 use Rattle.sieve_check.specs.Signatures.{◌>>=◌, Read, Given, with_argument, is_list, is_positional}

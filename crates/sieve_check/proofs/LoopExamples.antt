@@ -3,13 +3,13 @@ use Rattle.std.proofs.Common.{◌≡◌, ℕ, List, [], ◌∷◌, ◌++◌, tru
 use Rattle.std.specs.Prelude.{codes, map}
 use Rattle.glob_match.specs.declared.comparator.Comparator.TheVariants.{Octet, Casemap}
 use Rattle.glob_match.specs.declared.match_type.MatchType.TheVariants.{Is, Contains}
+use Rattle.bytecode_format.specs.declared.question.Order.TheVariants.{Under}
+use Rattle.bytecode_format.specs.declared.question.Question.TheVariants.{Constant, PartSize, PartBody, PartDigest}
 use Rattle.sieve_parser.specs.Tree.{ArgumentTree, amount, CommandsTree, no_command}
 use Rattle.sieve_check.specs.declared.error.CheckError.TheVariants.{MissingCapability, BadArguments, Limit}
 use Rattle.sieve_check.specs.declared.table.CommandName.TheVariants.{Break, ForEveryPart, Take}
 use Rattle.sieve_check.specs.declared.typed.Act.TheVariants as act
 use Rattle.sieve_check.specs.declared.typed.Act.TheVariants.{Keep, Store, Leave}
-use Rattle.bytecode_format.specs.declared.question.Order.TheVariants.{Under}
-use Rattle.bytecode_format.specs.declared.question.Question.TheVariants.{Constant, PartSize, PartBody, PartDigest}
 use Rattle.sieve_check.specs.declared.typed.Segment.TheVariants.{Text, Variable}
 use Rattle.sieve_check.specs.FormOf.{form_of}
 use Rattle.sieve_check.specs.Causes.{refusal_for}

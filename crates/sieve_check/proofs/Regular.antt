@@ -1,24 +1,24 @@
 -- How the question of a test and the act of a command are made goes by the row of its name, whichever name that is.
 use Rattle.std.proofs.Common.{◌≡◌, ℕ, ◌≤◌, length, Bool, true, false, ◌||◌, not, if◌then◌else◌, List, [], ◌∷◌, Option, refl, arith}
 use Rattle.std.proofs.lemmas.Bool.{ltb-true}
+use Rattle.bytecode_format.specs.declared.question.Order.{Order}
+use Rattle.bytecode_format.specs.declared.question.Takes.{Takes}
+use Rattle.bytecode_format.specs.Questions.{Row, no_list, row_of, takes_params}
 use Rattle.sieve_check.specs.declared.signature.Positional.{Positional}
 use Rattle.sieve_check.specs.declared.signature.Positional.TheVariants as positional
 use Rattle.sieve_check.specs.declared.signature.Tags.{Tags}
 use Rattle.sieve_check.specs.declared.signature.Tests.TheVariants as tests
 use Rattle.sieve_check.specs.declared.table.CommandName.{CommandName}
-use Rattle.sieve_check.specs.declared.table.CommandName.TheVariants.{Keep}
+use Rattle.sieve_check.specs.declared.table.CommandName.TheVariants.{Keep, Set, Take, Break}
 use Rattle.sieve_check.specs.declared.table.Place.{Place}
 use Rattle.sieve_check.specs.declared.table.Place.TheVariants.{InLoop}
 use Rattle.sieve_check.specs.declared.table.Role.{Role}
 use Rattle.sieve_check.specs.declared.table.Role.TheVariants.{Expanded}
 use Rattle.sieve_check.specs.declared.table.TestName.{TestName}
 use Rattle.sieve_check.specs.declared.table.TestName.TheVariants.{Constant}
-use Rattle.bytecode_format.specs.declared.question.Order.{Order}
-use Rattle.bytecode_format.specs.declared.question.Takes.{Takes}
 use Rattle.sieve_check.specs.Bounded.{IsBoundedAct}
-use Rattle.sieve_check.specs.Acts.{Acting, act_row, acting, bare, filing}
-use Rattle.bytecode_format.specs.Questions.{Row, no_list, row_of, takes_params}
-use Rattle.sieve_check.specs.Questions.{Asking, asking, by_number, by_tags, unasked}
+use Rattle.sieve_check.specs.Acts.{Acting, act_row, acting, bare, filing, setting, taking, leaving, inactive}
+use Rattle.sieve_check.specs.Questions.{Asking, asking, by_number, by_tags, named_by, unasked}
 use Rattle.sieve_check.specs.Rows.{command_row, test_row}
 use Rattle.sieve_check.specs.Rules.{may_stand, same_tests}
 use Rattle.sieve_check.specs.Signatures.{command_signature, test_signature}
@@ -40,6 +40,12 @@ abbrev pub made_row : Asking → Tags → Order → ℕ → Row
 made_row (by_tags make) tags order n = row_of (make tags)
 made_row (by_number make) tags order n = row_of (make order n)
 made_row unasked tags order n = record { takes = no_list; numbers = []; loops = 0 }
+
+-- the test that asks it
+abbrev pub made_name : Asking → TestName → Tags → Order → ℕ → TestName
+made_name (by_tags make) name tags order n = named_by (make tags)
+made_name (by_number make) name tags order n = named_by (make order n)
+made_name unasked name tags order n = name
 
 abbrev pub numbers_by : Asking → ℕ → List ℕ
 numbers_by (by_number make) n = n ∷ []
@@ -82,10 +88,11 @@ pub record IsRegular (how : Asking) (name : TestName) (tags : Tags) (order : Ord
   pub ordered : (test_signature name).order ≡ is_by_number how
   pub number : is_number (test_signature name).positional ≡ is_by_number how
   pub asked : same_tests (test_signature name).tests tests.Nothing ≡ is_asked how
+  pub called : made_name how name tags order n ≡ name
 
 pub regular : (name : TestName) (tags : Tags) (order : Order) (n : ℕ) → IsRegular (asking name) name tags order n
-regular (Constant b) tags order n = record { numbers = refl; loops = refl; lists = refl; params = refl; named = refl; unlisted = refl; ordered = refl; number = refl; asked = refl }
-regular _ tags order n = record { numbers = refl; loops = refl; lists = refl; params = refl; named = refl; unlisted = refl; ordered = refl; number = refl; asked = refl }
+regular (Constant b) tags order n = record { numbers = refl; loops = refl; lists = refl; params = refl; named = refl; unlisted = refl; ordered = refl; number = refl; asked = refl; called = refl }
+regular _ tags order n = record { numbers = refl; loops = refl; lists = refl; params = refl; named = refl; unlisted = refl; ordered = refl; number = refl; asked = refl; called = refl }
 
 -- ---- acts
 
@@ -94,6 +101,15 @@ abbrev pub is_common : Acting → Bool
 is_common (bare act) = true
 is_common (filing act) = true
 is_common _ = false
+
+-- the command that does what is made so
+abbrev pub name_by : Acting → CommandName → CommandName
+name_by (bare act) name = (act_row act).name
+name_by (filing act) name = (act_row act).name
+name_by setting name = Set
+name_by taking name = Take
+name_by leaving name = Break
+name_by inactive name = name
 
 abbrev pub takes_string : Acting → Bool
 takes_string (bare act) = (act_row act).string
@@ -136,7 +152,8 @@ pub record IsRegularAct (how : Acting) (name : CommandName) : Type 0 where
   pub bounded : IsBoundedBy how
   pub arguments : arguments_by how (command_signature name).positional ≡ (command_signature name).positional
   pub role : role_by how (command_row name).role ≡ (command_row name).role
+  pub called : name_by how name ≡ name
 
 pub regular_act : (name : CommandName) → IsRegularAct (acting name) name
-regular_act Keep = record { string = refl; sets = refl; loops = refl; bounded = tt; arguments = refl; role = refl }
-regular_act _ = record { string = refl; sets = refl; loops = refl; bounded = tt; arguments = refl; role = refl }
+regular_act Keep = record { string = refl; sets = refl; loops = refl; bounded = tt; arguments = refl; role = refl; called = refl }
+regular_act _ = record { string = refl; sets = refl; loops = refl; bounded = tt; arguments = refl; role = refl; called = refl }

@@ -7,6 +7,11 @@ use Rattle.std.proofs.lemmas.Bool.{ltb-false}
 use Rattle.std.proofs.lemmas.Grind.{flat_map-append}
 use Rattle.std.proofs.lemmas.List.{append-nil}
 use Rattle.octets.specs.Limits.{max_test_strings}
+use Rattle.bytecode_format.specs.declared.question.Order.{Order}
+use Rattle.bytecode_format.specs.declared.question.Order.TheVariants.{Over}
+use Rattle.bytecode_format.specs.declared.question.Question.{Question}
+use Rattle.bytecode_format.specs.declared.question.Takes.{Takes}
+use Rattle.bytecode_format.specs.Questions.{no_list, row_of, takes_params}
 use Rattle.sieve_parser.specs.Tree.{ArgumentTree, amount, InvocationTree, invocation, TestsTree, no_test, one_test, test_list, MoreTests, last as no_more, next}
 use Rattle.sieve_check.specs.declared.causes.ReasonKind.{ReasonKind}
 use Rattle.sieve_check.specs.declared.causes.ReasonKind.TheVariants.{UnknownTest, LongString, ManyLoops, ManyStrings, WrongTests}
@@ -14,10 +19,6 @@ use Rattle.sieve_check.specs.declared.table.TestName.{TestName}
 use Rattle.sieve_check.specs.declared.table.TestName.TheVariants.{Constant, Not, AllOf, AnyOf}
 use Rattle.sieve_check.specs.declared.signature.Positional.{Positional}
 use Rattle.sieve_check.specs.declared.signature.Positional.TheVariants as positional
-use Rattle.bytecode_format.specs.declared.question.Order.{Order}
-use Rattle.bytecode_format.specs.declared.question.Order.TheVariants.{Over}
-use Rattle.bytecode_format.specs.declared.question.Question.{Question}
-use Rattle.bytecode_format.specs.declared.question.Takes.{Takes}
 use Rattle.bytecode_format.specs.declared.selection.Selector.{Selector}
 use Rattle.bytecode_format.specs.declared.selection.Selector.TheVariants.{Param}
 use Rattle.sieve_check.specs.declared.signature.Signature.{Signature}
@@ -33,7 +34,6 @@ use Rattle.sieve_check.specs.Names.{test_known, test_named}
 use Rattle.sieve_check.specs.Rows.{Row, test_row}
 use Rattle.sieve_check.specs.Arguments.{arguments_cause, reading}
 use Rattle.sieve_check.specs.Causes.{Cause, about, plain}
-use Rattle.bytecode_format.specs.Questions.{no_list, row_of, takes_params}
 use Rattle.sieve_check.specs.Questions.{Asking, asking, by_number, by_tags, unasked}
 use Rattle.sieve_check.specs.Rules.{Visit, are_many, cause_of, ending_cause, expanding, ill_formed, kind_of, known_cause, lacking, lacking_cause, large_cause, large_mention_cause, lists_read, long_string_cause, looks_inside, many_loops_cause, many_strings_cause, may_stand, mention_cause, Mentions, mentions_of, mentions_read, misplaced, more_visits, names_by, names_mentioned, needs_of, no_mention, opened_by, place_cause, read_cause, row_mentions, same_tests, string_has, strings_of, takes_tests, tests_cause, tests_visits, unknown_cause, visits_of, where_required}
 use Rattle.sieve_check.specs.Signatures.{◌>>=◌, Read, is_positional, test_signature}

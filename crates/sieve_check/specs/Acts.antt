@@ -1,5 +1,5 @@
 -- What differs from act to act.
-use Rattle.std.specs.Prelude.{ℕ, Bool, true, false, List, [], ◌∷◌, if◌then◌else◌}
+use Rattle.std.specs.Prelude.{ℕ, Bool, true, false, List, [], ◌∷◌, Option, Some, None, if◌then◌else◌}
 use Rattle.sieve_check.specs.declared.table.CommandName.{CommandName}
 use Rattle.sieve_check.specs.declared.table.CommandName.TheVariants as called
 use Rattle.sieve_check.specs.declared.typed.Act.{Act}
@@ -12,7 +12,15 @@ pub data Bound : Type 0 where
   some_octets : ℕ → Bound
   some_loops : ℕ → Bound
 
+-- so many loops are left, if any are
+abbrev pub left_by : Bound → Option ℕ
+left_by unbounded = None
+left_by (some_octets most) = None
+left_by (some_loops left) = Some left
+
 pub record ActRow : Type 0 where
+  -- the command that does it
+  pub name : CommandName
   -- it takes a string
   pub string : Bool
   -- the names of the variables that it sets
@@ -23,14 +31,14 @@ pub record ActRow : Type 0 where
   pub bound : Bound
 
 abbrev pub act_row : Act → ActRow
-act_row Keep = record { string = false; sets = []; loops = 0; bound = unbounded }
-act_row Discard = record { string = false; sets = []; loops = 0; bound = unbounded }
-act_row FileInto = record { string = true; sets = []; loops = 0; bound = unbounded }
-act_row (Set modifiers name) = record { string = true; sets = name ∷ []; loops = 0; bound = unbounded }
-act_row (Take most name) = record { string = false; sets = name ∷ []; loops = 1; bound = some_octets most }
-act_row Store = record { string = true; sets = []; loops = 1; bound = unbounded }
-act_row (Leave left) = record { string = false; sets = []; loops = left; bound = some_loops left }
-act_row Stop = record { string = false; sets = []; loops = 0; bound = unbounded }
+act_row Keep = record { name = called.Keep; string = false; sets = []; loops = 0; bound = unbounded }
+act_row Discard = record { name = called.Discard; string = false; sets = []; loops = 0; bound = unbounded }
+act_row FileInto = record { name = called.FileInto; string = true; sets = []; loops = 0; bound = unbounded }
+act_row (Set modifiers name) = record { name = called.Set; string = true; sets = name ∷ []; loops = 0; bound = unbounded }
+act_row (Take most name) = record { name = called.Take; string = false; sets = name ∷ []; loops = 1; bound = some_octets most }
+act_row Store = record { name = called.Store; string = true; sets = []; loops = 1; bound = unbounded }
+act_row (Leave left) = record { name = called.Break; string = false; sets = []; loops = left; bound = some_loops left }
+act_row Stop = record { name = called.Stop; string = false; sets = []; loops = 0; bound = unbounded }
 
 -- the string, where the act takes one
 abbrev pub act_strings : Act → Template → List Template

@@ -2,14 +2,14 @@
 use Rattle.std.specs.Prelude.{◌≡◌, ℕ, suc, ◌<◌, ◌≤◌, Bool, true, false, List, [], length, All, bytes_eq}
 use Rattle.octets.specs.Limits.{max_loops, max_script, max_segments, max_string, max_test_strings, max_value, max_variables}
 use Rattle.octets.specs.Once.{each_once}
+use Rattle.bytecode_format.specs.declared.question.Takes.{Takes}
+use Rattle.bytecode_format.specs.Questions.{row_of}
 use Rattle.sieve_references.specs.References.{last_capture}
 use Rattle.sieve_check.specs.declared.typed.Segment.{Segment}
 use Rattle.sieve_check.specs.declared.typed.Segment.TheVariants.{Text, Variable, Capture}
-use Rattle.bytecode_format.specs.declared.question.Takes.{Takes}
 use Rattle.sieve_check.specs.Typed.{Template, Strings, in_order, TestForm, asks, negation, all_of, any_of, TestForms, no_test, test, CommandForm, does, for_every_part, choice, CommandForms, no_command, command, BranchForms, no_branch, otherwise, branch}
 use Rattle.sieve_check.specs.declared.typed.Act.{Act}
 use Rattle.sieve_check.specs.Acts.{Bound, unbounded, some_octets, some_loops, act_row, act_strings}
-use Rattle.bytecode_format.specs.Questions.{row_of}
 use Rattle.sieve_check.specs.Extent.{commands_extent, string_extent}
 use Rattle.sieve_check.specs.Variables.{commands_variables}
 

@@ -1,11 +1,11 @@
 -- How many octets a typed form is written with, at least. A name, a number, a tag and a sign count
 -- for one, however long they are.
 use Rattle.std.specs.Prelude.{ℕ, ◌+◌, ◌*◌, List, length, sum_by}
+use Rattle.bytecode_format.specs.Questions.{row_of}
 use Rattle.sieve_check.specs.declared.typed.Segment.{Segment}
 use Rattle.sieve_check.specs.declared.typed.Segment.TheVariants.{Text, Variable, Capture}
 use Rattle.sieve_check.specs.Typed.{Template, in_order, TestForm, asks, negation, all_of, any_of, TestForms, no_test, test, CommandForm, does, for_every_part, choice, CommandForms, no_command, command, BranchForms, no_branch, otherwise, branch}
 use Rattle.sieve_check.specs.Acts.{act_row, act_strings}
-use Rattle.bytecode_format.specs.Questions.{row_of}
 
 -- a stretch of text, or a reference with its braces
 abbrev pub segment_extent : Segment → ℕ

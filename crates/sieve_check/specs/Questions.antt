@@ -1,19 +1,17 @@
--- How the questions of simple tests are made of their tags.
-use Rattle.std.specs.Prelude.{ℕ, Bool, true, false, if◌then◌else◌, List, [], ◌∷◌, unwrap_or}
+-- How the questions of simple tests are made of their tags, and what is told of them.
+use Rattle.std.specs.Prelude.{ℕ, Option, Some, None, if◌then◌else◌, unwrap_or}
 use Rattle.glob_match.specs.declared.comparator.Comparator.TheVariants.{Casemap}
 use Rattle.glob_match.specs.declared.match_type.Match.{Match}
+use Rattle.glob_match.specs.declared.match_type.MatchType.{MatchType}
 use Rattle.glob_match.specs.declared.match_type.MatchType.TheVariants.{Is}
-use Rattle.bytecode_format.specs.declared.selection.Scope.{Scope}
-use Rattle.bytecode_format.specs.declared.selection.Scope.TheVariants.{Message, Part, PartAndBelow}
-use Rattle.bytecode_format.specs.declared.selection.Selector.{Selector}
-use Rattle.bytecode_format.specs.declared.selection.Selector.TheVariants.{Value, Main, Sub, ContentType, Param}
-use Rattle.sieve_check.specs.declared.signature.Tags.{Tags}
-use Rattle.sieve_check.specs.declared.table.TestName.{TestName}
-use Rattle.sieve_check.specs.declared.table.TestName.TheVariants as called
 use Rattle.bytecode_format.specs.declared.question.Order.{Order}
 use Rattle.bytecode_format.specs.declared.question.Question.{Question}
 use Rattle.bytecode_format.specs.declared.question.Question.TheVariants.{Constant, Header, Exists, Size, String, PartSize, PartBody, PartDigest}
-use Rattle.bytecode_format.specs.declared.question.Takes.{Takes}
+use Rattle.bytecode_format.specs.declared.selection.Scope.{Scope}
+use Rattle.bytecode_format.specs.declared.selection.Scope.TheVariants.{Message, Part, PartAndBelow}
+use Rattle.sieve_check.specs.declared.signature.Tags.{Tags}
+use Rattle.sieve_check.specs.declared.table.TestName.{TestName}
+use Rattle.sieve_check.specs.declared.table.TestName.TheVariants as called
 
 -- how values and keys are matched: without a tag by `:is`, and by `i;ascii-casemap`
 abbrev pub match_of : Tags → Match
@@ -42,3 +40,25 @@ asking called.PartDigest = by_tags (λ tags. PartDigest)
 asking called.Not = unasked
 asking called.AllOf = unasked
 asking called.AnyOf = unasked
+
+-- the test that asks it
+abbrev pub named_by : Question → TestName
+named_by (Constant value) = called.Constant value
+named_by (Header fields) = called.Header
+named_by (Exists scope) = called.Exists
+named_by (Size order number) = called.Size
+named_by (String how) = called.String
+named_by (PartSize order number) = called.PartSize
+named_by (PartBody how) = called.PartBody
+named_by PartDigest = called.PartDigest
+
+-- in which way values are compared with its keys, if they are: digests are equal or not
+abbrev pub compared_by : Question → Option MatchType
+compared_by (Constant value) = None
+compared_by (Header fields) = Some fields.how.kind
+compared_by (Exists scope) = None
+compared_by (Size order number) = None
+compared_by (String how) = Some how.kind
+compared_by (PartSize order number) = None
+compared_by (PartBody how) = Some how.kind
+compared_by PartDigest = Some Is

@@ -1,8 +1,8 @@
 -- The typed form of scripts. Each test and command has as its last field the number of the token at which
 -- it begins; a choice begins where its first branch does.
 use Rattle.std.specs.Prelude.{ℕ, List, ◌++◌}
-use Rattle.sieve_check.specs.declared.typed.Act.{Act}
 use Rattle.bytecode_format.specs.declared.question.Question.{Question}
+use Rattle.sieve_check.specs.declared.typed.Act.{Act}
 use Rattle.sieve_check.specs.declared.typed.Segment.{Segment}
 
 -- a string as it is meant: stretches of text and references, which are put in their places one after the other

@@ -11,8 +11,9 @@
 //!
 //! What a script means, and its code, go by its typed form alone (`specs/Typed`), which `specs/FormOf` reads off the tree.
 //! `laws` says that a script has a typed form where nothing is wrong with it.
-//! A simple test of it is a question and its strings, an action an act and its string; all that differs from question to question
-//! and from act to act is a row each, in `specs/Questions` and `specs/Acts`.
+//! A simple test of it is a question and its strings, an action an act and its string. What differs from question to question is a
+//! row each, in `specs/Questions` here (how it is made of tags, and what it is called) and in that of bytecode_format (what it takes);
+//! what differs from act to act, in `specs/Acts`.
 //! A `break` of the typed form says how many of the loops around it are left, so names of loops stand in scripts alone.
 //! A string of the typed form is its segments: text as it stands and, where `variables` was required, references. Which
 //! variables a typed form has stands in `specs/Variables`, and how large it and its strings and lists and how deep its
@@ -33,6 +34,7 @@ pub mod laws;
 mod loops;
 mod mentions;
 mod names;
+mod questions;
 mod references;
 mod rules;
 mod sequence;
@@ -53,10 +55,12 @@ pub use checker::{check, reasons_of};
 pub use error::{CheckError, Fault};
 pub use findings::{MAX_FOUND, MAX_REASONS};
 pub use names::{Capability, Tag};
+pub use questions::{comparison_of, name_of};
 pub use references::MAX_NAME;
 pub use signature::{Ending, Positional, Tests};
 pub use table::{
     CommandName, TestName, all_commands, all_tests, command_named, command_word, test_named,
     test_word,
 };
+pub use tag_table::kind_word;
 pub use typed::{Act, Branch, Command, Segment, Strings, Test};

@@ -49,7 +49,8 @@ fn order_word(order: Order) -> &'static [u8]
     }
 }
 
-fn kind_word(kind: MatchType) -> &'static [u8]
+/// What the tag is called that says the way of matching, without its colon and in lower case.
+pub fn kind_word(kind: MatchType) -> &'static [u8]
     ensures { result.now ≡ kind_word kind }
 {
     match kind {

@@ -1,78 +1,20 @@
 // The typed form of tests.
-ghost use Rattle.std.specs.Prelude.{◌≡◌, map};
-ghost use Rattle.sieve_parser.specs.View.{argument_tree, invocation_tree, more_tests_of};
-ghost use Rattle.sieve_check.specs.FormOf.{none, one, bracketed, more_forms_of, number_in, question_of, test_form_of};
-ghost use Rattle.sieve_check.specs.Questions.{match_of, scope_of};
+ghost use Rattle.std.specs.Prelude.{map};
+ghost use Rattle.sieve_parser.specs.View.{invocation_tree, more_tests_of};
+ghost use Rattle.sieve_check.specs.FormOf.{none, one, bracketed, more_forms_of, test_form_of};
 ghost use Rattle.sieve_check.specs.Forming.{Formed, IsTestRead, head_test};
-ghost use Rattle.sieve_check.specs.Reading.{read_of};
 ghost use Rattle.sieve_check.specs.declared.surroundings.Capabilities.{Capabilities};
 ghost use Rattle.sieve_check.specs.TypedView.{test_form, tests_of};
 
 use crate::form_error::FormError;
-use crate::signature::{Reading, Tags};
+use crate::questions::question_of;
+use crate::signature::Reading;
 use crate::strings::strings_in;
 use crate::surroundings::Capabilities;
 use crate::table::{TestName, test_named, test_signature};
 use crate::typed::Test;
-use bytecode_format::{FieldTest, Question, Scope};
-use glob_match::{Comparator, Match, MatchType};
-use sieve_parser::{Argument, Head, Invocation};
+use sieve_parser::{Head, Invocation};
 use std::alloc::Global;
-
-// How values and keys are matched.
-fn match_of(tags: Tags) -> Match
-    ensures { result ≡ match_of tags }
-{
-    Match {
-        kind: tags.kind.unwrap_or(MatchType::Is),
-        comparator: tags.comparator.unwrap_or(Comparator::Casemap),
-    }
-}
-
-// Which parts' headers a test looks at.
-fn scope_of(tags: Tags) -> Scope
-    ensures { result ≡ scope_of tags }
-{
-    if !tags.mime {
-        Scope::Message
-    } else if tags.any_child {
-        Scope::PartAndBelow
-    } else {
-        Scope::Part
-    }
-}
-
-// The one number that the arguments are.
-fn number_in(arguments: &[Argument]) -> Option<u64>
-    ensures { result ≡ number_in (map argument_tree arguments.now) }
-{
-    match arguments {
-        [Argument::Number(number)] => Some(*number),
-        _ => None,
-    }
-}
-
-// What a simple test of this name asks, by what was read.
-fn question_of(name: TestName, reading: &Reading<'_>) -> Option<Question>
-    ensures { result ≡ question_of name (read_of reading.now) }
-{
-    let tags = reading.tags;
-    Some(match name {
-        TestName::Constant(value) => Question::Constant(value),
-        TestName::Header => Question::Header(FieldTest {
-            how: match_of(tags),
-            scope: scope_of(tags),
-            selector: tags.selector,
-        }),
-        TestName::Exists => Question::Exists(scope_of(tags)),
-        TestName::Size => Question::Size(tags.order?, number_in(reading.positional)?),
-        TestName::String => Question::String(match_of(tags)),
-        TestName::PartSize => Question::PartSize(tags.order?, number_in(reading.positional)?),
-        TestName::PartBody => Question::PartBody(match_of(tags)),
-        TestName::PartDigest => Question::PartDigest,
-        TestName::Not | TestName::AllOf | TestName::AnyOf => return None,
-    })
-}
 
 // The test that this names, with its arguments as they were read.
 fn test_read(head: &Head) -> Option<(TestName, Reading<'_>)>

@@ -1,5 +1,5 @@
 // Scripts that were checked, in typed form: what they mean, without how they are written.
-
+use crate::table::CommandName;
 use bytecode_format::{Modifiers, Question};
 use octets::Octets;
 use std::slice;
@@ -81,16 +81,43 @@ impl Act {
     ghost use Rattle.std.specs.Prelude.{◌≡◌, ℕ, List, option_map};
     ghost use Rattle.std.specs.Borrow.{Bor};
     ghost use Rattle.std.specs.Option.{option_to_list};
-    ghost use Rattle.sieve_check.specs.Acts.{act_row, act_strings};
+    ghost use Rattle.sieve_check.specs.Acts.{act_row, act_strings, left_by};
     ghost use Rattle.sieve_check.specs.TypedView.{templates_of};
+
+    /// The command that does it.
+    pub fn name(&self) -> CommandName
+        ensures { result ≡ (act_row self.now).name }
+    {
+        match self {
+            Act::Keep => CommandName::Keep,
+            Act::Discard => CommandName::Discard,
+            Act::FileInto => CommandName::FileInto,
+            Act::Set { .. } => CommandName::Set,
+            Act::Take { .. } => CommandName::Take,
+            Act::Store => CommandName::Store,
+            Act::Leave(_) => CommandName::Break,
+            Act::Stop => CommandName::Stop,
+        }
+    }
+
+    /// Whether it takes a string.
+    pub fn takes_string(&self) -> bool
+        ensures { result ≡ (act_row self.now).string }
+    {
+        match self {
+            Act::FileInto | Act::Set { .. } | Act::Store => true,
+            Act::Keep | Act::Discard | Act::Take { .. } | Act::Leave(_) | Act::Stop => false,
+        }
+    }
 
     /// The strings of this with that one: it alone, or none, where it takes none.
     pub fn strings<'s>(&self, string: &'s Vec<Segment>) -> &'s [Vec<Segment>]
         ensures { templates_of result.now ≡ act_strings self.now string.now.items }
     {
-        match self {
-            Act::FileInto | Act::Set { .. } | Act::Store => slice::from_ref(string),
-            Act::Keep | Act::Discard | Act::Take { .. } | Act::Leave(_) | Act::Stop => &[],
+        if self.takes_string() {
+            slice::from_ref(string)
+        } else {
+            &[]
         }
     }
 
@@ -103,6 +130,22 @@ impl Act {
             Act::Set { name, .. } | Act::Take { name, .. } => Some(name),
             Act::Keep | Act::Discard | Act::FileInto | Act::Store | Act::Leave(_) | Act::Stop =>
                 None,
+        }
+    }
+
+    /// How many of the loops around it are left, if any are.
+    pub fn left(&self) -> Option<u8>
+        ensures { result ≡ left_by (act_row self.now).bound }
+    {
+        match self {
+            Act::Leave(left) => Some(*left),
+            Act::Keep
+            | Act::Discard
+            | Act::FileInto
+            | Act::Set { .. }
+            | Act::Take { .. }
+            | Act::Store
+            | Act::Stop => None,
         }
     }
 }

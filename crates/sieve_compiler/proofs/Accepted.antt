@@ -1,5 +1,5 @@
 -- The code of a script is accepted.
-use Rattle.std.proofs.Common.{◌≡◌, ℕ, zero, suc, ◌+◌, ◌-◌, ◌<◌, ◌≤◌, Bool, true, false, not, cond, ◌&&◌, ◌||◌, ◌==◌, nat_lt, nat_le, List, [], ◌∷◌, Option, Some, None, is_some, is_none, slice_get, get_or, length, refl, sym, ap, subst, ◌∙◌, inl, inr, arith}
+use Rattle.std.proofs.Common.{◌≡◌, ℕ, zero, suc, ◌+◌, ◌-◌, ◌<◌, ◌≤◌, Bool, true, false, not, ◌&&◌, ◌||◌, ◌==◌, nat_lt, nat_le, List, [], ◌∷◌, Option, Some, None, is_some, is_none, slice_get, get_or, length, refl, sym, ap, subst, ◌∙◌, inl, inr, arith}
 use Rattle.std.proofs.lemmas.Bool.{cases_Bool, cases_lt, cases_eq, eq-eqb, ne_eqb, lt-ltb, le-ltb, lt-leb}
 use Rattle.std.proofs.lemmas.List.{length-append, append-nil}
 use Rattle.std.proofs.Math.Bool.{and-false}
@@ -31,7 +31,7 @@ use Rattle.sieve_compiler.specs.Coding.{plain, commands_code, code_of, written_v
 use Rattle.sieve_compiler.proofs.Standing.{Stands, stands_right, stands_first}
 use Rattle.sieve_compiler.proofs.CodeLengths.{commands_code_length}
 use Rattle.sieve_compiler.proofs.Known.{tables_have}
-use Rattle.sieve_compiler.proofs.Sound.{standing, IsInTable, IsKnown, IsInside, KeepsLoops, IsSound, AreSound, sound_both}
+use Rattle.sieve_compiler.proofs.Sound.{row_written, standing, IsInTable, IsKnown, IsInside, KeepsLoops, IsSound, AreSound, sound_both}
 use Rattle.sieve_compiler.proofs.PiecesSound.{halt_sound, commands_end, commands_sound}
 
 sound_at : (all : List Instruction) (tables : Tables) (last place : ℕ) (piece : List Instruction) (k : ℕ) (i : Instruction) → AreSound all tables last place piece → slice_get piece k ≡ Some i → IsSound all tables last (place + k) i
@@ -46,18 +46,13 @@ sound_at all tables last place (j ∷ piece) (suc k) i h e =
 
 index_kept : (code : Code) (tables : Tables) (o : Option Operation) (i : Instruction) → (code.numbers ≡ tables.numbers) × (code.strings ≡ tables.strings) × (code.variables ≡ length tables.variables) → IsKnown tables o i → misses_index code (option_and_then (row_in_version written_version) o) i ≡ false
 index_kept code tables None i same h = refl
-index_kept code tables (Some o) i same h = in_version (row_of o).since_two
+index_kept code tables (Some o) i same h = ap (λ row. misses_index code row i) (row_written o) ∙ in_table (row_of o).index h
   where
     in_table : (index : Option Table) → IsInTable tables index i.c → option_map_or (λ table. nat_le (count_of code table) i.c) index false ≡ false
     in_table None h = refl
     in_table (Some Variables) h = let lt = slice_get_within tables.variables i.c h.0 h.1 in rw same.2 (lt-leb (length tables.variables) i.c lt)
     in_table (Some Numbers) h = let lt = slice_get_within tables.numbers i.c h.0 h.1 in rw same.0 (lt-leb (length tables.numbers) i.c lt)
     in_table (Some Strings) h = let lt = slice_get_within tables.strings i.c h.0 h.1 in rw same.1 (lt-leb (length tables.strings) i.c lt)
-
-    -- scripts are written in the version that has every operation
-    in_version : (since_two : Bool) → misses_index code (cond (since_two && not (written_version == 2)) None (Some (row_of o))) i ≡ false
-    in_version true = in_table (row_of o).index h
-    in_version false = in_table (row_of o).index h
 
 none_passes : (o : Option Instruction) (test : Instruction → Bool) → ((i : Instruction) → o ≡ Some i → test i ≡ false) → option_map_or test o false ≡ false
 none_passes None test h = refl
@@ -91,7 +86,7 @@ part_kept code place None i h = refl
 part_kept code place (Some Each) i h = refl
 part_kept code place (Some Next) i h = refl
 part_kept code place (Some Break) i h = refl
-part_kept code place (Some o) i h = around (row_of o).needs_part h
+part_kept code place (Some o) i h = ap (λ row. needs_part row && (length (open_loops code place) == 0)) (row_written o) ∙ around (row_of o).needs_part h
   where
     around : (needs : Bool) → IsInside needs (length (inside code.instructions place)) → (needs && (length (open_loops code place) == 0)) ≡ false
     around true deep = some_open code place deep

@@ -23,7 +23,8 @@ use Rattle.sieve_check.specs.Acts.{act_row, act_strings}
 use Rattle.sieve_check.specs.Bounded.{IsBoundedAct}
 use Rattle.sieve_check.specs.Typed.{Template, CommandForms}
 use Rattle.sieve_check.specs.Variables.{commands_variables}
-use Rattle.sieve_meaning.specs.Meaning.{Effects, expanded, all_expanded, with_taken, with_value, Ending, normal, stopped, broken, current, stored, act_does}
+use Rattle.mail_matching.specs.Questions.{current}
+use Rattle.sieve_meaning.specs.Meaning.{Effects, expanded, all_expanded, with_taken, with_value, Ending, normal, stopped, broken, stored, act_does}
 use Rattle.sieve_vm.specs.State.{State, current_part}
 use Rattle.sieve_vm.specs.Machine.{Effect, on, referred_in, store_part, set_content}
 use Rattle.sieve_compiler.specs.Growing.{uses_with}

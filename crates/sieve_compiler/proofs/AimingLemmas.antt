@@ -8,7 +8,7 @@ use Rattle.bytecode_format.specs.declared.operation.Operation.TheVariants.{Each,
 use Rattle.sieve_check.specs.declared.typed.Act.{Act}
 use Rattle.sieve_check.specs.declared.typed.Act.TheVariants.{Keep, Discard, FileInto, Set, Take, Store, Leave, Stop}
 use Rattle.bytecode_format.specs.declared.question.Question.{Question}
-use Rattle.bytecode_format.specs.declared.question.Question.TheVariants.{Constant, Header, Exists, Size, String, PartSize, PartBody, PartDigest}
+use Rattle.bytecode_format.specs.declared.question.Question.TheVariants.{Constant}
 use Rattle.sieve_check.specs.declared.typed.Segment.{Segment}
 use Rattle.sieve_check.specs.declared.typed.Segment.TheVariants.{Text, Variable, Capture}
 use Rattle.sieve_check.specs.Acts.{act_strings}
@@ -116,14 +116,8 @@ module _ (target : ℕ) (tables : Tables) where
   strings_kept (s ∷ ss) = both (string_code tables s) (strings_code tables ss) _ _ (string_kept s) (strings_kept ss)
 
   question_kept : (question : Question) (strings : Strings) → aimed target (question_code tables question strings) ≡ question_code tables question strings
-  question_kept (Constant b) strings = refl
-  question_kept (Header fields) strings = refl
-  question_kept (Exists scope) strings = refl
-  question_kept (Size order number) strings = refl
-  question_kept (String how) strings = refl
-  question_kept (PartSize order number) strings = refl
-  question_kept (PartBody how) strings = refl
-  question_kept PartDigest strings = refl
+  question_kept (Constant value) strings = refl
+  question_kept _ strings = refl
 
   act_kept : (act : Act) → aimed target (act_code tables act) ≡ act_code tables act
   act_kept Keep = refl

@@ -3,10 +3,7 @@ use Rattle.std.proofs.Common.{◌+◌, ◌-◌, ◌<◌, ◌≤◌, nat_eq, List
 use Rattle.std.proofs.lemmas.List.{length-append}
 use Rattle.std.proofs.lemmas.List.Sums.{sum_by-cons}
 use Rattle.std.proofs.lemmas.List.Elements.{All-head, All-tail}
-use Rattle.bytecode_format.specs.declared.question.Question.{Question}
-use Rattle.bytecode_format.specs.declared.question.Question.TheVariants.{Constant}
 use Rattle.sieve_check.specs.Acts.{act_strings}
-use Rattle.bytecode_format.specs.Questions.{row_of}
 use Rattle.sieve_check.specs.Typed.{Template, in_order, TestForm, asks, negation, all_of, any_of, TestForms, no_test, test, CommandForm, does, for_every_part, choice, CommandForms, no_command, command, BranchForms, no_branch, otherwise, branch}
 use Rattle.sieve_check.specs.Bounded.{IsBoundedString, IsBoundedTest, AreBoundedTests, IsBoundedCommand, AreBoundedCommands, AreBoundedBranches}
 use Rattle.sieve_check.specs.Extent.{string_extent, strings_extent, test_extent, tests_extent, command_extent, commands_extent, branches_extent}
@@ -14,6 +11,7 @@ use Rattle.sieve_compiler.specs.Tables.{tables_of}
 use Rattle.sieve_compiler.specs.Lengths.{string_length, strings_length, test_length, tests_length, leave_length, command_length, commands_length, branches_length}
 use Rattle.sieve_compiler.specs.Numbers.{test_numbers, tests_numbers, command_numbers, commands_numbers, branches_numbers}
 use Rattle.octets.proofs.Once.{each_once_within}
+use Rattle.sieve_compiler.proofs.Asking.{numbers_few}
 
 -- ---- lengths
 
@@ -65,10 +63,6 @@ mutual
   branches_within (branch t cs at bs) b = omega (arith, test_within t b.0, commands_within cs b.1, leave_within bs, branches_within bs b.2)
 
 -- ---- numbers
-
-numbers_few : (question : Question) → length (row_of question).numbers ≤ 1
-numbers_few (Constant b) = omega arith
-numbers_few _ = omega arith
 
 mutual
   test_uses : (t : TestForm) → length (test_numbers t) ≤ test_length t

@@ -2,8 +2,8 @@ pub mod Standing
 pub mod CodeLengths
 pub mod BranchParts
 pub mod Known
-pub mod Selecting
 pub mod Sound
+pub mod Asking
 pub mod PushedTexts
 pub mod Values
 pub mod OnStack

@@ -26,7 +26,8 @@ use Rattle.bytecode_format.specs.Questions.{row_of}
 use Rattle.sieve_check.specs.declared.typed.Act.{Act}
 use Rattle.sieve_check.specs.declared.typed.Act.TheVariants.{Leave, Stop}
 use Rattle.sieve_check.specs.Acts.{act_row, act_strings}
-use Rattle.sieve_meaning.specs.Meaning.{Effects, value_of, expanded, all_expanded, texts_of, matched, answer, test_does, Ending, normal, stopped, broken, effects_of, followed_by, left, after_turn, turns, act_does, no_effects, command_does, commands_do, choice_does, meaning}
+use Rattle.mail_matching.specs.Questions.{answer}
+use Rattle.sieve_meaning.specs.Meaning.{Effects, value_of, expanded, all_expanded, texts_of, matched, test_does, Ending, normal, stopped, broken, effects_of, followed_by, left, after_turn, turns, act_does, no_effects, command_does, commands_do, choice_does, meaning}
 use Rattle.sieve_vm.specs.State.{Value, truth, text, Frame, State, current_part, Turn, goes, start, ends}
 use Rattle.sieve_vm.specs.Machine.{is_sound_jump, turn, step, turn_at, referred_in, tested, on, are_partners, open_loop}
 use Rattle.sieve_vm.specs.Charge.{charge_of}
@@ -91,8 +92,8 @@ module _ (script : CommandForms) (mail : Mail) (jumps_kept : (p : ℕ) (i : Inst
   sound_jump : (s : State) (i : Instruction) → slice_get all s.place ≡ Some i → is_jump (row_named written_version i.op) ≡ true → is_sound_jump (referred_in code) s i ≡ true
   sound_jump s i here jump = jumps_kept s.place i here jump
 
-  -- where these loops are open, and the current part, if there is one, is one of the message
-  module _ (frames : List Frame) (held : 0 < length frames → OnPart mail (current_part frames)) where
+  -- where these loops are open
+  module _ (frames : List Frame) where
     abbrev part : Option ℕ
     part = current_part frames
 
@@ -170,7 +171,7 @@ module _ (script : CommandForms) (mail : Mail) (jumps_kept : (p : ℕ) (i : Inst
         (rest.0, after_steps 1 (with_stack stack p e c) (with_stack pushed (suc p) e (c + 1)) (end (p + suc (length ss))) (with_stack pushed (suc p) e (c + 1), first, refl) others)
 
     abbrev join_charge : List Segment → List Value → ℕ → Effects → ℕ → ℕ
-    join_charge segments stack p e c = charge_of mail Join (join_texts (length segments)) (with_stack (onto (map (value_of e) segments) stack) p e c)
+    join_charge segments stack p e c = charge_of (referred_in code) mail Join (join_texts (length segments)) (with_stack (onto (map (value_of e) segments) stack) p e c)
 
     join_step : (p c : ℕ) (segments : List Segment) (stack : List Value) (e : Effects) → 2 ≤ length segments → length segments ≤ 256 → length stack < max_stack → slice_get all p ≡ Some (join_texts (length segments))
         → Goes (with_stack (onto (map (value_of e) segments) stack) p e c) (with_stack (text (expanded e segments) ∷ stack) (suc p) e (c + join_charge segments stack p e c))
@@ -231,11 +232,11 @@ module _ (script : CommandForms) (mail : Mail) (jumps_kept : (p : ℕ) (i : Inst
     question_step q strings p c e b known deep here =
         let i = question_code tables q strings in
         let s = with_stack (stacked_lists (texts_of e strings)) p e c in
-        let cost : ℕ = charge_in mail (operation_of i.op) i s in (
+        let cost : ℕ = charge_in (referred_in code) mail (operation_of i.op) i s in (
           c + cost,
           step_at s i _ here
               (formed_turn code mail (operation_of i.op) i s (question_formed tables q strings b)
-              ∙ ap (turn cost) (question_effect tables (referred_in code) refl mail (at p e c) held q e strings b known deep)
+              ∙ ap (turn cost) (question_effect tables (referred_in code) refl mail (at p e c) q e strings b known deep)
               ∙ tested_turn (answer mail part q (texts_of e strings) e.captures) p c cost e),
         )
 
@@ -322,7 +323,7 @@ module _ (script : CommandForms) (mail : Mail) (jumps_kept : (p : ℕ) (i : Inst
         let first = strings_run strings p c [] e short b.1 (stands_left all p pushes (i ∷ []) h) known (omega (arith, one_at_most act string)) in
         let rest = stands_right all p n pushes (i ∷ []) (strings_code_length tables strings) h in
         let middle = with_stack (onto (all_expanded e strings) []) q e first.0 in
-        let cost : ℕ = charge_in mail (operation_of i.op) i middle in
+        let cost : ℕ = charge_in (referred_in code) mail (operation_of i.op) i middle in
         let d : ℕ = first.0 + cost in
         let does : Goes middle (at (suc q) f d) =
         step_at middle i _ (stands_first all q i [] rest) (formed_turn code mail (operation_of i.op) i middle (act_formed tables act b.0 few) ∙ ap (turn cost) (effect q first.0)) in
@@ -452,7 +453,7 @@ module _ (script : CommandForms) (mail : Mail) (jumps_kept : (p : ℕ) (i : Inst
       (n - 1, some, there.0, there.1, there.2, break_run fs p n (n - 1) e there.0 there.1 some (omega (arith, deep, few)) there.2 (stands_first all p _ [] h))
   act_run Stop string fs held p e h has b few deep short = (fs, p, (λ c. (c, (0, refl))), stands_first all p _ [] h)
   act_run act string fs held p e h has b few deep short =
-      does_run fs held act string p e (effects_of (act_does mail (current_part fs) act (expanded e string) e)) short b (omega (arith, deep, few)) h (has_string_of tables (act_strings act string) (act_row act).sets has)
+      does_run fs act string p e (effects_of (act_does mail (current_part fs) act (expanded e string) e)) short b (omega (arith, deep, few)) h (has_string_of tables (act_strings act string) (act_row act).sets has)
       (λ q c. act_effect script mail (state_at fs [] q e c) held act e string (has_set_of tables (act_strings act string) (act_row act).sets has) deep)
 
   -- the current part of an open loop is one of the message
@@ -488,7 +489,7 @@ module _ (script : CommandForms) (mail : Mail) (jumps_kept : (p : ℕ) (i : Inst
 
       commands_run : (cs : CommandForms) (fs : List Frame) (held : AreHeld fs) (p : ℕ) (e : Effects) → Stands all p (commands_code tables p cs) → Has tables (commands_uses cs) → AreBoundedCommands cs → length fs ≤ max_loops → AreCommandsIn (length fs) cs → AreShort e
           → Arrives (commands_do mail (current_part fs) cs e) fs fs p (p + commands_length cs) e
-      commands_run no_command fs held p e h has b few in_loops short = let same : p ≡ p + 0 = omega arith in comes_here fs held p (p + 0) e same
+      commands_run no_command fs held p e h has b few in_loops short = let same : p ≡ p + 0 = omega arith in comes_here fs p (p + 0) e same
       commands_run (command c cs) fs held p e h has b few in_loops short =
           let same : p + command_length c + commands_length cs ≡ p + (command_length c + commands_length cs) = omega arith in
           let first = command_run c fs held p e (stands_left all p _ _ h) (has_left tables (command_uses c) (commands_uses cs) has) b.0 few in_loops.0 short in
@@ -499,7 +500,7 @@ module _ (script : CommandForms) (mail : Mail) (jumps_kept : (p : ℕ) (i : Inst
 
       branches_run : (bs : BranchForms) (fs : List Frame) (held : AreHeld fs) (p end : ℕ) (e : Effects) → Stands all p (branches_code tables p bs end) → Has tables (branches_uses bs) → AreBoundedBranches bs → length fs ≤ max_loops → AreBranchesIn (length fs) bs → AreShort e → p + branches_length bs ≡ end
           → Arrives (choice_does mail (current_part fs) bs e) fs fs p end e
-      branches_run no_branch fs held p end e h has b few in_loops short done = let same : p ≡ end = omega (arith, done) in comes_here fs held p end e same
+      branches_run no_branch fs held p end e h has b few in_loops short done = let same : p ≡ end = omega (arith, done) in comes_here fs p end e same
       branches_run (otherwise cs) fs held p end e h has b few in_loops short done = subst (λ q. Arrives (commands_do mail (current_part fs) cs e) fs fs p q e) done (commands_run cs fs held p e h has b few in_loops short)
       branches_run (branch t cs at bs) fs held p end e h has b few in_loops short done =
           let part = current_part fs in
@@ -509,11 +510,11 @@ module _ (script : CommandForms) (mail : Mail) (jumps_kept : (p : ℕ) (i : Inst
           let same : next + branches_length bs ≡ end = omega (arith, done) in
           let both_uses = has_left tables (joined (test_uses t) (commands_uses cs)) (branches_uses bs) has in
           let parts = branch_parts_of all tables t cs at bs p end h in
-          let tested = test_run fs held t p false next e parts.test (has_left tables (test_uses t) (commands_uses cs) both_uses) b.0 in_loops.0 short in
+          let tested = test_run fs t p false next e parts.test (has_left tables (test_uses t) (commands_uses cs) both_uses) b.0 in_loops.0 short in
           let f = (test_does mail part t e).effects in
           let after = test_short mail part t e short in
           let inner = commands_run cs fs held block f parts.block (has_right tables (test_uses t) (commands_uses cs) both_uses) b.1 few in_loops.1 after in
-          let taken = arrives_at (commands_do mail part cs f) fs block after_block end f (λ g. leave_run fs held bs after_block end g parts.leave same) inner in
+          let taken = arrives_at (commands_do mail part cs f) fs block after_block end f (λ g. leave_run fs bs after_block end g parts.leave same) inner in
           let others = branches_run bs fs held next end f parts.rest (has_right tables (joined (test_uses t) (commands_uses cs)) (branches_uses bs) has) b.2 few in_loops.2 after same in
           decided (test_does mail part t e).value (commands_do mail part cs f) (choice_does mail part bs f) fs p block next end e f tested taken others
 

@@ -1,7 +1,6 @@
 -- Strings on the stack and as they are expanded, and where a test leads.
 use Rattle.std.proofs.Common.{◌≡◌, ℕ, zero, suc, ◌+◌, ◌-◌, ◌<◌, ◌≤◌, Bool, true, false, not, List, [], ◌∷◌, ◌++◌, Option, Some, None, length, map, take, append-nil, slice_get, refl, sym, ap, ◌∙◌, arith, if◌then◌else◌}
 use Rattle.std.specs.List.{concat, flat_map}
-use Rattle.std.specs.Option.{option_and_then}
 use Rattle.std.proofs.lemmas.Bool.{lt-ltb}
 use Rattle.std.proofs.lemmas.List.{take_all, map-append}
 use Rattle.mime_decode.specs.Mail.{Mail, Part as MailPart}
@@ -10,16 +9,17 @@ use Rattle.sieve_check.specs.Bounded.{IsBoundedSegment}
 use Rattle.sieve_check.specs.declared.typed.Segment.{Segment}
 use Rattle.sieve_check.specs.declared.typed.Segment.TheVariants.{Text, Variable, Capture}
 use Rattle.sieve_check.specs.Typed.{Template, Strings, in_order, TestForm, TestForms, test}
-use Rattle.sieve_meaning.specs.Meaning.{Effects, Texts, texts_of, value_of, expanded, all_expanded, Verdict, verdict, broken, left, current, all_do, any_do}
+use Rattle.mail_matching.specs.Questions.{Texts}
+use Rattle.sieve_meaning.specs.Meaning.{Effects, texts_of, value_of, expanded, all_expanded, Verdict, verdict, broken, left, all_do, any_do}
 use Rattle.bytecode_verifier.proofs.Again.{onto as stacked, onto_number as stacked_number, on_top_again}
-use Rattle.sieve_vm.specs.State.{Value, text, Frame, State, current_part}
+use Rattle.sieve_vm.specs.State.{Value, text, Frame, State, Referred, current_part}
 use Rattle.bytecode_format.specs.declared.instruction.Instruction.{Instruction}
 use Rattle.bytecode_format.specs.declared.operation.Operation.{Operation}
 use Rattle.bytecode_format.specs.Code.{Code}
 use Rattle.bytecode_verifier.specs.Rows.{is_well_formed}
 use Rattle.bytecode_verifier.specs.Rules.{row_in}
 use Rattle.sieve_vm.specs.Charge.{charge_of}
-use Rattle.sieve_vm.specs.Machine.{Effect, fails, Referred, referred_in, effect, turn, turn_of, with_part}
+use Rattle.sieve_vm.specs.Machine.{Effect, fails, referred_in, effect, turn, turn_of, with_part}
 use Rattle.sieve_vm.specs.Stack.{OnTop, Lists, text_in, texts_on_top, lists_on_top}
 use Rattle.sieve_compiler.specs.Coding.{aim_of}
 use Rattle.sieve_compiler.proofs.PushedTexts.{onto_append}
@@ -108,9 +108,6 @@ pub with_part_is : (go : ℕ → MailPart → State → Effect) (mail : Mail) (s
 with_part_is go mail s [] on = absurd (let wrong : None ≡ Some on.number = on.is in cc)
 with_part_is go mail s (f ∷ fs) on = let is : Some f.part ≡ Some on.number = on.is in let same : f.part ≡ on.number = cc in rw (same, on.here) refl
 
-pub of_part_is : {A : Type 0} (mail : Mail) (part : Option ℕ) (asked : MailPart → Option A) (on : OnPart mail part) → option_and_then asked (current mail part) ≡ asked on.found
-of_part_is mail part asked on = rw (on.is, on.here) refl
-
 pub part_at : (parts : List MailPart) (number : ℕ) → number < length parts → (found : MailPart) × (slice_get parts number ≡ Some found)
 part_at [] number lt = absurd (omega (arith, lt))
 part_at (p ∷ parts) zero lt = (p, refl)
@@ -123,12 +120,12 @@ abbrev pub effect_of : Referred → Mail → Option Operation → Instruction �
 effect_of program mail None i s = fails
 effect_of program mail (Some operation) i s = effect program mail operation i s
 
-abbrev pub charge_in : Mail → Option Operation → Instruction → State → ℕ
-charge_in mail None i s = 0
-charge_in mail (Some operation) i s = charge_of mail operation i s
+abbrev pub charge_in : Referred → Mail → Option Operation → Instruction → State → ℕ
+charge_in program mail None i s = 0
+charge_in program mail (Some operation) i s = charge_of program mail operation i s
 
 -- the turn of an instruction whose fields are in their ranges
-pub formed_turn : (code : Code) (mail : Mail) (o : Option Operation) (i : Instruction) (s : State) → is_well_formed (row_in code i) i ≡ true → turn_of code mail o i s ≡ turn (charge_in mail o i s) (effect_of (referred_in code) mail o i s)
+pub formed_turn : (code : Code) (mail : Mail) (o : Option Operation) (i : Instruction) (s : State) → is_well_formed (row_in code i) i ≡ true → turn_of code mail o i s ≡ turn (charge_in (referred_in code) mail o i s) (effect_of (referred_in code) mail o i s)
 formed_turn code mail None i s h = refl
 formed_turn code mail (Some operation) i s h = rw h refl
 

@@ -1,155 +1,147 @@
 -- The instruction of each question: it is no bracket, it keeps the rules at its place, and its effect is the answer.
-use Rattle.std.proofs.Common.{◌≡◌, ℕ, ◌+◌, ◌<◌, ◌≤◌, ◌^◌, Bool, true, false, List, [], ◌∷◌, Option, Some, map, slice_get, length, nat_eq, refl, sym, ap, subst, ◌∙◌, arith}
-use Rattle.std.specs.Bool.{then_some}
-use Rattle.std.proofs.lemmas.Bool.{le-leb, lt-ltb}
-use Rattle.std.proofs.lemmas.List.{length-map}
+use Rattle.std.proofs.Common.{◌≡◌, ℕ, zero, suc, ◌+◌, ◌<◌, ◌≤◌, ◌^◌, ◌&&◌, Bool, true, false, All, List, [], ◌∷◌, ◌++◌, Option, Some, map, slice_get, length, nat_eq, refl, sym, ap, subst, ◌∙◌, arith}
+use Rattle.std.proofs.lemmas.Bool.{le-leb}
+use Rattle.std.proofs.lemmas.List.{length-append, length-map}
+use Rattle.std.proofs.lemmas.List.Elements.{All-nil, All-cons, All-head}
 use Rattle.octets.specs.Limits.{max_test_strings}
 use Rattle.octets.proofs.Once.{place_within}
 use Rattle.bytecode_format.specs.declared.instruction.Instruction.{Instruction}
-use Rattle.bytecode_format.specs.Operations.{operation_of}
-use Rattle.bytecode_format.specs.Spelling.{Fits}
-use Rattle.bytecode_format.proofs.SelectionLemmas.{match_again, match_small, scope_again, scope_small, field_test_again, field_test_small}
-use Rattle.bytecode_verifier.specs.Rows.{row_named, is_well_formed, is_jump}
-use Rattle.bytecode_verifier.specs.Shape.{Entries}
-use Rattle.bytecode_verifier.specs.declared.shape.Entry.TheVariants.{Truth}
-use Rattle.bytecode_verifier.proofs.Open.{inside}
-use Rattle.mime_decode.specs.Mail.{Mail, size_of}
-use Rattle.mail_matching.specs.HeaderTests.{exists_in}
-use Rattle.mail_matching.specs.PartTests.{body_match, digest_match}
-use Rattle.bytecode_format.specs.declared.question.Order.{Order}
+use Rattle.bytecode_format.specs.declared.operation.Operation.{Operation}
+use Rattle.bytecode_format.specs.declared.operation.Operation.TheVariants.{Test}
 use Rattle.bytecode_format.specs.declared.question.Question.{Question}
-use Rattle.bytecode_format.specs.declared.question.Question.TheVariants.{Constant, Header, Exists, Size, String, PartSize, PartBody, PartDigest}
-use Rattle.sieve_check.specs.Bounded.{AreBoundedStrings}
-use Rattle.bytecode_format.specs.Questions.{row_of, no_list}
-use Rattle.sieve_check.specs.Typed.{Strings}
-use Rattle.sieve_meaning.specs.Meaning.{Effects, texts_of, expanded, all_expanded, is_size, answer}
-use Rattle.sieve_vm.specs.State.{State, truth, current_part}
-use Rattle.sieve_vm.specs.Machine.{Effect, Referred, push, tested, with_number, with_texts, test_body, test_digest}
-use Rattle.sieve_vm.specs.Stack.{texts_on_top}
+use Rattle.bytecode_format.specs.declared.question.Takes.{Takes}
+use Rattle.bytecode_format.specs.Operations.{operation_of}
+use Rattle.bytecode_format.specs.Questions.{StandsIn, counts_in, operation_asking, question_in, row_of}
+use Rattle.bytecode_format.specs.Spelling.{Fits}
+use Rattle.bytecode_format.proofs.QuestionLemmas.{said_again}
+use Rattle.bytecode_verifier.specs.Rows.{row_named, is_well_formed, is_jump}
+use Rattle.bytecode_verifier.specs.Shape.{Entries, take_counted}
+use Rattle.bytecode_verifier.specs.declared.shape.Entry.TheVariants.{Truth}
+use Rattle.bytecode_verifier.specs.Shape as shape
+use Rattle.bytecode_verifier.proofs.Open.{inside}
+use Rattle.mime_decode.specs.Mail.{Mail}
+use Rattle.mail_matching.specs.Questions.{answer}
+use Rattle.sieve_check.specs.Bounded.{IsAsTaken, AreBoundedStrings}
+use Rattle.sieve_check.specs.Typed.{Template, Strings}
+use Rattle.sieve_meaning.specs.Meaning.{Effects, texts_of, expanded, all_expanded}
+use Rattle.sieve_vm.specs.State.{Frame, State, Referred, current_part}
+use Rattle.sieve_vm.specs.Machine.{is_outside, tested}
+use Rattle.sieve_vm.specs.Stack.{Lists, lists_counted}
 use Rattle.sieve_compiler.specs.Growing.{uses_with}
-use Rattle.sieve_compiler.specs.Tables.{Tables, place_of_number}
-use Rattle.sieve_compiler.specs.Coding.{question_code, truth_number, order_number, written_version}
+use Rattle.sieve_compiler.specs.Tables.{Tables}
+use Rattle.sieve_compiler.specs.Coding.{counts_of, place_of_first, question_code, written_version}
+use Rattle.sieve_compiler.proofs.Asking.{AreCounted, asked_fits, asked_formed, counted_again, index_asked, index_of, is_any, is_counted, no_jump, numbers_few, operation_asked, part_asked, place_asked, placed, row_asked}
 use Rattle.sieve_compiler.proofs.Known.{Has, found}
-use Rattle.sieve_compiler.proofs.OnStack.{effect_of, OnPart, with_part_is, of_part_is, on_top, stacked_lists, three_again}
+use Rattle.sieve_compiler.proofs.OnStack.{effect_of, stacked_lists, three_again}
 use Rattle.sieve_compiler.proofs.PushedTexts.{bound_of, pushed, lists_pushed, taken_back}
-use Rattle.sieve_compiler.proofs.Selecting.{truth_below, truth_again, order_below, order_again, match_fits, scope_fits, fields_fit, counts_fit, keys_are, params_are, lists_few}
-use Rattle.sieve_compiler.proofs.Sound.{is_bracket, left_by, leaves, standing, IsKnown, KeepsLoops, IsSound, TurnsInto}
+use Rattle.sieve_compiler.proofs.Sound.{is_bracket, left_by, leaves, standing, IsInTable, IsInside, IsKnown, KeepsLoops, IsSound, TurnsInto}
+
+-- ---- its strings
+
+-- all lists together
+lists_few : (takes : Takes) (strings : Strings) → AreBoundedStrings takes strings → length strings.names + length strings.params + length strings.keys ≤ max_test_strings
+lists_few takes strings b = omega (arith, b.few, length-append (strings.names ++ strings.params) strings.keys, length-append strings.names strings.params)
+
+list_counted : (taken : Bool) (list : List Template) → IsAsTaken taken list → length list ≤ max_test_strings → is_counted taken (length list) ≡ true
+list_counted true list some few = rw (le-leb 1 (length list) some, le-leb (length list) max_test_strings few) refl
+list_counted false list none few = let same : list ≡ [] = none in rw same refl
+
+lists_counted_are : (takes : Takes) (strings : Strings) → AreBoundedStrings takes strings → AreCounted takes (counts_of strings)
+lists_counted_are takes strings b =
+    let few = lists_few takes strings b in
+    record {
+      names = list_counted takes.names strings.names b.names (omega (arith, few));
+      params = list_counted takes.params strings.params b.params (omega (arith, few));
+      keys = list_counted takes.keys strings.keys b.keys (omega (arith, few));
+      few = few;
+    }
 
 module _ (tables : Tables) where
+  -- the place of a number that it has
+  abbrev place_in : Question → ℕ
+  place_in q = place_of_first tables (row_of q).numbers
+
   abbrev code_for : Question → Strings → Instruction
   code_for q strings = question_code tables q strings
 
-  pub question_flat : (q : Question) (strings : Strings) → is_bracket (operation_of (code_for q strings).op) ≡ false
-  question_flat (Constant b) strings = refl
-  question_flat _ strings = refl
+  first_stands : (numbers : List ℕ) → length numbers ≤ 1 → Has tables (uses_with numbers [] []) → All (λ number. slice_get tables.numbers (place_of_first tables numbers) ≡ Some number) numbers
+  first_stands [] few has = All-nil (λ number. slice_get tables.numbers 0 ≡ Some number)
+  first_stands (n ∷ []) few has = All-cons (λ number. slice_get tables.numbers (place_of_first tables (n ∷ [])) ≡ Some number) n [] (found tables n has) (All-nil _)
+  first_stands (n ∷ m ∷ numbers) few has = absurd (omega (arith, few))
 
-  no_jump : (q : Question) (strings : Strings) → is_jump (row_named written_version (code_for q strings).op) ≡ false
-  no_jump (Constant b) strings = refl
-  no_jump _ strings = refl
+  number_stands : (q : Question) → Has tables (uses_with (row_of q).numbers [] []) → StandsIn tables.numbers (place_in q) q
+  number_stands q has = first_stands (row_of q).numbers (numbers_few q) has
+
+  first_within : (numbers : List ℕ) → place_of_first tables numbers ≤ length tables.numbers
+  first_within [] = omega arith
+  first_within (n ∷ numbers) = place_within nat_eq tables.numbers n
+
+  -- ---- the rules at its place
+
+  asked : (q : Question) (strings : Strings) → operation_of (code_for q strings).op ≡ Some (Test (operation_asking q))
+  asked q strings = operation_asked q (counts_of strings) (place_in q)
+
+  pub question_flat : (q : Question) (strings : Strings) → is_bracket (operation_of (code_for q strings).op) ≡ false
+  question_flat q strings = ap is_bracket (asked q strings)
 
   -- it leaves its truth value alone
   pub question_leaves : (q : Question) (strings : Strings) (entries : Entries) → left_by tables (Some (code_for q strings)) entries ≡ Truth ∷ []
-  question_leaves (Constant b) strings entries = refl
-  question_leaves _ strings entries = refl
-
-  -- the index that it has is one of its table
-  known_index : (q : Question) (strings : Strings) → Has tables (uses_with (row_of q).numbers [] []) → IsKnown tables (operation_of (code_for q strings).op) (code_for q strings)
-  known_index (Size order number) strings has = (number, found tables number has)
-  known_index (PartSize order number) strings has = (number, found tables number has)
-  known_index _ strings has = tt
-
-  -- a question about the current part is within a loop
-  keeps_loops : (all : List Instruction) (place : ℕ) (q : Question) (strings : Strings) → (row_of q).loops ≤ length (inside all place) → KeepsLoops all place (operation_of (code_for q strings).op) (code_for q strings)
-  keeps_loops all place (PartSize order number) strings deep = omega (arith, deep)
-  keeps_loops all place (PartBody how) strings deep = omega (arith, deep)
-  keeps_loops all place PartDigest strings deep = omega (arith, deep)
-  keeps_loops all place _ strings deep = tt
-
-  -- where the lists together are no more than there may be
-  abbrev AreFewStrings : Strings → Type 0
-  AreFewStrings strings = length strings.names + length strings.params + length strings.keys ≤ max_test_strings
-
-  formed : (q : Question) (strings : Strings) → AreBoundedStrings (row_of q).takes strings → AreFewStrings strings → is_well_formed (row_named written_version (code_for q strings).op) (code_for q strings) ≡ true
-  formed (Constant b) strings h few = rw (lt-ltb (truth_number b) 2 (truth_below b)) refl
-  formed (Header test) strings h few = rw (fields_fit test, le-leb 1 (length strings.names) h.names, le-leb (length strings.names) max_test_strings (omega (arith, few)), counts_fit test strings h) refl
-  formed (Exists scope) strings h few = rw (scope_fits scope, le-leb 1 (length strings.names) h.names, le-leb (length strings.names) max_test_strings (omega (arith, few))) refl
-  formed (Size order number) strings h few = rw (lt-ltb (order_number order) 2 (order_below order)) refl
-  formed (String how) strings h few =
-      rw (
-        match_fits how,
-        le-leb 1 (length strings.names) h.names,
-        le-leb (length strings.names) max_test_strings (omega (arith, few)),
-        le-leb 1 (length strings.keys) h.keys,
-        le-leb (length strings.keys) max_test_strings (omega (arith, few)),
-      )
-      refl
-  formed (PartSize order number) strings h few = rw (lt-ltb (order_number order) 2 (order_below order)) refl
-  formed (PartBody how) strings h few = rw (match_fits how, le-leb 1 (length strings.keys) h.keys, le-leb (length strings.keys) max_test_strings (omega (arith, few))) refl
-  formed PartDigest strings h few = rw (le-leb 1 (length strings.keys) h.keys, le-leb (length strings.keys) max_test_strings (omega (arith, few))) refl
+  question_leaves q strings entries = ap (λ o. leaves tables o (code_for q strings) entries) (asked q strings)
 
   -- its fields are in their ranges
   pub question_formed : (q : Question) (strings : Strings) → AreBoundedStrings (row_of q).takes strings → is_well_formed (row_named written_version (code_for q strings).op) (code_for q strings) ≡ true
-  question_formed q strings h = formed q strings h (lists_few (row_of q).takes strings h)
-
-  fits : (q : Question) (strings : Strings) → AreFewStrings strings → length tables.numbers < 2 ^ 32 → Fits (code_for q strings)
-  fits (Constant b) strings few small = record { op = omega arith; a = omega (arith, truth_below b); b = omega arith; c = omega arith }
-  fits (Header test) strings few small = record { op = omega arith; a = field_test_small test; b = omega (arith, few); c = omega (arith, few) }
-  fits (Exists scope) strings few small = record { op = omega arith; a = omega (arith, scope_small scope); b = omega (arith, few); c = omega arith }
-  fits (Size order number) strings few small = record { op = omega arith; a = omega (arith, order_below order); b = omega arith; c = omega (arith, place_within nat_eq tables.numbers number, small) }
-  fits (String how) strings few small = record { op = omega arith; a = omega (arith, match_small how); b = omega (arith, few); c = omega (arith, few) }
-  fits (PartSize order number) strings few small = record { op = omega arith; a = omega (arith, order_below order); b = omega arith; c = omega (arith, place_within nat_eq tables.numbers number, small) }
-  fits (PartBody how) strings few small = record { op = omega arith; a = omega (arith, match_small how); b = omega arith; c = omega (arith, few) }
-  fits PartDigest strings few small = record { op = omega arith; a = omega arith; b = omega arith; c = omega (arith, few) }
+  question_formed q strings h = asked_formed q (counts_of strings) (place_in q) (lists_counted_are (row_of q).takes strings h)
 
   -- and within the limits of a program
   pub question_fits : (q : Question) (strings : Strings) → AreBoundedStrings (row_of q).takes strings → length tables.numbers < 2 ^ 32 → Fits (code_for q strings)
-  question_fits q strings h small = fits q strings (lists_few (row_of q).takes strings h) small
+  question_fits q strings h small = asked_fits q (counts_of strings) (place_in q) (lists_few (row_of q).takes strings h) (omega (arith, first_within (row_of q).numbers, small))
 
-  none_pushed : (strings : Strings) → AreBoundedStrings no_list strings → lists_pushed strings ≡ []
-  none_pushed strings h =
-      let names : strings.names ≡ [] = h.names in
-      let params : strings.params ≡ [] = h.params in
-      let keys : strings.keys ≡ [] = h.keys in
-      rw (names, params, keys) refl
+  jumps_not : (q : Question) (strings : Strings) → is_jump (row_named written_version (code_for q strings).op) ≡ false
+  jumps_not q strings = ap is_jump (row_asked q (counts_of strings) (place_in q)) ∙ no_jump q
+
+  -- the index that it has is one of its table
+  in_table : (numbers : List ℕ) (c place : ℕ) → placed numbers c ≡ placed numbers place → All (λ number. slice_get tables.numbers place ≡ Some number) numbers → IsInTable tables (index_of numbers) c
+  in_table [] c place same h = tt
+  in_table (n ∷ numbers) c place same h = (n, ap (slice_get tables.numbers) same ∙ All-head (λ number. slice_get tables.numbers place ≡ Some number) n numbers h)
+
+  known_index : (q : Question) (strings : Strings) → Has tables (uses_with (row_of q).numbers [] []) → IsKnown tables (operation_of (code_for q strings).op) (code_for q strings)
+  known_index q strings has =
+      let c : ℕ = (code_for q strings).c in
+      subst (λ o. IsKnown tables o (code_for q strings)) (sym (asked q strings))
+      (subst (λ index. IsInTable tables index c) (sym (index_asked q))
+      (in_table (row_of q).numbers c (place_in q) (place_asked q (counts_of strings) (place_in q)) (number_stands q has)))
+
+  -- a question about the current part is within a loop
+  within : (needed loops : ℕ) → needed ≤ loops → IsInside (is_any needed) loops
+  within zero loops deep = tt
+  within (suc needed) loops deep = omega (arith, deep)
+
+  keeps_loops : (all : List Instruction) (place : ℕ) (q : Question) (strings : Strings) → (row_of q).loops ≤ length (inside all place) → KeepsLoops all place (operation_of (code_for q strings).op) (code_for q strings)
+  keeps_loops all place q strings deep =
+      let loops : ℕ = length (inside all place) in
+      subst (λ o. KeepsLoops all place o (code_for q strings)) (sym (asked q strings))
+      (subst (λ needed. IsInside needed loops) (sym (part_asked q)) (within (row_of q).loops loops deep))
 
   -- it takes the entries of its strings
-  abbrev Turns : Question → Strings → Entries → Type 0
-  Turns q strings entries = TurnsInto tables (operation_of (code_for q strings).op) (code_for q strings) entries (leaves tables (operation_of (code_for q strings).op) (code_for q strings) entries)
-
-  turns_into : (q : Question) (strings : Strings) → AreBoundedStrings (row_of q).takes strings → Turns q strings (lists_pushed strings)
-  turns_into (Constant b) strings h = λ code same. rw (none_pushed strings h) refl
-  turns_into (Header test) strings h =
-      λ code same.
-      let few = lists_few (row_of (Header test)).takes strings h in
+  taken_all : (strings : Strings) → take_counted (counts_of strings) (lists_pushed strings) ≡ Some (let lists : shape.Lists = record { names = map bound_of strings.names; params = map bound_of strings.params; keys = map bound_of strings.keys; below = [] } in lists)
+  taken_all strings =
       rw (
-        keys_are strings (omega (arith, few)),
-        params_are strings (omega (arith, few)),
         taken_back bound_of strings.keys (pushed (map bound_of strings.params) (pushed (map bound_of strings.names) [])),
         taken_back bound_of strings.params (pushed (map bound_of strings.names) []),
         taken_back bound_of strings.names [],
       )
       refl
-  turns_into (Exists scope) strings h =
-      λ code same.
-      let params : strings.params ≡ [] = h.params in
-      let keys : strings.keys ≡ [] = h.keys in
-      rw (params, keys, taken_back bound_of strings.names []) refl
-  turns_into (Size order number) strings h = λ code same. rw (none_pushed strings h) refl
-  turns_into (String how) strings h =
-      λ code same.
-      let params : strings.params ≡ [] = h.params in
-      rw (params, taken_back bound_of strings.keys (pushed (map bound_of strings.names) []), taken_back bound_of strings.names []) refl
-  turns_into (PartSize order number) strings h = λ code same. rw (none_pushed strings h) refl
-  turns_into (PartBody how) strings h =
-      λ code same.
-      let names : strings.names ≡ [] = h.names in
-      let params : strings.params ≡ [] = h.params in
-      rw (names, params, taken_back bound_of strings.keys []) refl
-  turns_into PartDigest strings h =
-      λ code same.
-      let names : strings.names ≡ [] = h.names in
-      let params : strings.params ≡ [] = h.params in
-      rw (names, params, taken_back bound_of strings.keys []) refl
+
+  counted : (q : Question) (strings : Strings) → AreBoundedStrings (row_of q).takes strings → counts_in (operation_asking q) (code_for q strings) ≡ counts_of strings
+  counted q strings h = counted_again q (counts_of strings) (place_in q) (lists_counted_are (row_of q).takes strings h)
+
+  abbrev Turns : Option Operation → Instruction → Entries → Type 0
+  Turns o i entries = TurnsInto tables o i entries (leaves tables o i entries)
+
+  turns_into : (q : Question) (strings : Strings) → AreBoundedStrings (row_of q).takes strings → Turns (operation_of (code_for q strings).op) (code_for q strings) (lists_pushed strings)
+  turns_into q strings h =
+      subst (λ o. Turns o (code_for q strings) (lists_pushed strings)) (sym (asked q strings))
+      (λ code same. rw (counted q strings h, taken_all strings) refl)
 
   pub question_sound : (all : List Instruction) (last place : ℕ) (q : Question) (strings : Strings) → AreBoundedStrings (row_of q).takes strings → Has tables (uses_with (row_of q).numbers [] []) → (row_of q).loops ≤ length (inside all place) → standing tables all place ≡ lists_pushed strings
       → IsSound all tables last place (code_for q strings)
@@ -157,15 +149,19 @@ module _ (tables : Tables) where
     form = question_formed q strings h;
     loops = keeps_loops all place q strings deep;
     index = known_index q strings has;
-    jump = λ e. let none = no_jump q strings in absurd (cc);
-    stack = subst (Turns q strings) (sym start) (turns_into q strings h);
+    jump = λ e. let none = jumps_not q strings in absurd (cc);
+    stack = subst (Turns (operation_of (code_for q strings).op) (code_for q strings)) (sym start) (turns_into q strings h);
   }
 
-  -- in a state of the machine, whose current part, if there is one, is one of the message
-  module _ (program : Referred) (numbers_same : program.numbers ≡ tables.numbers) (mail : Mail) (state : State) (held : 0 < length state.frames → OnPart mail (current_part state.frames)) where
-    abbrev part : Option ℕ
-    part = current_part state.frames
+  -- ---- its effect
 
+  -- where it needs a loop, one is open
+  not_outside : (needed : ℕ) (frames : List Frame) → needed ≤ length frames → (is_any needed && is_outside frames) ≡ false
+  not_outside zero frames deep = refl
+  not_outside (suc needed) [] deep = absurd (omega (arith, deep))
+  not_outside (suc needed) (frame ∷ frames) deep = refl
+
+  module _ (program : Referred) (numbers_same : program.numbers ≡ tables.numbers) (mail : Mail) (state : State) where
     -- where nothing is on the stack
     abbrev bare : State
     bare = record state { stack = [] }
@@ -174,78 +170,17 @@ module _ (tables : Tables) where
     abbrev stacked : Effects → Strings → State
     stacked e strings = record state { stack = stacked_lists (texts_of e strings) }
 
-    none_stacked : (e : Effects) (strings : Strings) → AreBoundedStrings no_list strings → stacked e strings ≡ bare
-    none_stacked e strings h =
-        let names : strings.names ≡ [] = h.names in
-        let params : strings.params ≡ [] = h.params in
-        let keys : strings.keys ≡ [] = h.keys in
-        rw (names, params, keys) refl
+    said : (q : Question) (strings : Strings) → Has tables (uses_with (row_of q).numbers [] []) → question_in program.numbers (operation_asking q) (code_for q strings) ≡ Some q
+    said q strings has = ap (λ numbers. question_in numbers (operation_asking q) (code_for q strings)) numbers_same ∙ said_again tables.numbers q (counts_of strings) (place_in q) (number_stands q has)
 
-    abbrev effect_at : Question → Strings → State → Effect
-    effect_at q strings s = effect_of program mail (operation_of (code_for q strings).op) (code_for q strings) s
-
-    on_bare : (q : Question) (e : Effects) (strings : Strings) → AreBoundedStrings no_list strings → effect_at q strings (stacked e strings) ≡ effect_at q strings bare
-    on_bare q e strings h = ap (effect_at q strings) (none_stacked e strings h)
-
-    -- a truth value is an answer without new captures
-    truth_tested : (b : Bool) → push (truth b) bare ≡ tested bare (then_some b state.captures)
-    truth_tested true = refl
-    truth_tested false = refl
-
-    -- a size against a number of the table
-    size_tested : (i : Instruction) (order : Order) (number size : ℕ) → i.a ≡ order_number order → i.c ≡ place_of_number tables number → Has tables (uses_with (number ∷ []) [] []) → with_number i size bare (slice_get program.numbers i.c) ≡ tested bare (then_some (is_size order number size) state.captures)
-    size_tested i order number size a c has = rw (numbers_same, c, found tables number has, a, order_again order number size) (truth_tested (is_size order number size))
+    found_again : (e : Effects) (strings : Strings) → lists_counted (counts_of strings) (stacked e strings).stack ≡ Some (let lists : Lists = record { names = all_expanded e strings.names; params = all_expanded e strings.params; keys = all_expanded e strings.keys; below = [] } in lists)
+    found_again e strings =
+        three_again (length strings.names) (length strings.params) (length strings.keys) (all_expanded e strings.names) (all_expanded e strings.params) (all_expanded e strings.keys)
+        (length-map strings.names (expanded e)) (length-map strings.params (expanded e)) (length-map strings.keys (expanded e))
 
     -- its effect is its answer
     pub question_effect : (q : Question) (e : Effects) (strings : Strings) → AreBoundedStrings (row_of q).takes strings → Has tables (uses_with (row_of q).numbers [] []) → (row_of q).loops ≤ length state.frames
-        → effect_at q strings (stacked e strings) ≡ tested bare (answer mail part q (texts_of e strings) state.captures)
-    question_effect (Constant b) e strings h has deep = on_bare (Constant b) e strings h ∙ ap (λ v. push (truth v) bare) (truth_again b) ∙ truth_tested b
-    question_effect (Header test) e strings h has deep =
-        let few = lists_few (row_of (Header test)).takes strings h in
-        let few_keys : length strings.keys ≤ max_test_strings = omega (arith, few) in
-        rw (
-          keys_are strings few_keys,
-          params_are strings few_keys,
-          three_again (length strings.names) (length strings.params) (length strings.keys) (all_expanded e strings.names) (all_expanded e strings.params) (all_expanded e strings.keys) (length-map strings.names (expanded e)) (length-map strings.params (expanded e)) (length-map strings.keys (expanded e)),
-          field_test_again test,
-        )
-        refl
-    question_effect (Exists scope) e strings h has deep =
-        let params : strings.params ≡ [] = h.params in
-        let keys : strings.keys ≡ [] = h.keys in
-        rw (params, keys, on_top (length strings.names) (all_expanded e strings.names) [] (length-map strings.names (expanded e)), scope_again scope) (truth_tested (exists_in scope part (all_expanded e strings.names) mail))
-    question_effect (Size order number) e strings h has deep = on_bare (Size order number) e strings h ∙ size_tested (code_for (Size order number) strings) order number (size_of mail) refl refl has
-    question_effect (String how) e strings h has deep =
-        let params : strings.params ≡ [] = h.params in
-        rw (
-          params,
-          three_again (length strings.names) 0 (length strings.keys) (all_expanded e strings.names) [] (all_expanded e strings.keys) (length-map strings.names (expanded e)) refl (length-map strings.keys (expanded e)),
-          match_again how,
-        )
-        refl
-    question_effect (PartSize order number) e strings h has deep =
-        let on = held (omega (arith, deep)) in
-        let i = code_for (PartSize order number) strings in
-        on_bare (PartSize order number) e strings h
-        ∙ with_part_is (λ n q s. with_number i (length q.content) s (slice_get program.numbers i.c)) mail bare state.frames on
-        ∙ size_tested i order number (length on.found.content) refl refl has
-        ∙ ap (tested bare) (sym (of_part_is mail part (λ p. then_some (is_size order number (length p.content)) state.captures) on))
-    question_effect (PartBody how) e strings h has deep =
-        let on = held (omega (arith, deep)) in
-        let names : strings.names ≡ [] = h.names in
-        let params : strings.params ≡ [] = h.params in
-        let i = code_for (PartBody how) strings in
-        let found : test_body how on.found (all_expanded e strings.keys) bare ≡ tested bare (answer mail part (PartBody how) (texts_of e strings) state.captures) =
-        ap (tested bare) (sym (of_part_is mail part (λ p. body_match how p (all_expanded e strings.keys) state.captures) on)) in
-        rw (match_again how)
-        (with_part_is (λ n q s. with_texts (test_body how q) s (texts_on_top i.c s.stack)) mail (stacked e strings) state.frames on
-        ∙ rw (names, params, on_top (length strings.keys) (all_expanded e strings.keys) [] (length-map strings.keys (expanded e))) found)
-    question_effect PartDigest e strings h has deep =
-        let on = held (omega (arith, deep)) in
-        let names : strings.names ≡ [] = h.names in
-        let params : strings.params ≡ [] = h.params in
-        let i = code_for PartDigest strings in
-        let found : test_digest on.found (all_expanded e strings.keys) bare ≡ tested bare (answer mail part PartDigest (texts_of e strings) state.captures) =
-        ap (tested bare) (sym (of_part_is mail part (λ p. digest_match p (all_expanded e strings.keys) state.captures) on)) in
-        with_part_is (λ n q s. with_texts (test_digest q) s (texts_on_top i.c s.stack)) mail (stacked e strings) state.frames on
-        ∙ rw (names, params, on_top (length strings.keys) (all_expanded e strings.keys) [] (length-map strings.keys (expanded e))) found
+        → effect_of program mail (operation_of (code_for q strings).op) (code_for q strings) (stacked e strings) ≡ tested bare (answer mail (current_part state.frames) q (texts_of e strings) state.captures)
+    question_effect q e strings h has deep =
+        ap (λ o. effect_of program mail o (code_for q strings) (stacked e strings)) (asked q strings)
+        ∙ rw (part_asked q, not_outside (row_of q).loops state.frames deep, said q strings has, counted q strings h, found_again e strings) refl

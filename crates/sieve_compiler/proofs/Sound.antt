@@ -1,15 +1,14 @@
 -- What it is that an instruction of a script's code keeps the rules at its place, and where its jumps may lead.
-use Rattle.std.proofs.Common.{◌≡◌, ℕ, zero, suc, ◌+◌, ◌<◌, ◌≤◌, Bool, true, false, List, [], ◌∷◌, ◌++◌, Option, Some, None, unwrap_or, slice_get, length, min, sum, refl, subst, arith}
+use Rattle.std.proofs.Common.{◌≡◌, ℕ, zero, suc, ◌+◌, ◌<◌, ◌≤◌, Bool, true, false, not, cond, ◌&&◌, ◌==◌, List, [], ◌∷◌, ◌++◌, Option, Some, None, unwrap_or, slice_get, length, min, sum, refl, subst, arith}
 use Rattle.bytecode_format.specs.declared.instruction.Instruction.{Instruction}
 use Rattle.bytecode_format.specs.declared.operation.Operation.{Operation}
 use Rattle.bytecode_format.specs.declared.operation.Operation.TheVariants.{Literal, Variable as VariableOp, Capture as CaptureOp, Join, Each, Next, Break, Test}
-use Rattle.bytecode_format.specs.declared.operation.TestOperation.TheVariants.{String, Constant, Header, Exists, Size, PartSize, PartBody, PartDigest}
 use Rattle.bytecode_format.specs.Operations.{operation_of}
 use Rattle.std.specs.Option.{option_and_then, option_map_or}
 use Rattle.bytecode_format.specs.Code.{Code}
 use Rattle.bytecode_verifier.specs.declared.row.Table.{Table}
 use Rattle.bytecode_verifier.specs.declared.row.Table.TheVariants.{Variables, Numbers, Strings}
-use Rattle.bytecode_verifier.specs.Rows.{row_of, row_named, is_well_formed, is_jump}
+use Rattle.bytecode_verifier.specs.Rows.{row_of, row_in_version, row_named, is_well_formed, is_jump}
 use Rattle.bytecode_verifier.specs.Nests.{next_at, leads}
 use Rattle.bytecode_verifier.proofs.Open.{inside}
 use Rattle.bytecode_verifier.specs.Shape.{Entries, Texts, take_texts, entries_after}
@@ -26,6 +25,14 @@ string_at tables place = unwrap_or (slice_get tables.strings place) []
 abbrev pub joined_text : Texts → Entries
 joined_text parts = Text (min (sum parts.texts) max_string) ∷ parts.below
 
+-- programs are written in the version that has every operation
+pub row_written : (o : Operation) → row_in_version written_version o ≡ Some (row_of o)
+row_written o = go (row_of o).since_two
+  where
+    go : (since_two : Bool) → cond (since_two && not (written_version == 2)) None (Some (row_of o)) ≡ Some (row_of o)
+    go true = refl
+    go false = refl
+
 -- the operation opens a loop or closes one
 abbrev pub is_bracket : Option Operation → Bool
 is_bracket (Some Each) = true
@@ -38,14 +45,7 @@ leaves tables (Some Literal) i entries = Text (length (string_at tables i.c)) �
 leaves tables (Some VariableOp) i entries = Text max_value ∷ entries
 leaves tables (Some CaptureOp) i entries = Text max_value ∷ entries
 leaves tables (Some Join) i entries = option_map_or joined_text (take_texts i.b entries) []
-leaves tables (Some (Test Constant)) i entries = Truth ∷ []
-leaves tables (Some (Test Size)) i entries = Truth ∷ []
-leaves tables (Some (Test Header)) i entries = Truth ∷ []
-leaves tables (Some (Test Exists)) i entries = Truth ∷ []
-leaves tables (Some (Test String)) i entries = Truth ∷ []
-leaves tables (Some (Test PartSize)) i entries = Truth ∷ []
-leaves tables (Some (Test PartBody)) i entries = Truth ∷ []
-leaves tables (Some (Test PartDigest)) i entries = Truth ∷ []
+leaves tables (Some (Test test)) i entries = Truth ∷ []
 leaves tables _ i entries = []
 
 abbrev pub left_by : Tables → Option Instruction → Entries → Entries

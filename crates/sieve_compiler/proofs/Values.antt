@@ -1,37 +1,23 @@
 -- The values of variables and captures stay as short as they are cut, and the values of the variables of a table are a list.
-use Rattle.std.proofs.Common.{◌≡◌, ℕ, zero, suc, ◌-◌, ◌≤◌, nat_lt, Bool, true, false, not, bytes_eq, List, [], ◌∷◌, Option, Some, None, IfSome, option_map, All, length, map, take, filter, replicate, slice_set, refl, sym, ap, subst, inl, inr, arith, if◌then◌else◌, length-take}
-use Rattle.std.specs.Bool.{then_some}
-use Rattle.std.specs.Option.{option_and_then, option_or}
+use Rattle.std.proofs.Common.{◌≡◌, ℕ, zero, suc, ◌-◌, ◌≤◌, nat_lt, Bool, true, false, not, bytes_eq, List, [], ◌∷◌, Option, Some, None, All, length, map, take, filter, replicate, slice_set, refl, sym, ap, subst, inl, inr, arith, if◌then◌else◌, length-take}
 use Rattle.std.specs.List.{slice_index_or}
 use Rattle.std.proofs.lemmas.Bool.{cases_Bool}
 use Rattle.std.proofs.lemmas.Cmp.{nat_list_eq_equiv}
-use Rattle.std.proofs.lemmas.List.Elements.{All-nil, All-cons, All-head, All-tail, All-append, All-map, All-replicate}
+use Rattle.std.proofs.lemmas.List.Elements.{All-head, All-tail, All-replicate}
 use Rattle.std.proofs.lemmas.Map.Views.{any-filter_same}
 use Rattle.std.proofs.lemmas.Slice.Eq.{bytes_eq-Decides}
 use Rattle.octets.specs.Limits.{max_value}
 use Rattle.octets.specs.Once.{each_once, is_listed, place_in}
 use Rattle.bytecode_format.specs.Modifiers.{modified}
-use Rattle.glob_match.specs.Matching.{captures_of, least_fit, max_capture, max_captures}
-use Rattle.glob_match.specs.Tokens.{tokens_of}
-use Rattle.glob_match.specs.Comparison.{is_match}
-use Rattle.glob_match.specs.Containment.{contains_match}
-use Rattle.glob_match.specs.declared.comparator.Comparator.{Comparator}
-use Rattle.glob_match.specs.declared.match_type.Match.{Match}
-use Rattle.glob_match.specs.declared.match_type.MatchType.{MatchType}
-use Rattle.glob_match.specs.declared.match_type.MatchType.TheVariants.{Is, Contains, Matches}
-use Rattle.mail_matching.specs.FirstMatch.{after_comparison, first_key, first_match, ten_of}
-use Rattle.mail_matching.specs.PartTests.{exactly}
-use Rattle.mime_decode.specs.Content.{digest_of}
+use Rattle.mail_matching.specs.Questions.{answer, current}
+use Rattle.mail_matching.proofs.QuestionLemmas.{answer_short}
 use Rattle.mime_decode.specs.Mail.{Mail, Part as MailPart}
 use Rattle.mime_decode.specs.Visited.{visited}
-use Rattle.mail_matching.specs.Selection.{selected_values}
 use Rattle.sieve_check.specs.declared.typed.Act.{Act}
 use Rattle.sieve_check.specs.declared.typed.Act.TheVariants.{Keep, Discard, FileInto, Set, Take, Store, Leave, Stop}
-use Rattle.bytecode_format.specs.declared.question.Question.{Question}
-use Rattle.bytecode_format.specs.declared.question.Question.TheVariants.{Constant, Header, Exists, Size, String, PartSize, PartBody, PartDigest}
 use Rattle.sieve_check.specs.Bounded.{IsBoundedAct, IsBoundedCommand, AreBoundedCommands, AreBoundedBranches}
 use Rattle.sieve_check.specs.Typed.{TestForm, asks, negation, all_of, any_of, TestForms, no_test, test, CommandForm, does, for_every_part, choice, CommandForms, no_command, command, BranchForms, no_branch, otherwise, branch}
-use Rattle.sieve_meaning.specs.Meaning.{Effects, no_effects, Texts, texts_of, expanded, with_taken, with_value, Verdict, verdict, matched, and_then, or_else, Ending, normal, stopped, broken, effects_of, followed_by, left, after_turn, turns, is_size, current, answer, test_does, all_do, any_do, act_does, command_does, commands_do, choice_does}
+use Rattle.sieve_meaning.specs.Meaning.{Effects, no_effects, texts_of, expanded, with_taken, with_value, Verdict, verdict, matched, and_then, or_else, Ending, normal, stopped, broken, effects_of, followed_by, left, after_turn, turns, test_does, all_do, any_do, act_does, command_does, commands_do, choice_does}
 
 -- ---- short values
 
@@ -48,48 +34,13 @@ cut_short text = omega (arith, length-take max_value text)
 empty_short : IsShort []
 empty_short = omega arith
 
-each : (P : List ℕ → Type 0) → ((x : List ℕ) → P x) → (xs : List (List ℕ)) → All P xs
-each P holds [] = All-nil P
-each P holds (x ∷ xs) = All-cons P x xs (holds x) (each P holds xs)
-
-captures_short : (value : List ℕ) (stretches : List (List ℕ)) → All IsShort (captures_of value stretches)
-captures_short value stretches = All-map IsShort (take max_capture) (take max_captures (value ∷ stretches)) (each (λ y. IsShort (take max_capture y)) cut_short (take max_captures (value ∷ stretches)))
-
-ten_short : (captures : List (List ℕ)) → All IsShort captures → All IsShort (ten_of captures)
-ten_short captures short = All-append IsShort captures _ short (All-replicate IsShort (max_captures - length captures) [] empty_short)
-
-either : (a b : Option (List (List ℕ))) → IfSome a (All IsShort) → IfSome b (All IsShort) → IfSome (option_or a b) (All IsShort)
-either None b first second = second
-either (Some x) b first second = first
-
-kept_if : (b : Bool) (captures : List (List ℕ)) → All IsShort captures → IfSome (if b then Some captures else None) (All IsShort)
-kept_if true captures short = short
-kept_if false captures short = tt
-
-set_of : (value : List ℕ) (fit : Option (List (List ℕ))) → IfSome (option_map ten_of (option_map (captures_of value) fit)) (All IsShort)
-set_of value None = tt
-set_of value (Some stretches) = ten_short (captures_of value stretches) (captures_short value stretches)
-
-after_one : (kind : MatchType) (comparator : Comparator) (value key : List ℕ) (captures : List (List ℕ)) → All IsShort captures → IfSome (after_comparison kind comparator value key captures) (All IsShort)
-after_one Is comparator value key captures short = kept_if (is_match comparator value key) captures short
-after_one Contains comparator value key captures short = kept_if (contains_match comparator value key) captures short
-after_one Matches comparator value key captures short = set_of value (least_fit comparator (tokens_of key) value)
-
-after_keys : (how : Match) (value : List ℕ) (keys captures : List (List ℕ)) → All IsShort captures → IfSome (first_key how value keys captures) (All IsShort)
-after_keys how value [] captures short = tt
-after_keys how value (key ∷ keys) captures short = either _ _ (after_one how.kind how.comparator value key captures short) (after_keys how value keys captures short)
-
-after_values : (how : Match) (values keys captures : List (List ℕ)) → All IsShort captures → IfSome (first_match how values keys captures) (All IsShort)
-after_values how [] keys captures short = tt
-after_values how (value ∷ values) keys captures short = either _ _ (after_keys how value keys captures short) (after_values how values keys captures short)
-
 pub capture_short : (captures : List (List ℕ)) (n : ℕ) → All IsShort captures → IsShort (slice_index_or captures n [])
 capture_short [] n short = empty_short
 capture_short (x ∷ xs) zero short = All-head IsShort x xs short
 capture_short (x ∷ xs) (suc n) short = capture_short xs n (All-tail IsShort x xs short)
 
 pub none_short : AreShort no_effects
-none_short = record { variables = λ name. empty_short; captures = All-replicate IsShort max_captures [] empty_short }
+none_short = record { variables = λ name. empty_short; captures = All-replicate IsShort (length no_effects.captures) [] empty_short }
 
 -- with other actions
 still : (e f : Effects) → f.variables ≡ e.variables → f.captures ≡ e.captures → AreShort e → AreShort f
@@ -98,9 +49,9 @@ still e f variables captures short = record {
   captures = subst (All IsShort) (sym captures) short.captures;
 }
 
-matched_short : (o : Option (List (List ℕ))) (e : Effects) → AreShort e → IfSome o (All IsShort) → AreShort (matched o e).effects
-matched_short None e short h = short
-matched_short (Some captures) e short h = record { variables = short.variables; captures = h }
+matched_short : (o : Option (List (List ℕ))) (e : Effects) → AreShort e → ((captures : List (List ℕ)) → o ≡ Some captures → All IsShort captures) → AreShort (matched o e).effects
+matched_short None e short after = short
+matched_short (Some captures) e short after = record { variables = short.variables; captures = after captures refl }
 
 and_short : (b : Bool) (e : Effects) (next : Effects → Verdict) → AreShort e → ((f : Effects) → AreShort f → AreShort (next f).effects) → AreShort (and_then (verdict b e) next).effects
 and_short true e next short h = h e short
@@ -151,26 +102,7 @@ pub turns_short : (turn : ℕ → Effects → Ending) (parts : List ℕ) (e : Ef
 turns_short turn [] e h short = short
 turns_short turn (number ∷ parts) e h short = turn_short (turn number e) (λ f. turns turn parts f) (h number e short) (λ f k. turns_short turn parts f h k)
 
--- a test without captures leaves them
-still_some : (b : Bool) (captures : List (List ℕ)) → All IsShort captures → IfSome (then_some b captures) (All IsShort)
-still_some true captures short = short
-still_some false captures short = tt
-
-of_part_short : (asked : MailPart → Option (List (List ℕ))) (found : Option MailPart) → ((p : MailPart) → IfSome (asked p) (All IsShort)) → IfSome (option_and_then asked found) (All IsShort)
-of_part_short asked None h = tt
-of_part_short asked (Some p) h = h p
-
 module _ (mail : Mail) where
-  answer_short : (part : Option ℕ) (q : Question) (texts : Texts) (captures : List (List ℕ)) → All IsShort captures → IfSome (answer mail part q texts captures) (All IsShort)
-  answer_short part (Constant b) texts captures short = still_some b captures short
-  answer_short part (Header fields) texts captures short = after_values fields.how (selected_values fields.scope part fields.selector texts.params texts.names mail) texts.keys captures short
-  answer_short part (Exists scope) texts captures short = still_some _ captures short
-  answer_short part (Size order number) texts captures short = still_some _ captures short
-  answer_short part (String how) texts captures short = after_values how texts.names texts.keys captures short
-  answer_short part (PartSize order number) texts captures short = of_part_short _ (current mail part) (λ p. still_some (is_size order number (length p.content)) captures short)
-  answer_short part (PartBody how) texts captures short = of_part_short _ (current mail part) (λ p. after_values how (p.content ∷ []) texts.keys captures short)
-  answer_short part PartDigest texts captures short = of_part_short _ (current mail part) (λ p. after_values exactly (digest_of p.content ∷ []) texts.keys captures short)
-
   act_short : (part : Option ℕ) (act : Act) (text : List ℕ) (e : Effects) → IsBoundedAct act → AreShort e → AreShort (effects_of (act_does mail part act text e))
   act_short part Keep text e b short = still e _ refl refl short
   act_short part Discard text e b short = still e _ refl refl short
@@ -184,7 +116,9 @@ module _ (mail : Mail) where
   mutual
     -- after a test
     pub test_short : (part : Option ℕ) (t : TestForm) (e : Effects) → AreShort e → AreShort (test_does mail part t e).effects
-    test_short part (asks question strings at) e short = matched_short _ e short (answer_short part question (texts_of e strings) e.captures short.captures)
+    test_short part (asks question strings at) e short =
+        let texts = texts_of e strings in
+        matched_short (answer mail part question texts e.captures) e short (λ captures is. answer_short mail part question texts e.captures captures short.captures is)
     test_short part (negation t at) e short = test_short part t e short
     test_short part (all_of t ts at) e short = let v = test_does mail part t e in and_short v.value v.effects (λ f. all_do mail part ts f) (test_short part t e short) (λ f h. all_short part ts f h)
     test_short part (any_of t ts at) e short = let v = test_does mail part t e in or_short v.value v.effects (λ f. any_do mail part ts f) (test_short part t e short) (λ f h. any_short part ts f h)

@@ -1,13 +1,14 @@
 // The instructions of which code is made.
 ghost use Rattle.std.specs.Prelude.{◌≡◌, ◌+◌, ◌<◌, ◌≤◌, ◌^◌, length, map};
 ghost use Rattle.octets.specs.Limits.{max_test_strings};
+ghost use Rattle.bytecode_format.specs.Questions.{row_of};
 ghost use Rattle.sieve_check.specs.TypedView.{strings_form};
-ghost use Rattle.sieve_compiler.specs.Coding.{instruction_with, instruction, jump_if, join_texts, order_number, question_code, act_code};
+ghost use Rattle.sieve_compiler.specs.Coding.{instruction_with, instruction, jump_if, join_texts, place_of_first, question_code, act_code};
 ghost use Rattle.sieve_compiler.specs.Aiming.{is_jump, aimed};
 
 use crate::exits::Exit;
 use crate::tables::Tables;
-use bytecode_format::{Instruction, Operation, Order, Question, TestCounts, TestOperation, match_number};
+use bytecode_format::{Counts, Instruction, Operation, Question};
 use sieve_check::{Act, Strings};
 
 /// An instruction with all its fields.
@@ -41,13 +42,14 @@ pub fn jump_if(exit: Exit) -> Instruction
     instruction(operation, 0, exit.target)
 }
 
-// How an instruction says whether a size is over or under a number.
-fn order_number(order: Order) -> u8
-    ensures { result ≡ order_number order }
+// The place of the number that a question compares with, if it does; else 0.
+fn compared_place(tables: &Tables<'_>, question: Question) -> u32
+    requires { length tables.now.numbers < 2 ^ 32 }
+    ensures { result ≡ place_of_first tables.now (row_of question).numbers }
 {
-    match order {
-        Order::Over => 0,
-        Order::Under => 1,
+    match question.number() {
+        Some(number) => tables.place_of_number(number) as u32,
+        None => 0,
     }
 }
 
@@ -58,33 +60,12 @@ pub fn question_code(tables: &Tables<'_>, question: Question, strings: &Strings)
         + length strings.now.keys.items ≤ max_test_strings }
     ensures { result ≡ question_code tables.now question (strings_form strings.now) }
 {
-    let names = strings.names.len() as u16;
-    let keys = strings.keys.len() as u32;
-    match question {
-        Question::Constant(value) => instruction(Operation::Test(TestOperation::Constant), u8::from(value), 0),
-        Question::Header(test) => {
-            let counts = TestCounts {
-                params: strings.params.len() as u16,
-                keys: keys as u16,
-            };
-            instruction_with(Operation::Test(TestOperation::Header), test.number(), names, counts.number())
-        }
-        Question::Exists(scope) => instruction_with(Operation::Test(TestOperation::Exists), scope.number(), names, 0),
-        Question::Size(order, number) => {
-            let place = tables.place_of_number(number) as u32;
-            instruction(Operation::Test(TestOperation::Size), order_number(order), place)
-        }
-        Question::String(how) => {
-            let matching = match_number(how);
-            instruction_with(Operation::Test(TestOperation::String), matching, names, keys)
-        }
-        Question::PartSize(order, number) => {
-            let place = tables.place_of_number(number) as u32;
-            instruction(Operation::Test(TestOperation::PartSize), order_number(order), place)
-        }
-        Question::PartBody(how) => instruction(Operation::Test(TestOperation::PartBody), match_number(how), keys),
-        Question::PartDigest => instruction(Operation::Test(TestOperation::PartDigest), 0, keys),
-    }
+    let counts = Counts {
+        names: strings.names.len(),
+        params: strings.params.len(),
+        keys: strings.keys.len(),
+    };
+    question.instruction(counts, compared_place(tables, question))
 }
 
 /// The instruction of an act, after its string.

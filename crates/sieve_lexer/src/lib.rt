@@ -20,6 +20,7 @@ pub use error::LexicalError;
 pub use reader::tokens;
 pub use token::{Token, TokenKind};
 pub use value::{number_of, string_of};
+pub use word::{begins_identifier, continues_identifier};
 
 /// How many octets a script may have.
 pub const MAX_SCRIPT: usize = 65536;

@@ -24,15 +24,15 @@ static CLASSES: [u8; 256] = *b"\
     \x00\x00\x00\x00\x00\x00\x00\x00\x00\x00\x00\x00\x00\x00\x00\x00\
     \x00\x00\x00\x00\x00\x00\x00\x00\x00\x00\x00\x00\x00\x00\x00\x00";
 
-// Whether an identifier may begin with the octet.
+/// Whether an identifier may begin with the octet: a letter of ASCII or `_` (RFC 5228, section 8.1).
 pub fn begins_identifier(octet: u8) -> bool
     ensures { result ≡ begins_identifier octet }
 {
     CLASSES[octet as usize] == 1
 }
 
-// Whether an identifier may go on with the octet.
-fn continues_identifier(octet: u8) -> bool
+/// Whether an identifier may go on with the octet: a letter or digit of ASCII or `_`.
+pub fn continues_identifier(octet: u8) -> bool
     ensures { result ≡ continues_identifier octet }
 {
     CLASSES[octet as usize] != 0

@@ -3,6 +3,7 @@ use Rattle.std.proofs.Common.{◌≡◌, ℕ, Bool, true, false, refl, subst, Li
 use Rattle.std.specs.Prelude.{◌&&◌, if◌then◌else◌, nat_lt}
 use Rattle.std.proofs.lemmas.Bool.{cases_Bool}
 use Rattle.std.proofs.lemmas.Grind.{flat_map-append}
+use Rattle.mail_matching.specs.Questions.{answer, found}
 use Rattle.mail_matching.specs.declared.finding.Finding.{Finding}
 use Rattle.mime_decode.specs.Mail.{Mail}
 use Rattle.mime_decode.specs.Visited.{visited}
@@ -11,8 +12,8 @@ use Rattle.sieve_check.specs.declared.typed.Act.{Act}
 use Rattle.sieve_check.specs.declared.typed.Act.TheVariants.{Keep, Discard, FileInto, Set, Take, Store, Leave, Stop}
 use Rattle.bytecode_format.specs.declared.question.Question.{Question}
 use Rattle.sieve_check.specs.Typed.{TestForm, asks, negation, all_of, any_of, TestForms, no_test, test, CommandForm, does, for_every_part, choice, CommandForms, no_command, command, BranchForms, no_branch, otherwise, branch}
-use Rattle.sieve_meaning.specs.Meaning.{Effects, no_effects, expanded, Verdict, matched, and_then, or_else, test_does, all_do, any_do, Ending, normal, stopped, broken, effects_of, followed_by, left, after_turn, turns, act_does, command_does, commands_do, choice_does, meaning, answer, texts_of}
-use Rattle.sieve_meaning.specs.Traced.{Event, event, Occurrence, found, asked, acted, turned, negated, all_held, any_held, listed_by, event_actions, keep_after, keeps, told_of, on_true, on_false, on_normal, test_events, all_events, any_events, turns_events, command_events, commands_events, choice_events, script_events, come_to}
+use Rattle.sieve_meaning.specs.Meaning.{Effects, no_effects, expanded, Verdict, matched, and_then, or_else, test_does, all_do, any_do, Ending, normal, stopped, broken, effects_of, followed_by, left, after_turn, turns, act_does, command_does, commands_do, choice_does, meaning, texts_of}
+use Rattle.sieve_meaning.specs.Traced.{Event, event, Occurrence, asked, acted, turned, negated, all_held, any_held, listed_by, event_actions, keep_after, keeps, told_of, on_true, on_false, on_normal, test_events, all_events, any_events, turns_events, command_events, commands_events, choice_events, script_events, come_to}
 
 -- what was done before and after events, as far as these tell it
 pub record Accounts (before : Effects) (events : List Event) (after : Effects) : Type 0 where

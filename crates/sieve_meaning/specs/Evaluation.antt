@@ -5,10 +5,8 @@ use Rattle.bytecode_format.specs.Actions.{first_occurrences}
 use Rattle.sieve_meaning.specs.declared.evaluator.Evaluator.{Evaluator}
 use Rattle.sieve_meaning.specs.declared.evaluator.Flow.{Flow}
 use Rattle.sieve_meaning.specs.declared.evaluator.Flow.TheVariants.{GoesOn, Stopped, Leaves}
-use Rattle.sieve_meaning.specs.declared.questions.Texts.{Texts as Lists}
-use Rattle.sieve_meaning.specs.Expanded.{items_of}
 use Rattle.sieve_meaning.specs.Values.{found_in}
-use Rattle.sieve_meaning.specs.Meaning.{Effects, Texts, Verdict, Ending, normal, stopped, broken}
+use Rattle.sieve_meaning.specs.Meaning.{Effects, Verdict, Ending, normal, stopped, broken}
 
 -- the evaluator stands for these effects
 pub record HasEvaluated (effects : Effects) (evaluator : Evaluator) : Type 0 where
@@ -27,11 +25,3 @@ StandsAt (normal effects) GoesOn evaluator = HasEvaluated effects evaluator
 StandsAt (stopped effects) Stopped evaluator = HasEvaluated effects evaluator
 StandsAt (broken loops effects) (Leaves left) evaluator = (left ≡ loops) × HasEvaluated effects evaluator
 StandsAt _ _ evaluator = ⊥
-
--- the code's texts, as the meaning has them
-abbrev pub texts_in : Lists → Texts
-texts_in texts = record {
-  names = items_of texts.names;
-  params = items_of texts.params;
-  keys = items_of texts.keys;
-}

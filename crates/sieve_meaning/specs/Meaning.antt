@@ -1,5 +1,5 @@
 -- What a script means. Where its tests and commands stand in it says nothing here.
-use Rattle.std.specs.Prelude.{ℕ, ◌-◌, Bool, true, false, not, nat_lt, bytes_eq, List, [], ◌∷◌, ◌++◌, flat_map, length, map, slice_get, slice_index_or, take, Option, None, Some, option_and_then, if◌then◌else◌}
+use Rattle.std.specs.Prelude.{ℕ, ◌-◌, Bool, true, false, not, nat_lt, bytes_eq, List, [], ◌∷◌, ◌++◌, flat_map, map, slice_index_or, take, Option, None, Some, if◌then◌else◌}
 use Rattle.octets.specs.Limits.{max_string, max_value}
 use Rattle.bytecode_format.specs.declared.action.Action.{Action}
 use Rattle.bytecode_format.specs.declared.action.Action.TheVariants as action

@@ -1,5 +1,5 @@
 -- What a script does on a message, told event by event, and what its tests find there. What isn't reached has no event.
-use Rattle.std.specs.Prelude.{ℕ, Bool, true, false, ◌&&◌, List, [], ◌∷◌, ◌++◌, flat_map, Option, None, Some, option_map, if◌then◌else◌}
+use Rattle.std.specs.Prelude.{ℕ, Bool, true, false, ◌&&◌, List, [], ◌∷◌, ◌++◌, flat_map, slice_get, Option, None, Some, if◌then◌else◌}
 use Rattle.bytecode_format.specs.declared.action.Action.{Action}
 use Rattle.bytecode_format.specs.declared.action.Action.TheVariants as action
 use Rattle.bytecode_format.specs.Actions.{final_actions}
@@ -7,6 +7,7 @@ use Rattle.mail_matching.specs.Questions.{found}
 use Rattle.mail_matching.specs.declared.finding.Finding.{Finding}
 use Rattle.mime_decode.specs.Mail.{Mail}
 use Rattle.mime_decode.specs.Visited.{visited}
+use Rattle.sieve_check.specs.Acts.{act_row}
 use Rattle.sieve_check.specs.declared.typed.Act.{Act}
 use Rattle.sieve_check.specs.declared.typed.Act.TheVariants.{Keep, Discard, FileInto, Set, Take, Store, Leave, Stop}
 use Rattle.bytecode_format.specs.declared.question.Question.{Question}
@@ -38,14 +39,7 @@ event at part what = record { at = at; part = part; what = what }
 
 -- the variable that an action sets, by its name, if it sets one
 abbrev pub variable_of : Act → Option (List ℕ)
-variable_of Keep = None
-variable_of Discard = None
-variable_of FileInto = None
-variable_of (Set modifiers name) = Some name
-variable_of (Take most name) = Some name
-variable_of Store = None
-variable_of (Leave loops) = None
-variable_of Stop = None
+variable_of act = slice_get (act_row act).sets 0
 
 -- what is told of an action: the value that the variable has then which it sets; its string, where it sets none
 abbrev pub value_after : Option (List ℕ) → List ℕ → Effects → List ℕ

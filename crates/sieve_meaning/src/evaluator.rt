@@ -48,8 +48,9 @@ impl<'s, 'm> Evaluator<'s, 'm> {
     ghost use Rattle.sieve_check.specs.Bounded.{IsBoundedCommand, AreBoundedCommands};
     ghost use Rattle.sieve_check.specs.TypedView.{command_form, commands_form};
     ghost use Rattle.octets.specs.Limits.{max_value};
+    ghost use Rattle.mail_matching.specs.Questions.{current};
     ghost use Rattle.bytecode_format.specs.Modifiers.{modified};
-    ghost use Rattle.sieve_meaning.specs.Meaning.{Effects, no_effects, act_does, command_does, commands_do, current, stored, turns, with_taken, with_value};
+    ghost use Rattle.sieve_meaning.specs.Meaning.{Effects, no_effects, act_does, command_does, commands_do, stored, turns, with_taken, with_value};
     ghost use Rattle.sieve_meaning.specs.Evaluation.{HasEvaluated, StandsAt};
     ghost use Rattle.mime_decode.specs.Visited.{visited};
 

@@ -67,6 +67,7 @@ pub fn cut(text: &[u8]) -> &[u8]
 }
 
 /// Whether each string is text as it stands, without references, and in one piece.
+#[inline(always)]
 pub fn are_written(strings: &[Vec<Segment>]) -> bool
     ensures { result ≡ list_all (λ (string : Vec Segment). is_written string.items) strings.now }
 {
@@ -74,6 +75,7 @@ pub fn are_written(strings: &[Vec<Segment>]) -> bool
 }
 
 // Whether the string is.
+#[inline(always)]
 fn is_written(string: &[Segment]) -> bool
     ensures { result ≡ is_written string.now }
 {

@@ -1,13 +1,12 @@
 // Strings, expanded (RFC 5229, section 3).
 ghost use Rattle.std.specs.Prelude.{◌≡◌, ◌≤◌, ◌++◌, length, map, take, OnOk};
-ghost use Rattle.octets.specs.Limits.{max_stack, max_string, max_test_strings};
+ghost use Rattle.octets.specs.Limits.{max_stack, max_string};
 ghost use Rattle.mail_matching.specs.Texts.{AreTexts};
 
 use crate::evaluator::Evaluator;
 use crate::expanded_list::{ExpandedList, ExpandedText, are_written, cut};
-use crate::questions::Texts;
 use octets::{MAX_STRING, Octets};
-use sieve_check::{Segment, Strings};
+use sieve_check::Segment;
 use std::alloc::{AllocError, Global};
 
 // Appends a value, up to the limit of an expanded string.
@@ -23,10 +22,9 @@ fn append(value: &[u8], text: &mut Vec<u8>) -> Result<(), AllocError>
 
 impl<'s, 'm> Evaluator<'s, 'm> {
     ghost use Rattle.std.specs.Prelude.{IfOk};
-    ghost use Rattle.sieve_check.specs.Typed.{in_order};
-    ghost use Rattle.sieve_check.specs.TypedView.{strings_form, templates_of};
-    ghost use Rattle.sieve_meaning.specs.Meaning.{Effects, all_expanded, expanded, texts_of, value_of};
-    ghost use Rattle.sieve_meaning.specs.Evaluation.{HasEvaluated, texts_in};
+    ghost use Rattle.sieve_check.specs.TypedView.{templates_of};
+    ghost use Rattle.sieve_meaning.specs.Meaning.{Effects, all_expanded, expanded, value_of};
+    ghost use Rattle.sieve_meaning.specs.Evaluation.{HasEvaluated};
     ghost use Rattle.sieve_meaning.specs.Expanded.{items_of, octets_of};
 
     // What stands for a segment.
@@ -75,7 +73,8 @@ impl<'s, 'm> Evaluator<'s, 'm> {
         }
     }
 
-    // Each of the strings, expanded.
+    // Each of the strings, expanded. Apart, so that strings without references cost next to nothing.
+    #[inline(never)]
     fn each_expanded<'t>(
         &'t self,
         alloc: Global,
@@ -97,6 +96,7 @@ impl<'s, 'm> Evaluator<'s, 'm> {
     /// Each of the strings, expanded. Takes no memory where none has references.
     ///
     /// An error comes only where memory was refused.
+    #[inline(always)]
     pub fn all_expanded<'t>(
         &'t self,
         alloc: Global,
@@ -111,26 +111,5 @@ impl<'s, 'm> Evaluator<'s, 'm> {
             return Ok(ExpandedList::Written(strings));
         }
         Ok(ExpandedList::Expanded(self.each_expanded(alloc, strings)?))
-    }
-
-    /// The strings of a test, each expanded.
-    ///
-    /// An error comes only where memory was refused.
-    pub fn texts<'t>(&'t self, alloc: Global, strings: &'t Strings) -> Result<Texts<'t>, AllocError>
-        requires { length (in_order (strings_form strings.now)) ≤ max_test_strings }
-        ensures expanded { (e : Effects) → HasEvaluated e self.now
-            → IfOk result (λ texts. texts_in texts ≡ texts_of e (strings_form strings.now)) }
-        ensures names { IfOk result (λ texts. AreTexts (items_of texts.names)) }
-        ensures params { IfOk result (λ texts. AreTexts (items_of texts.params)) }
-        ensures keys { IfOk result (λ texts. AreTexts (items_of texts.keys)) }
-    {
-        let names = self.all_expanded(alloc, &strings.names)?;
-        let params = self.all_expanded(alloc, &strings.params)?;
-        let keys = self.all_expanded(alloc, &strings.keys)?;
-        Ok(Texts {
-            names,
-            params,
-            keys,
-        })
     }
 }

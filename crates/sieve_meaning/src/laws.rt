@@ -1,11 +1,12 @@
 //! The laws of events: they tell what the script means, and what its tests find.
 ghost use Rattle.std.specs.Prelude.{◌≡◌, ℕ, IfSome, List, Option, is_some};
 ghost use Rattle.mail_matching.specs.Findings.{is_pair};
+ghost use Rattle.mail_matching.specs.Questions.{Texts, answer, found};
 ghost use Rattle.mime_decode.specs.Mail.{Mail};
 ghost use Rattle.sieve_check.specs.Typed.{CommandForms};
 ghost use Rattle.bytecode_format.specs.declared.question.Question.{Question};
-ghost use Rattle.sieve_meaning.specs.Meaning.{Texts, answer, meaning};
-ghost use Rattle.sieve_meaning.specs.Traced.{come_to, found, script_events};
+ghost use Rattle.sieve_meaning.specs.Meaning.{meaning};
+ghost use Rattle.sieve_meaning.specs.Traced.{come_to, script_events};
 
 /// Forgetting all of the events of a script but its actions is the meaning: the actions that the events list, in order, and the
 /// implicit keep unless one of them takes it away, come to the final actions of the script on the message.

@@ -1,246 +1,69 @@
-// What tests ask. Outside of loops, where no checked script asks about the current part, that fails.
-ghost use Rattle.std.specs.Prelude.{◌≡◌, ℕ, List, IfOk, None, Some, length, option_and_then, option_map};
-ghost use Rattle.std.specs.Bool.{then_some};
-ghost use Rattle.mail_matching.specs.Findings.{finding_of, shortened};
-ghost use Rattle.mail_matching.specs.FirstMatch.{first_match};
-ghost use Rattle.mail_matching.specs.HeaderTests.{header_finding, header_match};
+// Questions about the current part. Outside of loops, where no checked script asks them, they fail.
+ghost use Rattle.std.specs.Prelude.{◌≡◌, ℕ, List, IfOk, option_map};
+ghost use Rattle.mail_matching.specs.Findings.{shortened};
 ghost use Rattle.mail_matching.specs.Outcomes.{after};
-ghost use Rattle.mail_matching.specs.PartTests.{body_finding, body_match, digest_finding, digest_match};
+ghost use Rattle.mail_matching.specs.Questions.{answer, found, need_of, texts_of};
 ghost use Rattle.mail_matching.specs.Texts.{AreTexts};
-ghost use Rattle.sieve_meaning.specs.Evaluation.{texts_in};
 ghost use Rattle.sieve_meaning.specs.Expanded.{items_of};
-ghost use Rattle.sieve_meaning.specs.Meaning.{answer, current, is_size};
-ghost use Rattle.sieve_meaning.specs.Traced.{found};
 
 use crate::expanded_list::ExpandedList;
 use crate::subject::Subject;
-use bytecode_format::{FieldTest, Order, Question};
-use glob_match::Match;
-use mail_matching::{
-    Answer, Finding, HeaderTest, Outcome, exists, find_body, find_digest, find_header, find_string,
-};
+use bytecode_format::Question;
+use mail_matching::{Answer, Finding, Need, Shown, TestTexts, ask_and_find};
 use mime_decode::digest_of;
 use std::alloc::{AllocError, Global};
 
 /// The strings of a test, expanded.
-#[derive(Drop)]
-pub struct Texts<'t> {
-    pub names: ExpandedList<'t>,
-    pub params: ExpandedList<'t>,
-    pub keys: ExpandedList<'t>,
-}
+pub type Lists<'l, 't> = TestTexts<'l, ExpandedList<'t>, ExpandedList<'t>, ExpandedList<'t>>;
 
-/// What a question comes to.
-#[derive(Drop)]
-pub struct Reply<'m> {
-    pub outcome: Outcome<'m>,
-    /// What it finds, if it compares values with keys.
-    pub found: Option<Finding>,
-}
-
-// What a test comes to that compares no values with keys.
-fn decided<'m>(holds: bool) -> Reply<'m>
-    ensures outcome { (captures : List (List ℕ)) → after result.outcome captures
-        ≡ then_some holds captures }
-    ensures found { result.found ≡ None }
-{
-    let outcome = if holds {
-        Outcome::Holds
-    } else {
-        Outcome::Fails
-    };
-    Reply {
-        outcome,
-        found: None,
-    }
-}
-
-// What a test comes to that found something.
-fn found<'m>(answer: Answer<'m>, finding: Finding) -> Reply<'m>
-    ensures { result ≡ record { outcome = answer.entry.outcome; found = Some finding } }
-{
-    let Answer { outcome, .. } = answer;
-    Reply {
-        outcome,
-        found: Some(finding),
-    }
-}
-
-// Whether the octets are over or under the number.
-fn is_size(order: Order, number: u64, octets: u64) -> bool
-    ensures { result ≡ is_size order number octets }
-{
-    match order {
-        Order::Over => number < octets,
-        Order::Under => octets < number,
-    }
-}
-
-// Whether what is selected of the fields of the names matches a key.
-fn fields<'m>(
-    alloc: Global,
-    test: FieldTest,
-    texts: &Texts<'_>,
-    subject: Subject<'_, 'm>,
-    most: usize,
-) -> Result<Reply<'m>, AllocError>
-    requires names { AreTexts (items_of texts.now.names) }
-    requires params { AreTexts (items_of texts.now.params) }
-    requires keys { AreTexts (items_of texts.now.keys) }
-    ensures outcome { IfOk result
-        (λ reply. (captures : List (List ℕ))
-        → after reply.outcome captures
-        ≡ header_match test.how test.scope subject.entry.part
-        test.selector (items_of texts.now.params) (items_of texts.now.names)
-        (items_of texts.now.keys) subject.entry.message.now captures) }
-    ensures found { IfOk result (λ reply. reply.found
-        ≡ Some (shortened most (header_finding test.how test.scope subject.entry.part
-        test.selector (items_of texts.now.params) (items_of texts.now.names)
-        (items_of texts.now.keys) subject.entry.message.now))) }
-{
-    let Texts {
-        names,
-        params,
-        keys,
-    } = texts;
-    let test = HeaderTest {
-        reach: subject.reach(test.scope),
-        selector: test.selector,
-        how: test.how,
-    };
-    let (answer, finding) = find_header(alloc, subject.message, test, names, params, keys, most)?;
-    Ok(found(answer, finding))
-}
-
-// Whether a source matches a key.
-fn sources<'m>(
-    alloc: Global,
-    how: Match,
-    texts: &Texts<'_>,
-    most: usize,
-) -> Result<Reply<'m>, AllocError>
-    requires names { AreTexts (items_of texts.now.names) }
-    requires keys { AreTexts (items_of texts.now.keys) }
-    ensures outcome { IfOk result
-        (λ reply. (captures : List (List ℕ))
-        → after reply.outcome captures
-        ≡ first_match how (items_of texts.now.names) (items_of texts.now.keys) captures) }
-    ensures found { IfOk result (λ reply. reply.found
-        ≡ Some (shortened most (finding_of how (items_of texts.now.names) (items_of texts.now.keys)))) }
-{
-    let (answer, finding) = find_string(alloc, &texts.names, &texts.keys, how, most)?;
-    Ok(found(answer, finding))
-}
-
-// Whether the part's content is over or under the number of octets.
-fn part_size<'m>(
-    alloc: Global,
-    order: Order,
-    number: u64,
-    subject: Subject<'_, 'm>,
-) -> Result<Reply<'m>, AllocError>
-    ensures outcome { IfOk result
-        (λ reply. (captures : List (List ℕ))
-        → after reply.outcome captures
-        ≡ option_and_then (λ p. then_some (is_size order number (length p.content)) captures)
-        (current subject.entry.message.now subject.entry.part)) }
-    ensures found { IfOk result (λ reply. reply.found ≡ None) }
-{
-    match subject.content(alloc)? {
-        Some(content) => {
-            let octets = content.as_slice().len() as u64;
-            Ok(decided(is_size(order, number, octets)))
-        }
-        None => Ok(decided(false)),
-    }
-}
-
-// Whether the part's content matches a key.
-fn part_body<'m>(
-    alloc: Global,
-    how: Match,
-    keys: &ExpandedList<'_>,
-    subject: Subject<'_, 'm>,
-    most: usize,
-) -> Result<Reply<'m>, AllocError>
-    requires { AreTexts (items_of keys.now) }
-    ensures outcome { IfOk result
-        (λ reply. (captures : List (List ℕ))
-        → after reply.outcome captures
-        ≡ option_and_then (λ p. body_match how p (items_of keys.now) captures)
-        (current subject.entry.message.now subject.entry.part)) }
-    ensures found { IfOk result (λ reply. reply.found
-        ≡ option_map (λ p. shortened most (body_finding how p (items_of keys.now)))
-        (current subject.entry.message.now subject.entry.part)) }
-{
-    let Some(content) = subject.content(alloc)? else {
-        return Ok(decided(false));
-    };
-    let (answer, finding) = find_body(alloc, &content, keys, how, most)?;
-    Ok(found(answer, finding))
-}
-
-// Whether the digest of the part's content is one of the keys.
-fn part_digest<'m>(
-    alloc: Global,
-    keys: &ExpandedList<'_>,
-    subject: Subject<'_, 'm>,
-    most: usize,
-) -> Result<Reply<'m>, AllocError>
-    requires { AreTexts (items_of keys.now) }
-    ensures outcome { IfOk result
-        (λ reply. (captures : List (List ℕ))
-        → after reply.outcome captures
-        ≡ option_and_then (λ p. digest_match p (items_of keys.now) captures)
-        (current subject.entry.message.now subject.entry.part)) }
-    ensures found { IfOk result (λ reply. reply.found
-        ≡ option_map (λ p. shortened most (digest_finding p (items_of keys.now)))
-        (current subject.entry.message.now subject.entry.part)) }
-{
-    let Some(content) = subject.content(alloc)? else {
-        return Ok(decided(false));
-    };
-    let (answer, finding) = find_digest(alloc, &digest_of(content.as_slice()), keys, most)?;
-    Ok(found(answer, finding))
-}
-
-/// What the question comes to, with its texts. Of what it finds the first octets are kept, at most so many of the value and of
-/// the key.
+/// What a question that needs to know of the current part's content comes to, with its texts, and what it finds. Of that the first
+/// octets are kept, at most so many of the value and of the key.
 ///
 /// An error comes only where memory was refused.
-pub fn answer<'m>(
+// Apart, since most questions need no such thing.
+#[inline(never)]
+pub fn asked_of_part<'m>(
     alloc: Global,
-    question: Question,
-    texts: &Texts<'_>,
     subject: Subject<'_, 'm>,
+    question: Question,
+    need: Need,
+    texts: Lists<'_, '_>,
     most: usize,
-) -> Result<Reply<'m>, AllocError>
-    requires names { AreTexts (items_of texts.now.names) }
-    requires params { AreTexts (items_of texts.now.params) }
-    requires keys { AreTexts (items_of texts.now.keys) }
+) -> Result<(Answer<'m>, Option<Finding>), AllocError>
+    requires need { need ≡ need_of question }
+    requires names { AreTexts (items_of texts.names.now) }
+    requires params { AreTexts (items_of texts.params.now) }
+    requires keys { AreTexts (items_of texts.keys.now) }
     ensures outcome { IfOk result
-        (λ reply. (captures : List (List ℕ))
-        → after reply.outcome captures
-        ≡ answer subject.entry.message.now subject.entry.part question (texts_in texts.now)
-        captures) }
-    ensures found { IfOk result (λ reply. reply.found
+        (λ r. (captures : List (List ℕ))
+        → after r.0.outcome captures
+        ≡ answer subject.entry.message.now subject.entry.part question
+        (texts_of (items_of texts.entry.names.now) (items_of texts.entry.params.now)
+        (items_of texts.entry.keys.now)) captures) }
+    ensures found { IfOk result (λ r. r.1
         ≡ option_map (shortened most)
-        (found subject.entry.message.now subject.entry.part question (texts_in texts.now))) }
+        (found subject.entry.message.now subject.entry.part question
+        (texts_of (items_of texts.entry.names.now) (items_of texts.entry.params.now)
+        (items_of texts.entry.keys.now)))) }
 {
-    match question {
-        Question::Constant(value) => Ok(decided(value)),
-        Question::Header(test) => fields(alloc, test, texts, subject, most),
-        Question::Exists(scope) => {
-            let (all, _cost) = exists(subject.message, subject.reach(scope), &texts.names);
-            Ok(decided(all))
+    let Subject { message, part, .. } = subject;
+    let Some(content) = subject.content(alloc)? else {
+        return ask_and_find(alloc, message, part, question, Shown::Nothing, texts, most);
+    };
+    match need {
+        Need::Nothing => ask_and_find(alloc, message, part, question, Shown::Nothing, texts, most),
+        Need::Length => {
+            let length = Shown::Length(content.as_slice().len() as u64);
+            ask_and_find(alloc, message, part, question, length, texts, most)
         }
-        Question::Size(order, number) => {
-            let octets = subject.message.size() as u64;
-            Ok(decided(is_size(order, number, octets)))
+        Need::Content => {
+            let content = Shown::Content(&content);
+            ask_and_find(alloc, message, part, question, content, texts, most)
         }
-        Question::String(how) => sources(alloc, how, texts, most),
-        Question::PartSize(order, number) => part_size(alloc, order, number, subject),
-        Question::PartBody(how) => part_body(alloc, how, &texts.keys, subject, most),
-        Question::PartDigest => part_digest(alloc, &texts.keys, subject, most),
+        Need::Digest => {
+            let digits = digest_of(content.as_slice());
+            let digest = Shown::Digest(&digits);
+            ask_and_find(alloc, message, part, question, digest, texts, most)
+        }
     }
 }

@@ -4,10 +4,8 @@ ghost use Rattle.std.proofs.Props.{props};
 ghost use Rattle.std.specs.Cow.{cow_slice_items};
 ghost use Rattle.octets.specs.Limits.{max_message};
 ghost use Rattle.mime_decode.specs.Visited.{numbers_from, visited};
-ghost use Rattle.sieve_meaning.specs.Meaning.{current};
+ghost use Rattle.mail_matching.specs.Questions.{current};
 
-use bytecode_format::Scope;
-use mail_matching::Reach;
 use mime_decode::Message;
 use std::alloc::{AllocError, Global};
 use std::borrow::CowSlice;
@@ -42,16 +40,6 @@ impl<'a, 'm> Subject<'a, 'm> {
         Subject {
             message: self.message,
             part: Some(part),
-        }
-    }
-
-    /// Where a test of this scope looks.
-    pub fn reach(self, scope: Scope) -> Reach
-        ensures { result ≡ record { scope = scope; current = self.entry.part } }
-    {
-        Reach {
-            scope,
-            current: self.part,
         }
     }
 

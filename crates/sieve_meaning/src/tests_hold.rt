@@ -1,9 +1,9 @@
 // Whether tests are true.
 use crate::evaluator::Evaluator;
-use crate::questions::{Reply, answer};
+use crate::questions::asked_of_part;
 use crate::subject::Subject;
 use bytecode_format::Question;
-use mail_matching::{Finding, Outcome};
+use mail_matching::{Answer, Finding, Need, Outcome, Shown, TestTexts, ask_and_find};
 use sieve_check::{Strings, Test};
 use std::alloc::{AllocError, Global};
 
@@ -11,12 +11,12 @@ impl<'s, 'm> Evaluator<'s, 'm> {
     ghost use Rattle.std.specs.Prelude.{◌≡◌, ℕ, List, IfOk, map, option_map};
     ghost use Rattle.mail_matching.specs.Findings.{shortened};
     ghost use Rattle.mail_matching.specs.Outcomes.{after};
+    ghost use Rattle.mail_matching.specs.Questions.{answer, found};
     ghost use Rattle.sieve_check.specs.Bounded.{AreBoundedStrings, AreBoundedTests, IsBoundedTest};
     ghost use Rattle.bytecode_format.specs.Questions.{row_of};
     ghost use Rattle.sieve_check.specs.TypedView.{strings_form, test_form, tests_of};
-    ghost use Rattle.sieve_meaning.specs.Meaning.{Effects, all_do, answer, any_do, matched, test_does, texts_of};
+    ghost use Rattle.sieve_meaning.specs.Meaning.{Effects, all_do, any_do, matched, test_does, texts_of};
     ghost use Rattle.sieve_meaning.specs.Evaluation.{Gives, HasEvaluated};
-    ghost use Rattle.sieve_meaning.specs.Traced.{found};
 
     /// Whether the test is true of the message.
     ///
@@ -142,36 +142,53 @@ impl<'s, 'm> Evaluator<'s, 'm> {
             ≡ option_map (shortened most) (found subject.entry.message.now subject.entry.part
             question (texts_of e (strings_form strings.now)))) }
     {
-        let Reply { outcome, found } = self.reply(alloc, question, strings, subject, most)?;
+        let (Answer { outcome, .. }, found) = self.answered(
+            alloc, question, strings, subject, most,
+        )?;
         Ok((self.settle(outcome), found))
     }
 
-    // What the question comes to, with the strings of its test, expanded.
-    fn reply(
+    // What the question comes to, with the strings of its test, expanded, and what it finds.
+    #[inline(always)]
+    fn answered(
         &self,
         alloc: Global,
         question: Question,
         strings: &Strings,
         subject: Subject<'_, 'm>,
         most: usize,
-    ) -> Result<Reply<'m>, AllocError>
+    ) -> Result<(Answer<'m>, Option<Finding>), AllocError>
         requires { AreBoundedStrings (row_of question).takes (strings_form strings.now) }
         ensures outcome { (e : Effects) → HasEvaluated e self.now
-            → IfOk result (λ reply. (captures : List (List ℕ)) → after reply.outcome captures
+            → IfOk result (λ r. (captures : List (List ℕ)) → after r.0.outcome captures
             ≡ answer subject.entry.message.now subject.entry.part question
             (texts_of e (strings_form strings.now)) captures) }
         ensures found { (e : Effects) → HasEvaluated e self.now
-            → IfOk result (λ reply. reply.found
+            → IfOk result (λ r. r.1
             ≡ option_map (shortened most) (found subject.entry.message.now subject.entry.part
             question (texts_of e (strings_form strings.now)))) }
     {
-        // Both are lent again, for as long as the texts are.
-        let texts = (&*self).texts(alloc, &*strings)?;
-        answer(alloc, question, &texts, subject, most)
+        // Each is lent again, for as long as the texts are.
+        let names = (&*self).all_expanded(alloc, &*strings.names)?;
+        let params = (&*self).all_expanded(alloc, &*strings.params)?;
+        let keys = (&*self).all_expanded(alloc, &*strings.keys)?;
+        let texts = TestTexts {
+            names: &names,
+            params: &params,
+            keys: &keys,
+        };
+        match Need::of(question) {
+            Need::Nothing => {
+                let Subject { message, part, .. } = subject;
+                ask_and_find(alloc, message, part, question, Shown::Nothing, texts, most)
+            }
+            need => asked_of_part(alloc, subject, question, need, texts, most),
+        }
     }
 
-    /// Keeps the captures that a test has set, and says whether it has matched.
-    pub fn settle(&mut self, outcome: Outcome<'m>) -> bool
+    // Keeps the captures that a test has set, and says whether it has matched.
+    #[inline(always)]
+    fn settle(&mut self, outcome: Outcome<'m>) -> bool
         ensures { (e : Effects) → HasEvaluated e self.old
             → Gives (matched (after outcome.entry e.captures) e) result self.new }
     {

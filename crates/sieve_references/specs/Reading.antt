@@ -2,15 +2,11 @@
 use Rattle.std.specs.Prelude.{ℕ, suc, Bool, not, ◌||◌, ◌==◌, List, [], ◌∷◌, length, drop, Option, Some, None, is_some, if◌then◌else◌}
 use Rattle.std.specs.List.{list_all}
 use Rattle.std.specs.Option.{option_and_then, option_map}
-use Rattle.sieve_references.specs.References.{Segment, is_letter, is_digit, is_identifier, is_number, words, before_brace, reference_of, reference_at}
+use Rattle.sieve_references.specs.References.{Segment, is_identifier, is_number, words, before_brace, reference_of, reference_at}
 
 -- every octet but `$`
 abbrev pub is_not_dollar : ℕ → Bool
 is_not_dollar octet = not (octet == 36)
-
--- an octet of a name or a number
-abbrev pub is_word_octet : ℕ → Bool
-is_word_octet octet = is_letter octet || is_digit octet
 
 -- a name or a number
 abbrev pub is_element : List ℕ → Bool

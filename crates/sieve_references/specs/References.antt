@@ -2,7 +2,9 @@
 use Rattle.std.specs.Prelude.{ℕ, zero, suc, ◌+◌, ◌-◌, ◌*◌, Bool, false, ◌&&◌, ◌||◌, ◌==◌, nat_le, List, [], ◌∷◌, length, flat_map, Option, Some, None, if◌then◌else◌}
 use Rattle.std.specs.List.{list_all}
 use Rattle.std.specs.Option.{option_and_then, option_map, option_map_or}
+use Rattle.std.specs.Char.{is_ascii_digit}
 use Rattle.octets.specs.Ascii.{lowercase_of}
+use Rattle.sieve_lexer.specs.Classes.{begins_identifier, continues_identifier}
 
 -- what a string consists of: a stretch of octets as they stand, or a reference, which is to a
 -- variable by its name as it is written, to a capture, to a capture after the last one, or into a
@@ -14,26 +16,15 @@ pub data Segment : Type 0 where
   beyond : Segment
   foreign : Segment
 
-abbrev pub is_between : ℕ → ℕ → ℕ → Bool
-is_between least most octet = nat_le least octet && nat_le octet most
-
--- `A` to `Z`, `a` to `z`, or `_`
-abbrev pub is_letter : ℕ → Bool
-is_letter octet = is_between 65 90 octet || is_between 97 122 octet || (octet == 95)
-
--- `0` to `9`
-abbrev pub is_digit : ℕ → Bool
-is_digit octet = is_between 48 57 octet
-
--- a letter, then letters and digits
+-- as the grammar of scripts has it: a letter or `_`, then letters, digits and `_` (RFC 5228, section 8.1)
 abbrev pub is_identifier : List ℕ → Bool
 is_identifier [] = false
-is_identifier (x ∷ xs) = is_letter x && list_all (λ y. is_letter y || is_digit y) xs
+is_identifier (x ∷ xs) = begins_identifier x && list_all continues_identifier xs
 
 -- one or more digits
 abbrev pub is_number : List ℕ → Bool
 is_number [] = false
-is_number (x ∷ xs) = is_digit x && list_all is_digit xs
+is_number (x ∷ xs) = is_ascii_digit x && list_all is_ascii_digit xs
 
 -- the value of digits, after others of that value
 abbrev pub value_after : ℕ → List ℕ → ℕ

@@ -2,19 +2,20 @@
 ghost use Rattle.std.specs.Prelude.{◌≡◌, ◌+◌, Some, None, if◌then◌else◌, min};
 ghost use Rattle.std.specs.List.{list_all};
 ghost use Rattle.sieve_references.specs.References.{is_identifier, is_number, value_after};
-ghost use Rattle.sieve_references.specs.Reading.{is_word_octet, is_element};
+ghost use Rattle.sieve_lexer.specs.Classes.{continues_identifier};
+ghost use Rattle.sieve_references.specs.Reading.{is_element};
 
-use crate::octet::{is_letter, is_word_octet};
 use octets::first;
+use sieve_lexer::{begins_identifier, continues_identifier};
 
 /// The last capture that a reference can name.
 pub(crate) const LAST_CAPTURE: u8 = 9;
 
 // Whether all of them may stand in a name or a number.
 fn are_word_octets(octets: &[u8]) -> bool
-    ensures { result ≡ list_all is_word_octet octets.now }
+    ensures { result ≡ list_all continues_identifier octets.now }
 {
-    octets.iter().all(|octet| is_word_octet(*octet))
+    octets.iter().all(|octet| continues_identifier(*octet))
 }
 
 /// Whether the name is an identifier: a letter of ASCII or `_`, then such letters and digits (RFC 5229, section 3).
@@ -22,7 +23,7 @@ pub fn is_identifier(name: &[u8]) -> bool
     ensures { result ≡ is_identifier name.now }
 {
     match first(name) {
-        Some((octet, others)) => is_letter(octet) && are_word_octets(others),
+        Some((octet, others)) => begins_identifier(octet) && are_word_octets(others),
         None => false,
     }
 }

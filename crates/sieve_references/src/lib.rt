@@ -6,7 +6,6 @@
 
 mod identifier;
 pub mod laws;
-mod octet;
 mod reading;
 mod run;
 mod segment;

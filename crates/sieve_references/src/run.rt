@@ -1,10 +1,11 @@
 // The octets of a class that a text begins with, and the one after them.
 ghost use Rattle.std.specs.Prelude.{◌≡◌, ◌∷◌, ◌++◌, length, true, false, MatchOption};
 ghost use Rattle.std.specs.List.{list_all, take_while};
-ghost use Rattle.sieve_references.specs.Reading.{is_word_octet, is_not_dollar};
+ghost use Rattle.sieve_lexer.specs.Classes.{continues_identifier};
+ghost use Rattle.sieve_references.specs.Reading.{is_not_dollar};
 
-use crate::octet::is_word_octet;
 use octets::first;
+use sieve_lexer::continues_identifier;
 
 // How many octets stand before the first `$`.
 fn plain_len(text: &[u8]) -> usize
@@ -15,10 +16,10 @@ fn plain_len(text: &[u8]) -> usize
 
 // How many letters and digits the text begins with.
 fn word_len(text: &[u8]) -> usize
-    ensures { result ≡ length (take_while is_word_octet text.now) }
+    ensures { result ≡ length (take_while continues_identifier text.now) }
 {
     text.iter()
-        .take_while(|octet| is_word_octet(**octet))
+        .take_while(|octet| continues_identifier(**octet))
         .count()
 }
 
@@ -35,8 +36,8 @@ pub(crate) fn up_to_dollar(text: &[u8]) -> Option<(&[u8], &[u8])>
 
 /// The letters and digits that a text begins with, the octet after them, and what follows that.
 pub(crate) fn word(text: &[u8]) -> Option<(&[u8], u8, &[u8])>
-    ensures { MatchOption result (list_all is_word_octet text.now ≡ true)
-        (λ parts. (list_all is_word_octet parts.0.now ≡ true) × (is_word_octet parts.1 ≡ false)
+    ensures { MatchOption result (list_all continues_identifier text.now ≡ true)
+        (λ parts. (list_all continues_identifier parts.0.now ≡ true) × (continues_identifier parts.1 ≡ false)
         × (text.now ≡ parts.0.now ++ parts.1 ∷ parts.2.now)) }
 {
     let (octets, at) = text.split_at(word_len(text));

@@ -1,13 +1,15 @@
 -- The place behind an octet.
-use Rattle.std.proofs.Common.{◌≡◌, ◌∙◌, ◌+◌, ◌<◌, ◌≤◌, ℕ, suc, Bool, true, false, not, ap, refl, sym, arith, List, [], ◌∷◌, ◌++◌, get_or, length, take, inl, inr}
-use Rattle.std.specs.Prelude.{count_by, reverse, take_while, min, if◌then◌else◌}
+use Rattle.std.proofs.Common.{◌≡◌, ◌∙◌, ◌+◌, ◌<◌, ◌≤◌, ℕ, suc, Bool, true, false, not, ap, refl, sym, arith, length-append, List, [], ◌∷◌, ◌++◌, get_or, length, take, inl, inr}
+use Rattle.std.proofs.lemmas.Fmt.{length-decimal-le}
+use Rattle.std.specs.Fmt.{decimal}
+use Rattle.std.specs.Prelude.{codes, count_by, reverse, take_while, min, if◌then◌else◌}
 use Rattle.std.proofs.lemmas.Bool.{cases_Bool}
 use Rattle.std.proofs.lemmas.List.{length-reverse, length-take, reverse-append, take_more, take_min, map-append}
 use Rattle.std.proofs.lemmas.List.Sums.{count_by-le-length, count_by_more_no, count_by_more_yes}
 use Rattle.sieve_explain.specs.Places.{is_in_line, is_line_feed, line_number, octets_before}
 use Rattle.sieve_trace.specs.declared.places.Place.{Place}
 use Rattle.sieve_lexer.specs.declared.token.Token.{Token}
-use Rattle.sieve_trace.specs.Places.{place_at, places_of}
+use Rattle.sieve_trace.specs.Places.{place_at, place_text, places_of}
 
 -- the place behind an octet, from that of the octet
 abbrev pub behind : Place → ℕ → Place
@@ -76,7 +78,15 @@ first_place script = refl
 
 -- one more token
 pub one_more_place : (script : List ℕ) (tokens : List Token) (i : ℕ) (d : Token) (start : ℕ) → i < length tokens → start ≡ min (get_or tokens i d).start (length script)
-    → places_of script (take (i + 1) tokens) ≡ places_of script (take i tokens) ++ place_at script start ∷ []
+    → places_of script (take (i + 1) tokens) ≡ places_of script (take i tokens) ++ place_text (place_at script start) ∷ []
 one_more_place script tokens i d start lt is =
-    ap (places_of script) (take_more tokens i d lt) ∙ map-append (λ (t : Token). place_at script t.start) (take i tokens) (get_or tokens i d ∷ [])
-    ∙ ap (λ (p : Place). places_of script (take i tokens) ++ p ∷ []) (sym (ap (place_at script) is ∙ place_within script (get_or tokens i d).start))
+    ap (places_of script) (take_more tokens i d lt) ∙ map-append (λ (t : Token). place_text (place_at script t.start)) (take i tokens) (get_or tokens i d ∷ [])
+    ∙ ap (λ (p : Place). places_of script (take i tokens) ++ place_text p ∷ []) (sym (ap (place_at script) is ∙ place_within script (get_or tokens i d).start))
+
+-- a place has no more than 14 octets
+pub place_short : (script : List ℕ) (i : ℕ) → length script ≤ 65536 → length (place_text (place_at script i)) ≤ 14
+unfolding place_text
+place_short script i few =
+    let line : length (decimal (line_number script i)) ≤ 5 = length-decimal-le 5 (line_number script i) (omega arith) (omega (arith, line_small script i, few)) (omega (arith, line_small script i, few)) in
+    let column : length (decimal (octets_before script i + 1)) ≤ 5 = length-decimal-le 5 (octets_before script i + 1) (omega arith) (omega (arith, column_small script i, few)) (omega (arith, column_small script i, few)) in
+    omega (arith, line, column, length-append (codes ":" ++ decimal (line_number script i) ++ codes ":" ++ decimal (octets_before script i + 1)) (codes ":"), length-append (codes ":" ++ decimal (line_number script i) ++ codes ":") (decimal (octets_before script i + 1)), length-append (codes ":" ++ decimal (line_number script i)) (codes ":"), length-append (codes ":") (decimal (line_number script i)))

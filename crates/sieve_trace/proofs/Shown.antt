@@ -1,5 +1,5 @@
 -- The first octets of what a test finds are enough for its line.
-use Rattle.std.proofs.Common.{◌≡◌, IfSome, OnOk, Result, Ok, Err, is_ok, is_some, ℕ, Bool, true, false, List, [], ◌∷◌, ◌++◌, slice_get, nat_le, length, take, Option, None, Some, option_map, refl, sym, ◌∙◌, ap, subst, inl, inr, arith, codes, if◌then◌else◌}
+use Rattle.std.proofs.Common.{◌≡◌, OnOk, Result, Ok, Err, is_ok, ℕ, Bool, false, List, [], ◌∷◌, ◌++◌, slice_get, nat_le, length, take, Option, None, Some, option_map, refl, sym, append_assoc, ◌∙◌, ap, subst, inl, inr, arith, codes, if◌then◌else◌}
 use Rattle.std.proofs.lemmas.Bool.{cases_Bool, leb-false, leb-true}
 use Rattle.std.proofs.lemmas.List.{length-take, take-take, take_all}
 use Rattle.bytecode_listing.specs.Quoted.{max_start, quoted, quoted_start}
@@ -10,13 +10,13 @@ use Rattle.mail_matching.specs.declared.finding.Finding.TheVariants.{Pair, NoneO
 use Rattle.mime_decode.specs.Mail.{Mail}
 use Rattle.bytecode_format.specs.declared.question.Question.{Question}
 use Rattle.sieve_meaning.specs.Traced.{asked, event, turned}
-use Rattle.sieve_trace.specs.Printed.{Sheet, event_line, event_text, finding_text, occurrence_text, part_text, place_text, told, value_text}
+use Rattle.sieve_trace.specs.Printed.{Sheet, event_line, event_text, finding_text, occurrence_text, part_text, place_in, told, value_text}
 use Rattle.sieve_trace.specs.Private.{occurrence_of}
 use Rattle.sieve_trace.specs.Words.{comparison_word, question_word}
 use Rattle.sieve_trace.specs.Written.{HasStopped}
 use Rattle.sieve_trace.specs.declared.error.TraceError.{TraceError}
 use Rattle.sieve_trace.specs.declared.line.Told.{Told}
-use Rattle.sieve_trace.specs.declared.line.Told.TheVariants.{Asked, Not, AllOf, AnyOf, Acted, Turn}
+use Rattle.sieve_trace.specs.declared.line.Told.TheVariants.{Asked, Not, AllOf, AnyOf, Acted}
 use Rattle.sieve_trace.proofs.SoFar.{stopped_one, told_one}
 
 -- one octet more than are printed
@@ -51,18 +51,12 @@ same_occurrence : (question : Question) (value : Bool) (finding : Option Finding
 unfolding occurrence_text
 same_occurrence question value finding = ap (λ t. question_word question ++ value_text value ++ t) (same_finding question finding)
 
-same_event : (page : Sheet) (part : Option ℕ) (question : Question) (value : Bool) (finding : Option Finding) → event_text page.mail part (asked question value (option_map (shortened kept) finding)) ≡ event_text page.mail part (asked question value finding)
-unfolding event_text
-same_event page None question value finding = same_occurrence question value finding
-same_event page (Some number) question value finding =
-    ap (λ t. part_text page.mail number ++ codes " " ++ t) (same_occurrence question value finding)
-
 same_line : (page : Sheet) (at : ℕ) (part : Option ℕ) (question : Question) (value : Bool) (finding : Option Finding)
     → event_line page (event at part (asked question value (option_map (shortened kept) finding))) ≡ event_line page (event at part (asked question value finding))
-unfolding event_line
+unfolding event_line event_text
 same_line page at part question value finding =
-    ap (λ t. page.label ++ place_text (slice_get page.places at) ++ codes ": " ++ t ++ 10 ∷ [])
-    (same_event page part question value finding)
+    ap (λ t. page.label ++ place_in (slice_get page.places at) ++ (part_text page.mail part ++ codes " " ++ t) ++ 10 ∷ [])
+    (same_occurrence question value finding)
 
 -- it has the line of what was kept
 shown_line : (page : Sheet) (at : ℕ) (part : Option ℕ) (question : Question) (value truth : Bool) (some whole : Option Finding) → truth ≡ value → some ≡ option_map (shortened kept) whole
@@ -82,36 +76,35 @@ pub shown_stopped : (s0 s1 : Output) (why : TraceError) (page : Sheet) (at : ℕ
 shown_stopped s0 s1 why page at part question value truth some whole so is h =
     stopped_one s0 s1 why page (event at part (asked question truth whole)) (subst (λ t. HasStopped why t s0 s1) (shown_line page at part question value truth some whole so is) h)
 
--- ---- what is told in a turn of a loop
-
-behind_part : (mail : Mail) (number : ℕ) (what : Told) → (what ≡ Turn → ⊥)
-    → part_text mail number ++ codes " " ++ occurrence_text (occurrence_of what) ≡ event_text mail (Some number) (occurrence_of what)
+-- all that the code tells but turns comes behind the part
+pub text_told : (mail : Mail) (part : Option ℕ) (what : Told) → event_text mail part (occurrence_of what) ≡ part_text mail part ++ codes " " ++ occurrence_text (occurrence_of what)
 unfolding event_text
-behind_part mail number (Asked question value finding) other = refl
-behind_part mail number (Not value) other = refl
-behind_part mail number (AllOf value) other = refl
-behind_part mail number (AnyOf value) other = refl
-behind_part mail number (Acted act text) other = refl
-behind_part mail number Turn other = absurd (other refl)
+text_told mail part (Asked question value finding) = refl
+text_told mail part (Not value) = refl
+text_told mail part (AllOf value) = refl
+text_told mail part (AnyOf value) = refl
+text_told mail part (Acted act text) = refl
 
--- what isn't a turn itself comes behind the part
-pub behind_its_part : (mail : Mail) (part : Option ℕ) (text : List ℕ) (what : Told) → IfSome part (λ number. text ≡ part_text mail number) → is_some part ≡ true → (what ≡ Turn → ⊥)
-    → text ++ codes " " ++ occurrence_text (occurrence_of what) ≡ event_text mail part (occurrence_of what)
-behind_its_part mail None text what is some other = absurd (let e : false ≡ true = some in cc)
-behind_its_part mail (Some number) text what is some other =
-    ap (λ t. t ++ codes " " ++ occurrence_text (occurrence_of what)) is ∙ behind_part mail number what other
+-- ---- a line is what it is made of
 
-turned_before : (mail : Mail) (part : Option ℕ) (text : List ℕ) → IfSome part (λ number. text ≡ part_text mail number) → is_some part ≡ true
-    → occurrence_text turned ++ codes " " ++ text ≡ event_text mail part turned
-unfolding event_text
-turned_before mail None text is some = absurd (let e : false ≡ true = some in cc)
-turned_before mail (Some number) text is some = ap (λ t. occurrence_text turned ++ codes " " ++ t) is
+pub line_told : (page : Sheet) (at : ℕ) (part : Option ℕ) (what : Told) (begun lead : List ℕ) → begun ≡ page.label ++ place_in (slice_get page.places at) → lead ≡ part_text page.mail part ++ codes " "
+    → begun ++ lead ++ occurrence_text (occurrence_of what) ++ 10 ∷ [] ≡ event_line page (event at part (occurrence_of what))
+unfolding event_line
+line_told page at part what begun lead as_begun as_led =
+    let start = page.label ++ place_in (slice_get page.places at) in
+    let word = occurrence_text (occurrence_of what) in
+    ap (λ t. t ++ 10 ∷ [])
+    (ap (λ t. t ++ lead ++ word) as_begun ∙ ap (λ t. start ++ t ++ word) as_led ∙ append_assoc start (part_text page.mail part ++ codes " ") word
+    ∙ ap (λ t. start ++ t) (sym (text_told page.mail part what)))
 
--- a turn itself comes before it
-pub before_its_part : (mail : Mail) (part : Option ℕ) (text : List ℕ) (what : Told) → IfSome part (λ number. text ≡ part_text mail number) → is_some part ≡ true → what ≡ Turn
-    → occurrence_text (occurrence_of what) ++ codes " " ++ text ≡ event_text mail part (occurrence_of what)
-before_its_part mail part text what is some so =
-    subst (λ w. occurrence_text (occurrence_of w) ++ codes " " ++ text ≡ event_text mail part (occurrence_of w)) (sym so) (turned_before mail part text is some)
+pub turn_line_told : (page : Sheet) (at : ℕ) (part : Option ℕ) (begun text : List ℕ) → begun ≡ page.label ++ place_in (slice_get page.places at) → text ≡ part_text page.mail part
+    → begun ++ codes " foreverypart" ++ text ++ 10 ∷ [] ≡ event_line page (event at part turned)
+unfolding event_line event_text occurrence_text
+turn_line_told page at part begun text as_begun as_shown =
+    let start = page.label ++ place_in (slice_get page.places at) in
+    ap (λ t. t ++ 10 ∷ [])
+    (ap (λ t. t ++ codes " foreverypart" ++ text) as_begun ∙ ap (λ t. start ++ codes " foreverypart" ++ t) as_shown
+    ∙ append_assoc start (codes " foreverypart") (part_text page.mail part))
 
 -- what a call leaves that appends, or changes nothing
 pub appended : {T E : Type 0} (r : Result T E) (new old all : List ℕ) → new ≡ (if is_ok r then all else old) → OnOk r (new ≡ all)

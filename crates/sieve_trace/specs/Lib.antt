@@ -8,3 +8,4 @@ pub mod Printed
 pub mod Written
 -- private: how the code goes; no public contract names these
 pub mod Private
+pub mod Pieces

@@ -10,7 +10,6 @@ use Rattle.mime_params.specs.MediaValue.{media_text}
 use Rattle.bytecode_format.specs.declared.question.Question.{Question}
 use Rattle.sieve_meaning.specs.Traced.{Event, Occurrence, asked, negated, all_held, any_held, acted, turned}
 use Rattle.sieve_trace.specs.Words.{act_text, comparison_word, question_word}
-use Rattle.sieve_trace.specs.declared.places.Place.{Place}
 
 -- an octet of the name of a file that is printed as it is: all but control characters of ASCII, so that other letters can
 -- be read
@@ -55,38 +54,34 @@ abbrev pub media_of : Option MailPart → List ℕ
 media_of None = []
 media_of (Some part) = media_text part.media
 
--- a part by its number and media type
-unfoldable pub part_text : Mail → ℕ → List ℕ
-part_text mail number = codes "part " ++ decimal number ++ codes " " ++ media_of (slice_get mail.parts number)
+-- where it came: in a turn of a loop the part, by its number and media type; nothing outside of loops
+unfoldable pub part_text : Mail → Option ℕ → List ℕ
+part_text mail None = []
+part_text mail (Some number) = codes " part " ++ decimal number ++ codes " " ++ media_of (slice_get mail.parts number)
 
--- where it came, and what it was: outside of loops; in a turn of a loop; and a turn itself
-abbrev pub turn_text : List ℕ → Occurrence → List ℕ
-turn_text part turned = occurrence_text turned ++ codes " " ++ part
-turn_text part what = part ++ codes " " ++ occurrence_text what
-
+-- where it came, and what it was; of a turn itself, what it was comes first
 unfoldable pub event_text : Mail → Option ℕ → Occurrence → List ℕ
-event_text mail None what = occurrence_text what
-event_text mail (Some number) what = turn_text (part_text mail number) what
+event_text mail part turned = codes " " ++ occurrence_text turned ++ part_text mail part
+event_text mail part what = part_text mail part ++ codes " " ++ occurrence_text what
 
 -- the line and the column, where the token has a place
-unfoldable pub place_text : Option Place → List ℕ
-place_text None = []
-place_text (Some place) = codes ":" ++ decimal place.line ++ codes ":" ++ decimal place.column
+abbrev pub place_in : Option (List ℕ) → List ℕ
+place_in None = codes ":"
+place_in (Some place) = place
 
 -- what lines are printed by: the name of the script as it is printed, the places of its tokens, and the message
 pub record Sheet : Type 0 where
   pub label : List ℕ
-  pub places : List Place
+  pub places : List (List ℕ)
   pub mail : Mail
 
-abbrev pub sheet : List ℕ → List Place → Mail → Sheet
+abbrev pub sheet : List ℕ → List (List ℕ) → Mail → Sheet
 sheet name places mail = record { label = named name; places = places; mail = mail }
 
 -- the line of an event
 unfoldable pub event_line : Sheet → Event → List ℕ
 event_line page e =
-    page.label ++ place_text (slice_get page.places e.at) ++ codes ": "
-    ++ event_text page.mail e.part e.what ++ 10 ∷ []
+    page.label ++ place_in (slice_get page.places e.at) ++ event_text page.mail e.part e.what ++ 10 ∷ []
 
 -- the lines of events
 abbrev pub told : Sheet → List Event → List ℕ

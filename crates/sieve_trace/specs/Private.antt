@@ -9,7 +9,7 @@ use Rattle.sieve_meaning.specs.declared.evaluator.Evaluator.{Evaluator}
 use Rattle.sieve_meaning.specs.declared.evaluator.Flow.{Flow}
 use Rattle.sieve_meaning.specs.Evaluation.{Gives, StandsAt}
 use Rattle.sieve_meaning.specs.Meaning.{Effects, Ending, Verdict, commands_do}
-use Rattle.sieve_meaning.specs.Traced.{Event, Occurrence, negated, all_held, any_held, asked, acted, turned, commands_events}
+use Rattle.sieve_meaning.specs.Traced.{Event, Occurrence, negated, all_held, any_held, asked, acted, commands_events}
 use Rattle.sieve_trace.specs.declared.line.Told.{Told}
 use Rattle.sieve_trace.specs.declared.line.Told.TheVariants as code
 use Rattle.sieve_trace.specs.declared.line.Page.{Page}
@@ -22,7 +22,6 @@ occurrence_of (code.Not value) = negated value
 occurrence_of (code.AllOf value) = all_held value
 occurrence_of (code.AnyOf value) = any_held value
 occurrence_of (code.Acted act text) = acted act.now text.now
-occurrence_of code.Turn = turned
 
 -- what the code prints by
 abbrev pub sheet_of : Page → Mail → Sheet

@@ -14,7 +14,7 @@ ghost use Rattle.sieve_trace.specs.Written.{HasStopped};
 use crate::error::TraceError;
 use crate::line::{Page, Told, part_of};
 use crate::scene::Scene;
-use crate::telling::tell;
+use crate::telling::{tell, tell_turn};
 use crate::tests_told::is_true;
 use crate::words::variable_of;
 use encodings::Sink;
@@ -26,24 +26,24 @@ use sieve_meaning::{Evaluator, Flow, Subject};
 // then.
 fn act<'s, 'm, O: Sink>(
     run: &mut Evaluator<'s, 'm>,
-    page: Page<'_>,
+    page: &Page<'_>,
     act: &'s Act,
     text: Octets,
     at: usize,
-    scene: Scene<'_, 'm>,
+    scene: &Scene<'_, 'm>,
     line: &mut Vec<u8>,
     out: &mut O,
 ) -> Result<Flow, TraceError>
     ensures told { (e : Effects) → HasEvaluated e run.old
         → IfOk result (λ flow. AreTold
-        (act_does scene.entry.subject.message.now scene.entry.subject.part act.now text e) flow run.new
-        (event_line (sheet_of page.entry scene.entry.subject.message.now)
-        (act_event scene.entry.subject.message.now scene.entry.subject.part act.now text at e))
+        (act_does scene.now.subject.message.now scene.now.subject.part act.now text e) flow run.new
+        (event_line (sheet_of page.now scene.now.subject.message.now)
+        (act_event scene.now.subject.message.now scene.now.subject.part act.now text at e))
         (O.output out.old) (O.output out.new)) }
     ensures stopped { (e : Effects) → HasEvaluated e run.old
         → IfErr result (λ why. HasStopped why
-        (event_line (sheet_of page.entry scene.entry.subject.message.now)
-        (act_event scene.entry.subject.message.now scene.entry.subject.part act.now text at e))
+        (event_line (sheet_of page.now scene.now.subject.message.now)
+        (act_event scene.now.subject.message.now scene.now.subject.part act.now text at e))
         (O.output out.old) (O.output out.new)) }
 {
     match variable_of(act) {
@@ -67,30 +67,30 @@ fn act<'s, 'm, O: Sink>(
 #[cycle(commands)]
 fn for_every_part<'s, 'm, O: Sink>(
     run: &mut Evaluator<'s, 'm>,
-    page: Page<'_>,
+    page: &Page<'_>,
     block: &'s [Command],
     at: usize,
-    scene: Scene<'_, 'm>,
+    scene: &Scene<'_, 'm>,
     line: &mut Vec<u8>,
     out: &mut O,
 ) -> Result<Flow, TraceError>
     requires { AreBoundedCommands (commands_form block.now) }
     ensures told { (e : Effects) → HasEvaluated e run.old
         → IfOk result (λ flow. AreTold
-        (turns (turn_does scene.entry.subject.message.now (commands_form block.now))
-        (visited scene.entry.subject.part scene.entry.subject.message.now) e)
+        (turns (turn_does scene.now.subject.message.now (commands_form block.now))
+        (visited scene.now.subject.part scene.now.subject.message.now) e)
         flow run.new
-        (told (sheet_of page.entry scene.entry.subject.message.now)
-        (turns_events at (turn_does scene.entry.subject.message.now (commands_form block.now))
-        (turn_events scene.entry.subject.message.now (commands_form block.now))
-        (visited scene.entry.subject.part scene.entry.subject.message.now) e))
+        (told (sheet_of page.now scene.now.subject.message.now)
+        (turns_events at (turn_does scene.now.subject.message.now (commands_form block.now))
+        (turn_events scene.now.subject.message.now (commands_form block.now))
+        (visited scene.now.subject.part scene.now.subject.message.now) e))
         (O.output out.old) (O.output out.new)) }
     ensures stopped { (e : Effects) → HasEvaluated e run.old
         → IfErr result (λ why. HasStopped why
-        (told (sheet_of page.entry scene.entry.subject.message.now)
-        (turns_events at (turn_does scene.entry.subject.message.now (commands_form block.now))
-        (turn_events scene.entry.subject.message.now (commands_form block.now))
-        (visited scene.entry.subject.part scene.entry.subject.message.now) e))
+        (told (sheet_of page.now scene.now.subject.message.now)
+        (turns_events at (turn_does scene.now.subject.message.now (commands_form block.now))
+        (turn_events scene.now.subject.message.now (commands_form block.now))
+        (visited scene.now.subject.part scene.now.subject.message.now) e))
         (O.output out.old) (O.output out.new)) }
 {
     let parts = scene.subject.visited();
@@ -108,7 +108,7 @@ fn for_every_part<'s, 'm, O: Sink>(
 #[cycle(commands)]
 fn turn<'s, 'm, O: Sink>(
     run: &mut Evaluator<'s, 'm>,
-    page: Page<'_>,
+    page: &Page<'_>,
     block: &'s [Command],
     at: usize,
     subject: Subject<'_, 'm>,
@@ -120,48 +120,49 @@ fn turn<'s, 'm, O: Sink>(
         → IfOk result (λ flow. AreTold
         (commands_do subject.entry.message.now subject.entry.part (commands_form block.now) e)
         flow run.new
-        (told (sheet_of page.entry subject.entry.message.now)
+        (told (sheet_of page.now subject.entry.message.now)
         (event at subject.entry.part turned
         ∷ commands_events subject.entry.message.now subject.entry.part (commands_form block.now) e))
         (O.output out.old) (O.output out.new)) }
     ensures stopped { (e : Effects) → HasEvaluated e run.old
         → IfErr result (λ why. HasStopped why
-        (told (sheet_of page.entry subject.entry.message.now)
+        (told (sheet_of page.now subject.entry.message.now)
         (event at subject.entry.part turned
         ∷ commands_events subject.entry.message.now subject.entry.part (commands_form block.now) e))
         (O.output out.old) (O.output out.new)) }
 {
-    let part = part_of(page.alloc, subject)?;
+    let mut part = part_of(page.alloc, subject)?;
+    tell_turn(page, subject, &part, at, line, out)?;
+    part.extend_from_slice(b" ")?;
     let scene = Scene {
         subject,
         part: &part,
     };
-    tell(page, scene, at, Told::Turn, line, out)?;
-    commands(run, page, block, scene, line, out)
+    commands(run, page, block, &scene, line, out)
 }
 
 // Does what a command does.
 #[cycle(commands)]
 fn command<'s, 'm, O: Sink>(
     run: &mut Evaluator<'s, 'm>,
-    page: Page<'_>,
+    page: &Page<'_>,
     command: &'s Command,
-    scene: Scene<'_, 'm>,
+    scene: &Scene<'_, 'm>,
     line: &mut Vec<u8>,
     out: &mut O,
 ) -> Result<Flow, TraceError>
     requires { IsBoundedCommand (command_form command.now) }
     ensures told { (e : Effects) → HasEvaluated e run.old
         → IfOk result (λ flow. AreTold
-        (command_does scene.entry.subject.message.now scene.entry.subject.part (command_form command.now) e)
+        (command_does scene.now.subject.message.now scene.now.subject.part (command_form command.now) e)
         flow run.new
-        (told (sheet_of page.entry scene.entry.subject.message.now)
-        (command_events scene.entry.subject.message.now scene.entry.subject.part (command_form command.now) e))
+        (told (sheet_of page.now scene.now.subject.message.now)
+        (command_events scene.now.subject.message.now scene.now.subject.part (command_form command.now) e))
         (O.output out.old) (O.output out.new)) }
     ensures stopped { (e : Effects) → HasEvaluated e run.old
         → IfErr result (λ why. HasStopped why
-        (told (sheet_of page.entry scene.entry.subject.message.now)
-        (command_events scene.entry.subject.message.now scene.entry.subject.part (command_form command.now) e))
+        (told (sheet_of page.now scene.now.subject.message.now)
+        (command_events scene.now.subject.message.now scene.now.subject.part (command_form command.now) e))
         (O.output out.old) (O.output out.new)) }
 {
     match command {
@@ -194,24 +195,24 @@ fn command<'s, 'm, O: Sink>(
 #[cycle(commands)]
 pub fn commands<'s, 'm, O: Sink>(
     run: &mut Evaluator<'s, 'm>,
-    page: Page<'_>,
+    page: &Page<'_>,
     commands: &'s [Command],
-    scene: Scene<'_, 'm>,
+    scene: &Scene<'_, 'm>,
     line: &mut Vec<u8>,
     out: &mut O,
 ) -> Result<Flow, TraceError>
     requires { AreBoundedCommands (commands_form commands.now) }
     ensures told { (e : Effects) → HasEvaluated e run.old
         → IfOk result (λ flow. AreTold
-        (commands_do scene.entry.subject.message.now scene.entry.subject.part (commands_form commands.now) e)
+        (commands_do scene.now.subject.message.now scene.now.subject.part (commands_form commands.now) e)
         flow run.new
-        (told (sheet_of page.entry scene.entry.subject.message.now)
-        (commands_events scene.entry.subject.message.now scene.entry.subject.part (commands_form commands.now)
+        (told (sheet_of page.now scene.now.subject.message.now)
+        (commands_events scene.now.subject.message.now scene.now.subject.part (commands_form commands.now)
         e)) (O.output out.old) (O.output out.new)) }
     ensures stopped { (e : Effects) → HasEvaluated e run.old
         → IfErr result (λ why. HasStopped why
-        (told (sheet_of page.entry scene.entry.subject.message.now)
-        (commands_events scene.entry.subject.message.now scene.entry.subject.part (commands_form commands.now)
+        (told (sheet_of page.now scene.now.subject.message.now)
+        (commands_events scene.now.subject.message.now scene.now.subject.part (commands_form commands.now)
         e)) (O.output out.old) (O.output out.new)) }
 {
     'commands: for one in commands {

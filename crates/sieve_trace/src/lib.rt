@@ -25,5 +25,5 @@ mod tracing;
 mod words;
 
 pub use error::TraceError;
-pub use places::{Place, token_places};
+pub use places::{Places, token_places};
 pub use tracing::trace;

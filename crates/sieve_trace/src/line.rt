@@ -4,12 +4,12 @@ ghost use Rattle.std.specs.Prelude.{option_map, slice_get};
 ghost use Rattle.std.specs.Borrow.{Bor};
 ghost use Rattle.bytecode_listing.specs.Quoted.{quoted_start};
 ghost use Rattle.mail_matching.specs.declared.finding.Finding.{Finding};
-ghost use Rattle.sieve_meaning.specs.Traced.{event};
+ghost use Rattle.sieve_meaning.specs.Traced.{event, turned};
 ghost use Rattle.sieve_trace.specs.Printed.{event_line, event_text, finding_text, media_of, occurrence_text};
-ghost use Rattle.sieve_trace.specs.Printed.{part_text, place_text, value_text, values_text};
+ghost use Rattle.sieve_trace.specs.Printed.{part_text, place_in, value_text, values_text};
 ghost use Rattle.sieve_trace.specs.Private.{occurrence_of, sheet_of};
 
-use crate::places::Place;
+use crate::places::Places;
 use crate::scene::Scene;
 use crate::words::{comparison_word, push_act, push_number, push_with_text, question_word};
 use bytecode_format::Question;
@@ -24,13 +24,13 @@ use std::alloc::{AllocError, Global};
 pub(crate) const MAX_KEPT: usize = MAX_START + 1;
 
 /// What lines are printed by; and where memory comes from.
-#[derive(Clone, Copy)]
+#[derive(Drop)]
 pub struct Page<'a> {
     pub alloc: Global,
     /// The name of the script, as lines begin with it.
     pub label: &'a [u8],
     /// The places of its tokens.
-    pub places: &'a [Place],
+    pub places: &'a Places,
 }
 
 /// What came of a test or a command.
@@ -46,23 +46,31 @@ pub enum Told<'a> {
     AnyOf(bool),
     /// An action, with its string, expanded, or the value of the variable that it has set.
     Acted(&'a Act, &'a [u8]),
-    /// A turn of a loop begins.
-    Turn,
 }
 
-// Whether a test is true, in a word.
-fn value_text(value: bool) -> &'static [u8]
-    ensures { result.now ≡ value_text value }
+// Appends whether a test is true.
+#[inline(always)]
+fn push_value(out: &mut Vec<u8>, value: bool) -> Result<(), AllocError>
+    ensures { OnOk result (out.new.items ≡ out.old.items ++ value_text value) }
 {
-    if value { b" yes" } else { b" no" }
+    if value {
+        out.extend_from_slice(b" yes")
+    } else {
+        out.extend_from_slice(b" no")
+    }
 }
 
 // Appends a number of values.
+#[inline(always)]
 fn push_values(out: &mut Vec<u8>, number: u64) -> Result<(), AllocError>
     ensures { OnOk result (out.new.items ≡ out.old.items ++ values_text number) }
 {
     push_number(out, number)?;
-    out.extend_from_slice(if number == 1 { b" value" } else { b" values" })
+    if number == 1 {
+        out.extend_from_slice(b" value")
+    } else {
+        out.extend_from_slice(b" values")
+    }
 }
 
 // Appends a value and a key that match, and how they were compared.
@@ -77,6 +85,7 @@ fn push_pair(out: &mut Vec<u8>, value: &[u8], word: &[u8], key: &[u8]) -> Result
 }
 
 // Appends what a question has found.
+#[inline(always)]
 #[tactic(auto, unfolding(crate::specs::Printed::finding_text))]
 fn push_finding(
     out: &mut Vec<u8>,
@@ -104,14 +113,16 @@ fn push_finding(
 }
 
 // Appends a word of a test and whether the test is true.
+#[inline(always)]
 fn push_test(out: &mut Vec<u8>, word: &[u8], value: bool) -> Result<(), AllocError>
     ensures { OnOk result (out.new.items ≡ out.old.items ++ (word.now ++ value_text value)) }
 {
     out.extend_from_slice(word)?;
-    out.extend_from_slice(value_text(value))
+    push_value(out, value)
 }
 
 // Appends what came of a test or a command, behind its word.
+#[inline(always)]
 #[tactic(auto, unfolding(crate::specs::Printed::occurrence_text))]
 fn push_occurrence(out: &mut Vec<u8>, what: Told<'_>) -> Result<(), AllocError>
     ensures { OnOk result (out.new.items ≡ out.old.items ++ occurrence_text (occurrence_of what.entry)) }
@@ -125,7 +136,6 @@ fn push_occurrence(out: &mut Vec<u8>, what: Told<'_>) -> Result<(), AllocError>
         Told::AllOf(value) => push_test(out, b"allof", value),
         Told::AnyOf(value) => push_test(out, b"anyof", value),
         Told::Acted(act, text) => push_act(out, act, text),
-        Told::Turn => out.extend_from_slice(b"foreverypart"),
     }
 }
 
@@ -142,9 +152,9 @@ fn push_media(out: &mut Vec<u8>, message: &Message<'_>, number: usize) -> Result
 // Appends a part by its number and media type.
 #[tactic(auto, using(std::proofs::lemmas::Option::slice_get_past), unfolding(crate::specs::Printed::part_text))]
 fn push_part(out: &mut Vec<u8>, message: &Message<'_>, number: usize) -> Result<(), AllocError>
-    ensures { OnOk result (out.new.items ≡ out.old.items ++ part_text message.now number) }
+    ensures { OnOk result (out.new.items ≡ out.old.items ++ part_text message.now (Some number)) }
 {
-    out.extend_from_slice(b"part ")?;
+    out.extend_from_slice(b" part ")?;
     push_number(out, number as u64)?;
     out.extend_from_slice(b" ")?;
     if number < message.parts() {
@@ -153,69 +163,69 @@ fn push_part(out: &mut Vec<u8>, message: &Message<'_>, number: usize) -> Result<
     Ok(())
 }
 
-/// The current part by its number and media type, if there is one.
+/// The current part by its number and media type, with a space before; nothing outside of loops.
+#[tactic(auto, unfolding(crate::specs::Printed::part_text))]
 pub fn part_of(alloc: Global, subject: Subject<'_, '_>) -> Result<Vec<u8>, AllocError>
-    ensures { IfOk result (λ part. IfSome subject.entry.part
-        (λ number. part.items ≡ part_text subject.entry.message.now number)) }
+    ensures { IfOk result (λ part. part.items
+        ≡ part_text subject.entry.message.now subject.entry.part) }
 {
     let mut part = Vec::new(alloc);
-    if let Some(number) = subject.part {
-        push_part(&mut part, subject.message, number)?;
+    match subject.part {
+        Some(number) => {
+            push_part(&mut part, subject.message, number)?;
+            Ok(part)
+        }
+        None => Ok(part),
     }
-    Ok(part)
 }
 
-// Appends where it came, and what it was.
-#[tactic(auto, unfolding(crate::specs::Printed::event_text))]
-fn push_event(out: &mut Vec<u8>, scene: Scene<'_, '_>, what: Told<'_>) -> Result<(), AllocError>
-    ensures { OnOk result (out.new.items ≡ out.old.items
-        ++ event_text scene.entry.subject.message.now scene.entry.subject.part
-        (occurrence_of what.entry)) }
+// Makes a line what all lines of a token begin with. What it held is gone, but for the memory.
+#[inline(always)]
+fn begin_line(line: &mut Vec<u8>, page: &Page<'_>, at: usize) -> Result<(), AllocError>
+    ensures { OnOk result (line.new.items
+        ≡ page.now.label.now ++ place_in (slice_get page.now.places.now at)) }
 {
-    if scene.subject.part.is_none() {
-        return push_occurrence(out, what);
-    }
-    if let Told::Turn = what {
-        push_occurrence(out, what)?;
-        out.extend_from_slice(b" ")?;
-        return out.extend_from_slice(scene.part);
-    }
-    out.extend_from_slice(scene.part)?;
-    out.extend_from_slice(b" ")?;
-    push_occurrence(out, what)
+    line.clear();
+    line.extend_from_slice(page.label)?;
+    line.extend_from_slice(page.places.text(at))
 }
 
-// Appends the line and the column of a token.
-#[tactic(auto, unfolding(crate::specs::Printed::place_text))]
-fn push_place(out: &mut Vec<u8>, place: Option<Place>) -> Result<(), AllocError>
-    ensures { OnOk result (out.new.items ≡ out.old.items ++ place_text place) }
-{
-    let Some(place) = place else {
-        return Ok(());
-    };
-    out.extend_from_slice(b":")?;
-    push_number(out, place.line as u64)?;
-    out.extend_from_slice(b":")?;
-    push_number(out, place.column as u64)
-}
-
-/// Makes a line that of an event. What it held is gone, but for the memory.
-#[tactic(auto, unfolding(crate::specs::Printed::event_line))]
+/// Makes a line that of an event, other than a turn of a loop.
+#[inline(always)]
+#[tactic(auto, using(crate::proofs::Shown::text_told), unfolding(crate::specs::Printed::event_line))]
 pub fn set_line(
     line: &mut Vec<u8>,
-    page: Page<'_>,
-    scene: Scene<'_, '_>,
+    page: &Page<'_>,
+    scene: &Scene<'_, '_>,
     at: usize,
     what: Told<'_>,
 ) -> Result<(), AllocError>
     ensures { OnOk result (line.new.items
-        ≡ event_line (sheet_of page.entry scene.entry.subject.message.now)
-        (event at scene.entry.subject.part (occurrence_of what.entry))) }
+        ≡ event_line (sheet_of page.now scene.now.subject.message.now)
+        (event at scene.now.subject.part (occurrence_of what.entry))) }
 {
-    line.clear();
-    line.extend_from_slice(page.label)?;
-    push_place(line, page.places.get(at).copied())?;
-    line.extend_from_slice(b": ")?;
-    push_event(line, scene, what)?;
+    begin_line(line, page, at)?;
+    line.extend_from_slice(scene.part)?;
+    push_occurrence(line, what)?;
+    line.extend_from_slice(b"\n")
+}
+
+/// Makes a line that of a turn of a loop, on the part whose text this is.
+#[tactic(auto, unfolding(crate::specs::Printed::event_line, crate::specs::Printed::event_text, crate::specs::Printed::occurrence_text))]
+pub fn set_turn_line(
+    line: &mut Vec<u8>,
+    page: &Page<'_>,
+    subject: Subject<'_, '_>,
+    part: &[u8],
+    at: usize,
+) -> Result<(), AllocError>
+    requires { part.now ≡ part_text subject.message.now subject.part }
+    ensures { OnOk result (line.new.items
+        ≡ event_line (sheet_of page.now subject.entry.message.now)
+        (event at subject.entry.part turned)) }
+{
+    begin_line(line, page, at)?;
+    line.extend_from_slice(b" foreverypart")?;
+    line.extend_from_slice(part)?;
     line.extend_from_slice(b"\n")
 }

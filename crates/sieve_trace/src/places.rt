@@ -1,14 +1,67 @@
 // Where the tokens of a script stand.
-ghost use Rattle.std.specs.Prelude.{◌≡◌, ◌≤◌, ◌<◌, ◌+◌, ◌^◌, List, IfOk, IfErr, length, min};
-ghost use Rattle.std.specs.Prelude.{if◌then◌else◌};
+ghost use Rattle.std.specs.Prelude.{◌≡◌, ◌≤◌, ◌<◌, ◌+◌, ◌++◌, ◌^◌, List, IfOk, IfErr, OnOk, length, min};
+ghost use Rattle.std.specs.Prelude.{if◌then◌else◌, slice_get, slice_range};
 ghost use Rattle.octets.specs.Limits.{max_script};
 ghost use Rattle.sieve_explain.specs.Places.{is_line_feed};
 ghost use Rattle.sieve_lexer.specs.Tokens.{AreTokens, IsLexicalRefusal};
 ghost use Rattle.sieve_lexer.specs.declared.token.Token.{Token as Piece};
-ghost use Rattle.sieve_trace.specs.Places.{place_at, places_of};
+ghost use Rattle.sieve_trace.specs.Pieces.{Rise, pieces};
+ghost use Rattle.sieve_trace.specs.Places.{place_at, place_text, places_of};
+ghost use Rattle.sieve_trace.specs.Printed.{place_in};
 
+use crate::words::push_number;
 use sieve_lexer::{LexicalError, Token, tokens};
 use std::alloc::{AllocError, Global};
+use std::marker::Model;
+
+/// The places of a script's tokens, each as lines of a trace have it: its line and its column in octets, counted from
+/// 1, with a colon before, between and behind them.
+///
+/// A contract sees the list of these texts.
+#[derive(Drop)]
+pub struct Places {
+    // All texts, one after the other.
+    texts: Vec<u8>,
+    // Where each begins; and where the last one ends.
+    bounds: Vec<u32>,
+}
+
+impl Model for Places {
+    ghost use Rattle.std.specs.Prelude.{ℕ, List, length};
+    ghost use Rattle.sieve_trace.specs.Pieces.{Rise, pieces};
+
+    ghost Value = { List (List ℕ) };
+
+    ghost view = { λ p. pieces p.texts.items p.bounds.items };
+
+    ghost invariant = { λ p. Rise p.bounds.items (length p.texts.items) };
+}
+
+impl Places {
+    /// The text of a token's place; a colon, where it has none.
+    #[inline(always)]
+    pub(crate) fn text(&self, at: usize) -> &[u8]
+        ensures { result.now ≡ place_in (slice_get self.now at) }
+    {
+        if at < self.bounds.len() - 1 {
+            let start = self.bounds[at] as usize;
+            let end = self.bounds[at + 1] as usize;
+            piece(&self.texts, start, end)
+        } else {
+            b":"
+        }
+    }
+}
+
+// A piece of a text.
+#[inline(always)]
+fn piece(text: &[u8], start: usize, end: usize) -> &[u8]
+    requires rises { start ≤ end }
+    requires within { end ≤ length text.now }
+    ensures { result.now ≡ slice_range text.now start end }
+{
+    &text[start..end]
+}
 
 /// A place in a script: its line and its column in octets, each counted from 1.
 #[derive(Clone, Copy)]
@@ -25,30 +78,52 @@ const FIRST: Place = Place { line: 1, column: 1 };
 /// # Errors
 ///
 /// As [`tokens`]: memory was refused, or the script is too long or isn't one of tokens.
-pub fn token_places(alloc: Global, script: &[u8]) -> Result<Vec<Place>, LexicalError>
+pub fn token_places(alloc: Global, script: &[u8]) -> Result<Places, LexicalError>
     ensures places { IfOk result (λ places. (pieces : List Piece) × AreTokens script.now pieces
-        × (places.items ≡ places_of script.now pieces)) }
+        × (places ≡ places_of script.now pieces)) }
     ensures refused { IfErr result (λ e. IsLexicalRefusal script.now e) }
 {
     let tokens = tokens(alloc, script)?;
-    Ok(places_of(alloc, script, &tokens)?)
+    let (texts, bounds) = texts_of(alloc, script, &tokens)?;
+    Ok(Places { texts, bounds })
 }
 
-// The places of tokens.
-fn places_of(alloc: Global, script: &[u8], tokens: &[Token]) -> Result<Vec<Place>, AllocError>
-    requires { length script.now ≤ max_script }
-    ensures { IfOk result (λ places. places.items ≡ places_of script.now tokens.now) }
+// The places of tokens in one text, and their bounds in it.
+fn texts_of(
+    alloc: Global,
+    script: &[u8],
+    tokens: &[Token],
+) -> Result<(Vec<u8>, Vec<u32>), AllocError>
+    requires short { length script.now ≤ max_script }
+    requires few { length tokens.now ≤ max_script }
+    ensures places { IfOk result (λ r. pieces r.0.items r.1.items ≡ places_of script.now tokens.now) }
+    ensures bounds { IfOk result (λ r. Rise r.1.items (length r.0.items)) }
 {
-    let mut places = Vec::new(alloc);
+    let mut texts = Vec::new(alloc);
+    let mut bounds = Vec::new(alloc);
+    bounds.push(0)?;
     let mut octet = 0;
     let mut place = FIRST;
     'tokens: for token in tokens {
         let start = start_in(script, token);
         place = moved(script, octet, place, start);
         octet = start;
-        places.push(place)?;
+        push_place(&mut texts, place)?;
+        bounds.push(texts.len() as u32)?;
     }
-    Ok(places)
+    Ok((texts, bounds))
+}
+
+// Appends a place.
+#[tactic(auto, unfolding(crate::specs::Places::place_text))]
+fn push_place(out: &mut Vec<u8>, place: Place) -> Result<(), AllocError>
+    ensures { OnOk result (out.new.items ≡ out.old.items ++ place_text place) }
+{
+    out.extend_from_slice(b":")?;
+    push_number(out, place.line as u64)?;
+    out.extend_from_slice(b":")?;
+    push_number(out, place.column as u64)?;
+    out.extend_from_slice(b":")
 }
 
 // Where a token begins; at the end of the script, if that is before.

@@ -1,31 +1,53 @@
 // Telling an event.
-ghost use Rattle.std.specs.Prelude.{IfErr, OnOk};
+ghost use Rattle.std.specs.Prelude.{◌≡◌, IfErr, OnOk};
 ghost use Rattle.encodings.specs.Device.{HasTaken};
-ghost use Rattle.sieve_meaning.specs.Traced.{event};
-ghost use Rattle.sieve_trace.specs.Printed.{event_line};
+ghost use Rattle.sieve_meaning.specs.Traced.{event, turned};
+ghost use Rattle.sieve_trace.specs.Printed.{event_line, part_text};
 ghost use Rattle.sieve_trace.specs.Private.{occurrence_of, sheet_of};
 ghost use Rattle.sieve_trace.specs.Written.{HasStopped};
 
 use crate::error::TraceError;
-use crate::line::{Page, Told, set_line};
+use crate::line::{Page, Told, set_line, set_turn_line};
 use crate::scene::Scene;
 use encodings::{Sink, put};
+use sieve_meaning::Subject;
 
-/// Writes the line of an event. It is made in the memory of the one before it.
+/// Writes the line of an event, other than a turn of a loop. It is made in the memory of the one before it.
+#[inline(always)]
 pub fn tell<O: Sink>(
-    page: Page<'_>,
-    scene: Scene<'_, '_>,
+    page: &Page<'_>,
+    scene: &Scene<'_, '_>,
     at: usize,
     what: Told<'_>,
     line: &mut Vec<u8>,
     out: &mut O,
 ) -> Result<(), TraceError>
-    ensures ok { OnOk result (HasTaken (event_line (sheet_of page.entry scene.entry.subject.message.now)
-        (event at scene.entry.subject.part (occurrence_of what.entry))) (O.output out.old) (O.output out.new)) }
+    ensures ok { OnOk result (HasTaken (event_line (sheet_of page.now scene.now.subject.message.now)
+        (event at scene.now.subject.part (occurrence_of what.entry))) (O.output out.old) (O.output out.new)) }
     ensures err { IfErr result (λ e. HasStopped e
-        (event_line (sheet_of page.entry scene.entry.subject.message.now)
-        (event at scene.entry.subject.part (occurrence_of what.entry))) (O.output out.old) (O.output out.new)) }
+        (event_line (sheet_of page.now scene.now.subject.message.now)
+        (event at scene.now.subject.part (occurrence_of what.entry))) (O.output out.old) (O.output out.new)) }
 {
     set_line(line, page, scene, at, what)?;
+    Ok(put(out, line)?)
+}
+
+/// The same of a turn of a loop, on the part whose text this is.
+pub fn tell_turn<O: Sink>(
+    page: &Page<'_>,
+    subject: Subject<'_, '_>,
+    part: &[u8],
+    at: usize,
+    line: &mut Vec<u8>,
+    out: &mut O,
+) -> Result<(), TraceError>
+    requires { part.now ≡ part_text subject.message.now subject.part }
+    ensures ok { OnOk result (HasTaken (event_line (sheet_of page.now subject.entry.message.now)
+        (event at subject.entry.part turned)) (O.output out.old) (O.output out.new)) }
+    ensures err { IfErr result (λ e. HasStopped e
+        (event_line (sheet_of page.now subject.entry.message.now)
+        (event at subject.entry.part turned)) (O.output out.old) (O.output out.new)) }
+{
+    set_turn_line(line, page, subject, part, at)?;
     Ok(put(out, line)?)
 }

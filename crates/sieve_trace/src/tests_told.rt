@@ -25,24 +25,24 @@ use sieve_meaning::Evaluator;
 #[cycle(tests)]
 pub fn is_true<'s, 'm, O: Sink>(
     run: &mut Evaluator<'s, 'm>,
-    page: Page<'_>,
+    page: &Page<'_>,
     test: &Test,
-    scene: Scene<'_, 'm>,
+    scene: &Scene<'_, 'm>,
     line: &mut Vec<u8>,
     out: &mut O,
 ) -> Result<bool, TraceError>
     requires { IsBoundedTest (test_form test.now) }
     ensures told { (e : Effects) → HasEvaluated e run.old
         → IfOk result (λ value. IsTold
-        (test_does scene.entry.subject.message.now scene.entry.subject.part (test_form test.now) e) value
+        (test_does scene.now.subject.message.now scene.now.subject.part (test_form test.now) e) value
         run.new
-        (told (sheet_of page.entry scene.entry.subject.message.now)
-        (test_events scene.entry.subject.message.now scene.entry.subject.part (test_form test.now) e))
+        (told (sheet_of page.now scene.now.subject.message.now)
+        (test_events scene.now.subject.message.now scene.now.subject.part (test_form test.now) e))
         (O.output out.old) (O.output out.new)) }
     ensures stopped { (e : Effects) → HasEvaluated e run.old
         → IfErr result (λ why. HasStopped why
-        (told (sheet_of page.entry scene.entry.subject.message.now)
-        (test_events scene.entry.subject.message.now scene.entry.subject.part (test_form test.now) e))
+        (told (sheet_of page.now scene.now.subject.message.now)
+        (test_events scene.now.subject.message.now scene.now.subject.part (test_form test.now) e))
         (O.output out.old) (O.output out.new)) }
 {
     match test {
@@ -74,8 +74,8 @@ pub fn is_true<'s, 'm, O: Sink>(
 
 // Tells what came of a test of other tests, and answers its value.
 fn say<O: Sink>(
-    page: Page<'_>,
-    scene: Scene<'_, '_>,
+    page: &Page<'_>,
+    scene: &Scene<'_, '_>,
     at: usize,
     what: Told<'_>,
     value: bool,
@@ -84,11 +84,11 @@ fn say<O: Sink>(
 ) -> Result<bool, TraceError>
     ensures value { IfOk result (λ told. told ≡ value) }
     ensures told { IfOk result (λ told. HasTaken
-        (event_line (sheet_of page.entry scene.entry.subject.message.now)
-        (event at scene.entry.subject.part (occurrence_of what.entry))) (O.output out.old) (O.output out.new)) }
+        (event_line (sheet_of page.now scene.now.subject.message.now)
+        (event at scene.now.subject.part (occurrence_of what.entry))) (O.output out.old) (O.output out.new)) }
     ensures stopped { IfErr result (λ why. HasStopped why
-        (event_line (sheet_of page.entry scene.entry.subject.message.now)
-        (event at scene.entry.subject.part (occurrence_of what.entry))) (O.output out.old) (O.output out.new)) }
+        (event_line (sheet_of page.now scene.now.subject.message.now)
+        (event at scene.now.subject.part (occurrence_of what.entry))) (O.output out.old) (O.output out.new)) }
 {
     tell(page, scene, at, what, line, out)?;
     Ok(value)
@@ -98,25 +98,25 @@ fn say<O: Sink>(
 #[cycle(tests)]
 fn all_true<'s, 'm, O: Sink>(
     run: &mut Evaluator<'s, 'm>,
-    page: Page<'_>,
+    page: &Page<'_>,
     list: &[Test],
-    scene: Scene<'_, 'm>,
+    scene: &Scene<'_, 'm>,
     line: &mut Vec<u8>,
     out: &mut O,
 ) -> Result<bool, TraceError>
     requires { AreBoundedTests (tests_of (map test_form list.now)) }
     ensures told { (e : Effects) → HasEvaluated e run.old
         → IfOk result (λ value. IsTold
-        (all_do scene.entry.subject.message.now scene.entry.subject.part
+        (all_do scene.now.subject.message.now scene.now.subject.part
         (tests_of (map test_form list.now)) e) value run.new
-        (told (sheet_of page.entry scene.entry.subject.message.now)
-        (all_events scene.entry.subject.message.now scene.entry.subject.part
+        (told (sheet_of page.now scene.now.subject.message.now)
+        (all_events scene.now.subject.message.now scene.now.subject.part
         (tests_of (map test_form list.now)) e))
         (O.output out.old) (O.output out.new)) }
     ensures stopped { (e : Effects) → HasEvaluated e run.old
         → IfErr result (λ why. HasStopped why
-        (told (sheet_of page.entry scene.entry.subject.message.now)
-        (all_events scene.entry.subject.message.now scene.entry.subject.part
+        (told (sheet_of page.now scene.now.subject.message.now)
+        (all_events scene.now.subject.message.now scene.now.subject.part
         (tests_of (map test_form list.now)) e))
         (O.output out.old) (O.output out.new)) }
 {
@@ -132,25 +132,25 @@ fn all_true<'s, 'm, O: Sink>(
 #[cycle(tests)]
 fn any_true<'s, 'm, O: Sink>(
     run: &mut Evaluator<'s, 'm>,
-    page: Page<'_>,
+    page: &Page<'_>,
     list: &[Test],
-    scene: Scene<'_, 'm>,
+    scene: &Scene<'_, 'm>,
     line: &mut Vec<u8>,
     out: &mut O,
 ) -> Result<bool, TraceError>
     requires { AreBoundedTests (tests_of (map test_form list.now)) }
     ensures told { (e : Effects) → HasEvaluated e run.old
         → IfOk result (λ value. IsTold
-        (any_do scene.entry.subject.message.now scene.entry.subject.part
+        (any_do scene.now.subject.message.now scene.now.subject.part
         (tests_of (map test_form list.now)) e) value run.new
-        (told (sheet_of page.entry scene.entry.subject.message.now)
-        (any_events scene.entry.subject.message.now scene.entry.subject.part
+        (told (sheet_of page.now scene.now.subject.message.now)
+        (any_events scene.now.subject.message.now scene.now.subject.part
         (tests_of (map test_form list.now)) e))
         (O.output out.old) (O.output out.new)) }
     ensures stopped { (e : Effects) → HasEvaluated e run.old
         → IfErr result (λ why. HasStopped why
-        (told (sheet_of page.entry scene.entry.subject.message.now)
-        (any_events scene.entry.subject.message.now scene.entry.subject.part
+        (told (sheet_of page.now scene.now.subject.message.now)
+        (any_events scene.now.subject.message.now scene.now.subject.part
         (tests_of (map test_form list.now)) e))
         (O.output out.old) (O.output out.new)) }
 {
@@ -163,28 +163,29 @@ fn any_true<'s, 'm, O: Sink>(
 }
 
 // Whether what a simple test asks is true.
+#[inline(always)]
 fn ask<'s, 'm, O: Sink>(
     run: &mut Evaluator<'s, 'm>,
-    page: Page<'_>,
+    page: &Page<'_>,
     question: Question,
     strings: &Strings,
     at: usize,
-    scene: Scene<'_, 'm>,
+    scene: &Scene<'_, 'm>,
     line: &mut Vec<u8>,
     out: &mut O,
 ) -> Result<bool, TraceError>
     requires { AreBoundedStrings (row_of question).takes (strings_form strings.now) }
     ensures told { (e : Effects) → HasEvaluated e run.old
         → IfOk result (λ value. IsTold
-        (test_does scene.entry.subject.message.now scene.entry.subject.part
+        (test_does scene.now.subject.message.now scene.now.subject.part
         (asks question (strings_form strings.now) at) e) value run.new
-        (told (sheet_of page.entry scene.entry.subject.message.now)
-        (test_events scene.entry.subject.message.now scene.entry.subject.part
+        (told (sheet_of page.now scene.now.subject.message.now)
+        (test_events scene.now.subject.message.now scene.now.subject.part
         (asks question (strings_form strings.now) at) e)) (O.output out.old) (O.output out.new)) }
     ensures stopped { (e : Effects) → HasEvaluated e run.old
         → IfErr result (λ why. HasStopped why
-        (told (sheet_of page.entry scene.entry.subject.message.now)
-        (test_events scene.entry.subject.message.now scene.entry.subject.part
+        (told (sheet_of page.now scene.now.subject.message.now)
+        (test_events scene.now.subject.message.now scene.now.subject.part
         (asks question (strings_form strings.now) at) e)) (O.output out.old) (O.output out.new)) }
 {
     let (value, found) = run.asks_and_finds(

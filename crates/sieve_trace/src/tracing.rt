@@ -12,7 +12,7 @@ use crate::commands::commands;
 use crate::error::TraceError;
 use crate::label::label_of;
 use crate::line::Page;
-use crate::places::Place;
+use crate::places::Places;
 use crate::scene::Scene;
 use bytecode_format::Action;
 use encodings::Sink;
@@ -38,7 +38,7 @@ use std::alloc::Global;
 pub fn trace<O: Sink>(
     alloc: Global,
     name: &str,
-    places: &[Place],
+    places: &Places,
     checked: &Checked,
     message: &Message<'_>,
     out: &mut O,
@@ -58,12 +58,12 @@ pub fn trace<O: Sink>(
         label: &label,
         places,
     };
-    trace_commands(page, checked.commands(), message, out)
+    trace_commands(&page, checked.commands(), message, out)
 }
 
 // The same of the script's commands.
 fn trace_commands<O: Sink>(
-    page: Page<'_>,
+    page: &Page<'_>,
     list: &[Command],
     message: &Message<'_>,
     out: &mut O,
@@ -72,14 +72,15 @@ fn trace_commands<O: Sink>(
     ensures actions { IfOk result (λ actions. actions.items
         ≡ meaning message.now (commands_form list.now)) }
     ensures told { IfOk result (λ actions. HasTaken
-        (trace_text (sheet_of page.entry message.now) (commands_form list.now))
+        (trace_text (sheet_of page.now message.now) (commands_form list.now))
         (O.output out.old) (O.output out.new)) }
     ensures stopped { IfErr result (λ why. HasStopped why
-        (trace_text (sheet_of page.entry message.now) (commands_form list.now))
+        (trace_text (sheet_of page.now message.now) (commands_form list.now))
         (O.output out.old) (O.output out.new)) }
 {
+    let scene = Scene::of(message);
     let mut run = Evaluator::new(page.alloc);
     let mut line = Vec::new(page.alloc);
-    let _flow = commands(&mut run, page, list, Scene::of(message), &mut line, out)?;
+    let _flow = commands(&mut run, page, list, &scene, &mut line, out)?;
     Ok(run.actions.into_final(run.implicit_keep)?)
 }

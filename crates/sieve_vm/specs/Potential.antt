@@ -5,7 +5,7 @@ use Rattle.bytecode_verifier.specs.Places.{sum_below}
 use Rattle.bytecode_verifier.specs.Loops.{open_loops}
 use Rattle.bytecode_verifier.specs.declared.cap.Cap.{Cap}
 use Rattle.bytecode_verifier.specs.Budget.{cap_at, budget_of}
-use Rattle.bytecode_cost.specs.Sums.{turns_left, budget_at}
+use Rattle.bytecode_cost.specs.Sums.{budget_at, by_chains, turns_left}
 use Rattle.mime_decode.specs.Mail.{Mail, size_of}
 use Rattle.mime_decode.specs.Visited.{visited}
 use Rattle.sieve_vm.specs.State.{Frame, State, current_part}
@@ -31,7 +31,7 @@ stretch code mail price visits depth from to = sum_below (λ place. if nat_le fr
 -- how many parts count for a loop that would be opened now: in programs of version 2 those that it
 -- would visit, else all
 abbrev pub visits_now : Code → Mail → List Frame → ℕ
-visits_now code mail frames = if code.version == 2 then length (visited (current_part frames) mail) else length mail.parts
+visits_now code mail frames = if code.version == by_chains then length (visited (current_part frames) mail) else length mail.parts
 
 -- the rest of the innermost open loop's body, and the whole body again for the parts that the loop
 -- has left; then the same for the loop around it, from after the inner Next; in the end the rest of

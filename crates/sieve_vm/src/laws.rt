@@ -1,6 +1,6 @@
 //! Laws of the machine, over its definitions alone.
 ghost use Rattle.std.specs.Prelude.{◌≡◌, ◌≢◌, ℕ, suc, ◌+◌, ◌≤◌, All, List, length};
-ghost use Rattle.bytecode_format.specs.Code.{Code};
+ghost use Rattle.bytecode_format.specs.Code.{Code, version_two};
 ghost use Rattle.bytecode_verifier.specs.Acceptance.{IsAccepted};
 ghost use Rattle.bytecode_verifier.specs.Counting.{entries_at, times_at};
 ghost use Rattle.bytecode_verifier.specs.Loops.{open_loops};
@@ -105,11 +105,11 @@ pub fn outcomes_store_parts_of_the_message()
 /// What is accepted in one version runs the same in version 2: each step is the same, from every state, and so is the end.
 pub fn programs_run_the_same_in_version_two()
     ensures step { (code : Code) (mail : Mail) → IsAccepted code → (state : State)
-        → step (record code { version = 2 }) mail state ≡ step code mail state }
+        → step (record code { version = version_two }) mail state ≡ step code mail state }
     ensures ends { (code : Code) (mail : Mail) → IsAccepted code → (end : State)
-        → RunEnds code mail end → RunEnds (record code { version = 2 }) mail end }
+        → RunEnds code mail end → RunEnds (record code { version = version_two }) mail end }
     ensures no_other { (code : Code) (mail : Mail) → IsAccepted code → (end : State)
-        → RunEnds (record code { version = 2 }) mail end → RunEnds code mail end }
+        → RunEnds (record code { version = version_two }) mail end → RunEnds code mail end }
 {}
 
 /// A program of version 2 of which each operation runs once in each turn, and has texts of the program alone, charges exactly its

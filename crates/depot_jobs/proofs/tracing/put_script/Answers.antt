@@ -1,6 +1,4 @@
-use Rattle.std.proofs.Common.{subst}
 use Rattle.encodings.proofs.Outputs.{broken_later}
-use Rattle.encodings.specs.Device.{HasTaken}
 use Rattle.depot_jobs.specs.Printed.{report_text}
 use Rattle.sieve_check.specs.TypedView.{commands_form}
 use Rattle.sieve_trace.specs.Printed.{sheet}
@@ -10,7 +8,5 @@ use Rattle.depot_jobs.proofs.tracing.put_script.Goals as goal
 pub returns-in-Err-clause-err : goal.returns-in-Err-clause-err
 returns-in-Err-clause-err g c =
     let traced = c.args.traced.now in
-    let events = trace_text (sheet traced.name.now traced.places.items traced.message) (commands_form traced.checked.commands) in
-    let told : HasTaken events (g.O.Sink.output c.args.out.now) (g.O.Sink.output c.trace.new.out) =
-    subst (λ places. HasTaken (trace_text (sheet traced.name.now places traced.message) (commands_form traced.checked.commands)) (g.O.Sink.output c.args.out.now) (g.O.Sink.output c.trace.new.out)) c.deref.ensures.value c.in-Ok.ensures.told in
-    broken_later events (report_text traced.report.outcome.actions.items traced.report.outcome.charged traced.report.limit) told c.in-Err.ensures.err
+    let events = trace_text (sheet traced.name.now traced.places traced.message) (commands_form traced.checked.commands) in
+    broken_later events (report_text traced.report.outcome.actions.items traced.report.outcome.charged traced.report.limit) c.in-Ok.ensures.told c.in-Err.ensures.err

@@ -5,8 +5,8 @@ use Rattle.header_fields.specs.Header.{has_feed}
 use Rattle.header_fields.proofs.Continuations.{feed_after}
 use Rattle.header_fields.proofs.field.unfold_start.Goals as goal
 
-pub returns-in_err-joined-in-Some-clause-told : goal.returns-in_err-joined-in-Some-clause-told
-returns-in_err-joined-in-Some-clause-told c = λ plain.
+pub returns-in_err-joined-in-Some-clause-no_memory : goal.returns-in_err-joined-in-Some-clause-no_memory
+returns-in_err-joined-in-Some-clause-no_memory c = λ plain.
     let text = c.after_colon-text.result.now in
     let here = rw (ap (λ u. u.text) c.new.ensures) at c.in-Some.ensures.steps.here in
     let feed : has_feed text ≡ true = feed_after text _ c.in-Some.line here c.if-line-text.true in

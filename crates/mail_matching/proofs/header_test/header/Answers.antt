@@ -11,12 +11,12 @@ use Rattle.mail_matching.proofs.header_test.header.Goals as goal
 
 pub returns-clause-asked : goal.returns-clause-asked
 returns-clause-asked g c =
-    let scope = c.args.reach.scope in
-    let current = c.args.reach.current in
-    let selector = c.args.test.now.selector in
-    let params = g.P.Texts.texts c.args.test.now.params.now in
-    let names = g.N.Texts.texts c.args.names.now in
-    let keys = g.K.Texts.texts c.args.test.now.keys.now in
+    let scope = c.args.test.scope in
+    let current = c.args.current in
+    let selector = c.args.test.selector in
+    let params = g.P.Texts.texts c.args.texts.params.now in
+    let names = g.N.Texts.texts c.args.texts.names.now in
+    let keys = g.K.Texts.texts c.args.texts.keys.now in
     let mail = c.args.message.now in
     let values = selected_values scope current selector params names mail in
     let selected : selected_in_all selector params names c.in_scope-headers.result ≡ values =
@@ -24,7 +24,7 @@ returns-clause-asked g c =
     let fields = ap all_fields c.in_scope-headers.ensures ∙ fields_are scope current mail in
     let looked : c.names_cost-looked.result ≡ names_cost (fields_in_scope scope current mail) names =
     c.names_cost-looked.ensures ∙ ap (λ n. (n + 1) * extent_of names) (c.fields_number.ensures.number ∙ ap length fields) in
-    has_compared g.T.Telling.knows c.args.test.now.how values keys (names_cost (fields_in_scope scope current mail) names) c.args.progress.now c.take_headers.new.progress c.extent_of.result c.product.result (c.names_cost-looked.result + c.product.result) c.requires.fresh
-    (subst (λ vs. GoesOn g.T.Telling.knows c.args.test.now.how vs keys c.args.progress.now c.take_headers.new.progress) selected c.in_ok-take_headers.ensures.goes)
+    has_compared g.T.Telling.knows c.args.test.how values keys (names_cost (fields_in_scope scope current mail) names) c.args.progress.now c.take_headers.new.progress c.extent_of.result c.product.result (c.names_cost-looked.result + c.product.result) c.requires.fresh
+    (subst (λ vs. GoesOn g.T.Telling.knows c.args.test.how vs keys c.args.progress.now c.take_headers.new.progress) selected c.in_ok-take_headers.ensures.goes)
     (omega (arith, c.in_ok-take_headers.ensures.few, ap extent_of selected))
     c.extent_of.ensures c.product.ensures (ap (λ n. n + c.product.result) looked)

@@ -15,5 +15,5 @@ returns-clause-found g c =
     c.then_some-found.ensures
     ∙ found_so most finding c.put.new.progress.told c.compares.result
     (c.compares.ensures c.args.message.now c.args.current texts c.requires.shown)
-    (c.in_ok-cost.ensures.found most (subst (λ f. IsCounted most (NoneOf 0) f) (sym told) (begins most)))
-    c.in_ok-cost.ensures.few
+    (c.in_ok-cost.ensures.asked.found most (subst (λ f. IsCounted most (NoneOf 0) f) (sym told) (begins most)))
+    c.in_ok-cost.ensures.asked.few

@@ -26,9 +26,9 @@ pub command-branches-preserved : goal.command-branches-preserved
 command-branches-preserved g t c = (
   branches_bounded c.deref-branch-items.result.now c.branches.branch-index c.branch-item.result (else_form c.in-If.otherwise) c.branches-test.true c.branch-item.is c.branches.invariant.0,
   λ e stands.
-      let mail = c.args.scene.subject.message.now in
-      let part = c.args.scene.subject.part in
-      let page = sheet_of c.args.page mail in
+      let mail = c.args.scene.now.subject.message.now in
+      let part = c.args.scene.now.subject.part in
+      let page = sheet_of c.args.page.now mail in
       let o0 = g.O.Sink.output c.args.out.now in
       let bs = c.deref-branch-items.result.now in
       let last = else_form c.in-If.otherwise in
@@ -46,9 +46,9 @@ command-is_true-requires g t c = branch_bounded c.deref-branch-items.result.now 
 
 pub command-returns-in_err-is_true-in-If-clause-stopped : goal.command-returns-in_err-is_true-in-If-clause-stopped
 command-returns-in_err-is_true-in-If-clause-stopped g t c = λ e stands.
-    let mail = c.args.scene.subject.message.now in
-    let part = c.args.scene.subject.part in
-    let page = sheet_of c.args.page mail in
+    let mail = c.args.scene.now.subject.message.now in
+    let part = c.args.scene.now.subject.part in
+    let page = sheet_of c.args.page.now mail in
     let o0 = g.O.Sink.output c.args.out.now in
     let bs = c.deref-branch-items.result.now in
     let last = else_form c.in-If.otherwise in
@@ -65,9 +65,9 @@ command-returns-in_err-is_true-in-If-clause-stopped g t c = λ e stands.
 
 pub command-returns-then-branch-clause-told : goal.command-returns-then-branch-clause-told
 command-returns-then-branch-clause-told g t c = λ e stands.
-    let mail = c.args.scene.subject.message.now in
-    let part = c.args.scene.subject.part in
-    let page = sheet_of c.args.page mail in
+    let mail = c.args.scene.now.subject.message.now in
+    let part = c.args.scene.now.subject.part in
+    let page = sheet_of c.args.page.now mail in
     let o0 = g.O.Sink.output c.args.out.now in
     let bs = c.deref-branch-items.result.now in
     let last = else_form c.in-If.otherwise in
@@ -84,9 +84,9 @@ command-returns-then-branch-clause-told g t c = λ e stands.
 
 pub command-returns-then-branch-clause-stopped : goal.command-returns-then-branch-clause-stopped
 command-returns-then-branch-clause-stopped g t c = λ e stands.
-    let mail = c.args.scene.subject.message.now in
-    let part = c.args.scene.subject.part in
-    let page = sheet_of c.args.page mail in
+    let mail = c.args.scene.now.subject.message.now in
+    let part = c.args.scene.now.subject.part in
+    let page = sheet_of c.args.page.now mail in
     let o0 = g.O.Sink.output c.args.out.now in
     let bs = c.deref-branch-items.result.now in
     let last = else_form c.in-If.otherwise in
@@ -108,9 +108,9 @@ command-returns-in_err-text-in-Does-clause-stopped g t c = λ e stands.
 
 pub command-returns-in_ok-text-in-Does-clause-told : goal.command-returns-in_ok-text-in-Does-clause-told
 command-returns-in_ok-text-in-Does-clause-told g t c = λ e stands.
-    let mail = c.args.scene.subject.message.now in
-    let part = c.args.scene.subject.part in
-    let page = sheet_of c.args.page mail in
+    let mail = c.args.scene.now.subject.message.now in
+    let part = c.args.scene.now.subject.part in
+    let page = sheet_of c.args.page.now mail in
     let o0 = g.O.Sink.output c.args.out.now in
     let what = c.in-Does.does in
     let at = c.in-Does.at in
@@ -122,9 +122,9 @@ command-returns-in_ok-text-in-Does-clause-told g t c = λ e stands.
 
 pub command-returns-in_ok-text-in-Does-clause-stopped : goal.command-returns-in_ok-text-in-Does-clause-stopped
 command-returns-in_ok-text-in-Does-clause-stopped g t c = λ e stands.
-    let mail = c.args.scene.subject.message.now in
-    let part = c.args.scene.subject.part in
-    let page = sheet_of c.args.page mail in
+    let mail = c.args.scene.now.subject.message.now in
+    let part = c.args.scene.now.subject.part in
+    let page = sheet_of c.args.page.now mail in
     let o0 = g.O.Sink.output c.args.out.now in
     let what = c.in-Does.does in
     let at = c.in-Does.at in
@@ -136,9 +136,9 @@ command-returns-in_ok-text-in-Does-clause-stopped g t c = λ e stands.
 
 pub command-returns-in-ForEveryPart-clause-told : goal.command-returns-in-ForEveryPart-clause-told
 command-returns-in-ForEveryPart-clause-told g t c = λ e stands.
-    let mail = c.args.scene.subject.message.now in
-    let part = c.args.scene.subject.part in
-    let page = sheet_of c.args.page mail in
+    let mail = c.args.scene.now.subject.message.now in
+    let part = c.args.scene.now.subject.part in
+    let page = sheet_of c.args.page.now mail in
     let o0 = g.O.Sink.output c.args.out.now in
     let at = c.in-ForEveryPart.at in
     let form : command_form c.args.command.now ≡ for_every_part (commands_form c.deref-in-ForEveryPart.result.now) at = ap command_form c.in-ForEveryPart.is ∙ form_for_every_part c.in-ForEveryPart.block at ∙ ap (λ cs. for_every_part (commands_form cs) at) (sym c.deref-in-ForEveryPart.ensures.value) in
@@ -146,9 +146,9 @@ command-returns-in-ForEveryPart-clause-told g t c = λ e stands.
 
 pub command-returns-in-ForEveryPart-clause-stopped : goal.command-returns-in-ForEveryPart-clause-stopped
 command-returns-in-ForEveryPart-clause-stopped g t c = λ e stands.
-    let mail = c.args.scene.subject.message.now in
-    let part = c.args.scene.subject.part in
-    let page = sheet_of c.args.page mail in
+    let mail = c.args.scene.now.subject.message.now in
+    let part = c.args.scene.now.subject.part in
+    let page = sheet_of c.args.page.now mail in
     let o0 = g.O.Sink.output c.args.out.now in
     let at = c.in-ForEveryPart.at in
     let form : command_form c.args.command.now ≡ for_every_part (commands_form c.deref-in-ForEveryPart.result.now) at = ap command_form c.in-ForEveryPart.is ∙ form_for_every_part c.in-ForEveryPart.block at ∙ ap (λ cs. for_every_part (commands_form cs) at) (sym c.deref-in-ForEveryPart.ensures.value) in
@@ -158,9 +158,9 @@ pub commands-commands-preserved : goal.commands-commands-preserved
 commands-commands-preserved g t c = (
   commands_bounded c.args.commands.now c.commands.one-index c.one-item.result c.commands-test.true c.one-item.is c.commands.invariant.0,
   λ e stands.
-      let mail = c.args.scene.subject.message.now in
-      let part = c.args.scene.subject.part in
-      let page = sheet_of c.args.page mail in
+      let mail = c.args.scene.now.subject.message.now in
+      let part = c.args.scene.now.subject.part in
+      let page = sheet_of c.args.page.now mail in
       let o0 = g.O.Sink.output c.args.out.now in
       let cs = c.args.commands.now in
       let whole = commands_form cs in
@@ -172,9 +172,9 @@ commands-commands-preserved g t c = (
 
 pub commands-returns-in_err-flow-clause-stopped : goal.commands-returns-in_err-flow-clause-stopped
 commands-returns-in_err-flow-clause-stopped g t c = λ e stands.
-    let mail = c.args.scene.subject.message.now in
-    let part = c.args.scene.subject.part in
-    let page = sheet_of c.args.page mail in
+    let mail = c.args.scene.now.subject.message.now in
+    let part = c.args.scene.now.subject.part in
+    let page = sheet_of c.args.page.now mail in
     let o0 = g.O.Sink.output c.args.out.now in
     let cs = c.args.commands.now in
     let whole = commands_form cs in
@@ -190,71 +190,71 @@ turn-returns-in_err-part-clause-stopped g t c = λ e stands.
     let p = err_from_is_err_and c.from_residual.result c.from_residual.ensures.1 in
     rw (p.1, p.2) (refused_first _ _)
 
-pub turn-returns-in_err-tell-clause-stopped : goal.turn-returns-in_err-tell-clause-stopped
-turn-returns-in_err-tell-clause-stopped g t c = λ e stands.
+pub turn-returns-in_err-tell_turn-clause-stopped : goal.turn-returns-in_err-tell_turn-clause-stopped
+turn-returns-in_err-tell_turn-clause-stopped g t c = λ e stands.
     let mail = c.args.subject.message.now in
     let part = c.args.subject.part in
-    let page = sheet_of c.args.page mail in
+    let page = sheet_of c.args.page.now mail in
     let o0 = g.O.Sink.output c.args.out.now in
     let ev = event c.args.at part turned in
-    passed_on c.from_residual-in_err-tell.result _ _ c.from_residual-in_err-tell.ensures.1 (told_stopped _ _ _ page (ev ∷ []) (commands_events mail part (commands_form c.args.block.now) e) (stopped_one _ _ _ page ev c.in_err-tell.ensures.err))
+    passed_on c.from_residual-in_err-tell_turn.result _ _ c.from_residual-in_err-tell_turn.ensures.1 (told_stopped _ _ _ page (ev ∷ []) (commands_events mail part (commands_form c.args.block.now) e) (stopped_one _ _ _ page ev c.in_err-tell_turn.ensures.err))
 
 pub turn-returns-clause-stopped : goal.turn-returns-clause-stopped
 turn-returns-clause-stopped g t c = λ e stands.
     let mail = c.args.subject.message.now in
     let part = c.args.subject.part in
-    let page = sheet_of c.args.page mail in
+    let page = sheet_of c.args.page.now mail in
     let o0 = g.O.Sink.output c.args.out.now in
     let ev = event c.args.at part turned in
-    IfErr-weaker c.commands.result _ _ (λ why h. told_then_stopped _ _ _ why page (ev ∷ []) (commands_events mail part (commands_form c.args.block.now) e) (told_one page ev c.in_ok-tell.ensures.ok) h) (c.commands.ensures.stopped e stands)
+    IfErr-weaker c.commands.result _ _ (λ why h. told_then_stopped _ _ _ why page (ev ∷ []) (commands_events mail part (commands_form c.args.block.now) e) (told_one page ev c.in_ok-tell_turn.ensures.ok) h) (c.commands.ensures.stopped e stands)
 
 pub for_every_part-parts-preserved : goal.for_every_part-parts-preserved
 for_every_part-parts-preserved g t c = (
   c.parts.invariant.0,
   λ e stands.
-      let mail = c.args.scene.subject.message.now in
-      let part = c.args.scene.subject.part in
-      let page = sheet_of c.args.page mail in
+      let mail = c.args.scene.now.subject.message.now in
+      let part = c.args.scene.now.subject.part in
+      let page = sheet_of c.args.page.now mail in
       let o0 = g.O.Sink.output c.args.out.now in
       let block = commands_form c.args.block.now in
       let at = c.args.at in
       let whole = visited part mail in
       let number = c.parts.part in
       let before = subst (λ r. TurnsRemain at mail block page whole e r c.parts.run o0 (g.O.Sink.output c.parts.out)) (next_number number _ c.parts-test.true) (c.parts.invariant.1 e stands) in
-      turns_step at mail block page whole e number _ c.in_ok-turn.field-0 c.parts.run c.turn.new.run before (turn_told_as at mail c.at.result.message.now c.at.result.part number c.args.page block before.effects c.in_ok-turn.field-0 c.turn.new.run c.at.ensures.message c.at.ensures.part (c.in_ok-turn.ensures.told before.effects before.stands)) c.in-GoesOn.is,
+      turns_step at mail block page whole e number _ c.in_ok-turn.field-0 c.parts.run c.turn.new.run before (turn_told_as at mail c.at.result.message.now c.at.result.part number c.args.page.now block before.effects c.in_ok-turn.field-0 c.turn.new.run c.at.ensures.message c.at.ensures.part (c.in_ok-turn.ensures.told before.effects before.stands)) c.in-GoesOn.is,
 )
 
 pub for_every_part-returns-in-Stopped-clause-told : goal.for_every_part-returns-in-Stopped-clause-told
 for_every_part-returns-in-Stopped-clause-told g t c = λ e stands.
-    let mail = c.args.scene.subject.message.now in
-    let part = c.args.scene.subject.part in
-    let page = sheet_of c.args.page mail in
+    let mail = c.args.scene.now.subject.message.now in
+    let part = c.args.scene.now.subject.part in
+    let page = sheet_of c.args.page.now mail in
     let o0 = g.O.Sink.output c.args.out.now in
     let block = commands_form c.args.block.now in
     let at = c.args.at in
     let whole = visited part mail in
     let number = c.parts.part in
     let before = subst (λ r. TurnsRemain at mail block page whole e r c.parts.run o0 (g.O.Sink.output c.parts.out)) (next_number number _ c.parts-test.true) (c.parts.invariant.1 e stands) in
-    turns_stop at mail block page whole e number _ c.in_ok-turn.field-0 c.parts.run c.turn.new.run before (turn_told_as at mail c.at.result.message.now c.at.result.part number c.args.page block before.effects c.in_ok-turn.field-0 c.turn.new.run c.at.ensures.message c.at.ensures.part (c.in_ok-turn.ensures.told before.effects before.stands)) c.in-Stopped.is
+    turns_stop at mail block page whole e number _ c.in_ok-turn.field-0 c.parts.run c.turn.new.run before (turn_told_as at mail c.at.result.message.now c.at.result.part number c.args.page.now block before.effects c.in_ok-turn.field-0 c.turn.new.run c.at.ensures.message c.at.ensures.part (c.in_ok-turn.ensures.told before.effects before.stands)) c.in-Stopped.is
 
 pub for_every_part-returns-in-Leaves-clause-told : goal.for_every_part-returns-in-Leaves-clause-told
 for_every_part-returns-in-Leaves-clause-told g t c = λ e stands.
-    let mail = c.args.scene.subject.message.now in
-    let part = c.args.scene.subject.part in
-    let page = sheet_of c.args.page mail in
+    let mail = c.args.scene.now.subject.message.now in
+    let part = c.args.scene.now.subject.part in
+    let page = sheet_of c.args.page.now mail in
     let o0 = g.O.Sink.output c.args.out.now in
     let block = commands_form c.args.block.now in
     let at = c.args.at in
     let whole = visited part mail in
     let number = c.parts.part in
     let before = subst (λ r. TurnsRemain at mail block page whole e r c.parts.run o0 (g.O.Sink.output c.parts.out)) (next_number number _ c.parts-test.true) (c.parts.invariant.1 e stands) in
-    turns_leave at mail block page whole e number _ c.in_ok-turn.field-0 c.left.result c.in-Leaves.loops c.parts.run c.turn.new.run before (turn_told_as at mail c.at.result.message.now c.at.result.part number c.args.page block before.effects c.in_ok-turn.field-0 c.turn.new.run c.at.ensures.message c.at.ensures.part (c.in_ok-turn.ensures.told before.effects before.stands)) c.in-Leaves.is c.left.ensures
+    turns_leave at mail block page whole e number _ c.in_ok-turn.field-0 c.left.result c.in-Leaves.loops c.parts.run c.turn.new.run before (turn_told_as at mail c.at.result.message.now c.at.result.part number c.args.page.now block before.effects c.in_ok-turn.field-0 c.turn.new.run c.at.ensures.message c.at.ensures.part (c.in_ok-turn.ensures.told before.effects before.stands)) c.in-Leaves.is c.left.ensures
 
 pub for_every_part-returns-in_err-turn-clause-stopped : goal.for_every_part-returns-in_err-turn-clause-stopped
 for_every_part-returns-in_err-turn-clause-stopped g t c = λ e stands.
-    let mail = c.args.scene.subject.message.now in
-    let part = c.args.scene.subject.part in
-    let page = sheet_of c.args.page mail in
+    let mail = c.args.scene.now.subject.message.now in
+    let part = c.args.scene.now.subject.part in
+    let page = sheet_of c.args.page.now mail in
     let o0 = g.O.Sink.output c.args.out.now in
     let block = commands_form c.args.block.now in
     let at = c.args.at in
@@ -263,15 +263,15 @@ for_every_part-returns-in_err-turn-clause-stopped g t c = λ e stands.
     let before = subst (λ r. TurnsRemain at mail block page whole e r c.parts.run o0 (g.O.Sink.output c.parts.out)) (next_number number _ c.parts-test.true) (c.parts.invariant.1 e stands) in
     passed_on c.from_residual.result _ _ c.from_residual.ensures.1
     (goes_stopped (λ ps x. turns (turn_does mail block) ps x) (λ ps x. turns_events at (turn_does mail block) (turn_events mail block) ps x) page whole _ e c.parts.run _ _ _ _ before (whole_turn at mail block number before.effects) _ refl
-    (turn_stopped_as _ _ _ at mail c.at.result.message.now c.at.result.part number c.args.page block before.effects c.at.ensures.message c.at.ensures.part (c.in_err-turn.ensures.stopped before.effects before.stands)))
+    (turn_stopped_as _ _ _ at mail c.at.result.message.now c.at.result.part number c.args.page.now block before.effects c.at.ensures.message c.at.ensures.part (c.in_err-turn.ensures.stopped before.effects before.stands)))
 
 pub for_every_part-parts-init : goal.for_every_part-parts-init
 for_every_part-parts-init g t c = (
   c.visited-parts.ensures.within,
   λ e stands.
-      let mail = c.args.scene.subject.message.now in
-      let part = c.args.scene.subject.part in
-      let page = sheet_of c.args.page mail in
+      let mail = c.args.scene.now.subject.message.now in
+      let part = c.args.scene.now.subject.part in
+      let page = sheet_of c.args.page.now mail in
       let o0 = g.O.Sink.output c.args.out.now in
       let block = commands_form c.args.block.now in
       let at = c.args.at in
@@ -284,9 +284,9 @@ pub command-branches-init : goal.command-branches-init
 command-branches-init g t c =
     let last = else_form c.in-If.otherwise in
     let bs = c.deref-branch-items.result.now in
-    let mail = c.args.scene.subject.message.now in
-    let part = c.args.scene.subject.part in
-    let page = sheet_of c.args.page mail in
+    let mail = c.args.scene.now.subject.message.now in
+    let part = c.args.scene.now.subject.part in
+    let page = sheet_of c.args.page.now mail in
     let whole = branch_forms bs last in
     let form : command_form c.args.command.now ≡ choice whole = ap command_form c.in-If.is ∙ form_if c.in-If.branches c.in-If.otherwise ∙ ap (λ xs. choice (branch_forms xs last)) (sym c.deref-branch-items.ensures.value) in (
       subst IsBoundedCommand form c.requires,
@@ -295,9 +295,9 @@ command-branches-init g t c =
 
 pub command-returns-in-Some-clause-told : goal.command-returns-in-Some-clause-told
 command-returns-in-Some-clause-told g t c = λ e stands.
-    let mail = c.args.scene.subject.message.now in
-    let part = c.args.scene.subject.part in
-    let page = sheet_of c.args.page mail in
+    let mail = c.args.scene.now.subject.message.now in
+    let part = c.args.scene.now.subject.part in
+    let page = sheet_of c.args.page.now mail in
     let o0 = g.O.Sink.output c.args.out.now in
     let bs = c.deref-branch-items.result.now in
     let last = else_form c.in-If.otherwise in
@@ -310,9 +310,9 @@ command-returns-in-Some-clause-told g t c = λ e stands.
 
 pub command-returns-in-Some-clause-stopped : goal.command-returns-in-Some-clause-stopped
 command-returns-in-Some-clause-stopped g t c = λ e stands.
-    let mail = c.args.scene.subject.message.now in
-    let part = c.args.scene.subject.part in
-    let page = sheet_of c.args.page mail in
+    let mail = c.args.scene.now.subject.message.now in
+    let part = c.args.scene.now.subject.part in
+    let page = sheet_of c.args.page.now mail in
     let o0 = g.O.Sink.output c.args.out.now in
     let bs = c.deref-branch-items.result.now in
     let last = else_form c.in-If.otherwise in
@@ -325,9 +325,9 @@ command-returns-in-Some-clause-stopped g t c = λ e stands.
 
 pub command-returns-in-None-clause-told : goal.command-returns-in-None-clause-told
 command-returns-in-None-clause-told g t c = λ e stands.
-    let mail = c.args.scene.subject.message.now in
-    let part = c.args.scene.subject.part in
-    let page = sheet_of c.args.page mail in
+    let mail = c.args.scene.now.subject.message.now in
+    let part = c.args.scene.now.subject.part in
+    let page = sheet_of c.args.page.now mail in
     let o0 = g.O.Sink.output c.args.out.now in
     let bs = c.deref-branch-items.result.now in
     let last = else_form c.in-If.otherwise in
@@ -349,9 +349,9 @@ commands-command-requires g t c =
 
 pub commands-returns-in_default-clause-told : goal.commands-returns-in_default-clause-told
 commands-returns-in_default-clause-told g t c = λ e stands.
-    let mail = c.args.scene.subject.message.now in
-    let part = c.args.scene.subject.part in
-    let page = sheet_of c.args.page mail in
+    let mail = c.args.scene.now.subject.message.now in
+    let part = c.args.scene.now.subject.part in
+    let page = sheet_of c.args.page.now mail in
     let o0 = g.O.Sink.output c.args.out.now in
     let cs = c.args.commands.now in
     let whole = commands_form cs in

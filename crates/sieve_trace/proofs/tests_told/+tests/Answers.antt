@@ -18,9 +18,9 @@ pub all_true-list-preserved : goal.all_true-list-preserved
 all_true-list-preserved g t c = (
   tests_bounded c.args.list.now c.list.test-index c.test-item.result c.list-test.true c.test-item.is c.list.invariant.0,
   λ e stands.
-      let mail = c.args.scene.subject.message.now in
-      let part = c.args.scene.subject.part in
-      let page = sheet_of c.args.page mail in
+      let mail = c.args.scene.now.subject.message.now in
+      let part = c.args.scene.now.subject.part in
+      let page = sheet_of c.args.page.now mail in
       let ts = c.args.list.now in
       let whole = tests_of (map test_form ts) in
       let rest = tests_of (map test_form (drop (c.list.test-index + 1) ts)) in
@@ -30,9 +30,9 @@ all_true-list-preserved g t c = (
 
 pub all_true-returns-in_err-is_true-clause-stopped : goal.all_true-returns-in_err-is_true-clause-stopped
 all_true-returns-in_err-is_true-clause-stopped g t c = λ e stands.
-    let mail = c.args.scene.subject.message.now in
-    let part = c.args.scene.subject.part in
-    let page = sheet_of c.args.page mail in
+    let mail = c.args.scene.now.subject.message.now in
+    let part = c.args.scene.now.subject.part in
+    let page = sheet_of c.args.page.now mail in
     let ts = c.args.list.now in
     let whole = tests_of (map test_form ts) in
     let rest = tests_of (map test_form (drop (c.list.test-index + 1) ts)) in
@@ -46,9 +46,9 @@ pub any_true-list-preserved : goal.any_true-list-preserved
 any_true-list-preserved g t c = (
   tests_bounded c.args.list.now c.list.test-index c.test-item.result c.list-test.true c.test-item.is c.list.invariant.0,
   λ e stands.
-      let mail = c.args.scene.subject.message.now in
-      let part = c.args.scene.subject.part in
-      let page = sheet_of c.args.page mail in
+      let mail = c.args.scene.now.subject.message.now in
+      let part = c.args.scene.now.subject.part in
+      let page = sheet_of c.args.page.now mail in
       let ts = c.args.list.now in
       let whole = tests_of (map test_form ts) in
       let rest = tests_of (map test_form (drop (c.list.test-index + 1) ts)) in
@@ -58,9 +58,9 @@ any_true-list-preserved g t c = (
 
 pub any_true-returns-in_err-is_true-clause-stopped : goal.any_true-returns-in_err-is_true-clause-stopped
 any_true-returns-in_err-is_true-clause-stopped g t c = λ e stands.
-    let mail = c.args.scene.subject.message.now in
-    let part = c.args.scene.subject.part in
-    let page = sheet_of c.args.page mail in
+    let mail = c.args.scene.now.subject.message.now in
+    let part = c.args.scene.now.subject.part in
+    let page = sheet_of c.args.page.now mail in
     let ts = c.args.list.now in
     let whole = tests_of (map test_form ts) in
     let rest = tests_of (map test_form (drop (c.list.test-index + 1) ts)) in
@@ -72,9 +72,9 @@ any_true-returns-in_err-is_true-clause-stopped g t c = λ e stands.
 
 pub is_true-returns-then-not-branch-clause-told : goal.is_true-returns-then-not-branch-clause-told
 is_true-returns-then-not-branch-clause-told g t c = λ e stands.
-    let mail = c.args.scene.subject.message.now in
-    let part = c.args.scene.subject.part in
-    let page = sheet_of c.args.page mail in
+    let mail = c.args.scene.now.subject.message.now in
+    let part = c.args.scene.now.subject.part in
+    let page = sheet_of c.args.page.now mail in
     let first = test_form c.deref-in-AllOf.result.now in
     let rest = tests_of (map test_form c.in-AllOf.others.items) in
     let whole : TestForm = all_of first rest c.in-AllOf.at in
@@ -92,9 +92,9 @@ is_true-returns-then-not-branch-clause-told g t c = λ e stands.
 
 pub is_true-returns-then-not-branch-clause-stopped : goal.is_true-returns-then-not-branch-clause-stopped
 is_true-returns-then-not-branch-clause-stopped g t c = λ e stands.
-    let mail = c.args.scene.subject.message.now in
-    let part = c.args.scene.subject.part in
-    let page = sheet_of c.args.page mail in
+    let mail = c.args.scene.now.subject.message.now in
+    let part = c.args.scene.now.subject.part in
+    let page = sheet_of c.args.page.now mail in
     let first = test_form c.deref-in-AllOf.result.now in
     let rest = tests_of (map test_form c.in-AllOf.others.items) in
     let whole : TestForm = all_of first rest c.in-AllOf.at in
@@ -111,9 +111,9 @@ is_true-returns-then-not-branch-clause-stopped g t c = λ e stands.
 
 pub is_true-returns-in_ok-value-in-AllOf-clause-told : goal.is_true-returns-in_ok-value-in-AllOf-clause-told
 is_true-returns-in_ok-value-in-AllOf-clause-told g t c = λ e stands.
-    let mail = c.args.scene.subject.message.now in
-    let part = c.args.scene.subject.part in
-    let page = sheet_of c.args.page mail in
+    let mail = c.args.scene.now.subject.message.now in
+    let part = c.args.scene.now.subject.part in
+    let page = sheet_of c.args.page.now mail in
     let first = test_form c.deref-in-AllOf.result.now in
     let rest = tests_of (map test_form c.deref-in-AllOf-2.result.now) in
     let whole : TestForm = all_of first rest c.in-AllOf.at in
@@ -131,9 +131,9 @@ is_true-returns-in_ok-value-in-AllOf-clause-told g t c = λ e stands.
 
 pub is_true-returns-in_ok-value-in-AllOf-clause-stopped : goal.is_true-returns-in_ok-value-in-AllOf-clause-stopped
 is_true-returns-in_ok-value-in-AllOf-clause-stopped g t c = λ e stands.
-    let mail = c.args.scene.subject.message.now in
-    let part = c.args.scene.subject.part in
-    let page = sheet_of c.args.page mail in
+    let mail = c.args.scene.now.subject.message.now in
+    let part = c.args.scene.now.subject.part in
+    let page = sheet_of c.args.page.now mail in
     let first = test_form c.deref-in-AllOf.result.now in
     let rest = tests_of (map test_form c.deref-in-AllOf-2.result.now) in
     let whole : TestForm = all_of first rest c.in-AllOf.at in
@@ -150,9 +150,9 @@ is_true-returns-in_ok-value-in-AllOf-clause-stopped g t c = λ e stands.
 
 pub is_true-returns-in_err-value-in-AllOf-clause-stopped : goal.is_true-returns-in_err-value-in-AllOf-clause-stopped
 is_true-returns-in_err-value-in-AllOf-clause-stopped g t c = λ e stands.
-    let mail = c.args.scene.subject.message.now in
-    let part = c.args.scene.subject.part in
-    let page = sheet_of c.args.page mail in
+    let mail = c.args.scene.now.subject.message.now in
+    let part = c.args.scene.now.subject.part in
+    let page = sheet_of c.args.page.now mail in
     let first = test_form c.deref-in-AllOf.result.now in
     let rest = tests_of (map test_form c.deref-in-AllOf-2.result.now) in
     let whole : TestForm = all_of first rest c.in-AllOf.at in
@@ -168,9 +168,9 @@ is_true-returns-in_err-value-in-AllOf-clause-stopped g t c = λ e stands.
 
 pub is_true-returns-then-branch-clause-told : goal.is_true-returns-then-branch-clause-told
 is_true-returns-then-branch-clause-told g t c = λ e stands.
-    let mail = c.args.scene.subject.message.now in
-    let part = c.args.scene.subject.part in
-    let page = sheet_of c.args.page mail in
+    let mail = c.args.scene.now.subject.message.now in
+    let part = c.args.scene.now.subject.part in
+    let page = sheet_of c.args.page.now mail in
     let first = test_form c.deref-in-AnyOf.result.now in
     let rest = tests_of (map test_form c.in-AnyOf.others.items) in
     let whole : TestForm = any_of first rest c.in-AnyOf.at in
@@ -188,9 +188,9 @@ is_true-returns-then-branch-clause-told g t c = λ e stands.
 
 pub is_true-returns-then-branch-clause-stopped : goal.is_true-returns-then-branch-clause-stopped
 is_true-returns-then-branch-clause-stopped g t c = λ e stands.
-    let mail = c.args.scene.subject.message.now in
-    let part = c.args.scene.subject.part in
-    let page = sheet_of c.args.page mail in
+    let mail = c.args.scene.now.subject.message.now in
+    let part = c.args.scene.now.subject.part in
+    let page = sheet_of c.args.page.now mail in
     let first = test_form c.deref-in-AnyOf.result.now in
     let rest = tests_of (map test_form c.in-AnyOf.others.items) in
     let whole : TestForm = any_of first rest c.in-AnyOf.at in
@@ -207,9 +207,9 @@ is_true-returns-then-branch-clause-stopped g t c = λ e stands.
 
 pub is_true-returns-in_ok-value-in-AnyOf-clause-told : goal.is_true-returns-in_ok-value-in-AnyOf-clause-told
 is_true-returns-in_ok-value-in-AnyOf-clause-told g t c = λ e stands.
-    let mail = c.args.scene.subject.message.now in
-    let part = c.args.scene.subject.part in
-    let page = sheet_of c.args.page mail in
+    let mail = c.args.scene.now.subject.message.now in
+    let part = c.args.scene.now.subject.part in
+    let page = sheet_of c.args.page.now mail in
     let first = test_form c.deref-in-AnyOf.result.now in
     let rest = tests_of (map test_form c.deref-in-AnyOf-2.result.now) in
     let whole : TestForm = any_of first rest c.in-AnyOf.at in
@@ -227,9 +227,9 @@ is_true-returns-in_ok-value-in-AnyOf-clause-told g t c = λ e stands.
 
 pub is_true-returns-in_ok-value-in-AnyOf-clause-stopped : goal.is_true-returns-in_ok-value-in-AnyOf-clause-stopped
 is_true-returns-in_ok-value-in-AnyOf-clause-stopped g t c = λ e stands.
-    let mail = c.args.scene.subject.message.now in
-    let part = c.args.scene.subject.part in
-    let page = sheet_of c.args.page mail in
+    let mail = c.args.scene.now.subject.message.now in
+    let part = c.args.scene.now.subject.part in
+    let page = sheet_of c.args.page.now mail in
     let first = test_form c.deref-in-AnyOf.result.now in
     let rest = tests_of (map test_form c.deref-in-AnyOf-2.result.now) in
     let whole : TestForm = any_of first rest c.in-AnyOf.at in
@@ -246,9 +246,9 @@ is_true-returns-in_ok-value-in-AnyOf-clause-stopped g t c = λ e stands.
 
 pub is_true-returns-in_err-value-in-AnyOf-clause-stopped : goal.is_true-returns-in_err-value-in-AnyOf-clause-stopped
 is_true-returns-in_err-value-in-AnyOf-clause-stopped g t c = λ e stands.
-    let mail = c.args.scene.subject.message.now in
-    let part = c.args.scene.subject.part in
-    let page = sheet_of c.args.page mail in
+    let mail = c.args.scene.now.subject.message.now in
+    let part = c.args.scene.now.subject.part in
+    let page = sheet_of c.args.page.now mail in
     let first = test_form c.deref-in-AnyOf.result.now in
     let rest = tests_of (map test_form c.deref-in-AnyOf-2.result.now) in
     let whole : TestForm = any_of first rest c.in-AnyOf.at in
@@ -264,9 +264,9 @@ is_true-returns-in_err-value-in-AnyOf-clause-stopped g t c = λ e stands.
 
 pub is_true-returns-in_ok-value-in-Not-clause-stopped : goal.is_true-returns-in_ok-value-in-Not-clause-stopped
 is_true-returns-in_ok-value-in-Not-clause-stopped g t c = λ e stands.
-    let mail = c.args.scene.subject.message.now in
-    let part = c.args.scene.subject.part in
-    let page = sheet_of c.args.page mail in
+    let mail = c.args.scene.now.subject.message.now in
+    let part = c.args.scene.now.subject.part in
+    let page = sheet_of c.args.page.now mail in
     let inner = test_form c.deref.result.now in
     let at = c.in-Not.at in
     let whole : TestForm = negation inner at in

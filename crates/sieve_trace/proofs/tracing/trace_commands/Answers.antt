@@ -14,5 +14,5 @@ returns-clause-told g c =
     let o0 = g.O.Sink.output c.args.out.now in
     let o1 = g.O.Sink.output c.commands.new.out in
     let h = (c.in_ok-_flow.ensures.told no_effects c.new-run.ensures).1 in
-    subst (λ (p : Option ℕ). HasTaken (told (sheet_of c.args.page c.args.message.now) (commands_events c.args.message.now p form no_effects)) o0 o1) c.of.ensures.part
-    (subst (λ (m : Mail). HasTaken (told (sheet_of c.args.page m) (commands_events m c.of.result.subject.part form no_effects)) o0 o1) c.of.ensures.message h)
+    subst (λ (p : Option ℕ). HasTaken (told (sheet_of c.args.page.now c.args.message.now) (commands_events c.args.message.now p form no_effects)) o0 o1) c.of-scene.ensures.part
+    (subst (λ (m : Mail). HasTaken (told (sheet_of c.args.page.now m) (commands_events m c.of-scene.result.subject.part form no_effects)) o0 o1) c.of-scene.ensures.message h)

@@ -1,9 +1,9 @@
 use Rattle.std.proofs.Common.{slice_index, ap, ◌∙◌, arith}
 use Rattle.std.specs.Bool.{then_some}
-use Rattle.std.specs.Option.{option_or}
+use Rattle.std.specs.Option.{option_and_then, option_or}
 use Rattle.bytecode_cost.specs.Sums.{Sums}
 use Rattle.bytecode_verifier.specs.Pass.{with_charge}
-use Rattle.bytecode_verifier.specs.Rows.{row_named}
+use Rattle.bytecode_verifier.specs.Rows.{row_in_version}
 use Rattle.bytecode_verifier.proofs.Steps.{none_from, small_here, cap_fits_here, passed_more}
 use Rattle.bytecode_verifier.proofs.pass.Pass.take_as.Goals as goal
 
@@ -26,7 +26,7 @@ pub returns : goal.returns
 returns c =
     passed_more c.args.here.now.program.now c.args.here.now.place c.args.here.now.instruction.now c.args.operation c.row_named-row.result c.args.self.now _ c.in_ok-passed.passed c.unwrap_or-cap.result c.args.here.now.targeted
     c.misses_index.result c.is_well_formed.result c.misses_loop.result c.misses_target.result c.misses_part.result c.depth_at.result
-    c.requires.here c.requires.before c.requires.target c.requires.named (c.row_named-row.ensures ∙ ap (λ v. row_named v c.args.here.now.instruction.now.op) c.version.ensures.value)
+    c.requires.here c.requires.before c.requires.target c.requires.named (c.row_named-row.ensures ∙ ap (λ v. option_and_then (row_in_version v) c.args.operation) c.version.ensures.value ∙ ap (option_and_then (row_in_version c.args.here.now.program.now.version)) c.requires.named)
     c.misses_index.ensures c.note.ensures.index c.is_well_formed.ensures c.note.ensures.form
     (c.misses_loop.ensures c.args.here.now.program.now c.requires.nests) c.note.ensures.brackets
     (c.misses_target.ensures c.args.here.now.program.now c.requires.nests) c.note.ensures.jump

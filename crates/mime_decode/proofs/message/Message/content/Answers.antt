@@ -23,8 +23,8 @@ returns-clause-lent c =
     (record { readable = c.self.invariant.0; tree_is = c.self.invariant.1; mail_is = c.self.view_is }) c.requires
     (λ d. let encoding = c.encoding.ensures d in rw (sym encoding) c.decoded.ensures.lent)
 
-pub returns-clause-told : goal.returns-clause-told
-returns-clause-told c =
+pub returns-clause-no_memory : goal.returns-clause-no_memory
+returns-clause-no_memory c =
     holds_at (λ (p : Part). is_decoded p.encoding ≡ false → IsOk c.decoded.result) c.args.part
     (record { readable = c.self.invariant.0; tree_is = c.self.invariant.1; mail_is = c.self.view_is }) c.requires
-    (λ d. let encoding = c.encoding.ensures d in rw (sym encoding) c.decoded.ensures.told)
+    (λ d. let encoding = c.encoding.ensures d in rw (sym encoding) c.decoded.ensures.no_memory)

@@ -4,7 +4,7 @@ use Rattle.sqlite.specs.State.{HasCleanDisk, Survives}
 use Rattle.part_store.specs.Access.{AddsEntries, MayMakeOpen}
 use Rattle.part_store.specs.Entries.{with_entries}
 use Rattle.part_store.specs.Inside.{Brings}
-use Rattle.part_store.specs.Refusals.{OnlyWhenNoEntriesFit, LackRoom}
+use Rattle.part_store.specs.Refusals.{OnlyWhenFailedOrNoEntryRoom, LackRoom}
 use Rattle.part_store.specs.Standing.{draft_of}
 use Rattle.part_store.proofs.Failing.{dropped}
 use Rattle.part_store.proofs.RefusedAdding.{refused_adds}
@@ -21,8 +21,8 @@ returns-in_err-first-clause-refused g c = record {
       let user = c.args.user.now in
       let drafts = map draft_of c.args.entries.now in
       let early : HasCleanDisk mid = omega (arith, clean, c.drop-tx.ensures.survives.clean) in
-      let cause = subst (λ h. IsTrue (state g.S.Store h).in_transaction → OnlyWhenNoEntriesFit user drafts (state g.S.Store h) mid c.in_err-first.field-0.0) c.begin-tx.ensures.begun (c.in_err-first.ensures.refused.cause early) in
-      subst (λ h. IfErr c.from_residual.result (OnlyWhenNoEntriesFit user drafts (state g.S.Store h) new)) c.self.view_is
+      let cause = subst (λ h. IsTrue (state g.S.Store h).in_transaction → OnlyWhenFailedOrNoEntryRoom user drafts (state g.S.Store h) mid c.in_err-first.field-0.0) c.begin-tx.ensures.begun (c.in_err-first.ensures.refused.cause early) in
+      subst (λ h. IfErr c.from_residual.result (OnlyWhenFailedOrNoEntryRoom user drafts (state g.S.Store h) new)) c.self.view_is
       (passed c.from_residual.result _ _ c.from_residual.ensures.1 (dropped g.S.Store c.self.inside.conn mid new (LackRoom user drafts) c.in_err-first.field-0.0 c.drop-tx.ensures.survives cause));
 }
 

@@ -2,7 +2,7 @@ use Rattle.std.proofs.Common.{IfErr, IsTrue, arith, rules, subst}
 use Rattle.sqlite.specs.Held.{state}
 use Rattle.sqlite.specs.State.{HasCleanDisk, Survives}
 use Rattle.part_store.specs.Entries.{with_program}
-use Rattle.part_store.specs.Refusals.{refusal_of, OnlyWhenNoRowFits, HasNoUserRoom}
+use Rattle.part_store.specs.Refusals.{refusal_of, OnlyWhenFailedOrNoUserRoom, HasNoUserRoom}
 use Rattle.part_store.specs.Inside.{Brings}
 use Rattle.part_store.specs.Access.{MayMakeOpen}
 use Rattle.part_store.proofs.Failing.{dropped}
@@ -30,7 +30,7 @@ returns-in_err-put_program-clause-refused g c = record {
       let user = c.args.user.now in
       let change = with_program user c.args.program.now in
       let early : HasCleanDisk mid = omega (arith, clean, c.drop-tx.ensures.survives.clean) in
-      let cause = subst (λ h. IsTrue (state g.S.Store h).in_transaction → OnlyWhenNoRowFits user change (state g.S.Store h) mid (refusal_of c.in_err-put_program.field-0.0)) c.begin-tx.ensures.begun (c.in_err-put_program.ensures.cause early) in
-      subst (λ h. IfErr c.from_residual.result (OnlyWhenNoRowFits user change (state g.S.Store h) new)) c.self.view_is
+      let cause = subst (λ h. IsTrue (state g.S.Store h).in_transaction → OnlyWhenFailedOrNoUserRoom user change (state g.S.Store h) mid (refusal_of c.in_err-put_program.field-0.0)) c.begin-tx.ensures.begun (c.in_err-put_program.ensures.cause early) in
+      subst (λ h. IfErr c.from_residual.result (OnlyWhenFailedOrNoUserRoom user change (state g.S.Store h) new)) c.self.view_is
       (passed c.from_residual.result _ _ c.from_residual.ensures.1 (dropped g.S.Store c.self.inside.conn mid new (λ before. HasNoUserRoom user (change before)) (refusal_of c.in_err-put_program.field-0.0) c.drop-tx.ensures.survives cause));
 }
