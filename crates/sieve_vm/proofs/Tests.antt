@@ -1,5 +1,5 @@
 -- What an operation on the workspace leaves of the state that the machine stands for.
-use Rattle.std.proofs.Common.{◌≡◌, ℕ, ◌+◌, ◌<◌, ◌≤◌, Bool, false, cond, List, [], ◌∷◌, Option, Some, None, IfSome, drop, is_some, length, slice_get, refl, subst, ap, ◌∙◌, arith}
+use Rattle.std.proofs.Common.{◌≡◌, ℕ, ◌+◌, ◌<◌, ◌≤◌, Bool, true, false, cond, List, [], ◌∷◌, Option, Some, None, IfSome, drop, is_some, length, slice_get, refl, subst, ap, ◌∙◌, arith}
 use Rattle.std.specs.Option.{option_and_then, unwrap_or}
 use Rattle.octets.specs.Limits.{max_message}
 use Rattle.bytecode_format.specs.declared.instruction.Instruction.{Instruction}
@@ -134,12 +134,6 @@ is_decided mail numbers test i s (question.Size order number) top value asks the
     let same : is_size order number (size_of mail) ≡ value = cc in
     record { cost = refl; answers = ap (λ b. then_some b s.captures) same; below = no_lists s.stack top (ap (λ t. lists_counted (counts_in t i) s.stack) own ∙ there) }
 is_decided mail numbers test i s q top value asks there e = absurd cc
-
--- nothing is needed for it
-pub decided_alone : (mail : Mail) (q : Question) (value : Bool) → decided mail q ≡ Some value → need_of q ≡ need.Nothing
-decided_alone mail (question.Constant held) value e = refl
-decided_alone mail (question.Size order number) value e = refl
-decided_alone mail q value e = absurd cc
 
 -- what is pushed for it is what a test leaves
 pub decided_state : (s : State) (found : Option (List (List ℕ))) (below : List Value) (value : Bool) → found ≡ then_some value s.captures → below ≡ s.stack
