@@ -108,3 +108,16 @@ answer_ten mail at q texts captures after ten is = answered_ten (asked mail at q
 
 pub answer_short : (mail : Mail) (at : Option ℕ) (q : Question) (texts : Texts) (captures after : List (List ℕ)) → All (λ capture. length capture ≤ max_capture) captures → answer mail at q texts captures ≡ Some after → All (λ capture. length capture ≤ max_capture) after
 answer_short mail at q texts captures after short is = answered_short (asked mail at q texts) texts.keys captures after short is
+
+-- ---- questions that are decided without strings
+
+-- one takes none, costs nothing and leaves the captures
+pub record IsDecided (mail : Mail) (q : Question) (value : Bool) : Type 0 where
+  pub answers : (at : Option ℕ) (texts : Texts) (captures : List (List ℕ)) → answer mail at q texts captures ≡ then_some value captures
+  pub cost : (at : Option ℕ) (texts : Texts) → question_cost mail at q texts ≡ 0
+  pub takes : (i : Instruction) → counts_in (operation_asking q) i ≡ record { names = 0; params = 0; keys = 0 }
+
+pub is_decided : (mail : Mail) (q : Question) (value : Bool) → decided mail q ≡ Some value → IsDecided mail q value
+is_decided mail (Constant held) value e = let same : held ≡ value = cc in record { answers = λ at texts captures. ap (λ b. then_some b captures) same; cost = λ at texts. refl; takes = λ i. refl }
+is_decided mail (Size order number) value e = let same : is_size order number (size_of mail) ≡ value = cc in record { answers = λ at texts captures. ap (λ b. then_some b captures) same; cost = λ at texts. refl; takes = λ i. refl }
+is_decided mail _ value e = absurd cc

@@ -3,7 +3,7 @@ ghost use Rattle.std.specs.Prelude.{◌≡◌, ◌<◌, ℕ, List, Option, IfOk,
 ghost use Rattle.mail_matching.specs.Findings.{shortened};
 ghost use Rattle.mail_matching.specs.Outcomes.{after};
 ghost use Rattle.mail_matching.specs.Private.{HasAsked, IsFresh};
-ghost use Rattle.mail_matching.specs.Questions.{IsShown, TakesNoMemory, Texts as TextsOf, answer, asked, current as current_part, found, looked_cost, need_of, question_cost, texts_of};
+ghost use Rattle.mail_matching.specs.Questions.{IsShown, TakesNoMemory, Texts as TextsOf, answer, asked, current as current_part, decided, found, looked_cost, need_of, question_cost, texts_of};
 ghost use Rattle.mail_matching.specs.Texts.{AreTexts};
 ghost use Rattle.mime_decode.specs.Mail.{Mail};
 
@@ -66,6 +66,24 @@ impl Need {
             Question::PartBody(_) => Need::Content,
             Question::PartDigest => Need::Digest,
         }
+    }
+}
+
+/// Whether the question is true of the whole message, if it is one that takes no strings and is about no part: `true`, `false` and
+/// `size`. It takes no memory, and costs nothing.
+#[inline(always)]
+pub fn decided(message: &Message, question: Question) -> Option<bool>
+    ensures { result ≡ decided message.now question }
+{
+    match question {
+        Question::Constant(value) => Some(value),
+        Question::Size(order, number) => Some(is_size(order, number, message.size() as u64)),
+        Question::Header(_)
+        | Question::Exists(_)
+        | Question::String(_)
+        | Question::PartSize(..)
+        | Question::PartBody(_)
+        | Question::PartDigest => None,
     }
 }
 

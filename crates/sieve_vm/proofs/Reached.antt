@@ -21,8 +21,8 @@ use Rattle.sieve_vm.specs.Stores.{NamesPart}
 use Rattle.sieve_vm.specs.Machine.{Effect, on, jumps, halts, fails}
 use Rattle.sieve_vm.specs.Potential.{left_from}
 use Rattle.glob_match.specs.Matching.{max_captures}
-use Rattle.mail_matching.specs.Questions.{Asked, compares, decides, answered}
-use Rattle.mail_matching.proofs.TenCaptures.{stay_ten, stay_short}
+use Rattle.mail_matching.specs.Questions.{Asked, answered}
+use Rattle.mail_matching.proofs.QuestionLemmas.{answered_ten, answered_short}
 use Rattle.octets.specs.Limits.{max_value}
 use Rattle.sieve_vm.proofs.Falls.{cap_there}
 use Rattle.sieve_vm.proofs.Opened.{AreOpen}
@@ -46,10 +46,8 @@ set_one count n variables captures value held cut =
 
 -- captures are set by what is asked
 pub captured_by : (count : ℕ) (variables before after : List (List ℕ)) (what : Asked) (keys : List (List ℕ)) → HoldsTexts count variables before → answered what keys before ≡ Some after → HoldsTexts count variables after
-captured_by count variables before after (compares how values) keys held found =
-    record { number = held.number; values = held.values; ten = stay_ten how values keys before after held.ten found; captured = stay_short how values keys before after held.captured found }
-captured_by count variables before after (decides true) keys held found = let same : before ≡ after = cc in subst (HoldsTexts count variables) same held
-captured_by count variables before after (decides false) keys held found = absurd cc
+captured_by count variables before after what keys held found =
+    record { number = held.number; values = held.values; ten = answered_ten what keys before after held.ten found; captured = answered_short what keys before after held.captured found }
 
 -- one of them is cut
 pub cut_at : (texts : List (List ℕ)) (n : ℕ) → All IsCut texts → length (slice_index_or texts n []) ≤ max_value

@@ -1,10 +1,16 @@
 -- What an operation on the workspace leaves of the state that the machine stands for.
-use Rattle.std.proofs.Common.{◌≡◌, ℕ, ◌+◌, ◌<◌, ◌≤◌, Bool, false, cond, List, [], ◌∷◌, Option, Some, None, IfSome, drop, is_some, length, slice_get, refl, subst, ap, ◌∙◌, arith}
+use Rattle.std.proofs.Common.{◌≡◌, ℕ, ◌+◌, ◌<◌, ◌≤◌, Bool, true, false, cond, List, [], ◌∷◌, Option, Some, None, IfSome, drop, is_some, length, slice_get, refl, subst, ap, ◌∙◌, arith}
 use Rattle.std.specs.Option.{option_and_then, unwrap_or}
 use Rattle.octets.specs.Limits.{max_message}
+use Rattle.bytecode_format.specs.declared.instruction.Instruction.{Instruction}
+use Rattle.bytecode_format.specs.declared.operation.TestOperation.{TestOperation}
 use Rattle.bytecode_format.specs.declared.question.Question.{Question}
+use Rattle.bytecode_format.specs.declared.question.Question.TheVariants as question
+use Rattle.bytecode_format.specs.Questions.{counts_in, question_in}
+use Rattle.bytecode_format.proofs.QuestionLemmas.{only_its_own}
+use Rattle.std.specs.Bool.{then_some}
 use Rattle.mail_matching.specs.Outcomes.{after}
-use Rattle.mail_matching.specs.Questions.{IsShown, current, need_of, texts_of}
+use Rattle.mail_matching.specs.Questions.{IsShown, answer, current, is_size, need_of, texts_of}
 use Rattle.mail_matching.specs.declared.questions.Need.{Need}
 use Rattle.mail_matching.specs.declared.questions.Need.TheVariants as need
 use Rattle.mail_matching.specs.declared.questions.Shown.{Shown}
@@ -14,7 +20,8 @@ use Rattle.bytecode_format.specs.declared.question.Counts.{Counts}
 use Rattle.sieve_vm.specs.declared.machine.Done.{Done}
 use Rattle.sieve_vm.specs.declared.machine.Machine.{Machine}
 use Rattle.sieve_vm.specs.declared.workspace.Workspace.{Workspace}
-use Rattle.mime_decode.specs.Mail.{Mail, Part, IsMail}
+use Rattle.mime_decode.specs.Mail.{Mail, Part, IsMail, size_of}
+use Rattle.sieve_vm.specs.Charge.{cost_of_asking}
 use Rattle.sieve_vm.specs.declared.machine.Flow.TheVariants.{On, To}
 use Rattle.sieve_vm.specs.Machine.{next_part}
 use Rattle.sieve_vm.specs.Visits.{Visits, Continues, HasSameLoops, part_in}
@@ -101,6 +108,37 @@ continues_each frame frames (part ∷ rest) each old new h = let is = h.0 in cc
 -- the texts of lists that are lent
 pub same_texts : (top : Lists) (names params keys : List (List ℕ)) → names ≡ top.names → params ≡ top.params → keys ≡ top.keys → texts_of names params keys ≡ texts_in top
 same_texts top names params keys n p k = rw (n, p, k) refl
+
+-- ---- questions that the machine decides by itself
+
+-- it takes no lists, costs nothing beyond one and leaves the captures
+pub record IsDecided (mail : Mail) (s : State) (q : Question) (top : Lists) (value : Bool) : Type 0 where
+  pub cost : cost_of_asking mail (current_part s.frames) q top ≡ 0
+  pub answers : answer mail (current_part s.frames) q (texts_in top) s.captures ≡ then_some value s.captures
+  pub below : top.below ≡ s.stack
+
+no_lists : (stack : List Value) (top : Lists) → lists_counted (record { names = 0; params = 0; keys = 0 }) stack ≡ Some top → top.below ≡ stack
+no_lists stack top e =
+    let same : (let l : Lists = record { names = []; params = []; keys = []; below = stack } in l) ≡ top = cc in
+    ap (λ (l : Lists). l.below) (sym same)
+
+pub is_decided : (mail : Mail) (numbers : List ℕ) (test : TestOperation) (i : Instruction) (s : State) (q : Question) (top : Lists) (value : Bool) → question_in numbers test i ≡ Some q → lists_counted (counts_in test i) s.stack ≡ Some top
+    → decided mail q ≡ Some value → IsDecided mail s q top value
+is_decided mail numbers test i s q top value asks there e =
+    let own = only_its_own numbers test i q asks in
+    let alone = decided_alone mail q value e in
+    let none : lists_counted (record { names = 0; params = 0; keys = 0 }) s.stack ≡ Some top = ap (λ n. lists_counted n s.stack) (sym (alone.takes i)) ∙ ap (λ t. lists_counted (counts_in t i) s.stack) own ∙ there in
+    record {
+      cost = alone.cost (current_part s.frames) (texts_in top);
+      answers = alone.answers (current_part s.frames) (texts_in top) s.captures;
+      below = no_lists s.stack top none;
+    }
+
+-- what is pushed for it is what a test leaves
+pub decided_state : (s : State) (found : Option (List (List ℕ))) (below : List Value) (value : Bool) → found ≡ then_some value s.captures → below ≡ s.stack
+    → (let pushed : State = record s { stack = truth value ∷ s.stack } in pushed) ≡ record s { stack = truth (is_some found) ∷ below; captures = unwrap_or found s.captures }
+decided_state s found below true f b = rw (f, b) refl
+decided_state s found below false f b = rw (f, b) refl
 
 -- ---- what a question needs of the current part's content
 

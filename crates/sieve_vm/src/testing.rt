@@ -13,7 +13,7 @@ use crate::loops::Loops;
 use crate::machine::{Done, Flow, Machine};
 use crate::workspace::PushedLists;
 use bytecode_format::{Instruction, Program, Question, TestOperation};
-use mail_matching::{Answer, Need, Shown, TestTexts, ask};
+use mail_matching::{Answer, Need, Shown, TestTexts, ask, decided};
 use mime_decode::Message;
 use std::alloc::{AllocError, Global};
 
@@ -70,6 +70,9 @@ impl<'p, 's, 'm> Machine<'p, 's, 'm> {
             → self.new.loops ≡ holding self.old.loops) }
     {
         let question = test.question_in(instruction, program.numbers()).unwrap();
+        if let Some(value) = decided(message, question) {
+            return self.push(value);
+        }
         let counts = test.counts_in(instruction);
         let lists = self.work.lists(counts);
         let answer = answer(alloc, message, &mut self.loops, question, lists)?;

@@ -1,16 +1,31 @@
-use Rattle.std.proofs.Common.{◌≡◌, Some, sym, ap, ◌∙◌}
+use Rattle.std.proofs.Common.{◌≡◌, Some, sym, ap, subst, ◌∙◌}
 use Rattle.std.proofs.lemmas.Result.{IfOk-weaker}
 use Rattle.bytecode_format.specs.Questions.{counts_in, question_in}
 use Rattle.mail_matching.specs.Outcomes.{after}
-use Rattle.mail_matching.specs.Questions.{answer, question_cost}
+use Rattle.mail_matching.specs.Questions.{answer, decided, question_cost}
 use Rattle.mail_matching.specs.Questions as questions
 use Rattle.sieve_vm.specs.declared.machine.Machine.{Machine}
 use Rattle.sieve_vm.specs.Charge.{cost_of_asking}
 use Rattle.sieve_vm.specs.Stack.{texts_in}
-use Rattle.sieve_vm.specs.Standing.{texts_of}
+use Rattle.sieve_vm.specs.Standing.{texts_of, Represents}
 use Rattle.sieve_vm.specs.State.{current_part}
-use Rattle.sieve_vm.proofs.Tests.{lists_there, same_loops, same_texts, settled}
+use Rattle.sieve_vm.proofs.Steps.{charged_at}
+use Rattle.sieve_vm.proofs.Tests.{lists_there, same_loops, same_texts, settled, is_decided, decided_state}
 use Rattle.sieve_vm.proofs.machine.Machine.ask.Goals as goal
+
+pub returns-in-Some-clause-done : goal.returns-in-Some-clause-done
+returns-in-Some-clause-done c =
+    IfOk-weaker c.push.result _ _
+    (λ done h s top question stands e asks.
+    let mail = c.args.message.now in
+    let is : Some c.unwrap-question.result ≡ Some question = sym c.unwrap-question.ensures ∙ c.question_in.ensures ∙ ap (λ ns. question_in ns c.args.test c.args.instruction.now) c.numbers.ensures.value ∙ asks in
+    let same : c.unwrap-question.result ≡ question = cc in
+    let told : decided mail question ≡ Some c.in-Some.value = ap (decided mail) (sym same) ∙ sym c.decided.ensures ∙ c.in-Some.is in
+    let so = is_decided mail c.args.program.now.numbers c.args.test c.args.instruction.now s question top c.in-Some.value asks e told in (
+      h.0 ∙ ap charged_at (sym so.cost),
+      subst (λ t. Represents mail t c.push.new.self) (decided_state s (answer mail (current_part s.frames) question (texts_in top) s.captures) top.below c.in-Some.value so.answers so.below) (h.1 mail s stands),
+    ))
+    c.push.ensures.done
 
 pub returns-clause-done : goal.returns-clause-done
 returns-clause-done c =
