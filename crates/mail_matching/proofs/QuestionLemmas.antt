@@ -1,12 +1,14 @@
 -- What holds of each question: what it costs at most, how its answer and what it finds agree, and which captures it leaves.
-use Rattle.std.proofs.Common.{◌≡◌, ℕ, ◌+◌, ◌*◌, ◌≤◌, max, true, false, All, List, [], ◌∷◌, length, Option, None, Some, IfSome, is_some, slice_get, refl, arith}
+use Rattle.std.proofs.Common.{◌≡◌, ℕ, ◌+◌, ◌*◌, ◌≤◌, max, true, false, All, List, [], ◌∷◌, length, Option, None, Some, IfSome, is_some, slice_get, Bool, refl, ap, arith}
 use Rattle.std.proofs.Math.Nat.{mul-le-mul}
+use Rattle.std.specs.Bool.{then_some}
 use Rattle.glob_match.specs.Matching.{max_capture, max_captures}
 use Rattle.bytecode_format.specs.declared.question.Question.{Question}
 use Rattle.bytecode_format.specs.declared.question.Question.TheVariants.{Constant, Header, Exists, Size, String, PartSize, PartBody, PartDigest}
 use Rattle.bytecode_format.specs.declared.selection.Selector.{Selector}
 use Rattle.bytecode_format.specs.declared.selection.Selector.TheVariants as selectors
-use Rattle.bytecode_format.specs.Questions.{operation_asking}
+use Rattle.bytecode_format.specs.declared.instruction.Instruction.{Instruction}
+use Rattle.bytecode_format.specs.Questions.{counts_in, operation_asking}
 use Rattle.mime_decode.specs.Content.{digest_of}
 use Rattle.mime_decode.specs.Mail.{IsMail, Mail, Part, size_of}
 use Rattle.mail_matching.specs.Costs.{extent_of, names_cost, values_cost}
@@ -14,7 +16,7 @@ use Rattle.mail_matching.specs.Findings.{is_pair}
 use Rattle.mail_matching.specs.HeaderTests.{fields_in_scope}
 use Rattle.mail_matching.specs.PartTests.{exactly}
 use Rattle.mail_matching.specs.QuestionCosts.{AreWithin, Sizes, most_of, value_of}
-use Rattle.mail_matching.specs.Questions.{Asked, Texts, answer, answered, asked, compared_cost, compares, current, decides, finding_in, found, is_size, of_part, question_cost}
+use Rattle.mail_matching.specs.Questions.{Asked, Texts, answer, answered, asked, compared_cost, compares, current, decided, decides, finding_in, found, is_size, of_part, question_cost}
 use Rattle.mail_matching.specs.Selection.{selected_values}
 use Rattle.mail_matching.proofs.Extents.{body_cost-within, digest_cost-is, names_cost-within, values_cost-product, values_cost-within, values_of_a_field}
 use Rattle.mail_matching.proofs.Pairs.{finding_holds}

@@ -1,5 +1,5 @@
 -- What an operation on the workspace leaves of the state that the machine stands for.
-use Rattle.std.proofs.Common.{◌≡◌, ℕ, ◌+◌, ◌<◌, ◌≤◌, Bool, true, false, cond, List, [], ◌∷◌, Option, Some, None, IfSome, drop, is_some, length, slice_get, refl, subst, ap, ◌∙◌, arith}
+use Rattle.std.proofs.Common.{sym, ◌≡◌, ℕ, ◌+◌, ◌<◌, ◌≤◌, Bool, true, false, cond, List, [], ◌∷◌, Option, Some, None, IfSome, drop, is_some, length, slice_get, refl, subst, ap, ◌∙◌, arith}
 use Rattle.std.specs.Option.{option_and_then, unwrap_or}
 use Rattle.octets.specs.Limits.{max_message}
 use Rattle.bytecode_format.specs.declared.instruction.Instruction.{Instruction}
@@ -10,7 +10,8 @@ use Rattle.bytecode_format.specs.Questions.{counts_in, question_in}
 use Rattle.bytecode_format.proofs.QuestionLemmas.{only_its_own}
 use Rattle.std.specs.Bool.{then_some}
 use Rattle.mail_matching.specs.Outcomes.{after}
-use Rattle.mail_matching.specs.Questions.{IsShown, answer, current, is_size, need_of, texts_of}
+use Rattle.mail_matching.specs.Questions.{IsShown, answer, current, decided, need_of, texts_of}
+use Rattle.mail_matching.proofs.QuestionLemmas.{is_decided as decided_alone}
 use Rattle.mail_matching.specs.declared.questions.Need.{Need}
 use Rattle.mail_matching.specs.declared.questions.Need.TheVariants as need
 use Rattle.mail_matching.specs.declared.questions.Shown.{Shown}
