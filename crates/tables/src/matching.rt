@@ -4,13 +4,14 @@ ghost use Rattle.mail_matching.specs.Texts.{AreTexts};
 
 use crate::numbers::{number_of, print_size};
 use crate::printed::Printed;
-use bytecode_format::{Scope, Selector};
+use bytecode_format::{FieldTest, Question, Scope, Selector};
 use glob_match::{Captures, Comparator, MAX_CAPTURES, Match, MatchType, contains, is, matches};
-use mail_matching::{Answer, HeaderTest, Outcome, Reach, body, digest, exists, header};
-use mime_decode::{MAX_MESSAGE, Message, digest_of};
+use lanes_base64_mime::encode_mime;
+use mail_matching::{Answer, Need, Outcome, Shown, TestTexts, ask};
+use mime_decode::{Message, digest_of};
 use octets::{MAX_STRING, Octets};
+use sieve_meaning::Subject;
 use std::alloc::{AllocError, Global};
-use std::borrow::CowSlice;
 use std::mem;
 
 /// No value and no key is longer.
@@ -215,29 +216,29 @@ fn existence(
     if !are_texts(&names) {
         return Ok(false);
     }
-    let reach = Reach {
-        scope: Scope::Message,
-        current: None,
+    let none = Vec::new(alloc);
+    if !are_texts(&none) {
+        return Ok(false);
+    }
+    let texts = TestTexts {
+        names: &names,
+        params: &none,
+        keys: &none,
     };
-    let (holds, cost) = exists(&message, reach, &names);
-    print_truth(holds, answer)?;
-    answer.number(cost)?;
+    let question = Question::Exists(Scope::Message);
+    let found = ask(alloc, &message, None, question, Shown::Nothing, texts)?;
+    print_truth(found.outcome.holds(), answer)?;
+    answer.large_number(found.cost)?;
     Ok(true)
 }
 
-// A test's scope, as it is seen from a part: the message itself where it is `root`, else the part of this number and those
+// A test's scope, and the part that it is seen from: the message itself where it is `root`, else the part of this number and those
 // below it.
-fn reach_of(word: &[u8]) -> Option<Reach> {
+fn scope_of(word: &[u8]) -> Option<(Scope, Option<usize>)> {
     if word == b"root".as_slice() {
-        return Some(Reach {
-            scope: Scope::Message,
-            current: None,
-        });
+        return Some((Scope::Message, None));
     }
-    Some(Reach {
-        scope: Scope::PartAndBelow,
-        current: Some(number_of(word)?),
-    })
+    Some((Scope::PartAndBelow, Some(number_of(word)?)))
 }
 
 fn selector_of(word: &[u8]) -> Option<Selector> {
@@ -269,28 +270,29 @@ fn headers(alloc: Global, arguments: &[Vec<u8>], answer: &mut Printed) -> Result
     let [scope, selector, kind, text, names, params, keys @ ..] = arguments else {
         return Ok(false);
     };
-    let (Some(reach), Some(selector), Some(kind)) = (
-        reach_of(scope),
+    let (Some((scope, current)), Some(selector), Some(kind)) = (
+        scope_of(scope),
         selector_of(selector),
         kind_of(kind),
     ) else {
         return Ok(false);
     };
-    let test = HeaderTest {
-        reach,
-        selector,
+    let test = FieldTest {
         how: matched(kind),
+        scope,
+        selector,
     };
     let names = texts_of(alloc, names)?;
     let params = texts_of(alloc, params)?;
     let keys = texts(alloc, keys)?;
-    header_answer(alloc, text, test, &names, &params, &keys, answer)
+    header_answer(alloc, text, test, current, &names, &params, &keys, answer)
 }
 
 fn header_answer(
     alloc: Global,
     text: &[u8],
-    test: HeaderTest,
+    test: FieldTest,
+    current: Option<usize>,
     names: &Vec<Octets>,
     params: &Vec<Octets>,
     keys: &Vec<Octets>,
@@ -302,12 +304,18 @@ fn header_answer(
     if !are_texts(names) || !are_texts(params) || !are_texts(keys) {
         return Ok(false);
     }
-    if let Some(current) = test.reach.current {
+    if let Some(current) = current {
         if current >= message.parts() {
             return Ok(false);
         }
     }
-    let found = header(alloc, &message, test, names, params, keys)?;
+    let texts = TestTexts {
+        names,
+        params,
+        keys,
+    };
+    let question = Question::Header(test);
+    let found = ask(alloc, &message, current, question, Shown::Nothing, texts)?;
     print_answer(&found, answer)?;
     Ok(true)
 }
@@ -320,18 +328,33 @@ fn bodies(alloc: Global, arguments: &[Vec<u8>], answer: &mut Printed) -> Result<
     let Some(kind) = kind_of(kind) else {
         return Ok(false);
     };
-    let content = if owner.as_slice() == b"owned".as_slice() {
-        CowSlice::Owned(text.to_vec(alloc)?)
+    let mail = if owner.as_slice() == b"owned".as_slice() {
+        encoded(alloc, text)?
     } else {
-        CowSlice::Borrowed(text.as_slice())
+        plain(alloc, text)?
     };
     let keys = texts(alloc, keys)?;
-    if !are_texts(&keys) || content.len() > MAX_MESSAGE {
-        return Ok(false);
-    }
-    let found = body(alloc, &content, &keys, matched(kind))?;
-    print_answer(&found, answer)?;
-    Ok(true)
+    content_answer(
+        alloc,
+        &mail,
+        Question::PartBody(matched(kind)),
+        &keys,
+        answer,
+    )
+}
+
+// A mail of this content, which is lent.
+fn plain(alloc: Global, content: &[u8]) -> Result<Vec<u8>, AllocError> {
+    let mut mail = Vec::from_slice(alloc, b"\n")?;
+    mail.extend_from_slice(content)?;
+    Ok(mail)
+}
+
+// A mail of this content, which has to be decoded.
+fn encoded(alloc: Global, content: &[u8]) -> Result<Vec<u8>, AllocError> {
+    let mut mail = Vec::from_slice(alloc, b"Content-Transfer-Encoding: base64\n\n")?;
+    mail.extend_from_slice(&encode_mime(alloc, content)?)?;
+    Ok(mail)
 }
 
 // A content, and keys that its digest is compared with.
@@ -339,11 +362,53 @@ fn digests(alloc: Global, arguments: &[Vec<u8>], answer: &mut Printed) -> Result
     let [text, keys @ ..] = arguments else {
         return Ok(false);
     };
+    let mail = plain(alloc, text)?;
     let keys = texts(alloc, keys)?;
-    if !are_texts(&keys) {
+    content_answer(alloc, &mail, Question::PartDigest, &keys, answer)
+}
+
+// What a question about the content of a mail's first part comes to.
+fn content_answer(
+    alloc: Global,
+    mail: &[u8],
+    question: Question,
+    keys: &Vec<Octets>,
+    answer: &mut Printed,
+) -> Result<bool, AllocError> {
+    let Ok(message) = Message::read(alloc, mail) else {
+        return Ok(false);
+    };
+    let none = Vec::new(alloc);
+    if !are_texts(keys) || !are_texts(&none) || message.parts() == 0 {
         return Ok(false);
     }
-    print_answer(&digest(&digest_of(text), &keys), answer)?;
+    let Some(content) = Subject::of(&message).at(0).content(alloc)? else {
+        return Ok(false);
+    };
+    let texts = TestTexts {
+        names: &none,
+        params: &none,
+        keys,
+    };
+    let found = match Need::of(question) {
+        Need::Content => {
+            let shown = Shown::Content(&content);
+            ask(alloc, &message, Some(0), question, shown, texts)?
+        }
+        Need::Digest => {
+            let digits = digest_of(content.as_slice());
+            ask(
+                alloc,
+                &message,
+                Some(0),
+                question,
+                Shown::Digest(&digits),
+                texts,
+            )?
+        }
+        Need::Nothing | Need::Length => return Ok(false),
+    };
+    print_answer(&found, answer)?;
     Ok(true)
 }
 
