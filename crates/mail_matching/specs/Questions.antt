@@ -140,6 +140,12 @@ IsShown need.Content (Some part) (shown.Content content) =
 IsShown need.Digest (Some part) (shown.Digest digest) = digest.now ≡ digest_of part.content
 IsShown _ (Some part) _ = ⊥
 
+-- it is decided without keys to be this, looking for fields costs so much, and none of the part's content is needed
+pub record IsDecidedAs (mail : Mail) (part : Option ℕ) (question : Question) (names : List (List ℕ)) (value : Bool) (looked : ℕ) : Type 0 where
+  pub asks : (params keys : List (List ℕ)) → asked mail part question (texts_of names params keys) ≡ decides value
+  pub costs : (params keys : List (List ℕ)) → looked_cost mail part question (texts_of names params keys) ≡ looked
+  pub needs : need_of question ≡ need.Content → ⊥
+
 -- ---- whether asking takes memory
 
 -- content that the message lends

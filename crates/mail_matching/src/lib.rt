@@ -27,5 +27,5 @@ mod typed;
 
 pub use finding::Finding;
 pub use outcome::{Answer, Captured, Outcome};
-pub use questions::{Need, Shown, TestTexts, ask, ask_and_find, decided};
+pub use questions::{Need, Shown, TestTexts, ask, ask_and_find, decide, decided};
 pub use texts::Texts;

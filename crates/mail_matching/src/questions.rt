@@ -3,7 +3,7 @@ ghost use Rattle.std.specs.Prelude.{◌≡◌, ◌<◌, ℕ, List, Option, IfOk,
 ghost use Rattle.mail_matching.specs.Findings.{shortened};
 ghost use Rattle.mail_matching.specs.Outcomes.{after};
 ghost use Rattle.mail_matching.specs.Private.{HasAsked, IsFresh};
-ghost use Rattle.mail_matching.specs.Questions.{IsShown, TakesNoMemory, Texts as TextsOf, answer, asked, current as current_part, decided, found, looked_cost, need_of, question_cost, texts_of};
+ghost use Rattle.mail_matching.specs.Questions.{IsDecidedAs, IsShown, TakesNoMemory, Texts as TextsOf, answer, asked, current as current_part, decided, found, looked_cost, need_of, question_cost, texts_of};
 ghost use Rattle.mail_matching.specs.Texts.{AreTexts};
 ghost use Rattle.mime_decode.specs.Mail.{Mail};
 
@@ -84,6 +84,33 @@ pub fn decided(message: &Message, question: Question) -> Option<bool>
         | Question::PartSize(..)
         | Question::PartBody(_)
         | Question::PartDigest => None,
+    }
+}
+
+/// Whether the question is true, if it compares no values with keys; and what finding that out costs. It takes no memory. `current`
+/// and `shown` are as for [`ask`], and `names` are the names of the test.
+#[inline(always)]
+pub fn decide<N: Texts>(
+    message: &Message,
+    current: Option<usize>,
+    question: Question,
+    shown: Shown<'_, '_>,
+    names: &N,
+) -> Option<(bool, u64)>
+    requires current { IfSome current (λ number. number < length message.now.parts) }
+    requires shown { IsShown (need_of question) (current_part message.now current) shown }
+    requires names { AreTexts (N.texts names.now) }
+    ensures { IfSome result (λ r. IsDecidedAs message.now current question (N.texts names.now) r.0 r.1) }
+{
+    match question {
+        Question::Constant(value) => Some((value, 0)),
+        Question::Exists(scope) => Some(exists(message, Reach { scope, current }, names)),
+        Question::Size(order, number) => {
+            Some((is_size(order, number, message.size() as u64), 0))
+        }
+        Question::PartSize(order, number) => Some((part_is_size(order, number, shown), 0)),
+        Question::Header(_) | Question::String(_) | Question::PartBody(_) | Question::PartDigest =>
+            None,
     }
 }
 

@@ -10,8 +10,9 @@ use Rattle.bytecode_format.specs.Questions.{counts_in, question_in}
 use Rattle.bytecode_format.proofs.QuestionLemmas.{only_its_own}
 use Rattle.std.specs.Bool.{then_some}
 use Rattle.mail_matching.specs.Outcomes.{after}
-use Rattle.mail_matching.specs.Questions.{IsShown, answer, current, decided, need_of, texts_of}
+use Rattle.mail_matching.specs.Questions.{IsDecidedAs, IsShown, answer, answered, asked, compared_cost, current, decided, decides, looked_cost, need_of, texts_of}
 use Rattle.mail_matching.proofs.QuestionLemmas.{is_decided as decided_alone}
+use Rattle.std.specs.Prelude.{Result, Ok, Err, OnOk}
 use Rattle.mail_matching.specs.declared.questions.Need.{Need}
 use Rattle.mail_matching.specs.declared.questions.Need.TheVariants as need
 use Rattle.mail_matching.specs.declared.questions.Shown.{Shown}
@@ -140,6 +141,22 @@ pub decided_state : (s : State) (found : Option (List (List ℕ))) (below : List
     → (let pushed : State = record s { stack = truth value ∷ s.stack } in pushed) ≡ record s { stack = truth (is_some found) ∷ below; captures = unwrap_or found s.captures }
 decided_state s found below true f b = rw (f, b) refl
 decided_state s found below false f b = rw (f, b) refl
+
+-- what a question comes to that compares no values, and what it costs
+pub plain_answers : (mail : Mail) (at : Option ℕ) (q : Question) (top : Lists) (names : List (List ℕ)) (value : Bool) (looked : ℕ) (captures : List (List ℕ)) → names ≡ top.names → IsDecidedAs mail at q names value looked
+    → (answer mail at q (texts_in top) captures ≡ then_some value captures) × (cost_of_asking mail at q top ≡ looked)
+plain_answers mail at q top names value looked captures same d =
+    let asks : asked mail at q (texts_in top) ≡ decides value = subst (λ n. asked mail at q (texts_of n top.params top.keys) ≡ decides value) same (d.asks top.params top.keys) in
+    let costs : looked_cost mail at q (texts_in top) ≡ looked = subst (λ n. looked_cost mail at q (texts_of n top.params top.keys) ≡ looked) same (d.costs top.params top.keys) in
+    let none : compared_cost (asked mail at q (texts_in top)) top.keys ≡ 0 = ap (λ a. compared_cost a top.keys) asks in
+    (ap (λ a. answered a top.keys captures) asks, omega (arith, costs, none))
+
+pub both_same : (one two three : Visits) → HasSameLoops one two → HasSameLoops two three → HasSameLoops one three
+both_same one two three first second = record { mail = second.mail ∙ first.mail; frames = second.frames ∙ first.frames }
+
+pub on_ok_so : {A E : Type 0} (r : Result A E) (P : Type 0) → P → OnOk r P
+on_ok_so (Ok x) P p = p
+on_ok_so (Err e) P p = tt
 
 -- ---- what a question needs of the current part's content
 

@@ -2,7 +2,7 @@
 ghost use Rattle.std.specs.Prelude.{◌≡◌, ◌<◌, ℕ, List, IfOk, IfSome, IsSome, OnOk, is_some, length, if◌then◌else◌};
 ghost use Rattle.mail_matching.specs.Outcomes.{after};
 ghost use Rattle.mail_matching.specs.Questions as questions;
-ghost use Rattle.mail_matching.specs.Questions.{answer, need_of, question_cost};
+ghost use Rattle.mail_matching.specs.Questions.{IsDecidedAs, answer, need_of, question_cost};
 ghost use Rattle.mail_matching.specs.Texts.{AreTexts};
 ghost use Rattle.mime_decode.specs.Mail.{IsMail};
 ghost use Rattle.sieve_vm.specs.Standing.{texts_of};
@@ -13,7 +13,7 @@ use crate::loops::Loops;
 use crate::machine::{Done, Flow, Machine};
 use crate::workspace::PushedLists;
 use bytecode_format::{Instruction, Program, Question, TestOperation};
-use mail_matching::{Answer, Need, Shown, TestTexts, ask, decided};
+use mail_matching::{Answer, Need, Shown, TestTexts, ask, decide, decided};
 use mime_decode::Message;
 use std::alloc::{AllocError, Global};
 
@@ -75,6 +75,14 @@ impl<'p, 's, 'm> Machine<'p, 's, 'm> {
         }
         let counts = test.counts_in(instruction);
         let lists = self.work.lists(counts);
+        if let Some((value, cost)) = plain(alloc, message, &mut self.loops, question, lists)? {
+            self.work.drop_lists(counts);
+            self.push(value)?;
+            return Ok(Done {
+                flow: Flow::On,
+                cost: cost as u128,
+            });
+        }
         let answer = answer(alloc, message, &mut self.loops, question, lists)?;
         self.work.drop_lists(counts);
         self.settle(answer)
@@ -101,6 +109,38 @@ impl<'p, 's, 'm> Machine<'p, 's, 'm> {
             flow: Flow::On,
             cost: answer.cost,
         })
+    }
+}
+
+// Whether a question that compares no values is true, and what that costs. An answer, which has room for captures, isn't made for it.
+//
+// An error comes only where memory was refused.
+#[inline(always)]
+fn plain<'m>(
+    alloc: Global,
+    message: &Message<'m>,
+    loops: &mut Loops<'_, 'm>,
+    question: Question,
+    lists: PushedLists<'_, '_>,
+) -> Result<Option<(bool, u64)>, AllocError>
+    requires mail { IsMail message.now }
+    requires same { loops.old.mail ≡ message.now }
+    requires current { IfSome (current_part loops.old.frames) (λ part. part < length message.now.parts) }
+    requires names { AreTexts (texts_of lists.names) }
+    ensures plain { IfOk result (λ found. IfSome found (λ r. IsDecidedAs message.now
+        (current_part loops.old.frames) question (texts_of lists.entry.names) r.0 r.1)) }
+    ensures loops { OnOk result (HasSameLoops loops.old loops.new) }
+    ensures kept { OnOk result (IsSome (current_part loops.old.frames) → need_of question ≡ Need.Content
+        → loops.new ≡ loops.old) }
+{
+    let current = loops.current();
+    match needed(question, current) {
+        Need::Nothing => { Ok(decide(message, current, question, Shown::Nothing, &lists.names)) }
+        Need::Length => {
+            let shown = Shown::Length(loops.length(alloc)? as u64);
+            Ok(decide(message, current, question, shown, &lists.names))
+        }
+        Need::Content | Need::Digest => Ok(None),
     }
 }
 
