@@ -29,10 +29,6 @@ pub comment_goes_on : (x : ℕ) (rest : List ℕ) → (x == 10) ≡ false → to
 unfolding tokens_from
 comment_goes_on x rest h = ap (λ b. tokens_from (if b then Between else Comment) rest) h
 
-pub no_tokens : (stand : Stand) → tokens_from Comment [] ≡ tokens_of []
-unfolding tokens_from
-no_tokens stand = refl
-
 -- ---- words
 
 pub word_run : (start : ℕ) (said text : List ℕ) → tokens_from (InWord start said) text ≡ (record { token = Word (said ++ take_while is_word_octet text); left = start }) ∷ tokens_of (drop (prefix_len is_word_octet text) text)
@@ -121,15 +117,6 @@ pub quote_first : (rest : List ℕ) → tokens_of (34 ∷ rest) ≡ tokens_from 
 unfolding tokens_from
 quote_first rest = refl
 
--- no string stands first
-pub no_text : (text : List ℕ) → IsStart text → ((x : ℕ) (rest : List ℕ) → text ≡ x ∷ rest → (x == 34) ≡ false) → text_at (tokens_of text) ≡ Err (length text)
-unfolding tokens_from
-no_text [] h k = refl
-no_text (x ∷ rest) h k =
-    ap text_at (begins_so x rest h.0 h.1)
-    ∙ ap (λ b. text_at (tokens_from (if b then InText (suc (length rest)) [] else (if is_word_octet x then InWord (suc (length rest)) (x ∷ []) else Stopped (suc (length rest)))) rest)) (k x rest refl)
-    ∙ choice (is_word_octet x) (λ s. text_at (tokens_from s rest) ≡ Err (suc (length rest))) (InWord (suc (length rest)) (x ∷ [])) (Stopped (suc (length rest))) (ap text_at (word_run (suc (length rest)) (x ∷ []) rest)) (stopped_text (suc (length rest)) rest)
-
 -- where no word stands, the place is that of the first token
 word_left : (tokens : Tokens) (left : ℕ) → word_at tokens ≡ Err left → left_at tokens ≡ left
 word_left [] left h = cc
@@ -173,11 +160,6 @@ pub leads_at : (text front back : List ℕ) (n : ℕ) → IsStart text → n ≡
 leads_at text front back n h e f b =
     let m : n ≡ prefix_len is_word_octet text = e ∙ prefix_taken is_word_octet text in
     leads text h ∙ ap (λ k. led (take k text) (drop k text)) (sym m) ∙ sym (ap (λ (t : List ℕ). led t back) f ∙ ap (λ (t : List ℕ). led (take n text) t) b)
-
-pub no_escape : (octets : List ℕ) → length octets < 2 → escape_at octets ≡ None
-no_escape [] h = refl
-no_escape (x ∷ []) h = refl
-no_escape (x ∷ y ∷ rest) h = absurd (omega arith)
 
 both : {A : Type 0} (a b : Bool) (x : ℕ) (f : ℕ → A) (y : A) → option_map f (if a && b then Some x else None) ≡ Some y → (a ≡ true) × (b ≡ true) × (f x ≡ y)
 both true true x f y h = (refl, refl, cc)

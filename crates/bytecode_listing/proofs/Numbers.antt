@@ -10,16 +10,6 @@ value_grows : (n : ℕ) (digits : List ℕ) → n ≤ value_from n digits
 value_grows n [] = omega arith
 value_grows n (d ∷ digits) = omega (arith, value_grows (10 * n + (d - 48)) digits)
 
-pub digit_goes_on : (value digit next : ℕ) (text rest : List ℕ) → text ≡ digit ∷ rest → one_more value digit ≡ Some next → decimal_on value text ≡ decimal_on next rest
-digit_goes_on value digit next text rest t e =
-    ap (decimal_on value) t ∙ by_class (is_ascii_digit digit) (nat_lt (10 * value + (digit - 48)) (2 ^ 64)) e
-  where
-    by_class : (a b : Bool) → (if a && b then Some (10 * value + (digit - 48)) else None) ≡ Some next
-        → (if (a && all_ascii_digits rest) && nat_lt (value_from (10 * value + (digit - 48)) rest) (2 ^ 64) then Some (value_from (10 * value + (digit - 48)) rest) else None) ≡ decimal_on next rest
-    by_class true true e = let same : 10 * value + (digit - 48) ≡ next = cc in ap (λ n. decimal_on n rest) same
-    by_class true false e = absurd cc
-    by_class false b e = absurd cc
-
 pub digit_stops : (value digit : ℕ) (text rest : List ℕ) → text ≡ digit ∷ rest → one_more value digit ≡ None → decimal_on value text ≡ None
 digit_stops value digit text rest t e =
     ap (decimal_on value) t ∙ by_class (is_ascii_digit digit) (nat_lt (10 * value + (digit - 48)) (2 ^ 64)) refl e

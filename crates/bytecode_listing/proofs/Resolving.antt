@@ -1,17 +1,15 @@
 -- Labels and names, a line at a time.
-use Rattle.std.proofs.Common.{◌≡◌, ℕ, suc, ◌+◌, ◌<◌, ◌≤◌, length, take, drop, Bool, true, false, if◌then◌else◌, List, [], ◌∷◌, ◌++◌, Option, Some, None, is_some, Result, Ok, Err, refl, sym, ap, ◌∙◌, append_assoc, arith}
+use Rattle.std.proofs.Common.{◌≡◌, ℕ, suc, ◌+◌, ◌<◌, ◌≤◌, length, take, drop, Bool, true, false, if◌then◌else◌, List, [], ◌∷◌, ◌++◌, Option, Some, None, is_some, Result, Ok, refl, sym, ap, ◌∙◌, arith}
 use Rattle.std.specs.Prelude.{bytes_eq, get_or}
 use Rattle.std.specs.Map.{update}
 use Rattle.std.proofs.lemmas.Cmp.{nat_list_eq_equiv}
-use Rattle.std.proofs.lemmas.List.{append-nil, length-take, take_more, drop_more}
+use Rattle.std.proofs.lemmas.List.{length-take, take_more, drop_more}
 use Rattle.bytecode_format.specs.declared.instruction.Instruction.{Instruction}
 use Rattle.bytecode_listing.specs.declared.error.ReadError.{ReadError}
-use Rattle.bytecode_listing.specs.declared.error.ReadError.TheVariants.{Memory, At}
 use Rattle.bytecode_listing.specs.declared.drafts.Draft.{Draft}
 use Rattle.bytecode_listing.specs.declared.drafts.Line.{Line}
 use Rattle.bytecode_listing.specs.declared.drafts.Line.TheVariants.{Label, Step}
-use Rattle.bytecode_listing.specs.Labels.{◌>>=◌, count, place_from, place_of, double_after, instruction_of, instructions_of}
-use Rattle.bytecode_listing.specs.Readers.{Fails}
+use Rattle.bytecode_listing.specs.Labels.{◌>>=◌, count, place_from, place_of, double_after}
 
 -- ---- one more line
 
@@ -88,23 +86,3 @@ place_more before label left end lookup name e h same =
 
 abbrev pub after : List Instruction → Result (List Instruction) ℕ → Result (List Instruction) ℕ
 after done read = read >>= λ others. Ok (done ++ others)
-
-pub step_on : (strings : List (List ℕ)) (all rest : List Line) (draft : Draft) (i : Instruction) (done : List Instruction) (total : Result (List Instruction) ℕ) → instruction_of strings all draft ≡ Ok i
-    → after done (instructions_of strings all (Step draft ∷ rest)) ≡ total → after (done ++ i ∷ []) (instructions_of strings all rest) ≡ total
-step_on strings all rest draft i done total e so_far =
-    regroup (instructions_of strings all rest)
-    ∙ sym (ap (λ r. after done (r >>= λ first. instructions_of strings all rest >>= λ others. let s : Result (List Instruction) ℕ = Ok (first ∷ others) in s)) e)
-    ∙ so_far
-  where
-    regroup : (r : Result (List Instruction) ℕ) → after (done ++ i ∷ []) r ≡ after done (r >>= λ others. let s : Result (List Instruction) ℕ = Ok (i ∷ others) in s)
-    regroup (Ok others) = ap (λ (is : List Instruction). let r : Result (List Instruction) ℕ = Ok is in r) (append_assoc done (i ∷ []) others)
-    regroup (Err left) = refl
-
-pub step_fails : (e : ReadError) (strings : List (List ℕ)) (all rest : List Line) (draft : Draft) (done : List Instruction) (total : Result (List Instruction) ℕ) → Fails e (instruction_of strings all draft)
-    → after done (instructions_of strings all (Step draft ∷ rest)) ≡ total → Fails e total
-step_fails Memory strings all rest draft done total h so_far = tt
-step_fails (At left) strings all rest draft done total h so_far =
-    sym so_far ∙ ap (λ r. after done (r >>= λ first. instructions_of strings all rest >>= λ others. let s : Result (List Instruction) ℕ = Ok (first ∷ others) in s)) h
-
-pub all_done : (done : List Instruction) (total : Result (List Instruction) ℕ) → after done (Ok []) ≡ total → total ≡ Ok done
-all_done done total so_far = sym so_far ∙ ap (λ (is : List Instruction). let r : Result (List Instruction) ℕ = Ok is in r) (append-nil done)

@@ -1,5 +1,5 @@
 -- Words and their numbers.
-use Rattle.std.proofs.Common.{◌≡◌, ℕ, zero, suc, ◌+◌, ◌<◌, ◌≤◌, Bool, cond, nat_lt, List, [], ◌∷◌, map, length, Option, Some, None, refl, sym, ap, subst, ◌∙◌, arith, codes}
+use Rattle.std.proofs.Common.{◌≡◌, ℕ, zero, suc, ◌+◌, ◌<◌, ◌≤◌, Bool, cond, nat_lt, List, [], ◌∷◌, map, length, Option, Some, None, refl, sym, ap, subst, ◌∙◌, codes}
 use Rattle.std.specs.Prelude.{bytes_eq, get_or, not}
 use Rattle.std.specs.Option.{IfSome}
 use Rattle.std.specs.Borrow.{Bor}
@@ -58,12 +58,6 @@ both_ways facet n word = (numbered facet n word, named facet n word)
 -- a word that is listed isn't longer than the list
 pub number_small : (facet : Facet) (n : ℕ) (word : List ℕ) → number_of facet word ≡ Some n → n < length (words facet)
 number_small facet n word e = (position-Some (λ listed. bytes_eq listed word) (words facet) n [] e).0
-
-pub few_words : (facet : Facet) → length (words facet) ≤ 5
-few_words Match = omega arith
-few_words Comparator = omega arith
-few_words Scope = omega arith
-few_words Selector = omega arith
 
 -- the place among borrowed words is the number
 pub number_seen : (facet : Facet) (word : List ℕ) (listed : List (Bor (List ℕ))) → map (λ (w : Bor (List ℕ)). w.now) listed ≡ words facet

@@ -1,5 +1,5 @@
 -- What is left to be written of a trace.
-use Rattle.std.proofs.Common.{◌≡◌, ℕ, suc, ◌-◌, ◌<◌, true, false, List, [], ◌++◌, Option, Some, None, IsSome, option_map, Result, IfErr, IsErrAnd, refl, sym, ap, subst, ◌∙◌, append_assoc, arith}
+use Rattle.std.proofs.Common.{◌≡◌, ℕ, suc, ◌-◌, ◌<◌, true, false, List, [], ◌++◌, Some, Result, IfErr, IsErrAnd, refl, sym, ap, subst, ◌∙◌, append_assoc, arith}
 use Rattle.std.proofs.lemmas.Result.{err_from_is_err_and}
 use Rattle.std.specs.List.{flat_map}
 use Rattle.bytecode_format.specs.Code.{Code}
@@ -47,10 +47,6 @@ module _ (code : Code) (mail : Mail) where
   pub none_left : (n : ℕ) → goes_on (come_to code mail n) ≡ false → lines_left code mail n ≡ []
   none_left n over = none_by (limit_of code mail - n) (come_to code mail n) over
 
--- a step between two states has a line
-pub line_is : (code : Code) (x y : Option State) (before after : State) → x ≡ Some before → y ≡ Some after → line_between code x y ≡ step_line code (record { before = before; after = after })
-line_is code x y before after e f = rw (e, f) refl
-
 -- ---- what was written when a trace has stopped
 
 -- memory was refused before anything was written
@@ -70,25 +66,7 @@ stopped_in_piece text left xs ys s0 s1 s2 Memory before is later =
     }
 stopped_in_piece text left xs ys s0 s1 s2 _ before is later = absurd later
 
--- memory was refused between two pieces
-pub refused_between : (text left : List ℕ) (s0 s1 : Output) → Leaves text left s0 s1 → HasStopped Memory text s0 s1
-refused_between text left s0 s1 before = before.0
-
 -- ---- states that a run has come to
-
--- where it goes on there is one
-pub going : (t : Turn) → goes_on t ≡ true → (s : State) × (state_in t ≡ Some s)
-going (goes s) on = (s, refl)
-going (ends s) on = absurd cc
-going traps on = absurd cc
-
-pub some_of : {A B : Type 0} (f : A → B) (x : Option A) (r : B) → option_map f x ≡ Some r → IsSome x
-some_of f (Some a) r e = refl
-some_of f None r e = absurd cc
-
-pub some_there : {A : Type 0} (x : Option A) → IsSome x → (a : A) × (x ≡ Some a)
-some_there (Some a) h = (a, refl)
-some_there None h = absurd cc
 
 -- a run on its way, of this program and message, goes on within the budget
 pub within_run : (run : Moment) (code : Code) (mail : Mail) → run.code ≡ code → run.mail ≡ mail → goes_on (turn_at run) ≡ true → run.steps < limit_of run.code run.mail → (run.steps < limit_of code mail) × (goes_on (come_to code mail run.steps) ≡ true)

@@ -26,7 +26,3 @@ on_top_again {Entry} {Text} text_of entry_of told n texts stack number =
     let same : length texts + 0 ≡ n = omega (arith, number) in
     subst (λ m. texts_on_top text_of m (onto entry_of texts stack) ≡ Some (let t : OnTop Entry Text = record { texts = texts; below = stack } in t)) same
     (on_top_of text_of entry_of told texts 0 stack (record { texts = []; below = stack }) refl)
-
-pub onto_number : {Entry Text : Type 0} (entry_of : Text → Entry) (texts : List Text) (stack : List Entry) → length (onto entry_of texts stack) ≡ length texts + length stack
-onto_number entry_of [] stack = omega arith
-onto_number entry_of (text ∷ texts) stack = omega (arith, onto_number entry_of texts (entry_of text ∷ stack))

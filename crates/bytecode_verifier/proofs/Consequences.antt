@@ -1,6 +1,6 @@
 -- What acceptance says of the instruction at a place, for what is proved of runs.
 use Rattle.std.proofs.Common.{◌≡◌, ℕ, zero, suc, ◌+◌, ◌-◌, ◌<◌, ◌≤◌, ◌≢◌, nat_lt, Bool, true, false, not, ◌&&◌, ◌||◌, ◌==◌, nat_le, [], ◌∷◌, Option, Some, None, is_some, is_none, if◌then◌else◌, length, get_or, slice_get, refl, sym, ap, ◌∙◌, inl, inr, arith, leb-false, leb-true}
-use Rattle.std.proofs.lemmas.Bool.{cases_lt, eqb-true, eqb-false, ltb-false}
+use Rattle.std.proofs.lemmas.Bool.{cases_lt, eqb-true, ltb-false}
 use Rattle.std.proofs.lemmas.Option.{slice_get_within, slice_get-get_or}
 use Rattle.std.proofs.lemmas.Map.Keys.{any_passes_from_place}
 use Rattle.octets.specs.Limits.{max_loops, max_value}
@@ -21,7 +21,7 @@ use Rattle.bytecode_verifier.specs.Loops.{open_loops, same_loops}
 use Rattle.std.specs.Option.{option_and_then, option_map}
 use Rattle.bytecode_format.specs.declared.operation.Operation.{Operation}
 use Rattle.bytecode_verifier.specs.declared.row.Row.{Row}
-use Rattle.bytecode_verifier.specs.Rows.{row_of, test_row, row_in_version, takes, is_well_formed, is_jump, needs_part}
+use Rattle.bytecode_verifier.specs.Rows.{row_of, test_row, row_in_version, takes, is_well_formed, is_jump}
 use Rattle.bytecode_verifier.specs.Shape.{Entries, is_empty, is_target, entries_after, shape_after, shape_at}
 use Rattle.bytecode_verifier.specs.Rules.{row_in, misses_index, is_halt, breaks_form}
 use Rattle.bytecode_verifier.specs.Acceptance.{IsAccepted}
@@ -133,22 +133,6 @@ module _ (code : Code) (is : IsAccepted code) where
         asks PartSize formed indexed = compared (order_numbered i.a) (slice_get code.numbers i.c) question.PartSize (in_range (test_row PartSize) i formed) (number indexed)
         asks PartBody formed indexed = meant (match_numbered i.a) question.PartBody (in_range (test_row PartBody) i formed)
         asks PartDigest formed indexed = (question.PartDigest, refl)
-
-    -- an operation on the current part stands in a loop
-    pub part_known : needs_part (row_in code i) ≡ true → length (open_loops code place) ≢ 0
-    part_known needs =
-        let outside : (length (open_loops code place) == 0) ≡ false = rw (here, needs) at (is.no_part place) in
-        eqb-false (length (open_loops code place)) 0 outside
-
-    -- and so does a test about it
-    pub about_part_known : (test : TestOperation) → operation_of i.op ≡ Some (Test test) → (test_row test).needs_part ≡ true → length (open_loops code place) ≢ 0
-    about_part_known test named needs = part_known (ap (λ o. needs_part (option_and_then (row_in_version code.version) o)) named ∙ about test needs)
-      where
-        about : (test : TestOperation) → (test_row test).needs_part ≡ true → needs_part (row_in_version code.version (Test test)) ≡ true
-        about PartSize needs = refl
-        about PartBody needs = refl
-        about PartDigest needs = refl
-        about _ needs = absurd cc
 
     -- a Break is of one loop or more, and of no more than are open
     pub break_known : operation_of i.op ≡ Some Break → (1 ≤ i.a) × (i.a ≤ length (open_loops code place))

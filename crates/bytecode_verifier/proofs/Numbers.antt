@@ -62,16 +62,6 @@ numbers_small counted code bound (suc (suc zero)) = number_small counted code bo
 numbers_small counted code bound (suc (suc (suc zero))) = number_small counted code bound 3
 numbers_small counted code bound (suc (suc (suc (suc depth)))) = omega arith
 
-nothing_for_octets : (counted : Counted) (code : Code) (bound depth : ℕ) → slice_index (numbers_below counted code bound).scaled depth ≡ 0
-nothing_for_octets counted code bound zero = refl
-nothing_for_octets counted code bound (suc zero) = refl
-nothing_for_octets counted code bound (suc (suc zero)) = refl
-nothing_for_octets counted code bound (suc (suc (suc zero))) = refl
-nothing_for_octets counted code bound (suc (suc (suc (suc depth)))) = refl
-
-pub scaled_small : (counted : Counted) (code : Code) (bound depth : ℕ) → slice_index (numbers_below counted code bound).scaled depth + 0 < 2 ^ 63
-scaled_small counted code bound depth = omega (arith, nothing_for_octets counted code bound depth)
-
 -- nothing is added for octets
 none_more : (depth : ℕ) → slice_set (0 ∷ 0 ∷ 0 ∷ 0 ∷ []) depth (slice_index (0 ∷ 0 ∷ 0 ∷ 0 ∷ []) depth + 0) ≡ 0 ∷ 0 ∷ 0 ∷ 0 ∷ []
 none_more zero = refl

@@ -46,18 +46,6 @@ wanted_next total taken number bound entries now old lt top before =
     ap (λ t. wanted t (taken + 1) (number - (taken + 1)) now) sums ∙ sym (wanted_more total taken (number - (taken + 1)) bound now)
     ∙ ap (λ n. wanted total taken n (Text bound ∷ now)) (sym left) ∙ ap (wanted total taken (number - taken)) (sym top) ∙ before
 
--- what taking texts comes to, when it has come to its end
-pub taken_all : (number total : ℕ) (now old : Entries) → wanted total number 0 now ≡ wanted 0 0 number old → Takes number (Some total) now (take_texts number old)
-taken_all number total now old e = go (take_texts number old) e
-  where
-    go : (o : Option Texts) → wanted total number 0 now ≡ option_map (totalled 0 0) o → Takes number (Some total) now o
-    go None h = absurd cc
-    go (Some texts) h =
-        let same : totalled total number (record { texts = []; below = now }) ≡ totalled 0 0 texts = cc in
-        let sums = ap (λ (t : Total). t.total) same in
-        let counts = ap (λ (t : Total). t.number) same in
-        (omega (arith, sums), omega (arith, counts), ap (λ (t : Total). t.rest) same)
-
 -- the bounds alone, and one for each
 one_more_sum : (bounds : List ℕ) → one_more_each bounds ≡ sum bounds + length bounds
 one_more_sum [] = refl
@@ -82,14 +70,6 @@ joined number total octets bound fine now after (Some texts) h sum-is bound-is r
     go : (fine : Bool) → octets ≡ sum texts.texts → (if fine then Some after else None) ≡ with_joined texts → Passes (then_some fine (record { fixed = 1 + octets; scaled = 0 })) after (cap_of_octets texts) (with_joined texts)
     go true all room = (rw all refl, sym room)
     go false all room = sym room
-
--- an entry is missing, or a truth value
-pub wanted_none : (total taken left : ℕ) (entries old : Entries) (number : ℕ) → take_texts left entries ≡ None → wanted total taken left entries ≡ wanted 0 0 number old → take_texts number old ≡ None
-wanted_none total taken left entries old number none e = go (take_texts number old) (sym e ∙ ap (option_map (totalled total taken)) none)
-  where
-    go : (o : Option Texts) → option_map (totalled 0 0) o ≡ None → o ≡ None
-    go None h = refl
-    go (Some texts) h = absurd cc
 
 -- texts that were taken from short entries
 pub record Taken (number : ℕ) (entries : Entries) (texts : Texts) : Type 0 where

@@ -11,7 +11,7 @@ use Rattle.bytecode_verifier.specs.Places.{holds_at, sum_below}
 use Rattle.bytecode_verifier.specs.Loops.{loops, open_loops, same_loops}
 use Rattle.bytecode_verifier.specs.declared.row.Row.{Row}
 use Rattle.bytecode_verifier.specs.Rows.{row_of, row_in_version, row_named, is_well_formed, is_jump, needs_part}
-use Rattle.bytecode_verifier.specs.Shape.{Entries, entries_after, is_target, shape_at}
+use Rattle.bytecode_verifier.specs.Shape.{is_target, shape_at}
 use Rattle.bytecode_verifier.specs.Rules.{row_in, misses_index}
 use Rattle.bytecode_verifier.specs.declared.cap.Cap.{Cap}
 use Rattle.bytecode_verifier.specs.Budget.{cap_at, sum_inside, sums_inside, budget_of}
@@ -68,18 +68,6 @@ is_target_same first second [] place = refl
 is_target_same first second (i ∷ rest) place = rw (is_jump_same first second i.op, is_target_same first second rest place) refl
 
 -- ---- loops, the shape and the caps
-
-pub loops_same : (code : Code) (version : ℕ) → loops (record code { version = version }) ≡ loops code
-loops_same code version = refl
-
-pub open_loops_same : (code : Code) (version place : ℕ) → open_loops (record code { version = version }) place ≡ open_loops code place
-open_loops_same code version place = refl
-
-pub same_loops_same : (code : Code) (version p q : ℕ) → same_loops (record code { version = version }) p q ≡ same_loops code p q
-same_loops_same code version p q = refl
-
-pub entries_after_same : (code : Code) (version : ℕ) (o : Operation) (i : Instruction) (entries : Entries) → entries_after (record code { version = version }) o i entries ≡ entries_after code o i entries
-entries_after_same code version o i entries = refl
 
 pub shape_at_same : (code : Code) (version place : ℕ) → shape_at (record code { version = version }) place ≡ shape_at code place
 shape_at_same code version zero = refl

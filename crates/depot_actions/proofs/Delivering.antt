@@ -1,8 +1,6 @@
 -- What a delivery comes to: the user's program is read, and then the drafts are filed.
 use Rattle.std.proofs.Common.{◌≡◌, ◌<◌, ◌≤◌, inl, inr, ◌==◌, ℕ, zero, suc, Bool, false, List, [], ◌∷◌, Option, IsTrue, length, refl, sym, ap, subst, ◌∙◌, arith}
 use Rattle.std.proofs.lemmas.List.{length-map}
-use Rattle.std.proofs.lemmas.Slice.Eq.{bytes_eq-Decides}
-use Rattle.std.specs.Prelude.{bytes_eq, true}
 use Rattle.sqlite.specs.Effect.{Database}
 use Rattle.sqlite.specs.State.{State, HasCleanDisk, Survives}
 use Rattle.sqlite_trees.specs.Tree.{Trees}
@@ -22,9 +20,6 @@ use Rattle.depot_actions.specs.DepotState.{AreActions, Deliver, Listed, filed}
 use Rattle.depot_actions.specs.Drafts.{draft_of_action, drafts_of}
 use Rattle.depot_actions.specs.Filing.{Adds, IsUnfiled, Reaches}
 use Rattle.depot_actions.specs.Users.{is_user_name}
-
-bytes_same : (xs : List ℕ) → bytes_eq xs xs ≡ true
-bytes_same xs = (bytes_eq-Decides xs xs).1 refl
 
 filed_some : (user : List ℕ) (drafts : List Draft) (before : Entries) → 0 < length drafts → with_entries user drafts before ≡ filed user drafts before
 filed_some user [] before some = absurd (omega arith)

@@ -1,9 +1,7 @@
 -- The parts that are kept of a message.
-use Rattle.std.proofs.Common.{◌≡◌, ℕ, zero, suc, ◌+◌, ◌<◌, List, [], ◌∷◌, ◌++◌, All, take, Option, Some, None, length, set, get_or, replicate, refl, sym, ap, subst, ◌∙◌, arith, inl, inr, get_or-set_same, get_or-set_other, length-set}
+use Rattle.std.proofs.Common.{◌≡◌, ℕ, zero, suc, ◌+◌, ◌<◌, List, [], ◌∷◌, ◌++◌, All, take, Option, Some, None, length, get_or, refl, sym, ap, subst, ◌∙◌, arith}
 use Rattle.std.specs.Prelude.{slice_index_or, slice_get}
-use Rattle.std.specs.List.{HoldsAt}
-use Rattle.std.proofs.lemmas.Bool.{cases_eq}
-use Rattle.std.proofs.lemmas.List.{length-replicate, take_more}
+use Rattle.std.proofs.lemmas.List.{take_more}
 use Rattle.std.proofs.lemmas.List.Elements.{All-push}
 use Rattle.std.proofs.lemmas.Option.{get_or_from_slice_get}
 use Rattle.part_store.specs.Entries.{Draft}
@@ -15,41 +13,6 @@ use Rattle.depot_actions.specs.Filing.{AreKept, IsStored, Keeps, KeepsAction}
 use Rattle.depot_actions.specs.declared.stored_part.StoredPart.{StoredPart}
 
 -- ---- what is kept
-
-abbrev nothing : Option StoredPart
-nothing = None
-
-nothing_at : (n place : ℕ) → slice_index_or (replicate n nothing) place None ≡ None
-nothing_at zero place = refl
-nothing_at (suc n) zero = refl
-nothing_at (suc n) (suc place) = nothing_at n place
-
-pub none_kept : (mail : Mail) (n : ℕ) → n ≡ length mail.parts → AreKept mail (replicate n None)
-none_kept mail n is = record {
-  number = length-replicate n None ∙ is;
-  each = λ place. rw (nothing_at n place) tt;
-}
-
--- one more part is kept
-pub one_kept : (mail : Mail) (kept : List (Option StoredPart)) (part : ℕ) (stored : StoredPart) → part < length mail.parts → AreKept mail kept
-    → HoldsAt (IsStored stored) mail.parts part → AreKept mail (set kept part (Some stored))
-one_kept mail kept part stored lt are is = record {
-  number = length-set kept part (Some stored) ∙ are.number;
-  each = λ place. elim (cases_eq place part) [
-    | inl same ↦ let within : part < length kept = omega (arith, are.number) in rw (same, get_or-set_same kept part (Some stored) None within) is
-    | inr other ↦ rw (get_or-set_other kept part place (Some stored) None other) (are.each place)
-  ];
-}
-
-pub one_there : (mail : Mail) (kept : List (Option StoredPart)) (part : ℕ) (stored : StoredPart) → part < length mail.parts → AreKept mail kept → Keeps (set kept part (Some stored)) part
-one_there mail kept part stored lt are = let within : part < length kept = omega (arith, are.number) in rw (get_or-set_same kept part (Some stored) None within) refl
-
-pub others_there : (mail : Mail) (kept : List (Option StoredPart)) (part : ℕ) (stored : StoredPart) → part < length mail.parts → AreKept mail kept
-    → (number : ℕ) → Keeps kept number → Keeps (set kept part (Some stored)) number
-others_there mail kept part stored lt are number there = elim (cases_eq number part) [
-  | inl same ↦ rw same (one_there mail kept part stored lt are)
-  | inr other ↦ rw (get_or-set_other kept part number (Some stored) None other) there
-]
 
 -- an action's part stays kept
 pub action_kept : (old new : List (Option StoredPart)) → ((number : ℕ) → Keeps old number → Keeps new number) → (action : Action) → KeepsAction old action → KeepsAction new action

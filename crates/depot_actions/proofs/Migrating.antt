@@ -121,9 +121,6 @@ counted (pair ∷ stored) (code ∷ codes) zip = go (is_latest code) (counted st
 
 -- ---- one after another
 
-no_renewals : AreRenewals [] []
-no_renewals = ([], tt, refl)
-
 zip_push : (stored : List UserProgram) (codes : List Code) (pair : UserProgram) (code : Code) → AllZip Checked stored codes → IsChecked pair.1 code → AllZip Checked (stored ++ pair ∷ []) (codes ++ code ∷ [])
 zip_push [] [] pair code zip checked = (checked, tt)
 zip_push [] (c ∷ codes) pair code zip checked = absurd zip

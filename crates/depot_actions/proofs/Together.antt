@@ -1,11 +1,10 @@
 -- Deliveries in a transaction, which is committed or rolled back.
 use Rattle.std.proofs.Common.{◌≡◌, ◌<◌, inl, inr, ℕ, ◌+◌, ◌⊎◌, List, [], ◌∷◌, ◌++◌, IsTrue, drop, get_or, length, map, take, refl, sym, ap, subst, ◌∙◌, Some, arith, false, true, Result, Ok, Err, IfErr, IsErrAnd, Vec}
-use Rattle.std.proofs.lemmas.Bool.{true≢false}
 use Rattle.std.proofs.lemmas.List.{drop_more, length-append, length-map, length-take-le, map-append, map_more, take-append-drop}
 use Rattle.sqlite_trees.specs.declared.store.Store as store
 use Rattle.sqlite_trees.specs.Tree.{Trees}
 use Rattle.sqlite.specs.Held.{Held, state}
-use Rattle.sqlite.specs.State.{State, HasCleanDisk, IsRolledBack, Shows, Survives}
+use Rattle.sqlite.specs.State.{State, HasCleanDisk, Shows, Survives}
 use Rattle.sqlite.specs.Steps.{FailsToCommit}
 use Rattle.sqlite.specs.declared.error.Error.{Error}
 use Rattle.sqlite.specs.declared.error.Error.TheVariants.{SqliteFailure}
@@ -16,8 +15,7 @@ use Rattle.part_store.specs.Calls.{StaysClosed}
 use Rattle.part_store.specs.Entries.{Entries}
 use Rattle.part_store.specs.Inside.{KeepsStored, KeepsTables, StaysInside}
 use Rattle.part_store.specs.Refusals.{HasFailed, refusal_of}
-use Rattle.part_store.specs.Standing.{LeavesUnchanged, Stands}
-use Rattle.part_store.specs.Tables.{store_schema}
+use Rattle.part_store.specs.Standing.{Stands}
 use Rattle.part_store.specs.declared.error.StoreError.{StoreError}
 use Rattle.part_store.proofs.Entering.{kept_then}
 use Rattle.part_store.proofs.Failing.{commit_blamed, first_failed, later_failed}
@@ -25,7 +23,7 @@ use Rattle.part_store.proofs.Stored.{stored_as}
 use Rattle.refusals.specs.declared.refusal.Refusal.{Refusal}
 use Rattle.refusals.specs.declared.refusal.Refusal.TheVariants as refusal
 use Rattle.depot_actions.specs.Causes.{HasCause, IsFault}
-use Rattle.depot_actions.specs.Deliveries.{AcceptsAll, DoesAll, IsAt, IsRefusedAt, IsUncommitted, MayLeaveAll, calls_of, command_of, reply_of}
+use Rattle.depot_actions.specs.Deliveries.{AcceptsAll, IsAt, IsRefusedAt, IsUncommitted, MayLeaveAll, calls_of, command_of, reply_of}
 use Rattle.part_store.specs.declared.entry.EntryRow.{EntryRow}
 use Rattle.std.specs.declared.alloc.Global.{Global}
 use Rattle.depot_actions.specs.declared.deliveries.Delivery.{Delivery}
@@ -69,35 +67,6 @@ cause_as refusal.Write command s t same on h = h
 cause_as refusal.Read command s t same on h = h
 cause_as (refusal.Listing place) command s t same on h = h
 
--- what is rolled back is unchanged
-pub rolled_back : (old mid new : State) → (IsTrue old.is_open → old.now ≡ old.committed) → KeepsStored old mid → StaysClosed old mid → IsRolledBack mid new → Survives old new (λ _. ⊥) → HasCleanDisk new → LeavesUnchanged old new
-rolled_back old mid new settled kept shut rolled survives clean = record {
-  same = λ schema is_open.
-      let keeps = kept schema in
-      let undone = rolled.undone is_open in
-      let mid_open = rolled.was_open is_open in
-      let committed = keeps.committed mid_open in
-      (undone.0 ∙ committed ∙ sym (settled (shut mid_open)), undone.1 ∙ committed);
-  stays_closed = λ is_open. shut (rolled.was_open is_open);
-  closes = λ was_open. survives.closes clean was_open;
-}
-
--- so is what a commit is refused for
-pub commit_unchanged : {P : Trees → Type 0} (old mid new : State) (e : Error) → (IsTrue old.is_open → old.now ≡ old.committed) → KeepsStored old mid → StaysClosed old mid
-    → (old.now.schema ≡ store_schema → IsTrue mid.in_transaction) → FailsToCommit mid new e → Survives old new P → HasCleanDisk new → LeavesUnchanged old new
-commit_unchanged old mid new e settled kept shut inside fails survives clean = record {
-  same = λ schema is_open. elim fails [
-    | inl h ↦
-        let mid_open = h.3.was_open is_open in
-        let undone = h.3.undone is_open in
-        let committed = (kept schema).committed mid_open in
-        (undone.0 ∙ committed ∙ sym (settled (shut mid_open)), undone.1 ∙ committed)
-    | inr h ↦ absurd (true≢false (sym (inside schema) ∙ h.1))
-  ];
-  stays_closed = λ is_open. elim fails [ inl h ↦ shut (h.3.was_open is_open) | inr h ↦ shut h.2.0.was_open ];
-  closes = λ was_open. survives.closes clean was_open;
-}
-
 -- an error that is handed on
 pub handed_on : {T E : Type 0} (r : Result T E) (given : E) (P : E → Type 0) → IsErrAnd r (λ e. e ≡ given) → P given → IfErr r P
 handed_on (Ok x) given P h holds = tt
@@ -115,10 +84,6 @@ commit_refusal _ told r was is = inr (is ∙ ap of_store was)
 module _ {S : Type 0} (g : store.Ghosts S) (conn : Held S) where
   abbrev pub begun : State
   begun = state g (record conn { in_transaction = true })
-
-  -- a transaction that was rolled back leaves what a crash left before
-  pub nothing_left : (mid new : State) (Commits : Trees → Type 0) → Survives begun mid (λ _. ⊥) → Survives mid new (λ _. ⊥) → Survives (state g conn) new Commits
-  nothing_left mid new Commits one two = survives_begin g conn new Commits (survives_then begun mid new _ _ Commits (λ clean trees none. absurd none) (λ clean trees none. absurd none) one two)
 
   -- one that was to be committed leaves that, or what it showed
   pub left_by_commit : (mid new : State) (Commits : Trees → Type 0) → Survives begun mid (λ _. ⊥) → (HasCleanDisk mid → Commits mid.now.trees) → Survives mid new (λ trees. trees ≡ mid.now.trees) → Survives (state g conn) new Commits
@@ -139,14 +104,6 @@ module _ {S : Type 0} (g : store.Ghosts S) (conn : Held S) where
   left_alone command reply mid was_open reaches = (
     was_open,
     λ before stands. let reached = reaches before stands in (reply, reached.0, reached.1, stored_as mid.now.trees mid.now reached.0 refl reached.2),
-  )
-
-  pub done_together : (commands : List Command) (replies : List Reply) (mid new : State) → StaysClosed begun mid → ReachesAll commands replies begun mid → Shows mid new mid.now mid.now false → DoesAll commands replies (state g conn) new
-  done_together commands replies mid new shut reaches shows = (
-    shut shows.was_open,
-    λ before stands.
-        let reached = reaches before stands in
-        (reached.0, reached.1, record { stands = λ _. (subst (λ d. Stands d reached.0) (sym shows.now_is) reached.2, shows.committed_is ∙ sym shows.now_is); closes = inl shows.is_open }),
   )
 
   pub left_together : (commands : List Command) (replies : List Reply) (mid : State) → (0 < length commands → IsTrue (state g conn).is_open) → ReachesAll commands replies begun mid

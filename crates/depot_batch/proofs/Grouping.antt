@@ -1,12 +1,11 @@
 -- Lines that are to be done together.
-use Rattle.std.proofs.Common.{◌≡◌, ◌++◌, ◌∙◌, ◌+◌, ◌<◌, ◌≤◌, suc, arith, append-nil, ap, inl, inr, refl, subst, sym, ℕ, IfNone, List, [], ◌∷◌, None, Option, Some, length, map, take, drop, string_bytes, Vec, Global}
-use Rattle.std.specs.Borrow.{Bor}
+use Rattle.std.proofs.Common.{◌≡◌, ◌++◌, ◌∙◌, ◌+◌, ◌<◌, ◌≤◌, suc, arith, append-nil, ap, inl, inr, refl, subst, sym, ℕ, IfNone, List, [], ◌∷◌, None, Option, Some, length, map, take, drop, Vec, Global}
 use Rattle.std.specs.List.{flat_map}
 use Rattle.std.proofs.Math.ListN.{get_or}
 use Rattle.std.proofs.lemmas.Grind.{flat_map-append}
 use Rattle.std.proofs.lemmas.List.{drop_more, map-append, take-append-drop, take-map, take_more}
 use Rattle.sqlite_trees.specs.declared.store.Store.{Ghosts}
-use Rattle.sqlite.specs.Held.{Held, state}
+use Rattle.sqlite.specs.Held.{state}
 use Rattle.sqlite.specs.State.{HasCleanDisk, State, Survives}
 use Rattle.part_store.specs.Entries.{Listing}
 use Rattle.part_store.specs.Standing.{LeavesUnchanged}
@@ -14,16 +13,13 @@ use Rattle.part_store.specs.declared.entry.EntryRow.{EntryRow}
 use Rattle.encodings.specs.Device.{HasBroken, HasTaken, Output}
 use Rattle.encodings.proofs.Outputs.{broken_first, broken_later}
 use Rattle.depot_actions.specs.Deliveries.{DoesAll, MayLeaveAll, reply_of}
-use Rattle.depot_actions.specs.DepotState.{Command, Deliver, Listed}
+use Rattle.depot_actions.specs.DepotState.{Command, Listed}
 use Rattle.depot_jobs.specs.Host.{HostState}
-use Rattle.depot_jobs.specs.Inputs.{HasReadFile}
 use Rattle.depot_jobs.specs.declared.request.OnDepot.TheVariants as requests
-use Rattle.depot_batch.specs.Asked.{Text}
-use Rattle.depot_batch.specs.Batch.{AreAnsweredBy, AreDeliveries, AreLookedUp, AreWithdrawn, IsAsked, IsDelivery, MayMakeAll, DepotAndOutput, filed_text, most_together}
+use Rattle.depot_batch.specs.Batch.{AreAnsweredBy, AreDeliveries, AreLookedUp, AreWithdrawn, IsDelivery, DepotAndOutput, filed_text, most_together}
 use Rattle.depot_batch.specs.Private.{IsPassedOver, command_of, filed_by, lines_of}
-use Rattle.depot_batch.specs.declared.asked.Asked.TheVariants.{Reply}
 use Rattle.depot_batch.specs.declared.mails.Mail.{Mail}
-use Rattle.depot_batch.proofs.LineLemmas.{more_left, still}
+use Rattle.depot_batch.proofs.LineLemmas.{more_left}
 
 -- ---- messages that were read
 
@@ -75,29 +71,9 @@ as_many (line ∷ lines) (command ∷ commands) host host2 are = ap suc (as_many
 as_many [] (command ∷ commands) host host2 are = absurd are
 as_many (line ∷ lines) [] host host2 are = absurd are
 
-pub is_delivery : (line : List ℕ) (user file : Bor Text) (mail : Mail) (host host2 : HostState) → IsAsked line (Reply (requests.Deliver user file))
-    → string_bytes mail.user ≡ user.now → HasReadFile (Some file.now) mail.message.items host host2 → IsDelivery line (command_of mail) host host2
-is_delivery line user file mail host host2 is same read = (user, file, is, mail.message.items, read, ap (λ name. Deliver name mail.message.items) same)
-
 -- ---- on a depot
 
--- what nothing happened to is unchanged
-pub unchanged_still : (s : State) → LeavesUnchanged s s
-unchanged_still s = record { same = λ schema is_open. (refl, refl); stays_closed = λ is_open. is_open; closes = λ is_open. inl is_open }
-
 module _ {S : Type 0} (g : Ghosts S) where
-  -- lines were withdrawn before the depot was asked
-  pub withdrawn_early : (lines : List (List ℕ)) (old new : DepotAndOutput S) → 0 < length lines → length lines ≤ most_together → AreLookedUp lines old.host new.host → new.depot ≡ old.depot → new.out ≡ old.out
-      → AreWithdrawn g lines old new
-  withdrawn_early lines old new some few files same out = record {
-    some = some;
-    few = few;
-    files = files;
-    unchanged = λ clean. subst (λ (d : Held S). LeavesUnchanged (state g old.depot) (state g d)) (sym same) (unchanged_still (state g old.depot));
-    out = out;
-    outlasts = subst (λ (d : Held S). Survives (state g old.depot) (state g d) (MayMakeAll lines (state g old.depot) old.host new.host)) (sym same) (still (state g old.depot));
-  }
-
   -- they were withdrawn since it refused them
   pub withdrawn_late : (lines : List (List ℕ)) (commands : List Command) (old new : DepotAndOutput S) → 0 < length commands → length lines ≤ most_together → AreDeliveries lines commands old.host new.host
       → (HasCleanDisk (state g new.depot) → LeavesUnchanged (state g old.depot) (state g new.depot))

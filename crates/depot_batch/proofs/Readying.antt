@@ -1,8 +1,6 @@
 -- Lines that an input has ready.
 use Rattle.std.proofs.Common.{◌≡◌, ◌∙◌, ◌≢◌, ◌+◌, ◌<◌, ◌≤◌, ◌^◌, ap, append-nil, append_assoc, arith, get_or-take, length-append, length-take-le, MatchOption, subst, sym, ℕ, List, [], ◌∷◌, ◌++◌, Option, Some, None, IfSome, length, take, drop, Vec, Global}
 use Rattle.std.specs.Io.{StartsWith}
-use Rattle.std.specs.Io.BufRead.{DropsConsumable}
-use Rattle.std.specs.Io.KnownBytes.{Consumes, Keeps}
 use Rattle.std.specs.List.{All, AllWithin, HoldsAt, concat}
 use Rattle.std.proofs.KnownBytes.{starts_with_rest}
 use Rattle.std.proofs.Math.ListN.{get_or}
@@ -10,7 +8,6 @@ use Rattle.std.proofs.Math.Seq.{take-append_seam}
 use Rattle.std.proofs.lemmas.List.{map-append, map_more, take-append-drop, take_more}
 use Rattle.std.proofs.lemmas.List.Elements.{All-push, All-take}
 use Rattle.std.proofs.lemmas.List.Folds.{concat-append}
-use Rattle.encodings.specs.Device.{counted}
 use Rattle.encodings.specs.Supply.{HasGiven, Supply}
 use Rattle.depot_batch.specs.Lines.{HasShown, IsLine}
 use Rattle.depot_batch.specs.Private.{CanTake, lines_of}
@@ -103,23 +100,6 @@ module _ (all front later : List (Vec ℕ Global)) (are : all ≡ front ++ later
 
 -- ---- lines that are taken
 
--- octets that were shown, and then as many that were taken
-dropped : (a b c : Option (List ℕ)) (limit : Option ℕ) (octets : List ℕ) → Keeps a b → IfSome a (λ all. StartsWith all octets)
-    → IfSome a (λ _. IfSome limit (λ n. length octets ≤ n)) → DropsConsumable b c limit (length octets) → Consumes a c octets
-dropped None b c limit octets kept starts fits drops = tt
-dropped (Some x) None c limit octets kept starts fits drops = absurd kept
-dropped (Some x) (Some y) c limit octets kept starts fits drops =
-    subst (λ (o : Option (List ℕ)). Consumes (Some x) o octets) (sym (drops fits))
-    (starts_with_rest x octets starts ∙ ap (λ all. octets ++ drop (length octets) all) (sym kept))
-
-pub taken_lines : (octets : List ℕ) (before old new : Supply) (limit : Option ℕ) → CanTake octets before.left limit → DropsConsumable old.left new.left limit (length octets)
-    → new.given ≡ counted (length octets) old.given → new.faults ≡ old.faults → HasShown octets before old → HasGiven octets before new
-taken_lines octets before old new limit can drops given faults shown = record {
-  left = dropped before.left old.left new.left limit octets shown.left shown.next can drops;
-  given = given ∙ ap (counted (length octets)) shown.given;
-  faults = faults ∙ shown.faults;
-}
-
 -- ---- the first line of octets
 
 -- octets up to the first break, with it, are a line
@@ -156,6 +136,3 @@ pub shown_fit : (octets shown later : List ℕ) (left : Option (List ℕ)) (limi
 shown_fit octets shown later left limit are small fits =
     let less : length octets ≤ length shown = omega (arith, ap length are, length-append octets later) in
     (omega (arith, less, small), takes_front left limit (length octets) (length shown) less fits)
-
-pub shown_first : (left : Option (List ℕ)) (octets shown later : List ℕ) → shown ≡ octets ++ later → IfSome left (λ all. StartsWith all shown) → IfSome left (λ all. StartsWith all octets)
-shown_first left octets shown later are starts = front_known left octets later (subst (λ o. IfSome left (λ all. StartsWith all o)) are starts)

@@ -7,19 +7,7 @@ use Rattle.std.proofs.lemmas.Grind.{flat_map-append}
 use Rattle.std.proofs.lemmas.List.{take_more}
 use Rattle.depot_jobs.specs.Gathering.{Gathering, HasGathered, gathering}
 use Rattle.encodings.specs.Device.{HasBroken, HasTaken, Output}
-use Rattle.encodings.proofs.Outputs.{broken_first, broken_later, rest_whole, taken_both, taken_none}
-
--- nothing is gathered by doing nothing
-pub gathered_none : (s : Gathering) → HasGathered [] s s
-gathered_none s = record { gone = []; whole = append-nil s.waiting; taken = taken_none s.output }
-
--- what waited was taken
-pub gathered_sent : {text waiting : List ℕ} {s0 : Gathering} {o1 o2 : Output} → HasGathered text s0 (gathering waiting o1) → HasTaken waiting o1 o2 → HasGathered text s0 (gathering [] o2)
-gathered_sent {waiting = waiting} first sent = record {
-  gone = first.gone ++ waiting;
-  whole = first.whole ∙ sym (append-nil (first.gone ++ waiting));
-  taken = taken_both first.gone waiting first.taken sent;
-}
+use Rattle.encodings.proofs.Outputs.{broken_first, broken_later, rest_whole, taken_both}
 
 -- more octets wait
 pub gathered_added : {xs waiting : List ℕ} {s0 : Gathering} {o1 : Output} (ys more : List ℕ) → HasGathered xs s0 (gathering waiting o1) → more ≡ waiting ++ ys → HasGathered (xs ++ ys) s0 (gathering more o1)
@@ -70,10 +58,6 @@ broken_before {s0} {s1} waiting xs ys first = subst (λ text. HasBroken text s0 
 -- a text was gathered, and the sink broke in what waited
 pub sending_broken : {text waiting : List ℕ} {o0 o1 o2 : Output} → HasGathered text (gathering [] o0) (gathering waiting o1) → HasBroken waiting o1 o2 → HasBroken text o0 o2
 sending_broken {waiting = waiting} {o0 = o0} {o2 = o2} first broken = subst (λ text. HasBroken text o0 o2) (sym first.whole) (broken_later first.gone waiting first.taken broken)
-
--- a text was gathered and sent
-pub all_sent : {text waiting : List ℕ} {o0 o1 o2 : Output} → HasGathered text (gathering [] o0) (gathering waiting o1) → HasTaken waiting o1 o2 → HasTaken text o0 o2
-all_sent {waiting = waiting} {o0 = o0} {o2 = o2} first sent = subst (λ text. HasTaken text o0 o2) (sym first.whole) (taken_both first.gone waiting first.taken sent)
 
 -- ---- lists of texts in turn
 

@@ -1,9 +1,9 @@
 -- What calls of a source come to, one after another.
-use Rattle.std.proofs.Common.{◌≡◌, ◌∙◌, ◌+◌, ap, ℕ, zero, suc, List, [], ◌++◌, sym, subst, refl, arith, length, take, drop, length-append}
+use Rattle.std.proofs.Common.{◌≡◌, ◌∙◌, ◌+◌, ap, ℕ, zero, suc, List, ◌++◌, sym, subst, arith, length, take, drop, length-append}
 use Rattle.std.proofs.Math.Seq.{take-add}
-use Rattle.std.proofs.KnownBytes.{Consumes-kept, Consumes-nil, Consumes-trans}
+use Rattle.std.proofs.KnownBytes.{Consumes-trans}
 use Rattle.encodings.specs.Device.{counted}
-use Rattle.encodings.specs.Supply.{HasFailedToGive, HasGiven, HasStoppedGiving, Supply}
+use Rattle.encodings.specs.Supply.{HasGiven, Supply}
 
 -- counting in two steps is counting at once
 pub counted-counted : (n m count : ℕ) → counted m (counted n count) ≡ counted (n + m) count
@@ -13,10 +13,6 @@ counted-counted (suc n) (suc m) count =
     let e : suc n + suc m ≡ suc (n + suc m) = omega arith in
     rw e (omega arith)
 
--- nothing is given by doing nothing
-pub given_none : (s : Supply) → HasGiven [] s s
-given_none s = record { left = Consumes-nil s.left; given = refl; faults = refl }
-
 module _ {s0 s1 s2 : Supply} where
   -- octets were given, and then more of them
   pub given_both : (xs ys : List ℕ) → HasGiven xs s0 s1 → HasGiven ys s1 s2 → HasGiven (xs ++ ys) s0 s2
@@ -25,14 +21,6 @@ module _ {s0 s1 s2 : Supply} where
     given =
         later.given ∙ ap (counted (length ys)) first.given ∙ counted-counted (length xs) (length ys) s0.given ∙ ap (λ n. counted n s0.given) (sym (length-append xs ys));
     faults = later.faults ∙ first.faults;
-  }
-
-  -- octets were given, and then a call failed
-  pub given_and_stopped : (xs : List ℕ) → HasGiven xs s0 s1 → HasFailedToGive s1 s2 → HasStoppedGiving xs s0 s2
-  given_and_stopped xs first failed = record {
-    left = Consumes-kept s0.left s1.left s2.left xs first.left failed.left;
-    given = failed.given ∙ first.given;
-    faults = failed.faults ∙ ap (counted 1) first.faults;
   }
 
   -- the octets that are filled were given, and then so many after them; the room for those was made and filled in two steps

@@ -1,10 +1,10 @@
 -- How long a text is that is joined, without outer blanks.
-use Rattle.std.proofs.Common.{◌≡◌, ◌⊎◌, ℕ, ◌+◌, ◌<◌, ◌≤◌, List, [], ◌∷◌, ◌++◌, refl, ◌∙◌, ap, arith, length, inl, inr}
+use Rattle.std.proofs.Common.{◌≡◌, ◌⊎◌, ℕ, ◌+◌, ◌<◌, ◌≤◌, List, [], ◌∷◌, ◌++◌, refl, ◌∙◌, arith, length, inl, inr}
 use Rattle.std.specs.Prelude.{reverse}
 use Rattle.std.proofs.lemmas.Bool.{cases_Bool}
 use Rattle.std.proofs.lemmas.List.{length-append, length-reverse, reverse-append}
-use Rattle.octets.specs.Blank.{is_blank, without_leading_blanks, without_trailing_blanks, without_outer_blanks}
-use Rattle.header_fields.proofs.Trimming.{joined_more, joined_all, trimmed_fits}
+use Rattle.octets.specs.Blank.{is_blank, without_leading_blanks, without_trailing_blanks}
+use Rattle.header_fields.proofs.Trimming.{joined_more}
 
 -- of a text whose blanks at the start are left out, what was joined and what is left: how long the former is, with the blanks at its
 -- end and without
@@ -67,16 +67,3 @@ measured_more joined kept last after more content left whole taken last_is after
       trimmed = next.0;
       so_far = next.1;
     }
-
--- the whole
-pub measured_all : (joined kept : ℕ) (left whole : List ℕ) → left ≡ [] → Measured joined kept left whole → kept ≡ length (without_outer_blanks whole)
-measured_all joined kept left whole none was =
-    was.without ∙ ap length (joined_all was.value left whole was.trimmed none was.so_far)
-
--- nothing yet
-pub measured_none : (whole : List ℕ) → Measured 0 0 whole whole
-measured_none whole = record { value = []; long = refl; without = refl; trimmed = refl; so_far = refl }
-
--- blanks are left out
-pub trailing_fits : (text : List ℕ) → length (without_trailing_blanks text) ≤ length text
-trailing_fits text = omega (arith, trailing text, trimmed_fits (reverse text), length-reverse text)

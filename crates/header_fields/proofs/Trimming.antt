@@ -4,7 +4,7 @@ use Rattle.std.specs.Prelude.{reverse}
 use Rattle.std.proofs.lemmas.Bool.{cases_Bool}
 use Rattle.std.proofs.lemmas.List.{append_assoc, append-nil, reverse-append, reverse-reverse}
 use Rattle.std.proofs.Math.Seq.{take-append_seam}
-use Rattle.octets.specs.Blank.{is_blank, without_leading_blanks, without_trailing_blanks, without_outer_blanks}
+use Rattle.octets.specs.Blank.{is_blank, without_leading_blanks, without_trailing_blanks}
 use Rattle.header_fields.proofs.FieldLines.{ends-trimmed}
 
 pub trimmed_fits : (text : List ℕ) → length (without_leading_blanks text) ≤ length text
@@ -50,10 +50,3 @@ pub trailing_taken : (text : List ℕ) → take (length (without_trailing_blanks
 trailing_taken text =
     let e = trailing_split text in
     ap (take (length (without_trailing_blanks text))) e.1 ∙ take-append_seam (without_trailing_blanks text) e.0
-
--- the text joined is the whole without outer blanks
-pub joined_all : (value left whole : List ℕ) → without_leading_blanks value ≡ value → left ≡ [] → without_leading_blanks (value ++ left) ≡ without_leading_blanks whole
-    → without_trailing_blanks value ≡ without_outer_blanks whole
-joined_all value left whole trimmed none so_far =
-    let all : without_leading_blanks whole ≡ value = sym so_far ∙ ap (λ x. without_leading_blanks (value ++ x)) none ∙ ap without_leading_blanks (append-nil value) ∙ trimmed in
-    rw all refl

@@ -1,8 +1,7 @@
 -- The parameters that are asked for.
-use Rattle.std.proofs.Common.{◌≡◌, ℕ, ◌<◌, ◌&&◌, Bool, true, false, List, [], ◌∷◌, ◌++◌, Option, Some, None, length, get_or, refl, sym, ap, subst, ◌∙◌, inl, inr}
+use Rattle.std.proofs.Common.{◌≡◌, ℕ, ◌<◌, ◌&&◌, Bool, true, false, List, [], ◌∷◌, ◌++◌, Option, Some, None, length, get_or, refl, sym, ap, ◌∙◌, inl, inr}
 use Rattle.std.specs.Prelude.{bytes_eq, is_none}
 use Rattle.std.proofs.lemmas.Bool.{cases_Bool, true≢false}
-use Rattle.std.proofs.lemmas.List.{append_assoc, append-nil}
 use Rattle.std.proofs.lemmas.List.Folds.{list_any_at}
 use Rattle.std.proofs.lemmas.Slice.Eq.{bytes_eq-Decides}
 use Rattle.octets.specs.Ascii.{lowercase_of, is_word}
@@ -69,16 +68,6 @@ pub passed_over : (names : List (List ℕ)) (params found : List Parameter) (p :
     → HaveFirsts names params (found ++ left) → HaveFirsts names params (found ++ rest)
 passed_over names params found p left rest is not so_far = λ k d lt.
     sym (skipped_at names found p rest not k d lt) ∙ ap (λ ps. value_named (get_or names k d) (found ++ ps)) (sym is) ∙ so_far k d lt
-
--- one that is wanted is kept
-pub kept : (names : List (List ℕ)) (params found : List Parameter) (p : Parameter) (left rest : List Parameter) → left ≡ p ∷ rest
-    → HaveFirsts names params (found ++ left) → HaveFirsts names params ((found ++ p ∷ []) ++ rest)
-kept names params found p left rest is so_far =
-    subst (HaveFirsts names params) (ap (λ ps. found ++ ps) is ∙ sym (append_assoc found (p ∷ []) rest)) so_far
-
--- at the end the found ones are enough
-pub none_left : (names : List (List ℕ)) (params found left : List Parameter) → left ≡ [] → HaveFirsts names params (found ++ left) → HaveFirsts names params found
-none_left names params found left none so_far = subst (HaveFirsts names params) (ap (λ ps. found ++ ps) none ∙ append-nil found) so_far
 
 -- ---- the value of a parameter that was asked for
 

@@ -1,5 +1,5 @@
 -- Values that are taken one after the other.
-use Rattle.std.proofs.Common.{◌≡◌, ℕ, ◌+◌, ◌<◌, ◌≤◌, List, [], ◌∷◌, ◌++◌, flat_map, length, take, get_or, Option, None, Some, is_some, true, false, refl, sym, ◌∙◌, ap, subst, arith, append-nil, add-zero, take_all}
+use Rattle.std.proofs.Common.{◌≡◌, ℕ, ◌+◌, ◌<◌, ◌≤◌, List, [], ◌∷◌, ◌++◌, flat_map, length, take, get_or, Option, None, Some, is_some, false, refl, sym, ◌∙◌, ap, subst, arith, append-nil, add-zero, take_all}
 use Rattle.std.specs.Option.{option_or}
 use Rattle.std.proofs.lemmas.List.{take_more}
 use Rattle.std.proofs.lemmas.List.Concat.{flat_map-append}
@@ -10,7 +10,7 @@ use Rattle.mail_matching.specs.Findings.{finding_of, is_pair}
 use Rattle.mail_matching.specs.FirstMatch.{first_key, first_match}
 use Rattle.header_fields.specs.Fields.{Field}
 use Rattle.bytecode_format.specs.declared.selection.Selector.{Selector}
-use Rattle.mail_matching.specs.Headers.{selected_among, values_of_params}
+use Rattle.mail_matching.specs.Headers.{selected_among}
 use Rattle.mail_matching.specs.Outcomes.{after, holds}
 use Rattle.mail_matching.specs.Private.{GoesOn, Stands, further}
 use Rattle.mail_matching.specs.declared.finding.Finding.{Finding}
@@ -68,29 +68,9 @@ holds_after Fails captures = refl
 holds_after Holds captures = refl
 holds_after (Captures set) captures = refl
 
-after_some : (outcome : Outcome) (captures : List (List ℕ)) (more : Option (List (List ℕ))) → holds outcome ≡ true → option_or (after outcome captures) more ≡ after outcome captures
-after_some Fails captures more so = absurd (cc)
-after_some Holds captures more so = refl
-after_some (Captures set) captures more so = refl
-
-pair_stays : (finding more : Finding) → is_pair finding ≡ true → further finding more ≡ finding
-pair_stays (Pair value key) more so = refl
-pair_stays (NoneOf number) more so = absurd (cc)
-
 pair_next : (number : ℕ) (more : Finding) → is_pair (further (NoneOf number) more) ≡ is_pair more
 pair_next number (Pair value key) = refl
 pair_next number (NoneOf n) = refl
-
--- after a match values are only measured
-pub goes_on_measured : {T : Type 0} (knows : ℕ → T → Finding → Type 0) (how : Match) (values keys : List (List ℕ)) (old : Progress T) (extent : ℕ) → holds old.outcome ≡ true → extent ≡ old.extent + extent_of values
-    → GoesOn knows how values keys old (record { outcome = old.outcome; extent = extent; told = old.told })
-goes_on_measured knows how values keys old extent so is = record {
-  outcome = λ captures. sym (after_some old.outcome captures (first_match how values keys captures) so);
-  extent = is;
-  found = λ most finding stands.
-      let same = pair_stays finding (finding_of how values keys) (sym stands.holds ∙ so) in
-      record { holds = stands.holds ∙ ap is_pair (sym same); known = subst (knows most old.told) (sym same) stands.known };
-}
 
 -- one that was compared with the keys
 pub goes_on_compared : {T : Type 0} (knows : ℕ → T → Finding → Type 0) (how : Match) (value : List ℕ) (keys : List (List ℕ)) (old : Progress T) (outcome : Outcome) (extent : ℕ) (told : T) → holds old.outcome ≡ false → extent ≡ old.extent + extent_of (value ∷ [])
@@ -165,11 +145,6 @@ next_room values place value lt is =
 pub goes_on_all : {A T : Type 0} (knows : ℕ → T → Finding → Type 0) (how : Match) (keys : List (List ℕ)) (f : A → List (List ℕ)) (xs : List A) (place : ℕ) (first last : Progress T) → length xs ≤ place
     → GoesOn knows how (flat_map f (take place xs)) keys first last → GoesOn knows how (flat_map f xs) keys first last
 goes_on_all knows how keys f xs place first last le goes = subst (λ ys. GoesOn knows how (flat_map f ys) keys first last) (take_all place xs le) goes
-
--- no parameters have no values
-pub values_of_none : (names : List (List ℕ)) → values_of_params [] names ≡ []
-values_of_none [] = refl
-values_of_none (name ∷ names) = values_of_none names
 
 -- nothing is selected where there are no fields
 pub selected_of_none : (selector : Selector) (params names : List (List ℕ)) (fields : List Field) → length fields ≡ 0 → selected_among selector params names fields ≡ []

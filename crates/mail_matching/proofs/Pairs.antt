@@ -10,13 +10,12 @@ use Rattle.glob_match.specs.declared.match_type.Match.{Match}
 use Rattle.glob_match.specs.declared.match_type.MatchType.{MatchType}
 use Rattle.glob_match.specs.declared.match_type.MatchType.TheVariants.{Is, Contains, Matches}
 use Rattle.mail_matching.specs.Costs.{extent_of}
-use Rattle.mail_matching.specs.Findings.{Pair, after_pair, finding_from, finding_of, first_pair, is_matched_by, is_pair, key_of, pair, shortened}
+use Rattle.mail_matching.specs.Findings.{Pair, after_pair, finding_from, finding_of, first_pair, is_matched_by, is_pair, key_of, pair}
 use Rattle.mail_matching.specs.FirstMatch.{after_comparison, after_match, first_key, first_match, ten_of}
 use Rattle.mail_matching.proofs.Extents.{extent-append, extent_one}
-use Rattle.mail_matching.specs.Private.{IsCounted, counted, further}
+use Rattle.mail_matching.specs.Private.{IsCounted, further}
 use Rattle.mail_matching.specs.declared.finding.Finding.{Finding}
 use Rattle.mail_matching.specs.declared.finding.Finding.TheVariants.{Pair as Matched, NoneOf}
-use Rattle.mail_matching.specs.declared.finding.Found.{Found}
 
 -- ---- a value and a key
 
@@ -139,14 +138,6 @@ finding-append how (value ∷ values) more keys =
 
 pub begins : (most : ℕ) → IsCounted most (NoneOf 0) (record { most = most; finding = NoneOf 0 })
 begins most = record { limit = refl; kept = ap NoneOf (omega arith) }
-
--- no list that is held has more values than a word can count
-all_kept : (most number : ℕ) (found : Option Pair) → number < 2 ^ 64 → counted (shortened most (finding_from number found)) ≡ shortened most (finding_from number found)
-all_kept most number None few = ap NoneOf (omega (arith, few))
-all_kept most number (Some p) few = refl
-
-pub ends : (most : ℕ) (found : Found) (how : Match) (values keys : List (List ℕ)) → length values < 2 ^ 64 → IsCounted most (finding_of how values keys) found → found.finding ≡ shortened most (finding_of how values keys)
-ends most found how values keys few kept = kept.kept ∙ all_kept most (length values) (first_pair how values keys) few
 
 -- a value is more than nothing
 pub values_few : (values : List (List ℕ)) → length values ≤ extent_of values

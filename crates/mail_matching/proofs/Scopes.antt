@@ -2,19 +2,18 @@
 use Rattle.std.proofs.Common.{◌≡◌, ℕ, zero, suc, ◌+◌, ◌<◌, ◌≤◌, ◌||◌, List, [], ◌∷◌, length, take, drop, Option, None, Some, refl, sym, ◌∙◌, ap, arith}
 use Rattle.std.specs.Prelude.{slice_get, slice_index_or, sum_by, unwrap_or}
 use Rattle.std.specs.List.{HoldsAt}
-use Rattle.std.proofs.lemmas.List.{drop_more, length-append, get_or-drop, get_or-map, get_or-take, length-drop, length-map, length-take}
-use Rattle.std.proofs.lemmas.List.Folds.{flat_map-map, list_any-append}
+use Rattle.std.proofs.lemmas.List.{length-append, get_or-drop, get_or-map, get_or-take, length-drop, length-map, length-take}
+use Rattle.std.proofs.lemmas.List.Folds.{flat_map-map}
 use Rattle.std.proofs.lemmas.List.Sums.{sum_by-cons, sum_by-take-le}
 use Rattle.std.proofs.lemmas.Option.{get_or_from_slice_get}
 use Rattle.octets.specs.Limits.{max_message}
-use Rattle.octets.specs.Ascii.{is_word}
 use Rattle.header_fields.specs.Fields.{Field}
 use Rattle.header_fields.specs.Extent.{fields_extent}
 use Rattle.mime_decode.specs.Mail.{IsMail, Mail, Part}
 use Rattle.bytecode_format.specs.declared.selection.Scope.{Scope}
 use Rattle.mail_matching.specs.Selection.{current_or_root, first_and_below, parts_in_scope}
 use Rattle.mail_matching.specs.Headers.{all_fields, headers_from}
-use Rattle.mail_matching.specs.HeaderTests.{fields_in_scope, has_field, headers_in_scope}
+use Rattle.mail_matching.specs.HeaderTests.{fields_in_scope, headers_in_scope}
 use Rattle.mail_matching.proofs.Extents.{dropped_within, fields_few, headers_extent}
 
 -- ---- an element that is there
@@ -90,10 +89,3 @@ fields_are scope current mail = flat_map-map (λ (fields : List Field). fields) 
 pub all_fields_few : (headers : List (List Field)) → length (all_fields headers) ≤ sum_by fields_extent headers
 all_fields_few [] = omega arith
 all_fields_few (fields ∷ headers) = omega (arith, all_fields_few headers, fields_few fields, sum_by-cons fields_extent fields headers, length-append fields (all_fields headers))
-
--- whether one of those that are left has a name
-pub has_field_left : (headers : List (List Field)) (place : ℕ) (fields : List Field) (name : List ℕ) → place < length headers → fields ≡ slice_index_or headers place []
-    → has_field (all_fields (drop place headers)) name ≡ (has_field fields name || has_field (all_fields (drop (place + 1) headers)) name)
-has_field_left headers place fields name lt is =
-    ap (λ hs. has_field (all_fields hs) name) (drop_more headers place [] lt ∙ ap (λ f. f ∷ drop (place + 1) headers) (sym is))
-    ∙ list_any-append (λ (field : Field). is_word field.name name) fields (all_fields (drop (place + 1) headers))

@@ -22,9 +22,6 @@ pub comment_ends : (more : List ℕ) → after_comment 0 (41 ∷ more) ≡ Some 
 comment_ends [] = refl
 comment_ends (d ∷ rest) = refl
 
-pub comment_escapes : (depth d : ℕ) (rest : List ℕ) → after_comment depth (92 ∷ d ∷ rest) ≡ after_comment depth rest
-comment_escapes depth d rest = refl
-
 -- what follows a comment is shorter than what follows its opening bracket
 abbrev Shorter : List ℕ → Option (List ℕ) → Type 0
 Shorter text o = MatchOption o (Unit {0}) (λ rest. length rest < length text)
@@ -59,10 +56,6 @@ comment_shorter depth (c ∷ d ∷ rest) =
         ]
       ]
     ]
-
--- enough octets are enough
-abbrev Enough : ℕ → ℕ → List ℕ → Type 0
-Enough n m text = after_gap_of n text ≡ after_gap_of m text
 
 pub gap_enough : (n m : ℕ) (text : List ℕ) → length text ≤ n → length text ≤ m → after_gap_of n text ≡ after_gap_of m text
 gap_enough zero zero text le le' = refl

@@ -18,17 +18,9 @@ pub prefix_more : (octets : List ℕ) (c : ℕ) (o : Option Word) → option_map
 prefix_more octets c None = refl
 prefix_more octets c (Some w) = ap (λ l. Some (record { octets = l; rest = w.rest })) (sym (append_assoc octets (c ∷ []) w.octets))
 
-pub prefix_none : (o : Option Word) → option_map (with_prefix []) o ≡ o
-prefix_none None = refl
-prefix_none (Some w) = refl
-
 pub quoted_octet : (c : ℕ) (more : List ℕ) → c ≢ 34 → c ≢ 92 → quoted (c ∷ more) ≡ option_map (with_octet c) (quoted more)
 quoted_octet c [] q b = rw (ne_eqb c 34 q) refl
 quoted_octet c (d ∷ rest) q b = rw (ne_eqb c 34 q, ne_eqb c 92 b) refl
-
-pub quoted_ends : (more : List ℕ) → quoted (34 ∷ more) ≡ Some (record { octets = []; rest = more })
-quoted_ends [] = refl
-quoted_ends (d ∷ rest) = refl
 
 -- one more octet of a quoted string
 pub quoted_more : (text octets : List ℕ) (c : ℕ) (rest more : List ℕ) → quoted text ≡ option_map (with_prefix octets) (quoted rest) → quoted rest ≡ option_map (with_octet c) (quoted more)
@@ -161,13 +153,6 @@ params_one more read some e = go (after_gap more) (gap_shorter (length more) mor
         let short = gap_shorter (length read.rest) read.rest in
         rw (f, e) (ap (λ ps. read.param ∷ ps) (params_enough (length more) (length (after_gap read.rest)) (after_gap read.rest) (omega (arith, short, left)) (omega arith)))
 
-pub params_malformed : (more : List ℕ) → is_empty_param (after_gap more) ≡ false → param_at (after_gap more) ≡ None → params_in (59 ∷ more) ≡ []
-params_malformed more some e = go (after_gap more) some e
-  where
-    go : (body : List ℕ) → is_empty_param body ≡ false → param_at body ≡ None → after_semicolon body (λ t. params_of (length more) t) ≡ []
-    go [] f e = absurd (cc)
-    go (d ∷ body) f e = rw (f, e) refl
-
 -- what follows a parameter, after a gap, is shorter than what follows its semicolon
 pub param_shorter : (more : List ℕ) (read : ReadParam) → param_at (after_gap more) ≡ Some read → length (after_gap read.rest) ≤ length more
 param_shorter more read e =
@@ -194,10 +179,6 @@ named_at name ps i p lt e same =
 pub named_after : (name : List ℕ) (ps : List Parameter) (i : ℕ) (p : Parameter) → i < length ps → p ≡ get_or ps i p → (lowercase_of p.name ≡ lowercase_of name → ⊥) → value_named name (drop i ps) ≡ value_named name (drop (i + 1) ps)
 named_after name ps i p lt e other =
     ap (value_named name) (drop_more ps i p lt ∙ ap (λ (q : Parameter). q ∷ drop (i + 1) ps) (sym e)) ∙ named_later name p (drop (i + 1) ps) other
-
--- where no semicolon stands there is no parameter
-pub params_other : (c : ℕ) (more : List ℕ) → c ≢ 59 → params_in (c ∷ more) ≡ []
-params_other c more other = rw (ne_eqb c 59 other) refl
 
 -- what follows a quoted string is the same after one more octet
 pub after_octet_of : (o : Option Word) (c : ℕ) → after_word (option_map (with_octet c) o) ≡ after_word o

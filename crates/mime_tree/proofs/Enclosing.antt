@@ -285,9 +285,6 @@ body_cut text around (line ∷ lines) place here =
 
 -- ---- the children of a part
 
-stretch_of : Part → Stretch
-stretch_of part = record { place = part.place; octets = part.raw }
-
 body_is_cut : (text : List ℕ) (around : List (List ℕ)) (depth : ℕ) (default : MediaType) (stretch : Stretch) → IsCut text around stretch
     → IsCut text around (body_stretch (part_at depth default stretch))
 body_is_cut text around depth default stretch is =

@@ -130,9 +130,6 @@ between_in (Some value) body =
           subst P (octets_of-lines_of body.octets) (multipart_in boundary body.place (lines_of body.octets)))
     ]
 
-none_in : (body : Stretch) → AreIn body body.place (body.place + length body.octets) []
-none_in body = omega arith
-
 body_in : (media : MediaType) (body : Stretch) → AreIn body body.place (body.place + length body.octets) (children_in media body)
 body_in media body = elim (cases_Bool (is_word media.main (codes "multipart"))) [
   | inl multipart ↦ rw multipart (between_in (value_named (codes "boundary") media.params) body)

@@ -1,12 +1,12 @@
 -- The run that a text begins with, and the next of a text.
-use Rattle.std.proofs.Common.{◌≡◌, ◌⊎◌, ℕ, ◌+◌, ◌-◌, ◌≤◌, List, [], ◌∷◌, ◌++◌, refl, sym, ◌∙◌, ap, subst, arith, length, take, drop, inl, Option, Some, None}
+use Rattle.std.proofs.Common.{◌≡◌, ◌⊎◌, ℕ, ◌+◌, ◌-◌, ◌≤◌, List, [], ◌∷◌, ◌++◌, refl, ◌∙◌, ap, subst, arith, length, take, inl, Option, Some, None}
 use Rattle.std.specs.List.{slice_range}
-use Rattle.std.proofs.lemmas.List.{append-nil, drop-drop, length-drop}
+use Rattle.std.proofs.lemmas.List.{append-nil}
 use Rattle.text_lines.specs.Unread.{Unread}
-use Rattle.text_lines.specs.Lines.{lines_of, text_line, GivesLine, IsLineAt}
+use Rattle.text_lines.specs.Lines.{text_line, GivesLine, IsLineAt}
 use Rattle.text_lines.specs.declared.line.Line.{Line}
 use Rattle.text_lines.proofs.Slices.{slice_join}
-use Rattle.mime_tree.specs.Runs.{IsOneLine, IsQuiet, BeginsWithRun, GivesFirstRun, IsNextRun}
+use Rattle.mime_tree.specs.Runs.{BeginsWithRun, GivesFirstRun}
 
 slice_taken : (text : List ℕ) (from to : ℕ) → from ≡ 0 → slice_range text from to ≡ take to text
 slice_taken text from to none = let whole : to - 0 ≡ to = omega arith in rw (none, whole) refl
@@ -35,27 +35,3 @@ line_alone text old None new is gives =
 line_alone text old (Some line) new is gives =
     let at : IsLineAt text 0 line = subst (λ (u : Unread). IsLineAt u.text u.place line) is gives.here in
     (at.start, one_line text line at)
-
--- the run that what is left begins with is the next one
-pub run_given : (text : List ℕ) (place end stop : ℕ) (new : Unread) → place ≤ length text → BeginsWithRun (drop place text) end stop → new ≡ record { text = text; place = place + stop }
-    → IsNextRun record { text = text; place = place } record { start = place; end = place + end; stop = place + stop } new
-run_given text place end stop new within run is =
-    let long = length-drop place text in
-    let to_end : place + end - place ≡ end = omega arith in
-    let to_stop : place + stop - place ≡ stop = omega arith in
-    let octets : take stop (drop place text) ≡ slice_range text place (place + stop) = rw to_stop refl in
-    let content : take end (drop place text) ≡ slice_range text place (place + end) = rw to_end refl in
-    record {
-      same_text = ap (λ (u : Unread). u.text) is;
-      start = refl;
-      after = ap (λ (u : Unread). u.place) is;
-      end_after_start = omega arith;
-      stop_after_end = omega (arith, run.end_before_stop);
-      some = omega (arith, run.some);
-      within = omega (arith, run.within, long);
-      lines = run.lines;
-      left = run.all ∙ ap (λ (t : List ℕ). run.lines ++ lines_of t) (drop-drop stop place text ∙ ap (λ (u : Unread). drop u.place u.text) (sym is));
-      octets = run.octets ∙ octets;
-      content = λ lt. run.content (omega (arith, long)) ∙ content;
-      kind = subst (λ (t : List ℕ). IsOneLine run.lines t ⊎ IsQuiet run.lines t) content run.kind;
-    }

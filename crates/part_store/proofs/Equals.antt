@@ -1,5 +1,5 @@
 -- Columns that equal a value.
-use Rattle.std.proofs.Common.{◌≡◌, ℕ, pos, Bool, true, false, List, length, Option, None, Some, option_map, refl, ap, ◌∙◌, bytes_eq, eqb, is_eq, int_cmp, arith}
+use Rattle.std.proofs.Common.{◌≡◌, ℕ, pos, Bool, true, false, List, length, Some, refl, ap, ◌∙◌, bytes_eq, eqb, is_eq, int_cmp, arith}
 use Rattle.std.proofs.lemmas.Bool.Decides.{nat_tests}
 use Rattle.std.proofs.lemmas.Int.{ints}
 use Rattle.std.proofs.lemmas.Map.Text.{is_eq-slice_cmp}
@@ -8,7 +8,6 @@ use Rattle.sqlite_value.specs.declared.value.Value.TheVariants.{Int, Text, Blob}
 use Rattle.sqlite_value.proofs.OrderLemmas.{value_cmp-Int, value_cmp-Text, value_cmp-Blob}
 use Rattle.sqlite_sql.specs.declared.ops.UnaryOp.TheVariants.{Length}
 use Rattle.sqlite_sql.specs.Ops.{binary, unary, is_true, from_truth}
-use Rattle.sqlite.specs.Values.{or_null}
 use Rattle.sqlite_schema.specs.Rules.{equal}
 
 -- a truth that became a value is that truth
@@ -37,8 +36,3 @@ same_number m n h = cc
 pub blob_length : (octets : List ℕ) → unary Length (Blob octets) ≡ Int (pos (length octets))
 unfolding unary
 blob_length octets = refl
-
--- a program that may be missing, as a value
-pub or_null_map : {A : Type 0} (items : A → List ℕ) (program : Option A) → or_null (λ v. Blob (items v)) program ≡ or_null Blob (option_map items program)
-or_null_map items None = refl
-or_null_map items (Some v) = refl

@@ -11,7 +11,7 @@ use Rattle.sqlite_trees.specs.declared.store.Store as store
 use Rattle.sqlite.specs.Held.{Held, state}
 use Rattle.sqlite.specs.State.{State, HasCleanDisk, Survives}
 use Rattle.part_store.specs.Entries.{Entries}
-use Rattle.part_store.specs.Refusals.{refusal_of, HasFailed, OnlyWhenFailed, OnlyWhenFailedOr}
+use Rattle.part_store.specs.Refusals.{refusal_of, HasFailed, OnlyWhenFailedOr}
 use Rattle.part_store.specs.Causes.{Faults}
 use Rattle.part_store.specs.declared.error.StoreError.{StoreError}
 use Rattle.part_store.specs.declared.error.StoreError.TheVariants.{Database}
@@ -21,9 +21,6 @@ module _ {Q : Trees → Type 0} (old mid new : State) (two : Survives mid new Q)
   pub first_failed : HasFailed old mid → HasFailed old new
   first_failed (inl disk) = inl (omega (arith, disk, two.counts))
   first_failed (inr other) = inr other
-
-  pub blamed_first : (e : StoreError) → OnlyWhenFailed old mid e → OnlyWhenFailed old new e
-  blamed_first e h is before stands = first_failed (h is before stands)
 
 module _ {P Q : Trees → Type 0} (old mid new : State) (one : Survives old mid P) (two : Survives mid new Q) (clean : HasCleanDisk new) where
   pub later_failed : HasFailed mid new → HasFailed old new
@@ -36,10 +33,6 @@ module _ {P Q : Trees → Type 0} (old mid new : State) (one : Survives old mid 
     | inr off ↦ inr (inl off)
   ]
   later_failed (inr (inr limited)) = inr (inr (subst IsSome one.limit limited))
-
--- where the tables stand for a state they are the three
-pub faulted : (old new : State) (e : Error) → Faults old new e → OnlyWhenFailed old new (refusal_of e)
-faulted old new e h is before stands = h is stands.schema
 
 -- what is readable is refused for want of memory alone
 pub unread : {R : Type 0} (row : Row) (at : ℕ) (e : Error) → (e ≢ SqliteFailure OutOfMemory → at < length row → ¬ R) → at < length row → R → refusal_of e ≡ Database → ⊥

@@ -1,5 +1,5 @@
 -- Entries that are filed one after another.
-use Rattle.std.proofs.Common.{◌≡◌, ◌⊎◌, inl, inr, Bool, true, ℕ, ◌+◌, ◌<◌, List, [], ◌∷◌, ◌++◌, length, map, take, drop, get_or, IsTrue, refl, sym, ap, subst, ◌∙◌, append-nil, append_assoc, arith, add-zero, length-append, ℤ, ◌+ℤ◌, pos, zero, suc}
+use Rattle.std.proofs.Common.{◌≡◌, ◌⊎◌, inl, inr, Bool, true, ℕ, ◌+◌, ◌<◌, List, [], ◌∷◌, ◌++◌, length, map, take, drop, get_or, IsTrue, refl, sym, ap, subst, ◌∙◌, append_assoc, arith, add-zero, length-append, ℤ, ◌+ℤ◌, pos, zero, suc}
 use Rattle.std.proofs.lemmas.List.{drop_more, take-append-drop, map-append, map_more}
 use Rattle.sha2.specs.Sha256.{sha256}
 use Rattle.std.proofs.lemmas.Int.{ints}
@@ -14,7 +14,6 @@ use Rattle.part_store.specs.Additions.{CanFile, Files, FilesAll, HasDraft, IsNex
 use Rattle.part_store.specs.Filing.{Collides, IsOther}
 use Rattle.part_store.specs.Sharing.{octets_at}
 use Rattle.part_store.specs.Standing.{HasContent, Stands, draft_of}
-use Rattle.part_store.proofs.Filed.{same_rowids}
 use Rattle.part_store.specs.declared.entry.Kind.TheVariants.{Message}
 use Rattle.part_store.specs.declared.entry.NewEntry.{NewEntry}
 
@@ -57,27 +56,6 @@ pub record Filing (user : List ℕ) (last count : ℕ) (drafts : List Draft) (ol
   pub still : HasCleanDisk now → IsTrue old.in_transaction → IsTrue now.in_transaction
   pub schema : HasCleanDisk now → old.now.schema ≡ store_schema → now.now.schema ≡ store_schema
   pub kept : HasCleanDisk now → old.now.schema ≡ store_schema → KeepsCommit old now
-
-pub survives_self : (s : State) → Survives s s (λ _. ⊥)
-survives_self s = record { clean = omega arith; shield = λ h. h; counts = omega arith; limit = refl; closes = λ _ h. inl h; crash = λ _ db h. inl h }
-
-pub none_filed : (user : List ℕ) (last count : ℕ) (s : State) → Filing user last count [] s s
-none_filed user last count s = record {
-  survives = survives_self s;
-  filed = λ clean before stands can. record {
-    stands = subst (λ entries. Stands s.now (record before { entries = entries })) (sym (append-nil before.entries)) stands;
-    committed = refl;
-    has = λ d h. absurd h;
-    kept = λ g o h. h;
-    from = λ g o h. inl h;
-    content_rowids = (0, omega arith, same_rowids (s.now.trees contents_tree));
-    entry_rowids = same_rowids (s.now.trees entries_tree);
-  };
-  inside = λ clean some. absurd (omega arith);
-  still = λ clean h. h;
-  schema = λ clean has. has;
-  kept = λ clean has. record { was_open = λ h. h; committed = λ _. refl };
-}
 
 pub next_one : (before : Entries) (user : List ℕ) (last count : ℕ) (drafts : List Draft) (d : Draft) → CanFile before user last count → length drafts < count
     → IsNext (record before { entries = before.entries ++ numbered user (last + 1) drafts }) (entry_of user (last + 1 + length drafts) d)

@@ -86,7 +86,3 @@ size_there old new digest row n reads shown before stands octets there =
     let same = stands.tables.single digest h.2 octets held there in
     let long : column row 0 ≡ Int (pos (length h.2)) = ap (λ (r : Row). column r 0) found.3 ∙ ap (λ (r : Row). column (length_at 2 r) 0) h.3 ∙ blob_length h.2 in
     same_number n (length h.2) (sym shown ∙ long) ∙ ap length same
-
--- where the user has no entry of that number no row of it names a digest
-pub not_named : (db : Trees) (e : Entries) (user : List ℕ) (number : ℕ) (digest : List ℕ) → StandsFor db e → HasNone e user number → NamesDigest db user number digest → ⊥
-not_named db e user number digest stands none named = let x = entry_there db e user number digest stands named in none x.0 x.1

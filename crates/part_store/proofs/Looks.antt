@@ -1,18 +1,11 @@
 -- What is asked of a database's tables, one after another.
-use Rattle.std.proofs.Common.{◌≡◌, ◌≢◌, true, false, List, [], ◌∷◌, length, get_or, refl, ap, ◌∙◌, arith}
+use Rattle.std.proofs.Common.{◌≡◌, ◌≢◌, true, List, [], ◌∷◌, length, get_or, refl, ap, ◌∙◌, arith}
 use Rattle.sqlite_schema.specs.declared.schema.Table.{Table}
 use Rattle.part_store.specs.Looking.{are_tables, three_tables}
 use Rattle.part_store.specs.Tables.{store_schema}
 
 pub stores_pass : are_tables store_schema.tables ≡ true
 stores_pass = refl
-
-pub not_three : (tables : List Table) → length tables ≢ 3 → false ≡ are_tables tables
-not_three [] other = refl
-not_three (a ∷ []) other = refl
-not_three (a ∷ b ∷ []) other = refl
-not_three (a ∷ b ∷ c ∷ []) other = absurd (other refl)
-not_three (a ∷ b ∷ c ∷ d ∷ more) other = refl
 
 pub all_three : (tables : List Table) (a b c : Table) → length tables ≡ 3 → a ≡ get_or tables 0 a → b ≡ get_or tables 1 b → c ≡ get_or tables 2 c → three_tables a b c ≡ are_tables tables
 all_three [] a b c three first second third = absurd (omega (arith, three))

@@ -14,7 +14,6 @@ use Rattle.sqlite.specs.Values.{or_null}
 use Rattle.sqlite.specs.State.{State}
 use Rattle.part_store.specs.Tables.{users_tree, contents_tree, entries_tree, equals}
 use Rattle.part_store.specs.Changes.{columns, Steps, Reads, IsFound, IsAdded, IsPut, IsTaken}
-use Rattle.part_store.specs.Causes.{HasNoRow}
 use Rattle.part_store.specs.UserLines.{HasRow}
 use Rattle.part_store.specs.Entries.{Entries, with_program}
 use Rattle.part_store.specs.Readings.{last_in}
@@ -159,9 +158,3 @@ number_read old new user row n reads last before stands =
     let found = (reads stands.schema).change.1 in
     let r = found_user old.now.trees before stands.tables user found.0 found.1 found.2 in
     (same_number n (before.lasts user) (sym last ∙ ap (λ (x : Row). column x 0) found.3 ∙ ap (λ (x : Row). column x 2) r.1), (found.0, found.1, found.2))
-
--- the user has no row
-pub no_number_read : (old new : State) (user : List ℕ) → Steps (Reads (λ db. IsFound users_tree (equals 1 (Text user)) (columns (2 ∷ [])) db None)) old new
-    → (before : Entries) → Stands old.now before → (0 ≡ before.lasts user) × HasNoRow user old.now.trees
-no_number_read old new user reads before stands =
-    let none = (reads stands.schema).change.1 in (sym (stands.tables.strangers user none).0, none)

@@ -16,9 +16,9 @@ use Rattle.part_store.specs.Refusals.{refusal_of, user_values, OnlyWhenFailedOrN
 use Rattle.part_store.specs.Causes.{RisesFrom}
 use Rattle.part_store.proofs.Apart.{bytes_same, same_bytes}
 use Rattle.part_store.proofs.Failing.{later_failed}
-use Rattle.part_store.proofs.Room.{ran_out, rises_after, rises_none}
+use Rattle.part_store.proofs.Room.{ran_out, rises_after}
 use Rattle.part_store.proofs.Entering.{kept_then, stands_still}
-use Rattle.part_store.proofs.FiledAll.{has_right, survives_self}
+use Rattle.part_store.proofs.FiledAll.{has_right}
 
 -- ---- what is named
 
@@ -32,13 +32,6 @@ programs_push pairs pair e = λ i. record e { programs = λ user. go user (e.pro
     go : (user : List ℕ) (program : Option (List ℕ)) → option_map (program_named (pair ∷ []) user) (option_map (program_named pairs user) program) ≡ option_map (program_named (pairs ++ pair ∷ []) user) program
     go user None = refl
     go user (Some program) = ap Some (sym (named_push pairs pair user program))
-
-pub no_programs : (e : Entries) → e ≡ with_programs [] e
-no_programs e = λ i. record e { programs = λ user. go user (e.programs user) i }
-  where
-    go : (user : List ℕ) (program : Option (List ℕ)) → program ≡ option_map (program_named [] user) program
-    go user None = refl
-    go user (Some program) = refl
 
 -- who has a program has this one now
 pub one_replaced : (user program was : List ℕ) (e : Entries) → Some was ≡ e.programs user → with_program user program e ≡ with_programs ((user, program) ∷ []) e
@@ -72,18 +65,6 @@ pub record Replacing (pairs : List UserProgram) (old now : State) : Type 0 where
   pub stays_closed : HasCleanDisk now → IsTrue now.is_open → IsTrue old.is_open
   pub kept : HasCleanDisk now → old.now.schema ≡ store_schema → KeepsCommit old now
   pub rowids : HasCleanDisk now → (before : Entries) → Stands old.now before → RisesFrom (length pairs) (old.now.trees users_tree) (now.now.trees users_tree)
-
-pub nothing_replaced : (s : State) → Replacing [] s s
-nothing_replaced s = record {
-  survives = survives_self s;
-  brought = λ clean before stands. (subst (Stands s.now) (no_programs before) stands, refl);
-  inside = λ clean has h. h;
-  schema = λ clean has. has;
-  opened = λ clean some. absurd (omega (arith, some));
-  stays_closed = λ clean h. h;
-  kept = λ clean has. record { was_open = λ h. h; committed = λ _. refl };
-  rowids = λ clean before stands. rises_none (s.now.trees users_tree);
-}
 
 pub replaced_more : (pairs : List UserProgram) (pair : UserProgram) (old mid new : State) → Replacing pairs old mid → Survives mid new (λ _. ⊥) → (HasCleanDisk new → Brings (with_programs (pair ∷ [])) mid new)
     → (HasCleanDisk new → mid.now.schema ≡ store_schema → IsTrue mid.in_transaction → IsTrue new.in_transaction) → (HasCleanDisk new → mid.now.schema ≡ store_schema → new.now.schema ≡ store_schema)

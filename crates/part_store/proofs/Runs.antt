@@ -164,14 +164,6 @@ pub if_ok : {B E : Type 0} (r : Result B E) (P Q : B → Type 0) → ((b : B) �
 if_ok (Ok b) P Q f h = f b h
 if_ok (Err e) P Q f h = tt
 
-pub if_err : {B E : Type 0} (r : Result B E) (P : E → Type 0) (Q : Type 0) → ((e : E) → P e → Q) → IfErr r P → OnErr r Q
-if_err (Ok b) P Q f h = tt
-if_err (Err e) P Q f h = f e h
-
-pub ok_then : {B E : Type 0} (r : Result B E) (P : B → Type 0) (Q : Type 0) → ((b : B) → P b → Q) → IfOk r P → OnOk r Q
-ok_then (Ok b) P Q f h = f b h
-ok_then (Err e) P Q f h = tt
-
 pub on_ok_then : {B E : Type 0} (r : Result B E) (P Q : Type 0) → (P → Q) → OnOk r P → OnOk r Q
 on_ok_then (Ok b) P Q f h = f h
 on_ok_then (Err e) P Q f h = tt

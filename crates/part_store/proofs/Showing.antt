@@ -19,7 +19,6 @@ use Rattle.part_store.specs.Inside.{Stays}
 use Rattle.part_store.specs.declared.entry.EntryRow.{EntryRow}
 use Rattle.part_store.proofs.Entering.{kept_then, stands_still}
 use Rattle.part_store.proofs.Equals.{equal_texts}
-use Rattle.part_store.proofs.FiledAll.{survives_self}
 use Rattle.part_store.proofs.Listed.{HasNumber, Rises, listed_so, number_in}
 use Rattle.part_store.proofs.Programs.{same_bytes}
 
@@ -102,14 +101,6 @@ pub record Reading (rows : List Row) (place : ℕ) (out : List EntryRow) (old no
   pub stays : HasCleanDisk now → Stays old now
   pub kept : HasCleanDisk now → old.now.schema ≡ store_schema → KeepsCommit old now
   pub read : HasCleanDisk now → (before : Entries) → Stands old.now before → (xs : List Entry) → AllZip (Shows old.now.trees) rows xs → map listed out ≡ map listing_of (take place xs)
-
-pub none_read : (rows : List Row) (s : State) → Reading rows 0 [] s s
-none_read rows s = record {
-  survives = survives_self s;
-  stays = λ clean has. (has, refl);
-  kept = λ clean has. record { was_open = λ h. h; committed = λ _. refl };
-  read = λ clean before stands xs all. refl;
-}
 
 zip_at : (db : Trees) (rows : List Row) (xs : List Entry) (place : ℕ) (r : Row) (x : Entry) → AllZip (Shows db) rows xs → place < length rows → Shows db (get_or rows place r) (get_or xs place x)
 zip_at db [] xs place r x all lt = absurd (omega (arith, lt))

@@ -1,9 +1,8 @@
 -- The rows of an answer over tables that stand for a state can be read.
-use Rattle.std.proofs.Common.{◌≡◌, ℕ, zero, suc, ◌+◌, ◌<◌, ◌≤◌, ◌^◌, true, List, [], ◌∷◌, length, map, filter, take, get_or, sum_by, Option, Some, None, refl, sym, ap, subst, ◌∙◌, arith}
+use Rattle.std.proofs.Common.{◌≡◌, ℕ, ◌+◌, ◌<◌, ◌≤◌, ◌^◌, true, List, [], ◌∷◌, length, map, filter, Option, Some, None, refl, sym, ap, ◌∙◌, arith}
 use Rattle.std.specs.List.{AllByRecursion}
 use Rattle.std.proofs.lemmas.Bool.{true≢false}
 use Rattle.std.proofs.lemmas.List.Sorted.{IsPermutation-sym}
-use Rattle.std.proofs.lemmas.List.Sums.{sum_by-cons}
 use Rattle.sqlite_value.specs.declared.value.Value.TheVariants.{Text, Blob}
 use Rattle.sqlite_value.specs.Order.{Row, column}
 use Rattle.sqlite_trees.specs.Tree.{Trees}
@@ -12,30 +11,15 @@ use Rattle.sqlite_rules.proofs.ListLemmas.{all_has, all_from, has_filtered}
 use Rattle.sqlite_rules.proofs.ProbeLemmas.{has_mapped}
 use Rattle.sqlite.specs.State.{State}
 use Rattle.sqlite.specs.Values.{or_null}
-use Rattle.octets.specs.Limits.{max_entry_number}
 use Rattle.part_store.specs.Tables.{users_tree, contents_tree}
 use Rattle.part_store.specs.Changes.{columns, every, has_program, sized, IsListed, Reads, Steps}
-use Rattle.part_store.specs.Entries.{Entry, Entries}
+use Rattle.part_store.specs.Entries.{Entries}
 use Rattle.part_store.specs.Refusals.{AreNamed}
-use Rattle.part_store.specs.Readings.{IsReadable, ShowsProgram, ShowsSize, ShowsUser, Shows}
-use Rattle.part_store.specs.Standing.{IsContentRow, IsUserRow, Stands, kind_number}
+use Rattle.part_store.specs.Readings.{ShowsProgram, ShowsSize, ShowsUser}
+use Rattle.part_store.specs.Standing.{IsContentRow, IsUserRow, Stands}
 use Rattle.part_store.specs.declared.entry.Kind.{Kind}
-use Rattle.part_store.specs.declared.entry.Kind.TheVariants.{Message, Part}
 use Rattle.part_store.proofs.Equals.{blob_length}
 use Rattle.part_store.proofs.Rows.{has_permuted}
-
--- the row at a place
-pub all_at : {X : Type 0} (P : X → Type 0) (xs : List X) (place : ℕ) (x : X) → AllByRecursion P xs → place < length xs → x ≡ get_or xs place x → P x
-all_at P [] place x all within is = absurd (omega (arith, within))
-all_at P (y ∷ xs) zero x all within is = subst P (sym is) all.0
-all_at P (y ∷ xs) (suc place) x all within is = all_at P xs place x all.1 (omega (arith, within)) is
-
--- those before a place and the one there are no more than all
-pub part_of_sum : {X : Type 0} (f : X → ℕ) (xs : List X) (place : ℕ) (x : X) → place < length xs → x ≡ get_or xs place x → sum_by f (take place xs) + f x ≤ sum_by f xs
-part_of_sum f [] place x within is = absurd (omega (arith, within))
-part_of_sum f (y ∷ xs) zero x within is = omega (arith, sum_by-cons f y xs, ap f is)
-part_of_sum f (y ∷ xs) (suc place) x within is =
-    omega (arith, sum_by-cons f y xs, sum_by-cons f y (take place xs), part_of_sum f xs place x (omega (arith, within)) is)
 
 -- a row of an answer is shown of one of the table
 from_table : (tree : ℕ) (test : Row → _) (shown : Row → Row) (rows : List Row) (db : Trees) (row : Row) → IsListed tree test shown rows db → Has rows row
@@ -74,11 +58,3 @@ module _ (old new : State) (before : Entries) (stands : Stands old.now before) (
       let h = all_has IsContentRow (old.now.trees contents_tree) r.0 stands.tables.contents r.1 in
       let shown : ShowsSize row = (h.1, length h.2, r.3 ∙ ap sized h.3 ∙ ap (λ v. Blob h.1 ∷ v ∷ []) (blob_length h.2)) in
       shown)
-
-small_kind : (kind : Kind) → kind_number kind < 2 ^ 32
-small_kind Message = omega arith
-small_kind Part = omega arith
-
-pub entry_readable : (db : Trees) (row : Row) (x : Entry) → Shows db row x → x.number ≤ max_entry_number → IsReadable row
-entry_readable db row x shows low =
-    (x.number, kind_number x.kind, x.folder, x.name, x.media, shows.0, omega (arith, low), small_kind x.kind, shows.1)

@@ -82,10 +82,6 @@ keep_all : {X : Type 0} (xs : List X) → filter (λ _. true) xs ≡ xs
 keep_all [] = refl
 keep_all (x ∷ xs) = ap (λ ys. x ∷ ys) (keep_all xs)
 
-and_not : (a b : Bool) → (not a && not b) ≡ not (cond a true b)
-and_not true b = refl
-and_not false b = refl
-
 pub taken_out : (ids : List ℤ) (rows : List Row) → without_all rows ids ≡ filter (λ r. not (has_one ids r)) rows
 taken_out [] rows = sym (keep_all rows)
 taken_out (id ∷ ids) rows = taken_out ids (without_rowid id rows) ∙ filter_twice _ _ rows ∙ filter_same _ _ rows (λ r _. elim (has_rowid id r) as (λ b. (not b && not (has_one ids r)) ≡ not (b || has_one ids r)) [ true ↦ refl | false ↦ refl ])

@@ -4,9 +4,6 @@ use Rattle.std.proofs.Math.Seq.{take-append_seam, take-length}
 use Rattle.std.proofs.lemmas.List.{append_assoc, take-append-drop}
 use Rattle.quoted_printable.specs.Private.{Extends}
 
-pub extends_same : (was : List ℕ) → Extends was was
-extends_same was = take-length was
-
 pub extends_more : (was more now : List ℕ) → now ≡ was ++ more → Extends was now
 extends_more was more now e = ap (take (length was)) e ∙ take-append_seam was more
 

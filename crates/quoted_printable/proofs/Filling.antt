@@ -1,13 +1,12 @@
 -- A line while it is written.
-use Rattle.std.proofs.Common.{◌≡◌, ℕ, ◌-◌, ◌+◌, ◌<◌, ◌≤◌, ◌==◌, Bool, true, false, List, [], ◌∷◌, ◌++◌, zero, suc, inl, inr, refl, sym, ◌∙◌, ap, arith, length, take, drop, get_or, zero-add}
-use Rattle.std.proofs.lemmas.Bool.{cases_Bool, le-leb, true≢false}
+use Rattle.std.proofs.Common.{◌≡◌, ℕ, ◌-◌, ◌+◌, ◌<◌, ◌≤◌, ◌==◌, Bool, true, false, List, [], ◌∷◌, ◌++◌, zero, suc, refl, sym, ◌∙◌, ap, arith, length, take, drop, get_or, zero-add}
+use Rattle.std.proofs.lemmas.Bool.{le-leb}
 use Rattle.std.proofs.lemmas.List.{length-drop, length-take-le, take-append-le, take-take, drop-drop}
 use Rattle.std.proofs.lemmas.Grind.{flat_map-append}
 use Rattle.std.proofs.Math.Seq.{take-append-add}
-use Rattle.octets.specs.Blank.{is_blank}
 use borrow.Rule.Slice.PartMut.{put_mid, post_of}
 use Rattle.text_lines.proofs.Slices.{take_join}
-use Rattle.quoted_printable.specs.QuotedPrintable.{escape_of, is_literal, joined, run_of, stands, token_of, tokens_of}
+use Rattle.quoted_printable.specs.QuotedPrintable.{joined, run_of, stands, token_of, tokens_of}
 use Rattle.quoted_printable.proofs.Encoded.{prefix_kept, run_ended, run_goes, run_stops, take_here, token_here, tokens_drop}
 
 -- so many tokens stand in so many octets of the line, and go on as the longest run does
@@ -17,11 +16,6 @@ pub record IsFilled (octets : List ℕ) (room : ℕ) (line : List ℕ) (taken le
   pub long : length line ≡ 112
   pub written : take len line ≡ joined (take taken (tokens_of octets))
   pub run : run_of room (tokens_of octets) ≡ taken + run_of (room - len) (drop taken (tokens_of octets))
-
-pub filled_none : (octets : List ℕ) (room : ℕ) (line : List ℕ) → length line ≡ 112 → IsFilled octets room line 0 0
-filled_none octets room line long =
-    let all : room - 0 ≡ room = omega arith in
-    record { within = omega arith; few = omega arith; long = long; written = refl; run = rw (all, zero-add) refl }
 
 -- ---- a token more
 
@@ -62,20 +56,7 @@ filled_stops octets room line new taken len end filled small lt ends puts over =
 pub filled_ended : (octets : List ℕ) (room : ℕ) (line : List ℕ) (taken len : ℕ) → IsFilled octets room line taken len → length octets ≤ taken → taken ≡ run_of room (tokens_of octets)
 filled_ended octets room line taken len filled end = sym (run_ended octets (room - len) taken end filled.run)
 
--- an octet that doesn't stand before others stands nowhere
-pub written_here : (octet : ℕ) (b : Bool) → stands octet false ≡ false → token_of octet b ≡ escape_of octet
-written_here octet b e = elim (cases_Bool (is_literal octet)) [
-  | inl literal ↦ absurd (true≢false (sym (rw literal refl) ∙ e))
-  | inr other ↦ elim (cases_Bool (is_blank octet)) [
-    | inl blank ↦ absurd (true≢false (sym (rw (other, blank) refl) ∙ e))
-    | inr neither ↦ rw (other, neither) refl
-  ]
-]
-
 -- ---- octets that stand as they are
-
-stands_here : (octet : ℕ) (b : Bool) → stands octet false ≡ true → b ≡ false → token_of octet b ≡ octet ∷ []
-stands_here octet b e more = rw (more, e) refl
 
 -- as many tokens as octets that stand, where others follow
 standing_tokens : (n : ℕ) (octets : List ℕ) (room : ℕ) → n < length octets → n ≤ room → ((i : ℕ) → i < n → stands (get_or octets i 0) false ≡ true)

@@ -1,9 +1,9 @@
 -- What octets that are kept stand for once it is known what follows them.
-use Rattle.std.proofs.Common.{◌≡◌, ◌≢◌, ◌⊎◌, ℕ, ◌-◌, ◌+◌, ◌*◌, ◌<◌, ◌==◌, ◌&&◌, ◌||◌, Bool, true, false, List, [], ◌∷◌, ◌++◌, suc, inl, inr, refl, sym, ◌∙◌, ap, arith, length, take, drop, get_or, reverse, subst}
+use Rattle.std.proofs.Common.{◌≡◌, ◌≢◌, ◌⊎◌, ℕ, ◌-◌, ◌+◌, ◌*◌, ◌<◌, ◌==◌, ◌&&◌, ◌||◌, Bool, true, false, List, [], ◌∷◌, ◌++◌, inl, inr, refl, sym, ◌∙◌, ap, arith, length, take, drop, get_or, reverse, subst}
 use Rattle.std.specs.Char.{digit_value}
 use Rattle.std.specs.List.{flat_map}
 use Rattle.std.proofs.lemmas.Bool.{ne_eqb, eqb-true, eqb-false, cases_Bool, true≢false}
-use Rattle.std.proofs.lemmas.List.{append_assoc, append-nil, length-append, length-reverse, nil_from_length, reverse-append, reverse-reverse, take-append-drop}
+use Rattle.std.proofs.lemmas.List.{append_assoc, append-nil, length-reverse, nil_from_length, reverse-append, reverse-reverse, take-append-drop}
 use Rattle.octets.specs.Blank.{is_blank, without_leading_blanks, without_trailing_blanks}
 use Rattle.text_lines.specs.Lines.{lines_of, line_octets, octets_of, onto_content}
 use Rattle.text_lines.proofs.FirstLine.{lines_other, no_break_of}
@@ -71,9 +71,6 @@ decoded-literal text firm e =
     ∙ (rw (trailing_kept 61 line.content refl)
     (ap (λ l. l ++ flat_map decoded_line firm.lines) (ended_literal (without_trailing_blanks line.content) line.break firm.some (opens_trimmed line.content content))))
     ∙ ap (λ l. 61 ∷ flat_map decoded_line l) (sym firm.first)
-
-firm_literal : (text : List ℕ) → IsFirm (61 ∷ text)
-firm_literal text = firm_here 61 text refl (λ e. omega (arith, e)) (no_break_of 61 text (λ e. omega (arith, e)))
 
 -- ---- a line that ends after blanks
 
@@ -396,15 +393,6 @@ release_hard was now held (x ∷ rest) is digit some feed first e =
 
 -- ---- octets that go on
 
-pub goes_on_last : (held : List ℕ) (octet : ℕ) → 0 < length held → goes_on held octet ≡ follows (get_or held (length held - 1) 0) octet
-goes_on_last [] octet some = absurd (omega arith)
-goes_on_last (first ∷ rest) octet some = ap (λ n. follows n octet) (last_at first rest) where
-  last_at : (first : ℕ) (rest : List ℕ) → last_of first rest ≡ get_or (first ∷ rest) (length (first ∷ rest) - 1) 0
-  last_at first [] = refl
-  last_at first (following ∷ rest) =
-      let at : suc (suc (length rest)) - 1 ≡ suc (length (following ∷ rest) - 1) = omega arith in
-      last_at following rest ∙ ap (λ n. get_or (first ∷ following ∷ rest) n 0) (sym at)
-
 all_follow_more : (last : ℕ) (w : List ℕ) (x : ℕ) → all_follow last w ≡ true → follows (last_of last w) x ≡ true → all_follow last (w ++ x ∷ []) ≡ true
 all_follow_more last [] x all e = rw e refl
 all_follow_more last (y ∷ w) x all e =
@@ -416,16 +404,3 @@ held_more [] x is e = rw e refl
 held_more (first ∷ rest) x is e =
     let (begin, all) = and_both (begins first) (all_follow first rest) is in
     rw begin (all_follow_more first rest x all e)
-
-pub stops_here : (held rest : List ℕ) (x : ℕ) (after : List ℕ) → rest ≡ x ∷ after → goes_on held x ≡ false → Stops held rest
-stops_here held rest x after e none = subst (λ l. Stops held l) (sym e) none
-
-pub stops_end : (held rest : List ℕ) → length rest ≡ 0 → Stops held rest
-stops_end held [] e = tt
-stops_end held (x ∷ rest) e = absurd (omega arith)
-
--- what is kept of a text that begins with an octet to keep
-pub hold_some : (held after rest : List ℕ) → held ++ after ≡ rest → Stops held after → 0 < length rest → begins (get_or rest 0 0) ≡ true → length after < length rest
-hold_some [] [] rest e stops some begin = absurd (let none = ap length e in omega arith)
-hold_some [] (x ∷ after) rest e stops some begin = absurd (true≢false (sym begin ∙ sym (ap (λ l. begins (get_or l 0 0)) e) ∙ stops))
-hold_some (x ∷ held) after rest e stops some begin = let long = ap length e in omega (arith, long, length-append held after)

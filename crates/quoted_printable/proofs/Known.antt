@@ -53,16 +53,10 @@ plain_stands text rest octet e no_equals no_blank =
       shorter = omega arith;
     })
 
-pub equals_stands : (text after rest : List ℕ) (first octet : ℕ) → text ≡ first ∷ after → first ≡ 61 → Decodes (61 ∷ after) octet rest → Decodes text octet rest
-equals_stands text after rest first octet e is stands = subst (λ l. Decodes l octet rest) (sym (e ∙ ap (λ x. x ∷ after) is)) stands
-
 pub no_blank : (octet : ℕ) → octet ≢ 32 → octet ≢ 9 → is_blank octet ≡ false
 no_blank octet no_space no_tab = rw (ne_eqb octet 32 no_space, ne_eqb octet 9 no_tab) refl
 
 -- ---- several octets
-
-pub are_none : (text : List ℕ) → AreFor text [] text
-are_none text = record { line = refl; anywhere = λ after. refl; shorter = omega arith }
 
 pub are_more : (text octets rest left : List ℕ) (octet : ℕ) → AreFor text octets rest → Decodes rest octet left → AreFor text (octets ++ octet ∷ []) left
 are_more text octets rest left octet so_far next = record {

@@ -4,12 +4,12 @@ use Rattle.std.specs.List.{flat_map}
 use Rattle.std.specs.Prelude.{if◌then◌else◌, Result, Ok, Err, OnOk}
 use Rattle.std.proofs.lemmas.Bool.{eqb-false, cases_Bool}
 use Rattle.std.proofs.lemmas.Grind.{flat_map-append}
-use Rattle.std.proofs.lemmas.List.{append_assoc, append-nil, append_cancel_left, nil_from_length}
+use Rattle.std.proofs.lemmas.List.{append_assoc, append_cancel_left}
 use Rattle.memchr.specs.Find.{is_byte3}
 use Rattle.text_lines.specs.Lines.{TextLine, lines_of, octets_of, onto_break, onto_content}
 use Rattle.text_lines.proofs.Broken.{octets_of-lines_of}
 use Rattle.quoted_printable.specs.QuotedPrintable.{decoded_line, decoding_of}
-use Rattle.quoted_printable.specs.Pieces.{HasFed, begins, is_held}
+use Rattle.quoted_printable.specs.Pieces.{HasFed, is_held}
 use Rattle.quoted_printable.specs.Private.{Extends, Reads}
 use Rattle.quoted_printable.proofs.Extended.{added_of}
 use Rattle.quoted_printable.proofs.Heads.{IsPlain, decoded-plain}
@@ -26,12 +26,6 @@ plain_of x none = elim (cases_Bool (x == 61)) [
       | inr third ↦ record { no_equals = eqb-false x 61 first; no_blank = rw (second, third) refl }
     ]
   ]
-]
-
-pub begins_of : (x : ℕ) → is_byte3 61 32 9 x ≡ true → begins x ≡ true
-begins_of x some = elim (cases_Bool (x == 61)) [
-  | inl e ↦ rw e refl
-  | inr other ↦ rw other (rw other at some)
 ]
 
 plain_past : (n : ℕ) (text after : List ℕ) → n ≤ length text → ((k : ℕ) → k < n → is_byte3 61 32 9 (get_or text k 0) ≢ true)
@@ -85,30 +79,11 @@ broken_past n text after within e =
 
 -- ---- one stretch after another
 
-pub reads_then : (was mid now text left last : List ℕ) → Reads was text mid left → Reads mid left now last → Reads was text now last
-reads_then was mid now text left last first second = λ after. second after ∙ first after
-
 pub reads_same : (was now left text same : List ℕ) → text ≡ same → Reads was text now left → Reads was same now left
 reads_same was now left text same e reads = subst (λ l. Reads was l now left) e reads
 
 pub reads_left : (was now text left same : List ℕ) → left ≡ same → Reads was text now left → Reads was text now same
 reads_left was now text left same e reads = subst (λ l. Reads was text now l) e reads
-
-pub reads_none : (was text : List ℕ) → Reads was text was text
-reads_none was text = λ after. refl
-
--- lines, and then what follows them
-pub reads_lines : (was mid now text lines tail left : List ℕ) → ((after : List ℕ) → decoding_of (text ++ after) ≡ decoding_of lines ++ decoding_of (tail ++ after))
-    → mid ≡ was ++ decoding_of lines → Reads mid tail now left → Reads was text now left
-reads_lines was mid now text lines tail left split e reads = λ after.
-    reads after
-    ∙ ap (λ l. l ++ decoding_of (tail ++ after)) e
-    ∙ append_assoc was (decoding_of lines) (decoding_of (tail ++ after))
-    ∙ ap (λ l. was ++ l) (sym (split after))
-
--- everything is kept
-pub all_kept : (held text rest : List ℕ) → held ++ rest ≡ text → length rest ≡ 0 → text ≡ held
-all_kept held text rest e none = sym e ∙ ap (λ l. held ++ l) (nil_from_length rest none) ∙ append-nil held
 
 pub has_fed : (held piece left was now : List ℕ) → is_held left ≡ true → Extends was now → Reads was (held ++ piece) now left → HasFed held piece left was now
 has_fed held piece left was now kept extends reads =

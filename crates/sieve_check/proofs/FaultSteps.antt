@@ -9,13 +9,13 @@ use Rattle.sieve_parser.specs.declared.tree.Invocation.TheVariants.{Plain, WithT
 use Rattle.sieve_parser.specs.declared.tree.Command.{Command as Tree}
 use Rattle.sieve_parser.specs.declared.tree.Command.TheVariants as trees
 use Rattle.sieve_parser.proofs.TestSteps.{tree_plain, tree_test, tree_tests}
-use Rattle.sieve_parser.proofs.CommandSteps.{tree_block, tree_simple}
+use Rattle.sieve_parser.proofs.CommandSteps.{tree_block}
 use Rattle.sieve_check.specs.declared.signature.Tests.TheVariants.{Nothing, One, Bracketed}
 use Rattle.sieve_check.specs.declared.signature.Ending.{Ending}
 use Rattle.sieve_check.specs.declared.signature.Ending.TheVariants.{Block}
 use Rattle.sieve_check.specs.Names.{row_named}
 use Rattle.sieve_check.specs.Rules.{Visit, command_visits, commands_visits, invocation_of, looks_inside, opened_past, more_visits, past_invocation, visit_of, visits_of}
-use Rattle.sieve_check.specs.Private.{arguments_of, name_of}
+use Rattle.sieve_check.specs.Private.{arguments_of}
 use Rattle.sieve_check.specs.Surroundings.{Context, in_block, opens_many}
 use Rattle.sieve_check.proofs.FromIndex.{others_of, split_at}
 
@@ -57,19 +57,3 @@ block_visits s tree i cs is = ap (λ x. command_visits s x) (ap command_tree is 
 pub next_visits : (s : Context) (list : List Tree) (i : ℕ) (x : Tree) → i < length list → x ≡ get_or list i x
     → commands_visits s (commands_tree (drop i list)) ≡ command_visits s (command_tree x) ++ commands_visits (past_invocation s (invocation_of (command_tree x))) (commands_tree (drop (i + 1) list))
 next_visits s list i x lt is = ap (λ xs. commands_visits s (commands_tree xs)) (split_at list i x lt is)
-
--- what a command or test is called, by what it is made of
-pub called_plain : (i : Invocation) (h : Head) → i ≡ Plain h → name_of (invocation_tree i) ≡ h.name
-called_plain i h is = ap name_of (ap invocation_tree is ∙ tree_plain h)
-
-pub called_test : (i : Invocation) (h : Head) (t : Box Invocation) → i ≡ WithTest h t → name_of (invocation_tree i) ≡ h.name
-called_test i h t is = ap name_of (ap invocation_tree is ∙ tree_test h t)
-
-pub called_tests : (i : Invocation) (h : Head) (t : Box Invocation) (ts : Vec Invocation) → i ≡ WithTests h t ts → name_of (invocation_tree i) ≡ h.name
-called_tests i h t ts is = ap name_of (ap invocation_tree is ∙ tree_tests h t ts)
-
-pub called_simple : (tree : Tree) (i : Invocation) → tree ≡ trees.Simple i → name_of (invocation_of (command_tree tree)) ≡ name_of (invocation_tree i)
-called_simple tree i is = ap (λ c. name_of (invocation_of c)) (ap command_tree is ∙ tree_simple i)
-
-pub called_block : (tree : Tree) (i : Invocation) (cs : Vec Tree) → tree ≡ trees.Block i cs → name_of (invocation_of (command_tree tree)) ≡ name_of (invocation_tree i)
-called_block tree i cs is = ap (λ c. name_of (invocation_of c)) (ap command_tree is ∙ tree_block i cs)

@@ -5,7 +5,7 @@ use Rattle.std.specs.List.{list_any}
 use Rattle.std.proofs.lemmas.Bool.{ltb-false}
 use Rattle.std.proofs.lemmas.Grind.{flat_map-append}
 use Rattle.std.proofs.lemmas.List.{append-nil, length-map, map-append}
-use Rattle.std.proofs.lemmas.List.Elements.{All-nil, All-cons, All-head, All-tail}
+use Rattle.std.proofs.lemmas.List.Elements.{All-nil, All-cons}
 use Rattle.std.proofs.lemmas.List.Folds.{list_any-append}
 use Rattle.octets.specs.Limits.{max_segments, max_string, max_test_strings}
 use Rattle.bytecode_format.specs.declared.question.Takes.{Takes}
@@ -88,12 +88,6 @@ all_sound b (x ∷ xs) short few =
     let shorts = either_false (string_has Long x) (list_any (string_has Long) xs) short in
     let fews = λ (expanded : b ≡ true). either_false (is_large x) (list_any is_large xs) (few expanded) in
     All-cons (IsSound b) x xs (sound b x shorts.0 (λ expanded. (fews expanded).0)) (all_sound b xs shorts.1 (λ expanded. (fews expanded).1))
-
-both_sound : (b : Bool) (xs ys : List (List ℕ)) → All (IsSound b) (xs ++ ys) → All (IsSound b) xs × All (IsSound b) ys
-both_sound b [] ys all = (All-nil (IsSound b), all)
-both_sound b (x ∷ xs) ys all =
-    let parts = both_sound b xs ys (All-tail (IsSound b) x (xs ++ ys) all) in
-    (All-cons (IsSound b) x xs (All-head (IsSound b) x (xs ++ ys) all) parts.0, parts.1)
 
 -- ---- lists
 

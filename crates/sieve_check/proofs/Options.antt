@@ -58,14 +58,6 @@ pub not_both : (b : Bool) → b ≡ true → b ≡ false → ⊥
 not_both true h k = absurd (cc)
 not_both false h k = absurd (cc)
 
-pub some_or : {A : Type 0} (a b : Option A) → is_some (option_or a b) ≡ (is_some a || is_some b)
-some_or None b = refl
-some_or (Some x) b = refl
-
-pub some_if : {A : Type 0} (b : Bool) (x : A) → is_some (if b then Some x else None) ≡ b
-some_if true x = refl
-some_if false x = refl
-
 -- nothing is said of what is right
 pub unless_none : {A : Type 0} (b : Bool) (x : A) → (if b then None else Some x) ≡ None → b ≡ true
 unless_none true x h = refl

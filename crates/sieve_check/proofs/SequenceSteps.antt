@@ -7,11 +7,11 @@ use Rattle.sieve_check.specs.declared.sequence.Sequence.{Sequence}
 use Rattle.sieve_check.specs.declared.typed.Branch.{Branch}
 use Rattle.sieve_check.specs.declared.typed.Command.{Command}
 use Rattle.sieve_check.specs.declared.typed.Command.TheVariants.{If}
-use Rattle.sieve_check.specs.declared.sequence.Part.TheVariants.{Nothing, Action, First, Next, Last}
+use Rattle.sieve_check.specs.declared.sequence.Part.TheVariants.{Action, Next}
 use Rattle.sieve_check.specs.FormOf.{Forms, after_none, closed as closed_forms}
 use Rattle.sieve_check.specs.Signatures.{◌>>=◌}
-use Rattle.sieve_check.specs.Sequences.{onto, choice_onto, joined, has_branch, is_open, finished_by, Closed, Pushed, Unfit}
-use Rattle.sieve_check.specs.Typed.{CommandForm, choice, CommandForms, no_command, command, BranchForms, no_branch, otherwise, branch}
+use Rattle.sieve_check.specs.Sequences.{onto, choice_onto, joined, has_branch, is_open, finished_by, Closed, Pushed}
+use Rattle.sieve_check.specs.Typed.{CommandForm, choice, CommandForms, no_command, command, BranchForms, no_branch, branch}
 use Rattle.sieve_check.specs.TypedView.{GuardedForm, test_form, command_form, commands_of, commands_form}
 use Rattle.sieve_check.specs.Private.{branch_form, branch_forms, else_form}
 use Rattle.sieve_check.proofs.Forms.{form_if, form_branch}
@@ -86,9 +86,6 @@ module _ (old new : Sequence) (add : CommandForms → CommandForms) (none : new.
   pub added : (rest : Forms) → (option_map (λ cs. after_none (add cs)) (closed_forms rest) >>= finished_by old) ≡ finished_by new rest
   added rest = added_to (closed_forms rest) ∙ sym (shut new none rest)
 
-pub nothing_added : (old new : Sequence) → Closed old no_branch new → Pushed old Nothing new
-nothing_added old new is rest = added old new (λ cs. cs) is.none is.same rest
-
 pub action_added : (old shut_one new : Sequence) (c : Command) → Closed old no_branch shut_one → new.commands.items ≡ shut_one.commands.items ++ c ∷ [] → new.branches.items ≡ shut_one.branches.items
     → Pushed old (Action c) new
 action_added old shut_one new c is more same rest = added old new (λ cs. command (command_form c) cs) (same ∙ is.none)
@@ -98,20 +95,6 @@ action_added old shut_one new c is more same rest = added old new (λ cs. comman
     ∙ ap (λ bs. onto (map command_form shut_one.commands.items) (choice_onto bs no_branch (command (command_form c) others))) (sym is.none)
     ∙ is.same (command (command_form c) others))
     rest
-
--- the first branch of a choice
-pub first_added : (old shut_one new : Sequence) (b : Branch) → Closed old no_branch shut_one → new.commands.items ≡ shut_one.commands.items → new.branches.items ≡ shut_one.branches.items ++ b ∷ []
-    → Pushed old (First b) new
-first_added old shut_one new b is same more rest =
-    let cs = command (choice (branch (test_form b.test) (commands_form b.block.items) b.at rest.branches)) rest.commands in
-    let alone : new.branches.items ≡ b ∷ [] = more ∙ ap (λ bs. bs ++ b ∷ []) is.none in
-    after_all old cs
-    ∙ ap Some (sym (is.same cs)
-    ∙ ap (λ bs. onto (map command_form shut_one.commands.items) (choice_onto bs no_branch cs)) is.none
-    ∙ ap (λ (g : GuardedForm). onto (map command_form shut_one.commands.items) (command (choice (branch g.test g.block g.at rest.branches)) rest.commands)) (sym (form_branch b))
-    ∙ ap (λ xs. onto (map command_form xs) (choice_onto (b ∷ []) rest.branches rest.commands)) (sym same)
-    ∙ ap (λ bs. onto (map command_form new.commands.items) (choice_onto bs rest.branches rest.commands)) (sym alone))
-    ∙ sym (wide new (ap has_branch alone) rest)
 
 -- a branch after another
 pub next_added : (old new : Sequence) (b : Branch) → new.commands ≡ old.commands → new.branches.items ≡ old.branches.items ++ b ∷ [] → is_open old ≡ true → Pushed old (Next b) new
@@ -123,23 +106,6 @@ next_added old new b same more open_before rest =
     ∙ ap (onto (map command_form old.commands.items)) (choice_more old.branches.items b rest.branches rest.commands open_before)
     ))
     ∙ sym (wide new (ap has_branch more ∙ still_open old.branches.items b) rest)
-
--- the last branch of a choice
-pub last_added : (old new : Sequence) (block : Vec Command) → Closed old (otherwise (commands_form block.items)) new → is_open old ≡ true → Pushed old (Last block) new
-last_added old new block is open_before rest = with (closed_forms rest) ∙ sym (shut new is.none rest) where
-  with : (o : Option CommandForms) → (option_map (λ cs. let r : Forms = record { branches = otherwise (commands_form block.items); commands = cs } in r) o >>= finished_by old) ≡ option_map (λ others. joined new no_branch others) o
-  with None = refl
-  with (Some cs) = wide old open_before (record { branches = otherwise (commands_form block.items); commands = cs }) ∙ ap Some (sym (is.same cs))
-
--- where no choice is open no branch can be added
-pub no_next : (old : Sequence) (b : Branch) → old.branches.items ≡ [] → Unfit old (Next b)
-no_next old b none rest = shut old none (record { branches = branch (test_form b.test) (commands_form b.block.items) b.at rest.branches; commands = rest.commands })
-
-pub no_last : (old : Sequence) (block : Vec Command) → old.branches.items ≡ [] → Unfit old (Last block)
-no_last old block none rest = with (closed_forms rest) where
-  with : (o : Option CommandForms) → (option_map (λ cs. let r : Forms = record { branches = otherwise (commands_form block.items); commands = cs } in r) o >>= finished_by old) ≡ None
-  with None = refl
-  with (Some cs) = shut old none (record { branches = otherwise (commands_form block.items); commands = cs })
 
 -- nothing is to come
 pub finished : (old shut : Sequence) → Closed old no_branch shut → commands_form shut.commands.items ≡ joined old no_branch no_command

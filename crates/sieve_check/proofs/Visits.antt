@@ -1,19 +1,18 @@
 -- Visits, one after another.
 use Rattle.std.proofs.Common.{◌≡◌, ℕ, ◌≤◌, nat_lt, bytes_eq, true, false, if◌then◌else◌, List, [], ◌∷◌, ◌++◌, length, map, take, Some, None, refl, sym, ap, subst, ◌∙◌, ◌≢◌, arith, length-append}
 use Rattle.std.specs.Prelude.{is_some}
-use Rattle.std.proofs.lemmas.Bool.{le-ltb, lt-ltb}
+use Rattle.std.proofs.lemmas.Bool.{le-ltb}
 use Rattle.std.proofs.lemmas.List.{append-nil, append_assoc, length-map, map-append, take_all}
 use Rattle.arrayvec.specs.ArrayVec.{ArrayVec}
 use Rattle.octets.specs.Limits.{max_variables}
 use Rattle.octets.specs.Once.{is_listed, with_one, with_more}
 use Rattle.octets.proofs.Once.{listed_kept, more_after, unlisted_added}
-use Rattle.sieve_check.specs.declared.causes.ReasonKind.TheVariants.{ManyVariables}
 use Rattle.sieve_check.specs.declared.causes.Refused.{Refused}
 use Rattle.sieve_check.specs.declared.findings.Findings.{Findings}
 use Rattle.sieve_check.specs.Causes as causes
-use Rattle.sieve_check.specs.Causes.{plain, refused_for}
+use Rattle.sieve_check.specs.Causes.{refused_for}
 use Rattle.sieve_check.specs.ReasonView.{refused_view}
-use Rattle.sieve_check.specs.Refusing.{AreNoted, AreVisited, Overflows, listed, names_after, refused_in}
+use Rattle.sieve_check.specs.Refusing.{AreNoted, AreVisited, listed, names_after, refused_in}
 use Rattle.sieve_check.specs.Rules.{Visit, max_found, names_past, names_with, causes_by, refused_after, refused_among, same_reason}
 use Rattle.sieve_check.proofs.NameSteps.{shown_len}
 use Rattle.sieve_check.proofs.OnceSteps.{kept_one, more_of_first}
@@ -93,9 +92,6 @@ pub record AreToNote (now : Findings) (left : List causes.Refused) (start : Find
   pub names : listed now.names ≡ listed start.names
   pub refused : take max_found (with_more same_reason (refused_in now) left) ≡ take max_found (with_more same_reason (refused_in start) all)
 
-pub all_to_note : (start : Findings) (all : List causes.Refused) → AreToNote start all start all
-all_to_note start all = record { names = refl; refused = refl }
-
 pub fewer_to_note : (now between start : Findings) (here xs left all : List causes.Refused) → here ≡ xs ++ left → AreNoted now xs between → AreToNote now here start all → AreToNote between left start all
 fewer_to_note now between start here xs left all is noted h = record {
   names = noted.names ∙ h.names;
@@ -118,9 +114,6 @@ none_visited findings = record { names = refl; refused = sym (all_in findings) }
 pub record AreLeft (now : Findings) (left : List Visit) (start : Findings) (all : List Visit) : Type 0 where
   pub names : names_after (listed now.names) left ≡ names_after (listed start.names) all
   pub refused : take max_found (with_more same_reason (refused_in now) (refused_among (listed now.names) left)) ≡ take max_found (with_more same_reason (refused_in start) (refused_among (listed start.names) all))
-
-pub all_left : (start : Findings) (all : List Visit) → AreLeft start all start all
-all_left start all = record { names = refl; refused = refl }
 
 pub fewer_left : (now between start : Findings) (here vs left all : List Visit) → here ≡ vs ++ left → AreVisited now vs between → AreLeft now here start all → AreLeft between left start all
 fewer_left now between start here vs left all is visited h = record {
@@ -155,19 +148,6 @@ one_passed old new v right is same =
     ∙ ap (λ b. map (refused_for v.token v.name) (causes_by None v.lacks b)) (le-ltb max_variables (length all) few))
     (ap (λ o. if is_some o then names else take max_variables all) right ∙ take_all max_variables all few ∙ sym is)
     (ap (λ (r : ArrayVec Refused). map refused_view r.items) same ∙ sym (all_in old))
-
--- one with names for which there is no room
-pub one_beyond : (old between new : Findings) (v : Visit) → v.cause ≡ None → Overflows (listed old.names) v.names (listed between.names) → between.refused ≡ old.refused
-    → AreNoted between (refused_for v.token v.name (plain ManyVariables) ∷ []) new → AreVisited old (v ∷ []) new
-one_beyond old between new v right beyond same noted =
-    let names = listed old.names in
-    let all = names_with names v in
-    let found = refused_for v.token v.name (plain ManyVariables) in
-    one_visited old new v (found ∷ [])
-    (ap (λ o. map (refused_for v.token v.name) (causes_by o v.lacks (nat_lt max_variables (length all)))) right
-    ∙ ap (λ b. map (refused_for v.token v.name) (causes_by None v.lacks b)) (lt-ltb max_variables (length all) beyond.many))
-    (ap (λ o. if is_some o then names else take max_variables all) right ∙ sym beyond.kept ∙ sym noted.names)
-    (noted.refused ∙ ap (λ (r : ArrayVec Refused). take max_found (with_more same_reason (map refused_view r.items) (found ∷ []))) same)
 
 -- one with which something is wrong, and all that it lacks
 pub one_refused : (old between new : Findings) (v : Visit) (cause : causes.Cause) → v.cause ≡ Some cause → AreNoted old (refused_for v.token v.name cause ∷ []) between

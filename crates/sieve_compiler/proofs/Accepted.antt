@@ -126,9 +126,6 @@ module _ (script : CommandForms) (bounded : IsBounded script) where
   body_stands : Stands all 0 body
   body_stands = (plain Halt ∷ [], refl)
 
-  body_ends : standing tables all last ≡ []
-  body_ends = let same : 0 + last ≡ last = omega arith in subst (λ p. standing tables all p ≡ []) same (commands_end all tables last script 0 body_stands refl)
-
   halt_stands : Stands all (0 + last) (plain Halt ∷ [])
   halt_stands = stands_right all 0 last body (plain Halt ∷ []) (commands_code_length tables script 0) ([], sym (append-nil all))
 

@@ -1,5 +1,5 @@
 -- The fields of a script's code, and the whole program, are within the limits of one.
-use Rattle.std.proofs.Common.{◌≡◌, ℕ, suc, ◌+◌, ◌-◌, ◌<◌, ◌≤◌, ◌^◌, nat_eq, bytes_eq, Bool, true, false, not, List, [], ◌∷◌, map, length, All, refl, arith}
+use Rattle.std.proofs.Common.{◌≡◌, ℕ, suc, ◌+◌, ◌-◌, ◌<◌, ◌≤◌, ◌^◌, bytes_eq, Bool, true, false, not, List, [], ◌∷◌, map, length, All, refl, arith}
 use Rattle.std.proofs.lemmas.List.{length-append}
 use Rattle.std.proofs.lemmas.List.Elements.{All-nil, All-cons, All-head, All-tail, All-append}
 use Rattle.bytecode_format.specs.declared.instruction.Instruction.{Instruction}
@@ -19,7 +19,6 @@ use Rattle.sieve_check.specs.Extent.{commands_extent}
 use Rattle.sieve_compiler.specs.Strings.{commands_strings}
 use Rattle.sieve_compiler.specs.Tables.{Tables, tables_of, place_of_string, place_of_variable}
 use Rattle.sieve_compiler.specs.Lengths.{test_length, tests_length, leave_length, command_length, commands_length, branches_length}
-use Rattle.sieve_compiler.specs.Numbers.{commands_numbers}
 use Rattle.sieve_compiler.specs.Coding.{instruction, plain, jump_if, push_text, push_segment, join_texts, string_code, strings_code, question_code, act_code, asked_of, aim_of, test_code, tests_code, leave_code, command_code, commands_code, branches_code, code_of}
 use Rattle.sieve_compiler.proofs.Acts.{act_fits}
 use Rattle.sieve_compiler.proofs.CodeLengths.{commands_code_length}
@@ -154,7 +153,3 @@ is_program cs short numbers =
       each_instruction = All-append Fits _ _ (fits_commands (tables_of cs) 0 0 cs few short.commands (omega arith) short.loops (omega (arith, commands, short.octets))) (one (plain Halt) (fits_instruction Halt 0 0 (omega arith) (omega arith) (omega arith)));
       octets = omega (arith, length-spelling (code_of cs), length_code cs, commands, numbers_few, strings_small cs, short.octets);
     }
-
--- the same, by the numbers of the script
-pub code_is_program : (cs : CommandForms) → IsBounded cs → All (λ n. n < 2 ^ 64) (commands_numbers cs) → IsProgram (code_of cs)
-code_is_program cs short numbers = is_program cs short (each_once_all nat_eq (λ n. n < 2 ^ 64) (commands_numbers cs) numbers)

@@ -11,7 +11,7 @@ use Rattle.sieve_check.specs.declared.typed.Segment.TheVariants.{Text, Variable,
 use Rattle.sieve_check.specs.Typed.{Template, Strings, in_order, TestForm, TestForms, test}
 use Rattle.mail_matching.specs.Questions.{Texts}
 use Rattle.sieve_meaning.specs.Meaning.{Effects, texts_of, value_of, expanded, all_expanded, Verdict, verdict, broken, left, all_do, any_do}
-use Rattle.bytecode_verifier.proofs.Again.{onto as stacked, onto_number as stacked_number, on_top_again}
+use Rattle.bytecode_verifier.proofs.Again.{onto as stacked, on_top_again}
 use Rattle.sieve_vm.specs.State.{Value, text, Frame, State, Referred, current_part}
 use Rattle.bytecode_format.specs.declared.instruction.Instruction.{Instruction}
 use Rattle.bytecode_format.specs.declared.operation.Operation.{Operation}
@@ -52,9 +52,6 @@ onto ss stack = stacked text ss stack
 -- they are found there again
 pub on_top : (n : ℕ) (ss : List (List ℕ)) (stack : List Value) → length ss ≡ n → texts_on_top n (onto ss stack) ≡ Some (let t : OnTop = record { texts = ss; below = stack } in t)
 on_top n ss stack number = on_top_again text_in text (λ s. refl) n ss stack number
-
-pub onto_number : (ss : List (List ℕ)) (stack : List Value) → length (onto ss stack) ≡ length ss + length stack
-onto_number ss stack = stacked_number text ss stack
 
 -- names, parameters above them, and keys above these are found again
 pub three_again : (n m k : ℕ) (names given keys : List (List ℕ)) → length names ≡ n → length given ≡ m → length keys ≡ k → lists_on_top n m k (onto keys (onto given (onto names []))) ≡ Some (let lists : Lists = record { names = names; params = given; keys = keys; below = [] } in lists)

@@ -1,8 +1,8 @@
 -- The entries of texts that are pushed, and that as many can be taken.
-use Rattle.std.proofs.Common.{◌≡◌, ℕ, ◌+◌, List, [], ◌∷◌, ◌++◌, Some, map, length, min, sum, refl, ap, ◌∙◌, arith}
+use Rattle.std.proofs.Common.{◌≡◌, ℕ, ◌+◌, List, [], ◌∷◌, ◌++◌, Some, map, length, min, sum, refl, ap, ◌∙◌}
 use Rattle.std.proofs.lemmas.List.{length-map, map-append}
 use Rattle.bytecode_verifier.specs.Shape.{Entries, Texts, bound_in, take_texts}
-use Rattle.bytecode_verifier.proofs.Again.{onto, onto_number, on_top_again}
+use Rattle.bytecode_verifier.proofs.Again.{onto, on_top_again}
 use Rattle.bytecode_verifier.specs.declared.shape.Entry.TheVariants.{Text}
 use Rattle.octets.specs.Limits.{max_string, max_value}
 use Rattle.sieve_check.specs.declared.typed.Segment.{Segment}
@@ -39,9 +39,6 @@ lists_pushed_are strings =
     ap (λ bounds. pushed bounds []) (map-append bound_of two strings.keys ∙ ap (λ bounds. bounds ++ map bound_of strings.keys) (map-append bound_of strings.names strings.params))
     ∙ onto_append Text (map bound_of strings.names ++ map bound_of strings.params) (map bound_of strings.keys) []
     ∙ ap (pushed (map bound_of strings.keys)) (onto_append Text (map bound_of strings.names) (map bound_of strings.params) [])
-
-pub pushed_number : {A : Type 0} (bound : A → ℕ) (xs : List A) (entries : Entries) → length (pushed (map bound xs) entries) ≡ length xs + length entries
-pushed_number bound xs entries = omega (arith, onto_number Text (map bound xs) entries, length-map xs bound)
 
 -- as many texts as were pushed can be taken
 pub taken_back : {A : Type 0} (bound : A → ℕ) (xs : List A) (entries : Entries) → take_texts (length xs) (pushed (map bound xs) entries) ≡ Some (let t : Texts = record { texts = map bound xs; below = entries } in t)

@@ -15,10 +15,8 @@ use Rattle.sieve_vm.proofs.Bounds.{ends_within, one_end_from}
 use Rattle.bytecode_format.specs.Actions.{final_actions}
 use Rattle.bytecode_verifier.specs.Acceptance.{IsAccepted}
 use Rattle.refusals.specs.Causes.{of_verifier}
-use Rattle.refusals.specs.Scripts.{IsScriptRefusal}
-use Rattle.sieve_engine.specs.Execution.{Spells, IsChecked, IsProgramRefusal, IsRefusal, IsReport, IsUnread}
-use Rattle.sieve_engine.specs.Evaluation.{IsCompiled, IsEvaluation, IsEvaluationRefusal, IsScript}
-use Rattle.sieve_check.specs.Typed.{CommandForms}
+use Rattle.sieve_engine.specs.Execution.{Spells, IsProgramRefusal, IsReport}
+use Rattle.sieve_engine.specs.Evaluation.{IsCompiled, IsEvaluation}
 use Rattle.refusals.specs.declared.refusal.Refusal.{Refusal}
 use Rattle.refusals.specs.declared.refusal.Refusal.TheVariants as engine
 
@@ -61,33 +59,3 @@ evaluated script message code actions charged limit compiled report =
       accepted = subst IsAccepted compiled.is compiled.accepted;
       report = subst (λ c. IsReport c message actions charged limit) compiled.is report;
     }
-
--- a refusal of the script is one of the script and the message
-pub refused_script : (script message : List ℕ) (e : Refusal) → IsScriptRefusal script e → IsEvaluationRefusal script message e
-refused_script script message engine.Memory h = h
-refused_script script message engine.MessageTooLarge h = absurd h
-refused_script script message engine.TooManyParts h = absurd h
-refused_script script message (engine.Lexical place) h = h
-refused_script script message engine.ScriptTooLong h = h
-refused_script script message (engine.Syntax place) h = h
-refused_script script message (engine.TooDeep place) h = h
-refused_script script message (engine.UnknownCommand place) h = h
-refused_script script message (engine.MissingCapability place) h = h
-refused_script script message (engine.UnknownCapability place) h = h
-refused_script script message (engine.BadArguments place) h = h
-refused_script script message (engine.Limit place) h = h
-refused_script script message _ h = absurd h
-
--- a message that isn't read, after a script that is one
-pub unread_after_script : (script message : List ℕ) (form : CommandForms) (e : Refusal) → IsScript script form → IsUnread message e → IsEvaluationRefusal script message e
-unread_after_script script message form engine.Memory is h = tt
-unread_after_script script message form engine.MessageTooLarge is h = (h, (form, is))
-unread_after_script script message form engine.TooManyParts is h = (h, (form, is))
-unread_after_script script message form _ is h = absurd h
-
--- and after a program that is accepted
-pub unread_after_program : (program message : List ℕ) (code : Code) (e : Refusal) → IsChecked program code → IsUnread message e → IsRefusal program message e
-unread_after_program program message code engine.Memory is h = tt
-unread_after_program program message code engine.MessageTooLarge is h = (h, (code, is))
-unread_after_program program message code engine.TooManyParts is h = (h, (code, is))
-unread_after_program program message code _ is h = absurd h

@@ -1,6 +1,5 @@
 -- A refusal that is told is the script's explanation.
 use Rattle.std.proofs.Common.{◌≡◌, ◌≢◌, ◌∙◌, ◌<◌, ℕ, List, ◌++◌, length, map, nat_lt, take, ap, subst, sym, arith, inl, inr}
-use Rattle.std.specs.Prelude.{Some}
 use Rattle.std.proofs.lemmas.Bool.{cases_lt, lt-ltb}
 use Rattle.std.proofs.lemmas.List.{length-map, length-take, take-map, take-take, take_all}
 use Rattle.refusals.specs.Causes.{of_checker, of_parser}
@@ -21,10 +20,8 @@ use Rattle.sieve_parser.specs.Refusals.{parse_error}
 use Rattle.sieve_parser.specs.Scripts.{IsParseRefusal}
 use Rattle.sieve_parser.specs.declared.error.ParseError.{ParseError}
 use Rattle.sieve_parser.specs.declared.error.ParseError.TheVariants as parser
-use Rattle.sieve_explain.specs.Explaining.{IsExplained, TellsFault, TellsReasons, look_told}
+use Rattle.sieve_explain.specs.Explaining.{TellsFault, TellsReasons}
 use Rattle.sieve_explain.specs.Private.{IsFaultTold}
-use Rattle.sieve_explain.specs.Faults.{look_text}
-use Rattle.sieve_explain.specs.declared.explanation.Explanation.{Explanation}
 
 -- what `IsFaultTold` says of a refusal and its text
 abbrev pub IsTold : List ℕ → List ℕ → Refusal → List ℕ → Type 0
@@ -75,11 +72,3 @@ more_found found all is =
           lt-ltb max_reasons (length (take max_found all)) some ∙ sym (lt-ltb max_reasons (length all) many)
       | inr few ↦ ap (λ (l : List causes.Refused). nat_lt max_reasons (length l)) (take_all max_found all (omega (arith, few)))
     ]
-
--- all that is told of a refusal
-pub with_look : (name script : List ℕ) (found all : Explanation) → IsFaultTold name script (Some found) → all.refusal ≡ found.refusal → all.text.items ≡ found.text.items ++ look_told name (look_text script) → IsExplained name script (Some all)
-with_look name script found all p same text = (
-  subst (λ (r : Refusal). r ≢ Memory) (sym same) p.0,
-  subst (λ (r : Refusal). IsScriptRefusal script r) (sym same) p.1,
-  record { fault = found.text.items; tells = subst (λ (r : Refusal). TellsFault name script r found.text.items) (sym same) p.2; whole = text },
-)

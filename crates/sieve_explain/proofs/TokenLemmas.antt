@@ -1,13 +1,13 @@
 -- The token of a script with a number, or none.
-use Rattle.std.proofs.Common.{◌≡◌, ◌∙◌, ℕ, zero, suc, ◌-◌, Bool, true, false, List, [], ◌∷◌, length, drop, ap, sym, subst, refl, arith}
-use Rattle.std.specs.Prelude.{◌&&◌, ◌==◌, if◌then◌else◌, Option, Some, None, IfOk, IfSome, Result, Ok, Err, take_while}
+use Rattle.std.proofs.Common.{◌≡◌, ◌∙◌, ℕ, zero, suc, ◌-◌, Bool, true, false, List, [], ◌∷◌, drop, sym, subst, refl, arith}
+use Rattle.std.specs.Prelude.{◌&&◌, ◌==◌, if◌then◌else◌, Option, Some, None, IfOk, IfSome, Result, Ok, Err}
 use Rattle.std.specs.List.{slice_get}
 use Rattle.std.specs.Option.{option_or}
 use Rattle.std.specs.declared.alloc.AllocError.{AllocError}
 use Rattle.sieve_lexer.specs.Tokens.{AreTokens, IsToken}
 use Rattle.sieve_lexer.specs.declared.token.Token.{Token}
 use Rattle.sieve_parser.proofs.Here.{token_here}
-use Rattle.sieve_explain.specs.Marks.{foreign_among, foreign_from, has_unit, has_value, if_unclosed, in_header, is_foreign, is_no_name, is_number_at, is_opening, is_unit_at, string_among, unclosed, unopened}
+use Rattle.sieve_explain.specs.Marks.{foreign_among, foreign_from, has_value, if_unclosed, in_header, is_foreign, is_opening, string_among, unclosed, unopened}
 use Rattle.sieve_explain.specs.Private.{Stands}
 
 -- a token among those of a script stands in it
@@ -22,10 +22,6 @@ IsOne tokens o = IfSome o (λ token. (number : ℕ) × (Some token ≡ slice_get
 stands_one : (script : List ℕ) (tokens : List Token) → AreTokens script tokens → (o : Option Token) → IsOne tokens o → Stands script o
 stands_one script tokens has None one = tt
 stands_one script tokens has (Some token) (number, e) = stands_numbered script tokens has number (Some token) e
-
-one_numbered : (tokens : List Token) (number : ℕ) (o : Option Token) → o ≡ slice_get tokens number → IsOne tokens o
-one_numbered tokens number None e = tt
-one_numbered tokens number (Some token) e = (number, e)
 
 later : (token : Token) (tokens : List Token) (o : Option Token) → IsOne tokens o → IsOne (token ∷ tokens) o
 later token tokens None one = tt
@@ -70,13 +66,6 @@ one_unclosed (token ∷ tokens) = one_or token tokens (unclosed tokens) (if_uncl
 -- a brace that is never closed
 pub brace_stands : (script : List ℕ) (tokens : List Token) → AreTokens script tokens → (o : Option Token) → o ≡ unclosed tokens → Stands script o
 brace_stands script tokens has o e = stands_one script tokens has o (subst (IsOne tokens) (sym e) (one_unclosed tokens))
-
--- a unit behind a number
-pub unit_both : (script : List ℕ) (tokens : List Token) (place : ℕ) (a b : Bool) → place ≡ length (take_while is_no_name tokens)
-    → a ≡ is_number_at (slice_get tokens (place - 1)) → b ≡ is_unit_at script (slice_get tokens place) → (a && b) ≡ has_unit script tokens
-unit_both script tokens place a b e p q =
-    ap (λ (x : Bool). x && b) p ∙ ap (λ (x : Bool). is_number_at (slice_get tokens (place - 1)) && x) q
-    ∙ ap (λ (n : ℕ). is_number_at (slice_get tokens (n - 1)) && is_unit_at script (slice_get tokens n)) e
 
 one_foreign : (script : List ℕ) (inside : Bool) (tokens : List Token) → IsOne tokens (foreign_from script inside tokens)
 one_foreign script inside [] = tt

@@ -145,9 +145,6 @@ module _ (s : List ℕ) where
   begins_with OpeningBracket a b p = at_octet a 91 (cc)
   begins_with ClosingBracket a b p = at_octet a 93 (cc)
 
-  pub letters_only : (t : Token) → IsToken s t → class_of (get_or s t.start 0) ≡ 0 → (t.kind ≡ Identifier) ⊎ (t.kind ≡ MultiLineString)
-  letters_only t p e = word_kind t.kind (sym (begins_with t.kind t.start t.end p.text) ∙ e)
-
   pub same_kind : (k : TokenKind) (a b n : ℕ) → 0 < n → class_of (get_or s a 0) ≡ n → IsTextOf k s a b → k ≡ kind_of n
   same_kind k a b n pos e p =
       let f : kind_class k ≡ n = sym (begins_with k a b p) ∙ e in

@@ -11,9 +11,6 @@ chain_push Step (m ∷ ms) a b c (first, rest) s = (first, chain_push Step ms m 
 pub leads_push : (Step : ℕ → ℕ → Type 0) (a b c : ℕ) → Leads Step a b → Step b c → Leads Step a c
 leads_push Step a b c (ms, chain) s = (ms ++ c ∷ [], chain_push Step ms a b c chain s)
 
-pub leads_none : (Step : ℕ → ℕ → Type 0) (a : ℕ) → Leads Step a a
-leads_none Step a = ([], refl)
-
 -- from each place at most one step
 abbrev pub IsSingle : (ℕ → ℕ → Type 0) → Type 0
 IsSingle Step = (a b c : ℕ) → Step a b → Step a c → b ≡ c

@@ -212,10 +212,6 @@ turn_left turn number last loops f flow result m lt h is answer =
     subst (λ x. StandsAt x result m) (sym (first_turn turn number last f lt))
     (subst (λ r. StandsAt (after_turn (turn number f) (λ e. turns turn (numbers_from (number + 1) (last - (number + 1))) e)) r m) (sym answer) (left_at (turn number f) _ loops m (subst (λ x. StandsAt (turn number f) x m) is h)))
 
--- no turn is left
-pub no_turn : (turn : ℕ → Effects → Ending) (number last : ℕ) (f : Effects) → last ≤ number → turns turn (numbers_from number (last - number)) f ≡ normal f
-no_turn turn number last f le = let none : last - number ≡ 0 = omega (arith, le) in ap (λ n. turns turn (numbers_from number n) f) none
-
 -- the commands of a turn, as they are called
 pub turn_is : (mail there : Mail) (part : Option ℕ) (number : ℕ) (cs : CommandForms) (f : Effects) (flow : Flow) (m : Evaluator) → there ≡ mail → part ≡ Some number
     → StandsAt (commands_do there part cs f) flow m → StandsAt (turn_of mail cs number f) flow m

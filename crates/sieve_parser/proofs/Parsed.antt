@@ -15,16 +15,10 @@ use Rattle.sieve_parser.specs.Grammar.{IsScript, commands_spelled, lexemes_place
 use Rattle.sieve_parser.specs.TokenMachine.{body, reading}
 use Rattle.sieve_parser.specs.Faults.{AreWithinDepth, IsSyntaxFault, IsTooDeep}
 use Rattle.sieve_parser.specs.Parsing.{Beginning, IsAt, IsFaultOf, IsSyntaxFaultIn, IsTooDeepIn, IsIdentifierAt, Stands, lexeme_at}
-use Rattle.sieve_parser.specs.Refusals.{parse_error}
 use Rattle.sieve_parser.specs.Scripts.{IsParsed, IsGrammarRefusal, IsParseRefusal}
 use Rattle.sieve_parser.proofs.Faulted.{root, root_grounded, script_of_word, word_of_script, read_script_within}
 use Rattle.sieve_parser.proofs.Walk.{stuck}
 use Rattle.sieve_parser.proofs.Wrong.{no_command_first}
-
-pub lexical_refusal : (script : List ℕ) (e : LexicalError) → lexer.IsLexicalRefusal script e → IsParseRefusal script (parse_error e)
-lexical_refusal script Memory h = h
-lexical_refusal script ScriptTooLong h = h
-lexical_refusal script (Lexical place) h = h
 
 -- a script is read from its first lexeme on
 abbrev pub whole : Beginning

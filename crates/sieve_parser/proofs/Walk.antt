@@ -9,7 +9,7 @@ use Rattle.sieve_lexer.specs.declared.token.Token.{Token}
 use Rattle.sieve_parser.specs.Lexemes.{Lexeme, semicolon, lexeme, lexemes_from}
 use Rattle.sieve_parser.specs.Grammar.{Placed, at_depth, lexemes_placed}
 use Rattle.sieve_parser.specs.TokenMachine.{Symbol, expand, goes, deep, judged, step, stack_then, advance, reading_from, IsDone}
-use Rattle.sieve_parser.specs.Parsing.{Beginning, IsAt, IsSyntaxFaultIn, IsTooDeepIn, lexeme_at, read_by, Stands, IsGrounded}
+use Rattle.sieve_parser.specs.Parsing.{Beginning, IsAt, IsSyntaxFaultIn, IsTooDeepIn, lexeme_at, read_by, Stands}
 use Rattle.sieve_parser.specs.Language.{InSymbol, InStack}
 use Rattle.sieve_parser.proofs.Language.{Adds, adds}
 use Rattle.sieve_parser.proofs.Faulted.{complete_stack, reads_back, read_is_completable, wrong_begins_no_text, open_is_no_text}
@@ -37,10 +37,6 @@ judged_goes o stack d symbols e small = rw (e, le-leb d 32 small) refl
 
 judged_deep : (o : Option (ℕ × List Symbol)) (stack : List Symbol) (d : ℕ) (symbols : List Symbol) → o ≡ Some (d, symbols) → 32 < d → judged o stack ≡ deep
 judged_deep o stack d symbols e large = rw (e, lt-leb d 32 large) refl
-
--- where a reading begins
-pub beginning : (p : ℕ) (symbols : List Symbol) → IsGrounded symbols → Beginning
-beginning p symbols g = record { place = p; symbols = symbols; grounded = g }
 
 -- a token that the symbol expands to is read
 pub walk : (b : Beginning) (ls : List Lexeme) (p : ℕ) (x : Symbol) (stack : List Symbol) (d : ℕ) (symbols : List Symbol) → IsAt b ls p (x ∷ stack) → p < length ls
@@ -114,9 +110,6 @@ stands_one ls p x lt e = record {
   within = omega arith;
   same = drop_more ls p semicolon lt ∙ ap (λ l. l ∷ drop (p + 1) ls) e;
 }
-
-pub stands_none : (ls : List Lexeme) (p : ℕ) → p ≤ length ls → Stands ls p p []
-stands_none ls p le = record { from = omega arith; within = le; same = refl }
 
 -- what stands from a to b and what stands from b to c
 pub stands_both : (ls : List Lexeme) (a b c : ℕ) (xs ys : List Placed) → Stands ls a b xs → Stands ls b c ys → Stands ls a c (xs ++ ys)

@@ -1,8 +1,8 @@
 -- What a symbol doesn't expand to, told by what a lexeme isn't.
 use Rattle.std.proofs.Common.{◌≡◌, ◌≢◌, ℕ, suc, List, refl}
 use Rattle.std.specs.Prelude.{None}
-use Rattle.sieve_parser.specs.Lexemes.{Lexeme, identifier, tag, number, string, semicolon, comma, opening_brace, closing_brace, opening_parenthesis, closing_parenthesis, opening_bracket, closing_bracket}
-use Rattle.sieve_parser.specs.TokenMachine.{Follow, command_end, test_end, body, arguments, tests, strings, more_strings, ended_by, expand}
+use Rattle.sieve_parser.specs.Lexemes.{Lexeme, identifier, string, semicolon, comma, opening_brace, closing_brace, closing_parenthesis, closing_bracket}
+use Rattle.sieve_parser.specs.TokenMachine.{command_end, test_end, body, tests, strings, more_strings, ended_by, expand}
 
 pub no_string_first : (d : ℕ) (l : Lexeme) → ((s : List ℕ) → l ≡ string s → ⊥) → expand (strings d) l ≡ None
 no_string_first d (string s) ne = absurd (ne s refl)
@@ -35,14 +35,3 @@ no_body d _ ne close = refl
 pub no_command_first : (l : Lexeme) → ((n : ℕ) (name : List ℕ) → l ≡ identifier n name → ⊥) → expand (body 0) l ≡ None
 no_command_first (identifier n name) ne = absurd (ne n name refl)
 no_command_first _ ne = refl
-
--- where no argument and no test begins, arguments are as their end is
-pub arguments_end : (d : ℕ) (f : Follow) (l : Lexeme) → ((n : ℕ) (name : List ℕ) → l ≡ identifier n name → ⊥) → ((name : List ℕ) → l ≡ tag name → ⊥)
-    → ((n : ℕ) → l ≡ number n → ⊥) → ((s : List ℕ) → l ≡ string s → ⊥) → l ≢ opening_bracket → l ≢ opening_parenthesis → expand (arguments d f) l ≡ ended_by f l
-arguments_end d f (identifier n name) i t m s b p = absurd (i n name refl)
-arguments_end d f (tag name) i t m s b p = absurd (t name refl)
-arguments_end d f (number n) i t m s b p = absurd (m n refl)
-arguments_end d f (string v) i t m s b p = absurd (s v refl)
-arguments_end d f opening_bracket i t m s b p = absurd (b refl)
-arguments_end d f opening_parenthesis i t m s b p = absurd (p refl)
-arguments_end d f _ i t m s b p = refl

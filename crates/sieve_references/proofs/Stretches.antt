@@ -35,13 +35,6 @@ behind (y ∷ rest) =
     inside_of None = refl
     inside_of (Some inside) = left inside (reference_of (words inside))
 
-behind_none : (after : List ℕ) → reference_behind after ≡ None → reference_at (36 ∷ after) ≡ None
-behind_none after e = none (reference_at (36 ∷ after)) (behind after ∙ e)
-  where
-    none : (o : Option Reference) → option_map (left_after after) o ≡ None → o ≡ None
-    none None e = refl
-    none (Some found) e = absurd (cc)
-
 -- a reference that is found, with what is left after it
 record IsFound (after : List ℕ) (segment : Segment) (rest : List ℕ) : Type 0 where
   pub found : Reference

@@ -42,9 +42,6 @@ stopped_later s0 s1 s2 Write xs ys first later = broken_later xs ys first later
 pub refused_first : (text : List ℕ) (s : Output) → HasStopped Memory text s s
 refused_first text s = record { prefix = []; rest = text; whole = refl; taken = taken_none s }
 
-pub refused_later : {s0 s1 : Output} (text : List ℕ) → HasTaken text s0 s1 → HasStopped Memory text s0 s1
-refused_later text first = record { prefix = text; rest = []; whole = sym (append-nil text); taken = first }
-
 -- ---- events
 
 -- one event
@@ -109,10 +106,6 @@ pub record Remains {F V : Type 0} (does : F → Effects → V) (events : F → E
 -- all of it is left
 pub goes_whole : {F V : Type 0} (does : F → Effects → V) (events : F → Effects → List Event) (page : Sheet) (whole : F) (before : Effects) (run : Evaluator) (s : Output) → HasEvaluated before run → Remains does events page whole before whole run s s
 goes_whole does events page whole before run s stands = record { effects = before; stands = stands; same = refl; so_far = so_far_none page (events whole before) s }
-
--- the rest is this one
-pub goes_as : {F V : Type 0} (does : F → Effects → V) (events : F → Effects → List Event) (page : Sheet) (whole rest other : F) (before : Effects) (run : Evaluator) {s0 s1 : Output} → rest ≡ other → Remains does events page whole before rest run s0 s1 → Remains does events page whole before other run s0 s1
-goes_as does events page whole rest other before run {s0} {s1} is h = subst (λ r. Remains does events page whole before r run s0 s1) is h
 
 -- the trace stopped in the events that are next
 pub goes_stopped : {F V : Type 0} (does : F → Effects → V) (events : F → Effects → List Event) (page : Sheet) (whole rest : F) (before : Effects) (run : Evaluator) (s0 s1 s2 : Output) (why : TraceError) (h : Remains does events page whole before rest run s0 s1) (xs ys : List Event) → events rest h.effects ≡ xs ++ ys → HasStopped why (told page xs) s1 s2 → HasStopped why (told page (events whole before)) s0 s2

@@ -2,12 +2,12 @@
 use Rattle.std.proofs.Common.{◌≡◌, ◌∙◌, ℕ, Bool, true, false, ap, refl, List, [], ◌∷◌, ◌++◌, Option, Some, sym, subst, append-nil}
 use Rattle.encodings.specs.Device.{Output}
 use Rattle.mime_decode.specs.Mail.{Mail}
-use Rattle.sieve_check.specs.Typed.{TestForm, TestForms, no_test, test, CommandForm, CommandForms, no_command, command, BranchForms, no_branch, otherwise, branch}
+use Rattle.sieve_check.specs.Typed.{TestForm, TestForms, test, CommandForm, CommandForms, command, BranchForms, no_branch, otherwise, branch}
 use Rattle.sieve_meaning.specs.declared.evaluator.Evaluator.{Evaluator}
 use Rattle.sieve_meaning.specs.declared.evaluator.Flow.{Flow}
 use Rattle.sieve_meaning.specs.declared.evaluator.Flow.TheVariants.{GoesOn, Stopped, Leaves}
-use Rattle.sieve_meaning.specs.Evaluation.{Gives, StandsAt}
-use Rattle.sieve_meaning.specs.Meaning.{Effects, Verdict, verdict, Ending, normal, stopped, broken, and_then, or_else, followed_by, after_turn, test_does, all_do, any_do, command_does, commands_do, choice_does, turns}
+use Rattle.sieve_meaning.specs.Evaluation.{StandsAt}
+use Rattle.sieve_meaning.specs.Meaning.{Effects, Ending, normal, stopped, broken, and_then, or_else, followed_by, after_turn, test_does, all_do, any_do, command_does, commands_do, choice_does, turns}
 use Rattle.sieve_meaning.specs.Traced.{Event, event, turned, on_true, on_false, on_normal, test_events, all_events, any_events, command_events, commands_events, choice_events, turns_events}
 use Rattle.sieve_meaning.proofs.MeaningLemmas.{goes_on, stays, stopped_at, left_at, left_flow}
 use Rattle.sieve_trace.specs.declared.error.TraceError.{TraceError}
@@ -16,10 +16,6 @@ use Rattle.sieve_trace.specs.Printed.{Sheet, told}
 use Rattle.sieve_trace.specs.Private.{AreTold, IsTold, sheet_of, turn_does, turn_events}
 use Rattle.sieve_trace.specs.Written.{HasStopped}
 use Rattle.sieve_trace.proofs.SoFar.{Remains, ToldSoFar, so_far_all, so_far_next, so_far_stopped}
-
--- the verdict is another one's, and the events were all that were to be told
-verdict_told : {s0 s1 : Output} (page : Sheet) (v w : Verdict) (value : Bool) (m : Evaluator) (all left : List Event) → v ≡ w → Gives v value m → ToldSoFar page all left s0 s1 → left ≡ [] → IsTold w value m (told page all) s0 s1
-verdict_told page v w value m all left same gives so_far none = (subst (λ x. Gives x value m) same gives, so_far_all page all left so_far none)
 
 ending_told : {s0 s1 : Output} (page : Sheet) (v w : Ending) (flow : Flow) (m : Evaluator) (all left : List Event) → v ≡ w → StandsAt v flow m → ToldSoFar page all left s0 s1 → left ≡ [] → AreTold w flow m (told page all) s0 s1
 ending_told page v w flow m all left same stands so_far none = (subst (λ x. StandsAt x flow m) same stands, so_far_all page all left so_far none)
@@ -45,22 +41,6 @@ all_step mail part page whole e t ts value m0 m h is on =
       so_far = so_far_next page (all_events mail part whole e) (all_events mail part (test t ts) f) (test_events mail part t f) (all_events mail part ts v.effects) h.so_far (ap (λ l. test_events mail part t f ++ l) later) is.1;
     }
 
--- a test was false, and decides
-pub all_stop : {s0 s1 s2 : Output} (mail : Mail) (part : Option ℕ) (page : Sheet) (whole : TestForms) (e : Effects) (t : TestForm) (ts : TestForms) (value : Bool) (m0 m : Evaluator) (h : AllRemain mail part page whole e (test t ts) m0 s0 s1)
-    → IsTold (test_does mail part t h.effects) value m (told page (test_events mail part t h.effects)) s1 s2 → value ≡ false → IsTold (all_do mail part whole e) false m (told page (all_events mail part whole e)) s0 s2
-all_stop mail part page whole e t ts value m0 m h is off =
-    let f = h.effects in
-    let v = test_does mail part t f in
-    let fails : v.value ≡ false = is.0.0 ∙ off in
-    let step : and_then v (λ x. all_do mail part ts x) ≡ verdict false v.effects = rw fails refl in
-    let later : on_true v (λ x. all_events mail part ts x) ≡ [] = rw fails refl in
-    let told_all = so_far_next page (all_events mail part whole e) (all_events mail part (test t ts) f) (test_events mail part t f) [] h.so_far (ap (λ l. test_events mail part t f ++ l) later) is.1 in
-    verdict_told page (verdict false v.effects) (all_do mail part whole e) false m (all_events mail part whole e) [] (sym step ∙ h.same) (refl, is.0.1) told_all refl
-
--- no test is left
-pub all_done : {s0 s1 : Output} (mail : Mail) (part : Option ℕ) (page : Sheet) (whole : TestForms) (e : Effects) (m : Evaluator) (h : AllRemain mail part page whole e no_test m s0 s1) → IsTold (all_do mail part whole e) true m (told page (all_events mail part whole e)) s0 s1
-all_done mail part page whole e m h = verdict_told page (verdict true h.effects) (all_do mail part whole e) true m (all_events mail part whole e) [] h.same (refl, h.stands) h.so_far refl
-
 -- ---- any of some tests
 
 abbrev pub AnyRemain : Mail → Option ℕ → Sheet → TestForms → Effects → TestForms → Evaluator → Output → Output → Type 0
@@ -81,22 +61,6 @@ any_step mail part page whole e t ts value m0 m h is off =
       same = sym step ∙ h.same;
       so_far = so_far_next page (any_events mail part whole e) (any_events mail part (test t ts) f) (test_events mail part t f) (any_events mail part ts v.effects) h.so_far (ap (λ l. test_events mail part t f ++ l) later) is.1;
     }
-
--- a test was true, and decides
-pub any_stop : {s0 s1 s2 : Output} (mail : Mail) (part : Option ℕ) (page : Sheet) (whole : TestForms) (e : Effects) (t : TestForm) (ts : TestForms) (value : Bool) (m0 m : Evaluator) (h : AnyRemain mail part page whole e (test t ts) m0 s0 s1)
-    → IsTold (test_does mail part t h.effects) value m (told page (test_events mail part t h.effects)) s1 s2 → value ≡ true → IsTold (any_do mail part whole e) true m (told page (any_events mail part whole e)) s0 s2
-any_stop mail part page whole e t ts value m0 m h is on =
-    let f = h.effects in
-    let v = test_does mail part t f in
-    let holds : v.value ≡ true = is.0.0 ∙ on in
-    let step : or_else v (λ x. any_do mail part ts x) ≡ verdict true v.effects = rw holds refl in
-    let later : on_false v (λ x. any_events mail part ts x) ≡ [] = rw holds refl in
-    let told_all = so_far_next page (any_events mail part whole e) (any_events mail part (test t ts) f) (test_events mail part t f) [] h.so_far (ap (λ l. test_events mail part t f ++ l) later) is.1 in
-    verdict_told page (verdict true v.effects) (any_do mail part whole e) true m (any_events mail part whole e) [] (sym step ∙ h.same) (refl, is.0.1) told_all refl
-
--- no test is left
-pub any_done : {s0 s1 : Output} (mail : Mail) (part : Option ℕ) (page : Sheet) (whole : TestForms) (e : Effects) (m : Evaluator) (h : AnyRemain mail part page whole e no_test m s0 s1) → IsTold (any_do mail part whole e) false m (told page (any_events mail part whole e)) s0 s1
-any_done mail part page whole e m h = verdict_told page (verdict false h.effects) (any_do mail part whole e) false m (any_events mail part whole e) [] h.same (refl, h.stands) h.so_far refl
 
 -- ---- commands
 
@@ -135,10 +99,6 @@ commands_stop mail part page whole e c cs flow m0 m h is off =
     let later : on_normal x (λ y. commands_events mail part cs y) ≡ [] = none_told x flow m (λ y. commands_events mail part cs y) off is.0 in
     let told_all = so_far_next page (commands_events mail part whole e) (commands_events mail part (command c cs) f) (command_events mail part c f) [] h.so_far (ap (λ l. command_events mail part c f ++ l) later) is.1 in
     ending_told page (commands_do mail part (command c cs) f) (commands_do mail part whole e) flow m (commands_events mail part whole e) [] h.same (stays x flow m (λ y. commands_do mail part cs y) off is.0) told_all refl
-
--- no command is left
-pub commands_done : {s0 s1 : Output} (mail : Mail) (part : Option ℕ) (page : Sheet) (whole : CommandForms) (e : Effects) (m : Evaluator) (h : CommandsRemain mail part page whole e no_command m s0 s1) → AreTold (commands_do mail part whole e) GoesOn m (told page (commands_events mail part whole e)) s0 s1
-commands_done mail part page whole e m h = ending_told page (normal h.effects) (commands_do mail part whole e) GoesOn m (commands_events mail part whole e) [] h.same h.stands h.so_far refl
 
 -- ---- branches
 
@@ -189,20 +149,6 @@ pub choice_stops : (s0 s1 s2 : Output) (why : TraceError) (mail : Mail) (part : 
     → HasStopped why (told page (commands_events mail part cs h.effects)) s1 s2 → HasStopped why (told page (choice_events mail part whole e)) s0 s2
 choice_stops s0 s1 s2 why mail part page whole e cs m0 h is =
     let events = commands_events mail part cs h.effects in
-    so_far_stopped s0 s1 s2 why page (choice_events mail part whole e) events events [] h.so_far (sym (append-nil events)) is
-
--- what is left was done
-pub choice_last : {s0 s1 s2 : Output} (mail : Mail) (part : Option ℕ) (page : Sheet) (whole : BranchForms) (e : Effects) (rest : BranchForms) (flow : Flow) (m0 m : Evaluator) (h : ChoiceRemains mail part page whole e rest m0 s0 s1)
-    → AreTold (choice_does mail part rest h.effects) flow m (told page (choice_events mail part rest h.effects)) s1 s2 → AreTold (choice_does mail part whole e) flow m (told page (choice_events mail part whole e)) s0 s2
-choice_last mail part page whole e rest flow m0 m h is =
-    let events = choice_events mail part rest h.effects in
-    let told_all = so_far_next page (choice_events mail part whole e) events events [] h.so_far (sym (append-nil events)) is.1 in
-    ending_told page (choice_does mail part rest h.effects) (choice_does mail part whole e) flow m (choice_events mail part whole e) [] h.same is.0 told_all refl
-
-pub choice_last_stops : (s0 s1 s2 : Output) (why : TraceError) (mail : Mail) (part : Option ℕ) (page : Sheet) (whole : BranchForms) (e : Effects) (rest : BranchForms) (m0 : Evaluator) (h : ChoiceRemains mail part page whole e rest m0 s0 s1)
-    → HasStopped why (told page (choice_events mail part rest h.effects)) s1 s2 → HasStopped why (told page (choice_events mail part whole e)) s0 s2
-choice_last_stops s0 s1 s2 why mail part page whole e rest m0 h is =
-    let events = choice_events mail part rest h.effects in
     so_far_stopped s0 s1 s2 why page (choice_events mail part whole e) events events [] h.so_far (sym (append-nil events)) is
 
 -- no branch is left
@@ -272,11 +218,6 @@ turns_leave at mail block page whole e number ps flow result loops m0 m h is on 
     last_turn at mail block page whole e number ps flow result m0 m h is (leaves_not_on flow loops on)
     (subst (λ r. StandsAt (after_turn x (λ y. turns (turn_does mail block) ps y)) r m) (sym left)
     (left_at x (λ y. turns (turn_does mail block) ps y) loops m (subst (λ l. StandsAt x l m) on is.0)))
-
--- no turn is left
-pub turns_done : {s0 s1 : Output} (at : ℕ) (mail : Mail) (block : CommandForms) (page : Sheet) (whole : List ℕ) (e : Effects) (m : Evaluator) (h : TurnsRemain at mail block page whole e [] m s0 s1)
-    → AreTold (turns (turn_does mail block) whole e) GoesOn m (told page (turns_events at (turn_does mail block) (turn_events mail block) whole e)) s0 s1
-turns_done at mail block page whole e m h = ending_told page (normal h.effects) _ GoesOn m _ [] h.same h.stands h.so_far refl
 
 -- a turn, as it is called
 pub turn_told_as : {s1 s2 : Output} (at : ℕ) (mail there : Mail) (part : Option ℕ) (number : ℕ) (page : Page) (block : CommandForms) (f : Effects) (flow : Flow) (m : Evaluator) → there ≡ mail → part ≡ Some number

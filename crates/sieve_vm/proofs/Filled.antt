@@ -43,7 +43,3 @@ fills_top (suc n) (Text bound ∷ entries) bounds (text t ∷ vs) e d = go (take
         let extended : sum_by length (before.top.texts ++ t ∷ []) ≡ sum_by length before.top.texts + length t = sum_by_push length before.top.texts t in
         subst (λ b. FillsTop (suc n) b (text t ∷ vs)) same
         (record { top = with_last t before.top; is = ap (option_map (with_last t)) before.is; below = before.below; long = omega (arith, long, more, bounded, extended) })
-
-no_text_left : (stack : List Value) → Fills [] stack → stack ≡ []
-no_text_left [] d = refl
-no_text_left (v ∷ vs) d = absurd d

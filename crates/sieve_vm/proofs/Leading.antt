@@ -50,9 +50,6 @@ module _ (code : Code) (mail : Mail) (is : IsAccepted code) (known : IsMail mail
     abbrev d : Describes entries s.stack
     d = from.describes
 
-    abbrev held : HoldsTexts code.variables s.variables s.captures
-    held = from.texts
-
     depth : depth_at code mail s.place ≡ length s.frames
     depth = open-length mail s.frames (open_loops code s.place) from.opened
 

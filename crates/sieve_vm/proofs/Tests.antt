@@ -1,7 +1,6 @@
 -- What an operation on the workspace leaves of the state that the machine stands for.
-use Rattle.std.proofs.Common.{sym, ◌≡◌, ℕ, ◌+◌, ◌<◌, ◌≤◌, Bool, true, false, cond, List, [], ◌∷◌, Option, Some, None, IfSome, drop, is_some, length, slice_get, refl, subst, ap, ◌∙◌, arith}
-use Rattle.std.specs.Option.{option_and_then, unwrap_or}
-use Rattle.octets.specs.Limits.{max_message}
+use Rattle.std.proofs.Common.{sym, ◌≡◌, ℕ, ◌+◌, ◌<◌, ◌≤◌, Bool, true, false, List, [], ◌∷◌, Option, Some, None, drop, is_some, refl, subst, ap, ◌∙◌, arith}
+use Rattle.std.specs.Option.{unwrap_or}
 use Rattle.bytecode_format.specs.declared.instruction.Instruction.{Instruction}
 use Rattle.bytecode_format.specs.declared.operation.TestOperation.{TestOperation}
 use Rattle.bytecode_format.specs.declared.question.Question.{Question}
@@ -10,7 +9,7 @@ use Rattle.bytecode_format.specs.Questions.{counts_in, question_in}
 use Rattle.bytecode_format.proofs.QuestionLemmas.{only_its_own}
 use Rattle.std.specs.Bool.{then_some}
 use Rattle.mail_matching.specs.Outcomes.{after}
-use Rattle.mail_matching.specs.Questions.{IsDecidedAs, IsShown, answer, answered, asked, compared_cost, current, decided, decides, looked_cost, need_of, texts_of}
+use Rattle.mail_matching.specs.Questions.{IsDecidedAs, answer, answered, asked, compared_cost, current, decided, decides, looked_cost, texts_of}
 use Rattle.mail_matching.proofs.QuestionLemmas.{is_decided as decided_alone}
 use Rattle.std.specs.Prelude.{Result, Ok, Err, OnOk}
 use Rattle.mail_matching.specs.declared.questions.Need.{Need}
@@ -22,15 +21,14 @@ use Rattle.bytecode_format.specs.declared.question.Counts.{Counts}
 use Rattle.sieve_vm.specs.declared.machine.Done.{Done}
 use Rattle.sieve_vm.specs.declared.machine.Machine.{Machine}
 use Rattle.sieve_vm.specs.declared.workspace.Workspace.{Workspace}
-use Rattle.mime_decode.specs.Mail.{Mail, Part, IsMail, size_of}
+use Rattle.mime_decode.specs.Mail.{Mail}
 use Rattle.sieve_vm.specs.Charge.{cost_of_asking}
 use Rattle.sieve_vm.specs.declared.machine.Flow.TheVariants.{On, To}
 use Rattle.sieve_vm.specs.Machine.{next_part}
-use Rattle.sieve_vm.specs.Visits.{Visits, Continues, HasSameLoops, part_in}
+use Rattle.sieve_vm.specs.Visits.{Visits, Continues, HasSameLoops}
 use Rattle.sieve_vm.specs.State.{Value, truth, Frame, State, current_part}
 use Rattle.sieve_vm.specs.Stack.{Lists, lists_counted, texts_in}
 use Rattle.sieve_vm.specs.Standing.{Held, held_of, held_by, Represents, GoesFrom}
-use Rattle.sieve_vm.proofs.Reached.{part_there}
 use Rattle.sieve_vm.proofs.Steps.{charged_at}
 
 module _ (mail : Mail) (s : State) (m : Machine) (stands : Represents mail s m) where
@@ -159,44 +157,3 @@ on_ok_so (Ok x) P p = p
 on_ok_so (Err e) P p = tt
 
 -- ---- what a question needs of the current part's content
-
--- there is a current part, of which this is needed
-pub record IsNeeded (visits : Visits) (mail : Mail) (q : Question) (needs : Need) : Type 0 where
-  pub part : Part
-  pub is : part_in visits ≡ Some part
-  pub current_is : current mail (current_part visits.frames) ≡ Some part
-  pub small : length part.content ≤ max_message
-  pub needs_it : need_of q ≡ needs
-
-pub is_needed : (visits : Visits) (mail : Mail) → IsMail mail → visits.mail ≡ mail → IfSome (current_part visits.frames) (λ part. part < length mail.parts) → (q : Question) (needs : Need) → (need.Nothing ≡ needs → ⊥)
-    → cond (is_some (current_part visits.frames)) (need_of q) need.Nothing ≡ needs → IsNeeded visits mail q needs
-is_needed visits mail known same within q needs something e = go (current_part visits.frames) refl within e
-  where
-    go : (at : Option ℕ) → current_part visits.frames ≡ at → IfSome at (λ part. part < length mail.parts) → cond (is_some at) (need_of q) need.Nothing ≡ needs → IsNeeded visits mail q needs
-    go None at there f = absurd (something f)
-    go (Some number) at there f =
-        let p = part_there mail.parts number there in
-        let bounds = known.within number p.0 p.1 in
-        record {
-          part = p.0;
-          is = ap (λ (m : Mail). option_and_then (slice_get m.parts) (current_part visits.frames)) same ∙ ap (option_and_then (slice_get mail.parts)) at ∙ p.1;
-          current_is = ap (current mail) at ∙ p.1;
-          small = omega (arith, bounds.content, bounds.body, known.small);
-          needs_it = f;
-        }
-
--- what is shown of it
-pub shown_of : (q : Question) (needs : Need) (at : Option Part) (part : Part) (known : Shown) → need_of q ≡ needs → at ≡ Some part → IsShown needs (Some part) known → IsShown (need_of q) at known
-shown_of q needs at part known needs_it there shows = rw (needs_it, there) shows
-
--- nothing is shown where nothing is needed
-pub nothing_shown : (mail : Mail) (q : Question) (at : Option ℕ) → cond (is_some at) (need_of q) need.Nothing ≡ need.Nothing → IsShown (need_of q) (current mail at) shown.Nothing
-nothing_shown mail q None e = none (need_of q)
-  where
-    none : (needs : Need) → IsShown needs None shown.Nothing
-    none needs = refl
-nothing_shown mail q (Some number) e = rw e (free (slice_get mail.parts number))
-  where
-    free : (part : Option Part) → IsShown need.Nothing part shown.Nothing
-    free None = refl
-    free (Some part) = tt
