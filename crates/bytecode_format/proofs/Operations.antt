@@ -3,43 +3,20 @@ use Rattle.std.proofs.Common.{◌≡◌, ℕ, zero, suc, Bool, true, false, not,
 use Rattle.std.proofs.lemmas.Bool.{eqb-true}
 use Rattle.std.specs.List.{list_all}
 use Rattle.bytecode_format.specs.declared.operation.Operation.{Operation}
-use Rattle.bytecode_format.specs.declared.operation.Operation.TheVariants.{Halt, Literal, Variable, Capture, Join, Set, Test, Not, Jump, JumpIfTrue, JumpIfFalse, Keep, Discard, File, Store, Each, Next, Break, Take}
+use Rattle.bytecode_format.specs.declared.operation.Operation.TheVariants.{Test}
 use Rattle.bytecode_format.specs.declared.operation.TestOperation.{TestOperation}
-use Rattle.bytecode_format.specs.declared.operation.TestOperation.TheVariants.{Constant, Header, Exists, String, Size, PartSize, PartBody, PartDigest}
+use Rattle.bytecode_format.specs.declared.operation.TestOperation.TheVariants.{Constant}
 use Rattle.bytecode_format.specs.Operations.{operations, operation_of, octet_of, octet_of_test}
 
 -- the octet of a test names it
 test_named : (test : TestOperation) → operation_of (octet_of_test test) ≡ Some (Test test)
 test_named Constant = refl
-test_named Header = refl
-test_named Exists = refl
-test_named String = refl
-test_named Size = refl
-test_named PartSize = refl
-test_named PartBody = refl
-test_named PartDigest = refl
+test_named _ = refl
 
 -- the octet of an operation names it
 pub named : (o : Operation) → operation_of (octet_of o) ≡ Some o
-named Halt = refl
-named Literal = refl
-named Variable = refl
-named Capture = refl
-named Join = refl
-named Set = refl
 named (Test test) = test_named test
-named Not = refl
-named Jump = refl
-named JumpIfTrue = refl
-named JumpIfFalse = refl
-named Keep = refl
-named Discard = refl
-named File = refl
-named Store = refl
-named Each = refl
-named Next = refl
-named Break = refl
-named Take = refl
+named _ = refl
 
 -- an element of a list whose elements all pass a test
 passes : (test : Operation → Bool) (os : List Operation) (n : ℕ) (o : Operation) → list_all test os ≡ true → slice_get os n ≡ Some o → test o ≡ true

@@ -1,8 +1,7 @@
 -- The instruction of a question says it again, and how many strings it has.
-use Rattle.std.proofs.Common.{◌≡◌, ℕ, zero, suc, ◌<◌, Bool, true, false, All, List, [], ◌∷◌, Option, Some, None, slice_get, refl, sym, ap, arith}
+use Rattle.std.proofs.Common.{◌≡◌, ℕ, ◌<◌, Bool, true, false, List, [], ◌∷◌, Option, Some, None, slice_get, refl, ap}
 use Rattle.std.proofs.lemmas.List.Elements.{All-head}
 use Rattle.std.specs.Option.{option_and_then, option_map}
-use Rattle.glob_match.specs.declared.match_type.Match.{Match}
 use Rattle.bytecode_format.specs.declared.instruction.Instruction.{Instruction}
 use Rattle.bytecode_format.specs.declared.operation.TestOperation.{TestOperation}
 use Rattle.bytecode_format.specs.declared.operation.TestOperation.TheVariants as test
@@ -10,10 +9,8 @@ use Rattle.bytecode_format.specs.declared.question.Counts.{Counts}
 use Rattle.bytecode_format.specs.declared.question.Order.{Order}
 use Rattle.bytecode_format.specs.declared.question.Question.{Question}
 use Rattle.bytecode_format.specs.declared.question.Question.TheVariants.{Constant, Header, Exists, Size, String, PartSize, PartBody, PartDigest}
-use Rattle.bytecode_format.specs.declared.selection.FieldTest.{FieldTest}
-use Rattle.bytecode_format.specs.declared.selection.Scope.{Scope}
 use Rattle.bytecode_format.specs.Questions.{AreCountsOf, StandsIn, counts_in, instruction_of, operation_asking, question_in, row_of}
-use Rattle.bytecode_format.specs.Selection.{counts_numbered, counts_number, field_test_numbered, key_numbers, match_numbered, order_numbered, scope_numbered, truth_number, truth_numbered}
+use Rattle.bytecode_format.specs.Selection.{field_test_numbered, key_numbers, match_numbered, order_numbered, scope_numbered, truth_number, truth_numbered}
 use Rattle.bytecode_format.proofs.SelectionLemmas.{counts_again, field_test_again, match_again, order_again, scope_again}
 
 truth_again : (value : Bool) → truth_numbered (truth_number value) ≡ Some value
@@ -31,16 +28,14 @@ said_again numbers (PartBody how) counts place h = rw (match_again how) refl
 said_again numbers PartDigest counts place h = refl
 
 pub counts_said_again : (q : Question) (counts : Counts) (place : ℕ) → counts.keys < key_numbers → AreCountsOf (row_of q).takes counts → counts_in (operation_asking q) (instruction_of q counts place) ≡ counts
-counts_said_again (Constant value) counts place few h = rw (h.names refl, h.params refl, h.keys refl) refl
 counts_said_again (Header fields) counts place few h =
     let again = counts_again (record { params = counts.params; keys = counts.keys }) few in
     rw (ap (λ (c : _). c.params) again, ap (λ (c : _). c.keys) again) refl
 counts_said_again (Exists scope) counts place few h = rw (h.params refl, h.keys refl) refl
-counts_said_again (Size order number) counts place few h = rw (h.names refl, h.params refl, h.keys refl) refl
 counts_said_again (String how) counts place few h = rw (h.params refl) refl
-counts_said_again (PartSize order number) counts place few h = rw (h.names refl, h.params refl, h.keys refl) refl
 counts_said_again (PartBody how) counts place few h = rw (h.names refl, h.params refl) refl
 counts_said_again PartDigest counts place few h = rw (h.names refl, h.params refl) refl
+counts_said_again _ counts place few h = rw (h.names refl, h.params refl, h.keys refl) refl
 
 -- what an instruction asks is of its operation
 of_some : {A : Type 0} (o : Option A) (make : A → Question) (t : TestOperation) (q : Question) → ((x : A) → operation_asking (make x) ≡ t) → option_map make o ≡ Some q → operation_asking q ≡ t

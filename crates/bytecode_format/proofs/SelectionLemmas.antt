@@ -11,7 +11,7 @@ use Rattle.bytecode_format.specs.declared.question.Order.TheVariants.{Over, Unde
 use Rattle.bytecode_format.specs.declared.selection.Scope.{Scope}
 use Rattle.bytecode_format.specs.declared.selection.Scope.TheVariants.{Message, Part, PartAndBelow}
 use Rattle.bytecode_format.specs.declared.selection.Selector.{Selector}
-use Rattle.bytecode_format.specs.declared.selection.Selector.TheVariants.{Value, Main, Sub, ContentType, Param}
+use Rattle.bytecode_format.specs.declared.selection.Selector.TheVariants.{Value}
 use Rattle.bytecode_format.specs.declared.selection.FieldTest.{FieldTest}
 use Rattle.bytecode_format.specs.declared.selection.TestCounts.{TestCounts}
 use Rattle.bytecode_format.specs.Selection.{kind_number, kind_numbered, comparator_number, comparator_numbered, match_number, match_numbered, scope_number, scope_numbered, selector_number, selector_numbered, field_test_number, field_test_numbered, counts_number, counts_numbered, order_number, order_numbered}
@@ -98,17 +98,11 @@ scope_only (suc (suc (suc n))) scope e = absurd cc
 
 selector_again : (selector : Selector) → selector_numbered (selector_number selector) ≡ Some selector
 selector_again Value = refl
-selector_again Main = refl
-selector_again Sub = refl
-selector_again ContentType = refl
-selector_again Param = refl
+selector_again _ = refl
 
 selector_small : (selector : Selector) → selector_number selector ≤ 4
 selector_small Value = lit≤ tt
-selector_small Main = lit≤ tt
-selector_small Sub = lit≤ tt
-selector_small ContentType = lit≤ tt
-selector_small Param = lit≤ tt
+selector_small _ = lit≤ tt
 
 -- the number that a selector was read from
 abbrev named : Option Selector → ℕ

@@ -10,14 +10,12 @@ use Rattle.bytecode_trace.specs.Private.{IsBegun, beginning, told_after, told_be
 use Rattle.bytecode_trace.specs.Steps.{TakenStep}
 use Rattle.bytecode_trace.specs.declared.line.Begun.{Begun}
 use Rattle.bytecode_trace.specs.declared.telling.Told.{Told}
-use Rattle.bytecode_trace.specs.declared.telling.Told.TheVariants.{Left, Taken, Set, Nothing}
+use Rattle.bytecode_trace.specs.declared.telling.Told.TheVariants.{Taken}
 
 -- what is told is known before the step or after it
 told_in_two : (told : Told) (i : Instruction) (before after : State) → told_before told before ++ told_after told i.c after ≡ column (option_map value_text (told_value told i (record { before = before; after = after })))
-told_in_two Left i before after = refl
 told_in_two Taken i before after = append-nil _
-told_in_two Set i before after = refl
-told_in_two Nothing i before after = refl
+told_in_two _ i before after = refl
 
 pub line_text : (code : Code) (before after : State) (b : Begun) (charged : ℕ) (part : Option ℕ) → IsBegun code before b → charged ≡ after.charge → part ≡ current_part after.frames
     → beginning b.place b.instruction (charged - b.charged) charged part ++ b.taken.items ++ told_after b.told b.instruction.c after ++ 10 ∷ [] ≡ step_line code (record { before = before; after = after })

@@ -57,13 +57,7 @@ none_from_accepted code is =
 
 is_memory : (e : Refusal) → (e ≡ Memory) ⊎ (e ≢ Memory)
 is_memory Memory = inl refl
-is_memory (Index p) = inr (λ h. absurd (cc))
-is_memory (Form p) = inr (λ h. absurd (cc))
-is_memory (End p) = inr (λ h. absurd (cc))
-is_memory (Loop p) = inr (λ h. absurd (cc))
-is_memory (Jump p) = inr (λ h. absurd (cc))
-is_memory (NoPart p) = inr (λ h. absurd (cc))
-is_memory (Stack p) = inr (λ h. absurd (cc))
+is_memory _ = inr (λ h. absurd (cc))
 
 -- an accepted program is refused for memory alone
 pub memory_alone : (code : Code) (e : Refusal) → IsAccepted code → (e ≢ Memory → refusal_of code ≡ Some e) → e ≡ Memory

@@ -7,7 +7,7 @@ use Rattle.std.specs.Option.{option_and_then, option_map, option_map_or}
 use Rattle.octets.specs.Limits.{max_string, max_stack, max_value}
 use Rattle.bytecode_format.specs.declared.instruction.Instruction.{Instruction}
 use Rattle.bytecode_format.specs.declared.operation.Operation.{Operation}
-use Rattle.bytecode_format.specs.declared.operation.Operation.TheVariants.{Halt, Literal, Variable, Capture, Join, Set, Not, Jump, JumpIfTrue, JumpIfFalse, Keep, Discard, File, Store, Each, Next, Break, Take, Test}
+use Rattle.bytecode_format.specs.declared.operation.Operation.TheVariants.{Literal, Variable, Capture, Join, Set, Not, JumpIfTrue, JumpIfFalse, Keep, Discard, File, Store, Take, Test}
 use Rattle.bytecode_format.specs.declared.question.Counts.{Counts}
 use Rattle.bytecode_format.specs.Questions.{counts_in}
 use Rattle.bytecode_format.specs.Operations.{operation_of}
@@ -87,11 +87,6 @@ module _ (code : Code) (fits : IsProgram code) where
 
   -- the entries that are left are short again
   small_after : (o : Operation) (i : Instruction) (entries after : Entries) → IsSmall entries → entries_after code o i entries ≡ Some after → IsSmall after
-  small_after Halt i entries after small e = cleared (is_empty entries) after e
-  small_after Jump i entries after small e = cleared (is_empty entries) after e
-  small_after Each i entries after small e = cleared (is_empty entries) after e
-  small_after Next i entries after small e = cleared (is_empty entries) after e
-  small_after Break i entries after small e = cleared (is_empty entries) after e
   small_after Literal i entries after small e = lent i.c (slice_get code.strings i.c) entries after refl small e
   small_after (Test test) i entries after small e = tested (counts_in test i) entries after small e
   small_after Not i entries after small e = guarded (has_truth entries) entries after small e
@@ -110,6 +105,7 @@ module _ (code : Code) (fits : IsProgram code) where
   small_after Keep i entries after small e = let same : entries ≡ after = cc in subst IsSmall same small
   small_after Discard i entries after small e = let same : entries ≡ after = cc in subst IsSmall same small
   small_after Take i entries after small e = let same : entries ≡ after = cc in subst IsSmall same small
+  small_after _ i entries after small e = cleared (is_empty entries) after e
 
   -- the entries of the shape at a place
   pub shape_small : (place : ℕ) (entries : Entries) → shape_at code place ≡ Some entries → IsSmall entries

@@ -25,21 +25,17 @@ use Rattle.part_store.proofs.Stored.{stored_as}
 use Rattle.refusals.specs.declared.refusal.Refusal.{Refusal}
 use Rattle.refusals.specs.declared.refusal.Refusal.TheVariants.{Memory, Database as Refused}
 use Rattle.depot_actions.specs.Causes.{HasCause, MayRefuse}
-use Rattle.depot_actions.specs.DepotState.{Command, Deliver, Export, ListAll, Migrate, MayLeave, ProgramOf, Remove, SetCode, SetScript}
+use Rattle.depot_actions.specs.DepotState.{Command, Export, ListAll, MayLeave, ProgramOf}
 use Rattle.depot_cli.specs.Tasks.{HasFault, MayAdd}
 use Rattle.depot.specs.Ending.{EndsSo, HasCounted, HoldsKept, IsRefusal, IsRefusedBy}
 use Rattle.depot.specs.Private.{IsFound, IsSeen, IsShut}
 
 -- what a crash may leave of a command is what the command leaves
 pub left_by : (command : Command) (old : State) (trees : Trees) → MayAdd command old trees → MayLeave command old trees
-left_by (SetScript user script) old trees may = may
-left_by (SetCode user program) old trees may = may
-left_by (Deliver user message) old trees may = may
 left_by (ListAll user) old trees may = absurd may
 left_by (ProgramOf user) old trees may = absurd may
 left_by (Export user number encoding) old trees may = absurd may
-left_by (Remove user number) old trees may = may
-left_by Migrate old trees may = may
+left_by _ old trees may = may
 
 -- what was done with a depot came to a state, which it shows while it is open; and what a crash may
 -- leave of it stands for a state that a close may keep

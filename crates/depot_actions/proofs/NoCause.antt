@@ -13,7 +13,7 @@ use Rattle.sieve_engine.specs.Execution.{IsChecked}
 use Rattle.part_store.specs.Entries.{Entries}
 use Rattle.part_store.specs.Filing.{HasRoom}
 use Rattle.depot_actions.specs.Causes.{IsFull, NamesNone}
-use Rattle.depot_actions.specs.DepotState.{Accepts, AreActions, Command, Deliver, Export, ListAll, Migrate, ProgramOf, Remove, Reply, SetCode, SetScript}
+use Rattle.depot_actions.specs.DepotState.{Accepts, AreActions, Command, Deliver, Export, Remove, Reply}
 
 one_end : (code : Code) (mail : Mail) (one other : State) → RunEnds code mail one → RunEnds code mail other → one ≡ other
 one_end code mail one other p q = one_end_from code mail p.steps q.steps (start code) p.last q.last one other p.run p.halts q.run q.halts
@@ -33,24 +33,13 @@ same_actions (Some program) mail one other (code, charged, checked, outcome) (co
 
 -- it names an entry that is there
 pub entry_there : (before after : Entries) (command : Command) (reply : Reply) → Accepts before command reply after → NamesNone before command → ⊥
-entry_there before after (SetScript user script) reply accepts none = none
-entry_there before after (SetCode user program) reply accepts none = none
-entry_there before after (Deliver user message) reply accepts none = none
-entry_there before after (ListAll user) reply accepts none = none
-entry_there before after (ProgramOf user) reply accepts none = none
 entry_there before after (Export user number encoding) reply accepts none = none accepts.step.0 accepts.step.1
 entry_there before after (Remove user number) reply accepts none = none accepts.step.0 accepts.step.1
-entry_there before after Migrate reply accepts none = none
+entry_there before after _ reply accepts none = none
 
 -- and the numbers suffice
 pub numbers_suffice : (before after : Entries) (command : Command) (reply : Reply) → Accepts before command reply after → IsFull before command → ⊥
-numbers_suffice before after (SetScript user script) reply accepts full = full
-numbers_suffice before after (SetCode user program) reply accepts full = full
 numbers_suffice before after (Deliver user message) reply accepts full =
     let same = same_actions (before.programs user) (mail_of message) accepts.step.actions full.0 accepts.step.are full.1 in
     full.2 (subst (λ actions. HasRoom before user (length actions)) same accepts.step.room)
-numbers_suffice before after (ListAll user) reply accepts full = full
-numbers_suffice before after (ProgramOf user) reply accepts full = full
-numbers_suffice before after (Export user number encoding) reply accepts full = full
-numbers_suffice before after (Remove user number) reply accepts full = full
-numbers_suffice before after Migrate reply accepts full = full
+numbers_suffice before after _ reply accepts full = full

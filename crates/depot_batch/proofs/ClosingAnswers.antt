@@ -15,7 +15,7 @@ use Rattle.depot_actions.specs.DepotState as depot
 use Rattle.depot_actions.specs.PlainMedia.{HavePlainMedia, is_one_line}
 use Rattle.refusals.specs.Lines.{name_of, number_of, place_of, place_text, refusal_text}
 use Rattle.refusals.specs.declared.refusal.Refusal.{Refusal}
-use Rattle.refusals.specs.declared.refusal.Refusal.TheVariants.{Memory, MessageTooLarge, TooManyParts, NotCanonical, Lexical, ScriptTooLong, Syntax, TooDeep, UnknownCommand, MissingCapability, UnknownCapability, BadArguments, Limit, Spelling, Index, Form, End, Loop, Jump, NoPart, Stack, Listing as BadListing, NoSuchEntry, NumberFull, Collision, Database, UserName, Write, Read}
+use Rattle.refusals.specs.declared.refusal.Refusal.TheVariants.{Memory, Form}
 use Rattle.depot_jobs.specs.Printed.{line, quoted, refusal_line}
 use Rattle.depot_jobs.specs.Requests.{Request}
 use Rattle.depot_jobs.specs.declared.request.OnDepot.TheVariants.{Script, Code, Deliver, List as ListEntries, Export, Remove, Migrate}
@@ -143,34 +143,7 @@ replied Migrate octets words reply old new before asks done clean stands plain =
 
 name_one_line : (refusal : Refusal) → is_one_line (name_of refusal) ≡ true
 name_one_line Memory = refl
-name_one_line MessageTooLarge = refl
-name_one_line TooManyParts = refl
-name_one_line NotCanonical = refl
-name_one_line (Lexical place) = refl
-name_one_line ScriptTooLong = refl
-name_one_line (Syntax place) = refl
-name_one_line (TooDeep place) = refl
-name_one_line (UnknownCommand place) = refl
-name_one_line (MissingCapability place) = refl
-name_one_line (UnknownCapability place) = refl
-name_one_line (BadArguments place) = refl
-name_one_line (Limit place) = refl
-name_one_line Spelling = refl
-name_one_line (Index place) = refl
-name_one_line (Form place) = refl
-name_one_line (End place) = refl
-name_one_line (Loop place) = refl
-name_one_line (Jump place) = refl
-name_one_line (NoPart place) = refl
-name_one_line (Stack place) = refl
-name_one_line (BadListing place) = refl
-name_one_line NoSuchEntry = refl
-name_one_line NumberFull = refl
-name_one_line Collision = refl
-name_one_line Database = refl
-name_one_line UserName = refl
-name_one_line Write = refl
-name_one_line Read = refl
+name_one_line _ = refl
 
 place_one_line : (place : Option ℕ) → is_one_line (place_text place) ≡ true
 place_one_line None = refl

@@ -4,7 +4,7 @@ use Rattle.depot_actions.specs.Causes.{IsExport}
 use Rattle.depot_actions.specs.DepotState.{Command, Reply}
 use Rattle.encodings.specs.Device.{HasBegun, HasBroken}
 use Rattle.refusals.specs.declared.refusal.Refusal.{Refusal}
-use Rattle.refusals.specs.declared.refusal.Refusal.TheVariants.{Memory, MessageTooLarge, TooManyParts, NotCanonical, Lexical, ScriptTooLong, Syntax, TooDeep, UnknownCommand, MissingCapability, UnknownCapability, BadArguments, Limit, Spelling, Index, Form, End, Loop, Jump, NoPart, Stack, Listing, NoSuchEntry, NumberFull, Collision, Database, UserName, Write, Read}
+use Rattle.refusals.specs.declared.refusal.Refusal.TheVariants.{Memory, Write}
 use Rattle.depot_jobs.specs.Jobs.{HasTold}
 use Rattle.depot_cli.specs.Printed.{reply_text}
 use Rattle.depot_cli.specs.Tasks.{StoreAndOutputs, HasDone, HasPerformed, HasRefused}
@@ -12,34 +12,8 @@ use Rattle.depot_cli.specs.Tasks.{StoreAndOutputs, HasDone, HasPerformed, HasRef
 -- whether a refusal is one that may come after some of an export was written
 comes_late : (e : Refusal) → (e ≡ Write) ⊎ (e ≡ Memory) ⊎ ((e ≢ Write) × (e ≢ Memory))
 comes_late Memory = inr (inl refl)
-comes_late MessageTooLarge = inr (inr (λ is. cc is, λ is. cc is))
-comes_late TooManyParts = inr (inr (λ is. cc is, λ is. cc is))
-comes_late NotCanonical = inr (inr (λ is. cc is, λ is. cc is))
-comes_late (Lexical place) = inr (inr (λ is. cc is, λ is. cc is))
-comes_late ScriptTooLong = inr (inr (λ is. cc is, λ is. cc is))
-comes_late (Syntax place) = inr (inr (λ is. cc is, λ is. cc is))
-comes_late (TooDeep place) = inr (inr (λ is. cc is, λ is. cc is))
-comes_late (UnknownCommand place) = inr (inr (λ is. cc is, λ is. cc is))
-comes_late (MissingCapability place) = inr (inr (λ is. cc is, λ is. cc is))
-comes_late (UnknownCapability place) = inr (inr (λ is. cc is, λ is. cc is))
-comes_late (BadArguments place) = inr (inr (λ is. cc is, λ is. cc is))
-comes_late (Limit place) = inr (inr (λ is. cc is, λ is. cc is))
-comes_late Spelling = inr (inr (λ is. cc is, λ is. cc is))
-comes_late (Index place) = inr (inr (λ is. cc is, λ is. cc is))
-comes_late (Form place) = inr (inr (λ is. cc is, λ is. cc is))
-comes_late (End place) = inr (inr (λ is. cc is, λ is. cc is))
-comes_late (Loop place) = inr (inr (λ is. cc is, λ is. cc is))
-comes_late (Jump place) = inr (inr (λ is. cc is, λ is. cc is))
-comes_late (NoPart place) = inr (inr (λ is. cc is, λ is. cc is))
-comes_late (Stack place) = inr (inr (λ is. cc is, λ is. cc is))
-comes_late (Listing place) = inr (inr (λ is. cc is, λ is. cc is))
-comes_late NoSuchEntry = inr (inr (λ is. cc is, λ is. cc is))
-comes_late NumberFull = inr (inr (λ is. cc is, λ is. cc is))
-comes_late Collision = inr (inr (λ is. cc is, λ is. cc is))
-comes_late Database = inr (inr (λ is. cc is, λ is. cc is))
-comes_late UserName = inr (inr (λ is. cc is, λ is. cc is))
 comes_late Write = inl refl
-comes_late Read = inr (inr (λ is. cc is, λ is. cc is))
+comes_late _ = inr (inr (λ is. cc is, λ is. cc is))
 
 -- an export stopped: a call of the writer failed, memory was refused for a piece, or it was refused and nothing was written
 pub stopped : (e : Refusal) (command : Command) (status : ℕ) (old new : StoreAndOutputs) → IsExport command

@@ -3,7 +3,6 @@ use Rattle.std.proofs.Common.{◌≡◌, ◌≢◌, ℕ, zero, suc, ◌*◌, ◌
 use Rattle.std.specs.List.{flat_map}
 use Rattle.std.proofs.lemmas.Bool.{cases_lt}
 use Rattle.std.proofs.lemmas.List.{append_assoc, append-nil, drop_all, length-append, length-drop, length-take-le, nil_from_length, take-append-drop, take_all}
-use Rattle.base64.specs.Engines.{standard}
 use Rattle.base64.specs.Rfc4648.{encode_symbols, padding_len}
 use Rattle.base64.proofs.Canonical.{encode_symbols-append}
 use Rattle.hex.specs.Hex.{encode_with}
@@ -75,23 +74,18 @@ in_two Qp xs ys is = absurd is
 
 pub text_of-none : (encoding : Encoding) → text_of encoding [] ≡ []
 unfolding encode_symbols encode_with
-text_of-none Raw = refl
-text_of-none Base64 = refl
 text_of-none Base64Mime = mime_encoding_of-none
 text_of-none Base32 = encoding_of-none alphabet.Base32
 text_of-none Base32Hex = encoding_of-none alphabet.Base32Hex
-text_of-none Base16 = refl
 text_of-none Qp = qp_of_none
+text_of-none _ = refl
 
 -- a multiple of the octets of each encoding's pieces
 is_piece : (encoding : Encoding) (xs : List ℕ) → encoding ≢ Qp → length xs ≡ 4560 → IsPiece encoding xs
 is_piece Raw xs other long = tt
-is_piece Base64 xs other long = omega arith
-is_piece Base64Mime xs other long = omega arith
-is_piece Base32 xs other long = omega arith
-is_piece Base32Hex xs other long = omega arith
 is_piece Base16 xs other long = tt
 is_piece Qp xs other long = other refl
+is_piece _ xs other long = omega arith
 
 pub first_and_rest : (encoding : Encoding) (octets : List ℕ) → encoding ≢ Qp
     → text_of encoding octets ≡ text_of encoding (take (min (length octets) 4560) octets) ++ text_of encoding (drop (min (length octets) 4560) octets)

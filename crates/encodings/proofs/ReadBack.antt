@@ -35,11 +35,8 @@ at_most_one Base16 text x y small other e f =
     (ap hex.decode_of (sym e ∙ f) ∙ decode_of-encode_upper y (octets_are_bytes y other))
 
 pub written_is_read : (encoding : Encoding) (octets : List ℕ) → IsOctets octets → Reads encoding (text_of encoding octets) octets
-written_is_read Raw octets small = refl
-written_is_read Base64 octets small = refl
 written_is_read Base64Mime octets small = sym (law octets small)
 written_is_read Qp octets small = sym (reads_back octets small)
-written_is_read Base32 octets small = refl
-written_is_read Base32Hex octets small = refl
 written_is_read Base16 octets small =
     decoded_is_written (hex.encode_upper octets) octets (decode_of-encode_upper octets (octets_are_bytes octets small))
+written_is_read _ octets small = refl

@@ -1,7 +1,7 @@
 -- A content is no longer than its body.
 use Rattle.std.proofs.Common.{ℕ, ◌≤◌, List, length, arith}
 use Rattle.mime_params.specs.declared.encoding.TransferEncoding.{TransferEncoding}
-use Rattle.mime_params.specs.declared.encoding.TransferEncoding.TheVariants.{SevenBit, EightBit, Binary, QuotedPrintable, Base64, Unknown}
+use Rattle.mime_params.specs.declared.encoding.TransferEncoding.TheVariants.{QuotedPrintable, Base64}
 use Rattle.lanes_base64_mime.specs.MimeBase64.{mime_decoding_of}
 use Rattle.lanes_base64_mime.proofs.Rooms.{decoding_fits}
 use Rattle.quoted_printable.proofs.Lengths.{no_longer}
@@ -12,9 +12,6 @@ base64_no_longer : (text : List ℕ) → length (mime_decoding_of text) ≤ leng
 base64_no_longer text = omega (arith, decoding_fits text)
 
 pub content_fits : (encoding : TransferEncoding) (body : List ℕ) → length (content_of encoding body) ≤ length body
-content_fits SevenBit body = omega arith
-content_fits EightBit body = omega arith
-content_fits Binary body = omega arith
 content_fits QuotedPrintable body = no_longer body
 content_fits Base64 body = base64_no_longer body
-content_fits Unknown body = omega arith
+content_fits _ body = omega arith

@@ -9,13 +9,13 @@ use Rattle.sqlite_sql.specs.Query.{Query, IsAnswer}
 use Rattle.sqlite_sql.specs.Program.{overlay}
 use Rattle.sqlite_schema.specs.Rules.{guards, Keeps, Obeys, Refers, references_fit}
 use Rattle.sqlite_schema.specs.declared.schema.Among.TheVariants.{All}
-use Rattle.sqlite_schema.specs.declared.schema.Constraint.TheVariants.{Datatype, NotNull, Check, PrimaryKey, Unique, ForeignKey}
+use Rattle.sqlite_schema.specs.declared.schema.Constraint.TheVariants.{Unique, ForeignKey}
 use Rattle.sqlite_schema.specs.declared.schema.Keys.TheVariants.{Enforced}
 use Rattle.sqlite_schema.specs.declared.schema.Table.{Table}
 use Rattle.sqlite_schema.specs.declared.command.Command.TheVariants.{Delete}
 use Rattle.sqlite_schema.specs.declared.program.Program.{Program}
 use Rattle.sqlite_rules.specs.declared.error.Refusal.{Refusal}
-use Rattle.sqlite_rules.specs.declared.error.Refusal.TheVariants.{Violates, Mismatch, NoRowid, BadReference, TooDeep}
+use Rattle.sqlite_rules.specs.declared.error.Refusal.TheVariants.{Violates, BadReference, TooDeep}
 use Rattle.sqlite_rules.specs.declared.error.Rowids.TheVariants.{Given}
 use Rattle.sqlite_rules.specs.Calls.{ids_of}
 use Rattle.sqlite_rules.specs.Edit.{Applies, Edit, IsRefused, edit_of, edited, left_by, taken_by}
@@ -41,7 +41,7 @@ use Rattle.part_store.proofs.Faults.{IsAsked, IsAnswered}
 use Rattle.part_store.proofs.Asked.{over}
 use Rattle.part_store.proofs.ContentRows.{content_taken}
 use Rattle.part_store.proofs.Runs.{and_true, taken_as}
-use Rattle.part_store.proofs.Meaning.{alone, is_given, drop_user_query, drop_user_is, drop_content_query, drop_content_is, drop_entry_query, drop_entry_is}
+use Rattle.part_store.proofs.Meaning.{alone, is_given, drop_user_query, drop_content_query, drop_entry_query}
 use Rattle.part_store.proofs.Parents.{all_refer, refers, parent_stays, orphan, other_content}
 use Rattle.part_store.proofs.Stopped.{at_once, err_not_ok, stops_in, edit_stops, delete_writes, named_is_no_failure, named_leaves, stopped, IsStoreFailure, Stops}
 use Rattle.part_store.proofs.Writes.{no_works, same_value, taken_next, went}
@@ -82,16 +82,11 @@ module _ (limit : Option ℕ) (params : Row) (db : Trees) (text : List ℕ) (at 
 
   module _ (obeys : Obeys store_schema db) (fit : (b : Bool) → references_fit store_schema table false b ≡ true) where
     never : (rows : List Row) (why : Refusal) → IsRefused store_schema Enforced db (gone rows) why → ⊥
-    never rows (Violates Datatype) h = true≢false h
-    never rows (Violates NotNull) h = true≢false h
-    never rows (Violates Check) h = true≢false h
-    never rows (Violates PrimaryKey) h = true≢false h
     never rows (Violates Unique) h = h (unique_left rows obeys)
     never rows (Violates ForeignKey) h = h
-    never rows Mismatch h = true≢false h
-    never rows NoRowid h = true≢false h
     never rows BadReference h = true≢false (sym (fit _) ∙ h)
     never rows TooDeep h = h
+    never rows _ h = true≢false h
 
     never_stops : (rows : List Row) (stop : Option Error) → Edited store_schema Enforced db (gone rows) (Err stop) → ⊥
     never_stops rows stop h = elim (edit_stops db (gone rows) h.0 h.1) [ inl refuses ↦ never rows refuses.0 refuses.1 | inr big ↦ big.1 ]

@@ -2,7 +2,7 @@
 use Rattle.std.proofs.Common.{◌≡◌, ◌⊎◌, inl, inr, ℕ, zero, suc, Bool, true, false, MatchBool, IfSome, List, [], ◌∷◌, length, append-nil, length-append, Option, Some, None, Ok, Err, Result, refl, sym, ap, subst, ◌∙◌, arith}
 use Rattle.sqlite_value.specs.Order.{Row}
 use Rattle.sqlite_trees.specs.declared.error.StoreError.{StoreError as Cause}
-use Rattle.sqlite_trees.specs.declared.error.StoreError.TheVariants.{OutOfMemory, Io, Corrupt, Full, Broken, Unstorable}
+use Rattle.sqlite_trees.specs.declared.error.StoreError.TheVariants.{OutOfMemory}
 use Rattle.sqlite_trees.specs.Tree.{Trees}
 use Rattle.sqlite_schema.specs.declared.schema.Keys.TheVariants.{Enforced}
 use Rattle.sqlite_schema.specs.declared.command.Source.{Source}
@@ -59,11 +59,7 @@ IsStoreFailure e = (cause : Cause) × (e ≡ store_error cause)
 -- that a row is still named is no failure of the store
 pub named_is_no_failure : IsStoreFailure still_named → ⊥
 named_is_no_failure (OutOfMemory, h) = absurd cc
-named_is_no_failure (Io, h) = absurd cc
-named_is_no_failure (Corrupt, h) = absurd cc
-named_is_no_failure (Full, h) = absurd cc
-named_is_no_failure (Broken, h) = absurd cc
-named_is_no_failure (Unstorable, h) = absurd cc
+named_is_no_failure _ = absurd cc
 
 either : (b : Bool) (A B : Type 0) → MatchBool b A B → A ⊎ B
 either true A B h = inl h

@@ -2,7 +2,7 @@
 use Rattle.std.proofs.Common.{◌≡◌, ◌&&◌, ℕ, ℤ, pos, Bool, true, false, not, List, [], ◌∷◌, codes, Option, Some, None, Ok, refl, sym, ap, ap₂, is_eq, slice_get, Bor, ◌∙◌}
 use Rattle.std.proofs.lemmas.Cmp.{tied_itself}
 use Rattle.sqlite_value.specs.declared.value.Value.{Value}
-use Rattle.sqlite_value.specs.declared.value.Value.TheVariants.{Null, Int, Real, Text, Blob}
+use Rattle.sqlite_value.specs.declared.value.Value.TheVariants.{Null, Int, Text, Blob}
 use Rattle.sqlite_value.specs.Order.{Row, column, value_cmp}
 use Rattle.sqlite_value.proofs.OrderLemmas.{value_cmp_total}
 use Rattle.sqlite_value.specs.Keys.{ascending, collated}
@@ -43,10 +43,7 @@ last_found old new user rows h =
 as_null : (v : Value) → is_eq (collated Binary v Null) ≡ is_null v
 unfolding value_cmp
 as_null Null = ap is_eq (tied_itself value_cmp_total Null)
-as_null (Int n) = refl
-as_null (Real x) = refl
-as_null (Text t) = refl
-as_null (Blob b) = refl
+as_null _ = refl
 
 not_true : (b : Bool) → (is_true (unary Not (from_truth (Some b))) && true) ≡ not b
 unfolding unary

@@ -18,7 +18,7 @@ use Rattle.bytecode_verifier.specs.Shape.{Entries}
 use Rattle.bytecode_verifier.proofs.Open.{inside}
 use Rattle.mime_decode.specs.Mail.{Mail}
 use Rattle.sieve_check.specs.declared.typed.Act.{Act}
-use Rattle.sieve_check.specs.declared.typed.Act.TheVariants.{Keep, Discard, FileInto, Set, Take, Store, Leave, Stop}
+use Rattle.sieve_check.specs.declared.typed.Act.TheVariants.{Keep, Set, Take, Store, Leave, Stop}
 use Rattle.sieve_check.specs.Acts.{act_row, act_strings}
 use Rattle.sieve_check.specs.Bounded.{IsBoundedAct}
 use Rattle.sieve_check.specs.Typed.{Template, CommandForms}
@@ -135,9 +135,6 @@ module _ (script : CommandForms) (mail : Mail) (state : State) (held : 0 < lengt
 
   pub act_effect : (act : Act) (e : Effects) (string : Template) → Has own (uses_with [] [] (act_row act).sets) → (act_row act).loops ≤ length state.frames
       → Goes (act_does mail part act (expanded e string) e) (effect_of (referred_in (code_of script)) mail (operation_of (act_code own act).op) (act_code own act) (stacked e (all_expanded e (act_strings act string))))
-  act_effect Keep e string has deep = refl
-  act_effect Discard e string has deep = refl
-  act_effect FileInto e string has deep = refl
   act_effect (Set modifiers name) e string has deep =
       rw (number_again modifiers, has_place e name has, variable_set (commands_variables script) e.variables name (take max_value (modified modifiers (expanded e string))) (is_known name has)) refl
   act_effect (Take most name) e string has deep =
@@ -157,3 +154,4 @@ module _ (script : CommandForms) (mail : Mail) (state : State) (held : 0 < lengt
       ∙ ap (λ (more : List Action). on (stacked (record e { actions = e.actions ++ more }) [])) is
   act_effect (Leave loops) e string has deep = tt
   act_effect Stop e string has deep = tt
+  act_effect _ e string has deep = refl

@@ -6,7 +6,7 @@ use Rattle.std.proofs.lemmas.List.{length-append, append_assoc, append-nil, map-
 use Rattle.bytecode_format.specs.declared.instruction.Instruction.{Instruction}
 use Rattle.bytecode_format.specs.declared.operation.Operation.TheVariants.{Each, Next}
 use Rattle.sieve_check.specs.declared.typed.Act.{Act}
-use Rattle.sieve_check.specs.declared.typed.Act.TheVariants.{Keep, Discard, FileInto, Set, Take, Store, Leave, Stop}
+use Rattle.sieve_check.specs.declared.typed.Act.TheVariants.{Keep}
 use Rattle.bytecode_format.specs.declared.question.Question.{Question}
 use Rattle.bytecode_format.specs.declared.question.Question.TheVariants.{Constant}
 use Rattle.sieve_check.specs.declared.typed.Segment.{Segment}
@@ -121,13 +121,7 @@ module _ (target : ℕ) (tables : Tables) where
 
   act_kept : (act : Act) → aimed target (act_code tables act) ≡ act_code tables act
   act_kept Keep = refl
-  act_kept Discard = refl
-  act_kept FileInto = refl
-  act_kept (Set modifiers name) = refl
-  act_kept (Take most name) = refl
-  act_kept Store = refl
-  act_kept (Leave loops) = refl
-  act_kept Stop = refl
+  act_kept _ = refl
 
   -- a test of a list, from what is known of it alone
   first_aimed : (t : TestForm) (place n : ℕ) (deciding asked : Bool) (ts : TestForms) (following : ℕ) → 1 ≤ following

@@ -2,7 +2,6 @@
 use Rattle.std.proofs.Common.{◌≡◌, ℕ, zero, suc, ◌-◌, ◌≤◌, nat_lt, Bool, true, false, not, bytes_eq, List, [], ◌∷◌, Option, Some, None, All, length, map, take, filter, replicate, slice_set, refl, sym, ap, subst, inl, inr, arith, if◌then◌else◌, length-take}
 use Rattle.std.specs.List.{slice_index_or}
 use Rattle.std.proofs.lemmas.Bool.{cases_Bool}
-use Rattle.std.proofs.lemmas.Cmp.{nat_list_eq_equiv}
 use Rattle.std.proofs.lemmas.List.Elements.{All-head, All-tail, All-replicate}
 use Rattle.std.proofs.lemmas.Map.Views.{any-filter_same}
 use Rattle.std.proofs.lemmas.Slice.Eq.{bytes_eq-Decides}
@@ -14,7 +13,7 @@ use Rattle.mail_matching.proofs.QuestionLemmas.{answer_short}
 use Rattle.mime_decode.specs.Mail.{Mail, Part as MailPart}
 use Rattle.mime_decode.specs.Visited.{visited}
 use Rattle.sieve_check.specs.declared.typed.Act.{Act}
-use Rattle.sieve_check.specs.declared.typed.Act.TheVariants.{Keep, Discard, FileInto, Set, Take, Store, Leave, Stop}
+use Rattle.sieve_check.specs.declared.typed.Act.TheVariants.{Set, Take, Leave, Stop}
 use Rattle.sieve_check.specs.Bounded.{IsBoundedAct, IsBoundedCommand, AreBoundedCommands, AreBoundedBranches}
 use Rattle.sieve_check.specs.Typed.{TestForm, asks, negation, all_of, any_of, TestForms, no_test, test, CommandForm, does, for_every_part, choice, CommandForms, no_command, command, BranchForms, no_branch, otherwise, branch}
 use Rattle.sieve_meaning.specs.Meaning.{Effects, no_effects, texts_of, expanded, with_taken, with_value, Verdict, verdict, matched, and_then, or_else, Ending, normal, stopped, broken, effects_of, followed_by, left, after_turn, turns, test_does, all_do, any_do, act_does, command_does, commands_do, choice_does}
@@ -104,14 +103,11 @@ turns_short turn (number ∷ parts) e h short = turn_short (turn number e) (λ f
 
 module _ (mail : Mail) where
   act_short : (part : Option ℕ) (act : Act) (text : List ℕ) (e : Effects) → IsBoundedAct act → AreShort e → AreShort (effects_of (act_does mail part act text e))
-  act_short part Keep text e b short = still e _ refl refl short
-  act_short part Discard text e b short = still e _ refl refl short
-  act_short part FileInto text e b short = still e _ refl refl short
   act_short part (Set modifiers name) text e b short = record { variables = set_short name (modified modifiers text) e.variables short.variables; captures = short.captures }
   act_short part (Take most name) text e b short = record { variables = taken_short most name (current mail part) e.variables b.1 short.variables; captures = short.captures }
-  act_short part Store text e b short = still e _ refl refl short
   act_short part (Leave loops) text e b short = short
   act_short part Stop text e b short = short
+  act_short part _ text e b short = still e _ refl refl short
 
   mutual
     -- after a test

@@ -3,7 +3,7 @@ use Rattle.std.proofs.Common.{◌≡◌, ◌≢◌, ℕ, List, Some, sym, ap, su
 use Rattle.bytecode_format.specs.declared.action.Action.{Action}
 use Rattle.bytecode_format.specs.Code.{Code}
 use Rattle.bytecode_verifier.specs.declared.error.Refusal.{Refusal as BrokenRule}
-use Rattle.bytecode_verifier.specs.declared.error.Refusal.TheVariants.{Memory, Index, Form, End, Loop, Jump, NoPart, Stack}
+use Rattle.bytecode_verifier.specs.declared.error.Refusal.TheVariants.{Memory}
 use Rattle.bytecode_verifier.specs.Acceptance.{refusal_of}
 use Rattle.mime_decode.specs.Mail.{Mail, IsMail, IsReadable, mail_of}
 use Rattle.mime_decode.proofs.MailLemmas.{is_mail}
@@ -22,13 +22,7 @@ use Rattle.refusals.specs.declared.refusal.Refusal.TheVariants as engine
 
 pub refused_by_verifier : (octets : List ℕ) (code : Code) → Spells octets code → (r : BrokenRule) → (r ≢ Memory → refusal_of code ≡ Some r) → IsProgramRefusal octets (of_verifier r)
 refused_by_verifier octets code spells Memory h = tt
-refused_by_verifier octets code spells (Index p) h = (code, spells, h (λ e. absurd cc))
-refused_by_verifier octets code spells (Form p) h = (code, spells, h (λ e. absurd cc))
-refused_by_verifier octets code spells (End p) h = (code, spells, h (λ e. absurd cc))
-refused_by_verifier octets code spells (Loop p) h = (code, spells, h (λ e. absurd cc))
-refused_by_verifier octets code spells (Jump p) h = (code, spells, h (λ e. absurd cc))
-refused_by_verifier octets code spells (NoPart p) h = (code, spells, h (λ e. absurd cc))
-refused_by_verifier octets code spells (Stack p) h = (code, spells, h (λ e. absurd cc))
+refused_by_verifier octets code spells _ h = (code, spells, h (λ e. absurd cc))
 
 -- the report of a run, in terms of the octets
 pub reported : (message : List ℕ) (code : Code) (mail : Mail) (actions : List Action) (charged limit : ℕ) → IsAccepted code → IsReadable message → mail ≡ mail_of message → IsOutcome code mail actions charged → limit ≡ limit_of code mail → IsReport code message actions charged limit

@@ -19,7 +19,7 @@ use Rattle.sieve_check.specs.Causes.{Reason}
 use Rattle.sieve_check.specs.declared.causes.ReasonKind.{ReasonKind}
 use Rattle.sieve_check.specs.declared.causes.ReasonKind.TheVariants as reasons
 use Rattle.bytecode_listing.specs.declared.error.FaultKind.{FaultKind}
-use Rattle.bytecode_listing.specs.declared.error.FaultKind.TheVariants.{Misplaced, SecondLabel, NoLabel, Limits}
+use Rattle.bytecode_listing.specs.declared.error.FaultKind.TheVariants.{Misplaced}
 use Rattle.sieve_explain.specs.Faults.{Beginning, beginnings, begins_as_mail, lexical_blanks, listing_blanks, listing_text, look_text, misplaced_text, misplaced_token, other_text, text_at, token_blanks}
 use Rattle.sieve_explain.specs.Hints.{Vocabulary, known_capabilities, known_commands, known_tags, known_tests, lacking, lacking_rows, meant, meant_too, unknown, unknown_capability, unknown_command, unknown_tag, unknown_test, unknown_text, unknown_words}
 use Rattle.sieve_explain.specs.Printable.{are_printable}
@@ -180,9 +180,7 @@ fine_misplaced (octet ∷ rest) = fine_if (octet == 34) _ _ refl refl
 
 fine_listing_text : (kind : FaultKind) (rest : List ℕ) → Fine (listing_text kind rest)
 fine_listing_text Misplaced rest = fine_misplaced rest
-fine_listing_text SecondLabel rest = refl
-fine_listing_text NoLabel rest = refl
-fine_listing_text Limits rest = refl
+fine_listing_text _ rest = refl
 
 pub fine_listing : (kind : FaultKind) (rest : List ℕ) → FineBlanks (listing_blanks kind rest)
 unfolding listing_blanks

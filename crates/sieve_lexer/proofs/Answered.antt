@@ -12,7 +12,7 @@ use Rattle.sieve_lexer.specs.Texts.{IsTextOf, IsIdentifier, IsNumber, IsSuffix, 
 use Rattle.sieve_lexer.specs.Tokens.{IsToken, NoToken}
 use Rattle.sieve_lexer.specs.Values.{number_value, below_limit, is_unit}
 use Rattle.sieve_lexer.specs.declared.token.TokenKind.{TokenKind}
-use Rattle.sieve_lexer.specs.declared.token.TokenKind.TheVariants.{Identifier, Tag, Number, QuotedString, MultiLineString, Semicolon, Comma, OpeningBrace, ClosingBrace, OpeningParenthesis, ClosingParenthesis, OpeningBracket, ClosingBracket}
+use Rattle.sieve_lexer.specs.declared.token.TokenKind.TheVariants.{Identifier, Tag, Number, QuotedString, MultiLineString}
 use Rattle.sieve_lexer.proofs.Unique.{opening_unique, multi_line_unique, quoted_unique}
 use Rattle.sieve_lexer.proofs.Beginnings.{class_of, kind_class, token_from, none_from, begins_with, class_letter, class_digit, word_kind}
 use Rattle.sieve_lexer.proofs.Numbers.{above_limit}
@@ -27,14 +27,7 @@ sign_class Tag o e = absurd (cc)
 sign_class Number o e = absurd (cc)
 sign_class QuotedString o e = absurd (cc)
 sign_class MultiLineString o e = absurd (cc)
-sign_class Semicolon o e = omega arith
-sign_class Comma o e = omega arith
-sign_class OpeningBrace o e = omega arith
-sign_class ClosingBrace o e = omega arith
-sign_class OpeningParenthesis o e = omega arith
-sign_class ClosingParenthesis o e = omega arith
-sign_class OpeningBracket o e = omega arith
-sign_class ClosingBracket o e = omega arith
+sign_class _ o e = omega arith
 
 sign_number : (k : TokenKind) (o : ℕ) → sign_octet k ≡ Some o → k ≡ Number → ⊥
 sign_number k o e n = let same : sign_octet k ≡ None = ap sign_octet n in cc
@@ -45,14 +38,7 @@ sign_from_class Tag o e colon quote = absurd (omega arith)
 sign_from_class Number o e colon quote = absurd (omega arith)
 sign_from_class QuotedString o e colon quote = absurd (omega arith)
 sign_from_class MultiLineString o e colon quote = absurd (omega arith)
-sign_from_class Semicolon o e colon quote = ap Some (omega arith)
-sign_from_class Comma o e colon quote = ap Some (omega arith)
-sign_from_class OpeningBrace o e colon quote = ap Some (omega arith)
-sign_from_class ClosingBrace o e colon quote = ap Some (omega arith)
-sign_from_class OpeningParenthesis o e colon quote = ap Some (omega arith)
-sign_from_class ClosingParenthesis o e colon quote = ap Some (omega arith)
-sign_from_class OpeningBracket o e colon quote = ap Some (omega arith)
-sign_from_class ClosingBracket o e colon quote = ap Some (omega arith)
+sign_from_class _ o e colon quote = ap Some (omega arith)
 
 sign_text_all : (s : List ℕ) (k : TokenKind) (a : ℕ) → sign_octet k ≡ Some (get_or s a 0) → IsTextOf k s a (a + 1)
 sign_text_all s Identifier a e = absurd (cc)
@@ -60,14 +46,7 @@ sign_text_all s Tag a e = absurd (cc)
 sign_text_all s Number a e = absurd (cc)
 sign_text_all s QuotedString a e = absurd (cc)
 sign_text_all s MultiLineString a e = absurd (cc)
-sign_text_all s Semicolon a e = (refl, e)
-sign_text_all s Comma a e = (refl, e)
-sign_text_all s OpeningBrace a e = (refl, e)
-sign_text_all s ClosingBrace a e = (refl, e)
-sign_text_all s OpeningParenthesis a e = (refl, e)
-sign_text_all s ClosingParenthesis a e = (refl, e)
-sign_text_all s OpeningBracket a e = (refl, e)
-sign_text_all s ClosingBracket a e = (refl, e)
+sign_text_all s _ a e = (refl, e)
 
 sign_most_all : (s : List ℕ) (k : TokenKind) (a c : ℕ) → sign_octet k ≡ Some (get_or s a 0) → IsTextOf k s a c → c ≤ a + 1
 sign_most_all s Identifier a c e p = absurd (cc)
@@ -75,14 +54,7 @@ sign_most_all s Tag a c e p = absurd (cc)
 sign_most_all s Number a c e p = absurd (cc)
 sign_most_all s QuotedString a c e p = absurd (cc)
 sign_most_all s MultiLineString a c e p = absurd (cc)
-sign_most_all s Semicolon a c e p = omega arith
-sign_most_all s Comma a c e p = omega arith
-sign_most_all s OpeningBrace a c e p = omega arith
-sign_most_all s ClosingBrace a c e p = omega arith
-sign_most_all s OpeningParenthesis a c e p = omega arith
-sign_most_all s ClosingParenthesis a c e p = omega arith
-sign_most_all s OpeningBracket a c e p = omega arith
-sign_most_all s ClosingBracket a c e p = omega arith
+sign_most_all s _ a c e p = omega arith
 
 colon_ends : (o : ℕ) → to_ascii_lowercase o ≡ 58 → continues_identifier o ≡ false
 colon_ends o h = grind (arith, nat_tests)

@@ -47,48 +47,17 @@ is_kind_class n = (((n == 0) || (n == 1)) || ((n == 60) || (n == 36))) || ((((n 
 
 kind_class_is : (k : TokenKind) → is_kind_class (kind_class k) ≡ true
 kind_class_is Identifier = refl
-kind_class_is MultiLineString = refl
-kind_class_is Number = refl
-kind_class_is Tag = refl
-kind_class_is QuotedString = refl
-kind_class_is Semicolon = refl
-kind_class_is Comma = refl
-kind_class_is OpeningBrace = refl
-kind_class_is ClosingBrace = refl
-kind_class_is OpeningParenthesis = refl
-kind_class_is ClosingParenthesis = refl
-kind_class_is OpeningBracket = refl
-kind_class_is ClosingBracket = refl
+kind_class_is _ = refl
 
 pub kind_only : (k : TokenKind) → 0 < kind_class k → k ≡ kind_of (kind_class k)
 kind_only Identifier pos = absurd (omega arith)
 kind_only MultiLineString pos = absurd (omega arith)
-kind_only Number pos = refl
-kind_only Tag pos = refl
-kind_only QuotedString pos = refl
-kind_only Semicolon pos = refl
-kind_only Comma pos = refl
-kind_only OpeningBrace pos = refl
-kind_only ClosingBrace pos = refl
-kind_only OpeningParenthesis pos = refl
-kind_only ClosingParenthesis pos = refl
-kind_only OpeningBracket pos = refl
-kind_only ClosingBracket pos = refl
+kind_only _ pos = refl
 
 pub word_kind : (k : TokenKind) → kind_class k ≡ 0 → (k ≡ Identifier) ⊎ (k ≡ MultiLineString)
 word_kind Identifier e = inl refl
 word_kind MultiLineString e = inr refl
-word_kind Number e = absurd (omega arith)
-word_kind Tag e = absurd (omega arith)
-word_kind QuotedString e = absurd (omega arith)
-word_kind Semicolon e = absurd (omega arith)
-word_kind Comma e = absurd (omega arith)
-word_kind OpeningBrace e = absurd (omega arith)
-word_kind ClosingBrace e = absurd (omega arith)
-word_kind OpeningParenthesis e = absurd (omega arith)
-word_kind ClosingParenthesis e = absurd (omega arith)
-word_kind OpeningBracket e = absurd (omega arith)
-word_kind ClosingBracket e = absurd (omega arith)
+word_kind _ e = absurd (omega arith)
 
 pub class_letter : (o : ℕ) → begins_identifier o ≡ true → class_of o ≡ 0
 class_letter o h = rw h refl

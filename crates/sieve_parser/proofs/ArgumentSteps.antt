@@ -5,7 +5,7 @@ use Rattle.std.proofs.lemmas.Bool.{lt-ltb, le-ltb, cases_lt}
 use Rattle.sieve_lexer.specs.Values.{below_limit}
 use Rattle.std.proofs.lemmas.List.{append_assoc, append-nil, length-take, length-drop}
 use Rattle.sieve_lexer.specs.declared.token.TokenKind.{TokenKind}
-use Rattle.sieve_lexer.specs.declared.token.TokenKind.TheVariants.{Identifier, Tag, Number, QuotedString, MultiLineString, Semicolon, Comma, OpeningBrace, ClosingBrace, OpeningParenthesis, ClosingParenthesis, OpeningBracket, ClosingBracket}
+use Rattle.sieve_lexer.specs.declared.token.TokenKind.TheVariants.{Tag, Number, QuotedString, MultiLineString, OpeningBracket}
 use Rattle.sieve_parser.specs.Lexemes.{Lexeme, lexeme_of, opening_bracket}
 use Rattle.sieve_parser.specs.Tree.{ArgumentTree}
 use Rattle.sieve_parser.specs.Grammar.{Placed, at_depth, argument_spelled, arguments_spelled}
@@ -19,14 +19,7 @@ no_argument Number n o t m q l b = absurd (m refl)
 no_argument QuotedString n o t m q l b = absurd (q refl)
 no_argument MultiLineString n o t m q l b = absurd (l refl)
 no_argument OpeningBracket n o t m q l b = absurd (b refl)
-no_argument Identifier n o t m q l b = tt
-no_argument Semicolon n o t m q l b = tt
-no_argument Comma n o t m q l b = tt
-no_argument OpeningBrace n o t m q l b = tt
-no_argument ClosingBrace n o t m q l b = tt
-no_argument OpeningParenthesis n o t m q l b = tt
-no_argument ClosingParenthesis n o t m q l b = tt
-no_argument ClosingBracket n o t m q l b = tt
+no_argument _ n o t m q l b = tt
 
 -- an argument from a place up to another
 abbrev pub IsArgumentRead : List Lexeme → ℕ → ArgumentTree → ℕ → Type 0

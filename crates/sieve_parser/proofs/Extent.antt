@@ -7,7 +7,7 @@ use Rattle.sieve_lexer.specs.Tokens.{TokensUpTo, AreTokens}
 use Rattle.sieve_lexer.specs.Texts.{IsTextOf}
 use Rattle.sieve_lexer.specs.declared.token.Token.{Token}
 use Rattle.sieve_lexer.specs.declared.token.TokenKind.{TokenKind}
-use Rattle.sieve_lexer.specs.declared.token.TokenKind.TheVariants.{Identifier, Tag, Number, QuotedString, MultiLineString, Semicolon, Comma, OpeningBrace, ClosingBrace, OpeningParenthesis, ClosingParenthesis, OpeningBracket, ClosingBracket}
+use Rattle.sieve_lexer.specs.declared.token.TokenKind.TheVariants.{QuotedString, MultiLineString}
 use Rattle.sieve_lexer.proofs.Extent.{quoted_fits, multi_line_fits}
 use Rattle.sieve_parser.specs.Grammar.{Placed, commands_spelled, lexemes_placed}
 use Rattle.sieve_parser.specs.Lexemes.{Lexeme, identifier, tag, number, string, semicolon, comma, opening_brace, closing_brace, opening_parenthesis, closing_parenthesis, opening_bracket, closing_bracket, lexeme_of, lexemes_from, lexemes}
@@ -53,17 +53,7 @@ module _ (s : List ℕ) where
   lexeme_fits : (kind : TokenKind) (n a b : ℕ) → a < b → b ≤ length s → IsTextOf kind s a b → a + lexeme_octets (lexeme_of kind n (slice_range s a b)) ≤ b
   lexeme_fits QuotedString n a b some within h = quoted_fits s a b within h
   lexeme_fits MultiLineString n a b some within h = multi_line_fits s a b within h
-  lexeme_fits Identifier n a b some within h = other_fits a b some
-  lexeme_fits Tag n a b some within h = other_fits a b some
-  lexeme_fits Number n a b some within h = other_fits a b some
-  lexeme_fits Semicolon n a b some within h = other_fits a b some
-  lexeme_fits Comma n a b some within h = other_fits a b some
-  lexeme_fits OpeningBrace n a b some within h = other_fits a b some
-  lexeme_fits ClosingBrace n a b some within h = other_fits a b some
-  lexeme_fits OpeningParenthesis n a b some within h = other_fits a b some
-  lexeme_fits ClosingParenthesis n a b some within h = other_fits a b some
-  lexeme_fits OpeningBracket n a b some within h = other_fits a b some
-  lexeme_fits ClosingBracket n a b some within h = other_fits a b some
+  lexeme_fits _ n a b some within h = other_fits a b some
 
   tokens_forward : (ts : List Token) (n a b : ℕ) → TokensUpTo s a ts b → a + lexemes_octets (lexemes_from s n ts) ≤ b
   tokens_forward [] n a b h = omega (arith, h)

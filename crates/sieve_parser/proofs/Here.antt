@@ -54,18 +54,7 @@ kind_of closing_bracket = ClosingBracket
 
 pub kind_told : (k : TokenKind) (n : ℕ) (octets : List ℕ) → (k ≡ kind_of (lexeme_of k n octets)) ⊎ ((k ≡ MultiLineString) × (kind_of (lexeme_of k n octets) ≡ QuotedString))
 kind_told MultiLineString n octets = inr (refl, refl)
-kind_told Identifier n octets = inl refl
-kind_told Tag n octets = inl refl
-kind_told Number n octets = inl refl
-kind_told QuotedString n octets = inl refl
-kind_told Semicolon n octets = inl refl
-kind_told Comma n octets = inl refl
-kind_told OpeningBrace n octets = inl refl
-kind_told ClosingBrace n octets = inl refl
-kind_told OpeningParenthesis n octets = inl refl
-kind_told ClosingParenthesis n octets = inl refl
-kind_told OpeningBracket n octets = inl refl
-kind_told ClosingBracket n octets = inl refl
+kind_told _ n octets = inl refl
 
 -- a lexeme that isn't of a kind, where the token isn't
 pub other_kind : (s : List ℕ) (ts : List Token) (i : ℕ) (t : Token) (l : Lexeme) → slice_get ts i ≡ Some t → t.kind ≢ kind_of l → (t.kind ≡ MultiLineString → kind_of l ≢ QuotedString)

@@ -16,7 +16,7 @@ use Rattle.sieve_trace.specs.Words.{comparison_word, question_word}
 use Rattle.sieve_trace.specs.Written.{HasStopped}
 use Rattle.sieve_trace.specs.declared.error.TraceError.{TraceError}
 use Rattle.sieve_trace.specs.declared.line.Told.{Told}
-use Rattle.sieve_trace.specs.declared.line.Told.TheVariants.{Asked, Not, AllOf, AnyOf, Acted}
+use Rattle.sieve_trace.specs.declared.line.Told.TheVariants.{Asked}
 use Rattle.sieve_trace.proofs.SoFar.{stopped_one, told_one}
 
 -- one octet more than are printed
@@ -80,10 +80,7 @@ shown_stopped s0 s1 why page at part question value truth some whole so is h =
 pub text_told : (mail : Mail) (part : Option ℕ) (what : Told) → event_text mail part (occurrence_of what) ≡ part_text mail part ++ codes " " ++ occurrence_text (occurrence_of what)
 unfolding event_text
 text_told mail part (Asked question value finding) = refl
-text_told mail part (Not value) = refl
-text_told mail part (AllOf value) = refl
-text_told mail part (AnyOf value) = refl
-text_told mail part (Acted act text) = refl
+text_told mail part _ = refl
 
 -- ---- a line is what it is made of
 
