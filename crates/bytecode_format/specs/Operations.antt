@@ -1,5 +1,5 @@
--- The operations and their octets.
-use Rattle.std.specs.Prelude.{ℕ, zero, suc, List, [], ◌∷◌, Option, None, slice_get}
+-- The operations, their octets and their names.
+use Rattle.std.specs.Prelude.{ℕ, zero, suc, List, [], ◌∷◌, Option, None, slice_get, codes}
 use Rattle.bytecode_format.specs.declared.operation.Operation.{Operation}
 use Rattle.bytecode_format.specs.declared.operation.Operation.TheVariants.{Halt, Literal, Variable, Capture, Join, Set, Test, Not, Jump, JumpIfTrue, JumpIfFalse, Keep, Discard, File, Store, Each, Next, Break, Take}
 use Rattle.bytecode_format.specs.declared.operation.TestOperation.{TestOperation}
@@ -49,3 +49,36 @@ octet_of Each = 0x17
 octet_of Next = 0x18
 octet_of Break = 0x19
 octet_of Take = 0x1A
+
+-- the name of a test in listings
+abbrev pub name_of_test : TestOperation → List ℕ
+name_of_test Constant = codes "BOOL"
+name_of_test Header = codes "HEADER"
+name_of_test Exists = codes "EXISTS"
+name_of_test String = codes "STRING"
+name_of_test Size = codes "SIZE"
+name_of_test PartSize = codes "PARTSIZE"
+name_of_test PartBody = codes "PARTBODY"
+name_of_test PartDigest = codes "PARTDIGEST"
+
+-- the name of an operation in listings
+abbrev pub name_of : Operation → List ℕ
+name_of Halt = codes "HALT"
+name_of Literal = codes "LIT"
+name_of Variable = codes "VAR"
+name_of Capture = codes "CAP"
+name_of Join = codes "JOIN"
+name_of Set = codes "SET"
+name_of (Test test) = name_of_test test
+name_of Not = codes "NOT"
+name_of Jump = codes "JMP"
+name_of JumpIfTrue = codes "JT"
+name_of JumpIfFalse = codes "JF"
+name_of Keep = codes "KEEP"
+name_of Discard = codes "DISCARD"
+name_of File = codes "FILE"
+name_of Store = codes "STORE"
+name_of Each = codes "EACH"
+name_of Next = codes "NEXT"
+name_of Break = codes "BREAK"
+name_of Take = codes "TAKE"

@@ -1,13 +1,15 @@
 -- What tests ask, how an instruction says it, and what differs from question to question.
-use Rattle.std.specs.Prelude.{◌≡◌, ℕ, Bool, true, false, All, List, [], ◌∷◌, Option, Some, slice_get}
+use Rattle.std.specs.Prelude.{◌≡◌, ℕ, ◌+◌, ◌*◌, max, Bool, true, false, All, List, [], ◌∷◌, Option, Some, slice_get}
 use Rattle.std.specs.Option.{option_and_then, option_map}
 use Rattle.bytecode_format.specs.declared.instruction.Instruction.{Instruction}
 use Rattle.bytecode_format.specs.declared.operation.TestOperation.{TestOperation}
 use Rattle.bytecode_format.specs.declared.operation.TestOperation.TheVariants as test
 use Rattle.bytecode_format.specs.declared.question.Counts.{Counts}
+use Rattle.bytecode_format.specs.declared.question.Most.{Most}
 use Rattle.bytecode_format.specs.declared.question.Order.{Order}
 use Rattle.bytecode_format.specs.declared.question.Question.{Question}
 use Rattle.bytecode_format.specs.declared.question.Question.TheVariants.{Constant, Header, Exists, Size, String, PartSize, PartBody, PartDigest}
+use Rattle.bytecode_format.specs.declared.question.Sizes.{Sizes}
 use Rattle.bytecode_format.specs.declared.question.Takes.{Takes}
 use Rattle.bytecode_format.specs.declared.selection.Selector.{Selector}
 use Rattle.bytecode_format.specs.declared.selection.Selector.TheVariants.{Value, Main, Sub, ContentType, Param}
@@ -116,3 +118,24 @@ pub record AreCountsOf (takes : Takes) (counts : Counts) : Type 0 where
   pub names : takes.names ≡ false → counts.names ≡ 0
   pub params : takes.params ≡ false → counts.params ≡ 0
   pub keys : takes.keys ≡ false → counts.keys ≡ 0
+
+-- ---- what asking costs at most
+
+abbrev pub most : ℕ → ℕ → Most
+most fixed scaled = record { fixed = fixed; scaled = scaled }
+
+-- how many octets a digest has
+abbrev pub digest_length : ℕ
+digest_length = 64
+
+-- what a test costs whose texts are no larger: a message has no more fields than octets, and what a name, or a parameter of
+-- that name, selects of all fields has no more octets than the message, nor has a part's content
+abbrev pub most_of : TestOperation → Sizes → Most
+most_of test.Constant sizes = most 0 0
+most_of test.Header sizes = most 0 (sizes.names + sizes.number * max sizes.params 1 * sizes.keys)
+most_of test.Exists sizes = most 0 sizes.names
+most_of test.String sizes = most (sizes.names * sizes.keys) 0
+most_of test.Size sizes = most 0 0
+most_of test.PartSize sizes = most 0 0
+most_of test.PartBody sizes = most 0 sizes.keys
+most_of test.PartDigest sizes = most ((digest_length + 1) * sizes.keys) 0

@@ -32,6 +32,6 @@ pub use limits::{MAX_LOOPS, MAX_SEGMENTS, MAX_TEST_STRINGS, MAX_VARIABLES};
 pub use modifiers::{Case, Modifiers};
 pub use operation::{Operation, TestOperation};
 pub use program::{Program, VERSION_ONE, VERSION_TWO};
-pub use question::{Counts, Order, Question, Takes};
+pub use question::{Counts, Most, Order, Question, Sizes, Takes};
 pub use selection::{FieldTest, Scope, Selector, TestCounts, match_number, match_of};
 pub use string_table::StringTable;

@@ -66,7 +66,7 @@ pub enum Operation {
 }
 
 impl TestOperation {
-    ghost use Rattle.bytecode_format.specs.Operations.{octet_of_test};
+    ghost use Rattle.bytecode_format.specs.Operations.{name_of_test, octet_of_test};
 
     /// The octet that names the operation.
     pub fn octet(self) -> u8
@@ -83,10 +83,26 @@ impl TestOperation {
             TestOperation::PartDigest => 0x12,
         }
     }
+
+    /// The operation's name in a listing.
+    pub fn name(self) -> &'static [u8]
+        ensures { result.now ≡ name_of_test self }
+    {
+        match self {
+            TestOperation::Constant => b"BOOL",
+            TestOperation::Header => b"HEADER",
+            TestOperation::Exists => b"EXISTS",
+            TestOperation::String => b"STRING",
+            TestOperation::Size => b"SIZE",
+            TestOperation::PartSize => b"PARTSIZE",
+            TestOperation::PartBody => b"PARTBODY",
+            TestOperation::PartDigest => b"PARTDIGEST",
+        }
+    }
 }
 
 impl Operation {
-    ghost use Rattle.bytecode_format.specs.Operations.{operation_of, octet_of};
+    ghost use Rattle.bytecode_format.specs.Operations.{name_of, octet_of, operation_of};
 
     /// The operation that the octet names, if it names one.
     pub fn of(octet: u8) -> Option<Operation>
@@ -147,6 +163,33 @@ impl Operation {
             Operation::Next => 0x18,
             Operation::Break => 0x19,
             Operation::Take => 0x1A,
+        }
+    }
+
+    /// The operation's name in a listing.
+    pub fn name(self) -> &'static [u8]
+        ensures { result.now ≡ name_of self }
+    {
+        match self {
+            Operation::Halt => b"HALT",
+            Operation::Literal => b"LIT",
+            Operation::Variable => b"VAR",
+            Operation::Capture => b"CAP",
+            Operation::Join => b"JOIN",
+            Operation::Set => b"SET",
+            Operation::Test(test) => test.name(),
+            Operation::Not => b"NOT",
+            Operation::Jump => b"JMP",
+            Operation::JumpIfTrue => b"JT",
+            Operation::JumpIfFalse => b"JF",
+            Operation::Keep => b"KEEP",
+            Operation::Discard => b"DISCARD",
+            Operation::File => b"FILE",
+            Operation::Store => b"STORE",
+            Operation::Each => b"EACH",
+            Operation::Next => b"NEXT",
+            Operation::Break => b"BREAK",
+            Operation::Take => b"TAKE",
         }
     }
 }

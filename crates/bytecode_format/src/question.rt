@@ -77,6 +77,31 @@ pub struct Counts {
     pub keys: usize,
 }
 
+/// How large the texts of a test are at most.
+#[derive(Clone, Copy)]
+pub struct Sizes {
+    /// The octets of its names or sources, with one more for each.
+    pub names: u64,
+    /// How many names or sources there are.
+    pub number: u64,
+    /// How many names of parameters there are.
+    pub params: u64,
+    /// The octets of its keys, with one more for each.
+    pub keys: u64,
+}
+
+/// What asking costs at most.
+#[derive(Clone, Copy)]
+pub struct Most {
+    /// However long the message is.
+    pub fixed: u64,
+    /// For each octet of the message, and for one more.
+    pub scaled: u64,
+}
+
+/// How many octets a digest has.
+const DIGEST_LENGTH: u64 = 64;
+
 // Whether the values of parameters are taken, by their names.
 fn takes_params(selector: Selector) -> bool
     ensures { result ≡ takes_params selector }
@@ -183,8 +208,9 @@ fn asking(operation: TestOperation, a: u8, b: u16, c: u32) -> Instruction
 }
 
 impl TestOperation {
-    ghost use Rattle.std.specs.Prelude.{◌≡◌};
-    ghost use Rattle.bytecode_format.specs.Questions.{counts_in, question_in};
+    ghost use Rattle.std.specs.Prelude.{◌≡◌, ◌+◌, ◌*◌, ◌≤◌};
+    ghost use Rattle.octets.specs.Limits.{max_stack, max_string};
+    ghost use Rattle.bytecode_format.specs.Questions.{counts_in, most_of, question_in};
 
     /// What an instruction of this operation asks, if its fields say it; its number is one of these.
     pub fn question_in(self, instruction: &Instruction, numbers: &[u64]) -> Option<Question>
@@ -225,6 +251,27 @@ impl TestOperation {
             params,
             keys,
         }
+    }
+
+    /// What asking costs at most, of texts that are no larger.
+    #[inline(always)]
+    pub fn most(self, sizes: Sizes) -> Most
+        requires names { sizes.names ≤ max_stack * (max_string + 1) }
+        requires number { sizes.number ≤ max_stack }
+        requires params { sizes.params ≤ max_stack }
+        requires keys { sizes.keys ≤ max_stack * (max_string + 1) }
+        ensures { result ≡ most_of self sizes }
+    {
+        let Sizes { names, number, params, keys } = sizes;
+        let (fixed, scaled) = match self {
+            TestOperation::Constant | TestOperation::Size | TestOperation::PartSize => (0, 0),
+            TestOperation::Header => (0, names + number * params.max(1) * keys),
+            TestOperation::Exists => (0, names),
+            TestOperation::String => (names * keys, 0),
+            TestOperation::PartBody => (0, keys),
+            TestOperation::PartDigest => ((DIGEST_LENGTH + 1) * keys, 0),
+        };
+        Most { fixed, scaled }
     }
 }
 
