@@ -9,8 +9,8 @@ use Rattle.mime_decode.specs.Mail.{Part}
 use Rattle.mail_matching.specs.Costs.{extent_of}
 use Rattle.mail_matching.specs.Findings.{Pair, finding_from, finding_of, first_pair, shortened}
 use Rattle.mail_matching.specs.FirstMatch.{KeepsCaptures, first_match}
-use Rattle.mail_matching.specs.Outcomes.{after, holds}
-use Rattle.mail_matching.specs.Private.{GoesOn, HasAsked, IsCounted, IsFew, IsFresh, counted}
+use Rattle.mail_matching.specs.Outcomes.{HasAsked, IsFew, IsFresh, after, holds}
+use Rattle.mail_matching.specs.Private.{GoesOn, IsCounted, counted}
 use Rattle.mail_matching.specs.Questions.{Asked, IsLent, IsShown, answered, compares, decides, of_part}
 use Rattle.mail_matching.specs.declared.finding.Finding.{Finding}
 use Rattle.mail_matching.specs.declared.finding.Finding.TheVariants.{Pair as Matched, NoneOf}

@@ -15,7 +15,7 @@ use Rattle.mail_matching.specs.Costs.{extent_of, names_cost, values_cost}
 use Rattle.mail_matching.specs.Findings.{is_pair}
 use Rattle.mail_matching.specs.HeaderTests.{fields_in_scope}
 use Rattle.mail_matching.specs.PartTests.{exactly}
-use Rattle.mail_matching.specs.QuestionCosts.{AreWithin, Sizes, most_of, value_of}
+use Rattle.mail_matching.specs.QuestionCosts.{AreWithin, value_of}
 use Rattle.mail_matching.specs.Questions.{Asked, Texts, answer, answered, asked, compared_cost, compares, current, decided, decides, finding_in, found, is_size, of_part, question_cost}
 use Rattle.mail_matching.specs.Selection.{selected_values}
 use Rattle.mail_matching.proofs.Extents.{body_cost-within, digest_cost-is, names_cost-within, values_cost-product, values_cost-within, values_of_a_field}

@@ -57,19 +57,3 @@ pub record GoesOn {T : Type 0} (knows : ℕ → T → Finding → Type 0) (how :
   pub extent : new.extent ≡ old.extent + extent_of values
   pub found : (most : ℕ) (finding : Finding) → Stands knows most finding old
       → Stands knows most (further finding (finding_of how values keys)) new
-
--- nothing was taken yet
-abbrev pub IsFresh : {T : Type 0} → Progress T → Type 0
-IsFresh progress = (progress.outcome ≡ Fails) × (progress.extent ≡ 0)
-
--- so few values that a word counts them
-abbrev pub IsFew : Finding → Type 0
-IsFew (Pair value key) = Unit {0}
-IsFew (NoneOf number) = number < 2 ^ 64
-
--- what was asked was answered with these keys, at this charge, of which so much was for looking for fields by their names
-pub record HasAsked {T : Type 0} (knows : ℕ → T → Finding → Type 0) (asked : Asked) (keys : List (List ℕ)) (looked : ℕ) (old new : Progress T) (charge : ℕ) : Type 0 where
-  pub outcome : (captures : List (List ℕ)) → after new.outcome captures ≡ answered asked keys captures
-  pub cost : charge ≡ looked + compared_cost asked keys
-  pub found : (most : ℕ) → knows most old.told (NoneOf 0) → IfSome (finding_in asked keys) (knows most new.told)
-  pub few : IfSome (finding_in asked keys) IsFew

@@ -106,17 +106,6 @@ abbrev pub question_cost : Mail → Option ℕ → Question → Texts → ℕ
 question_cost mail part question texts =
     looked_cost mail part question texts + compared_cost (asked mail part question texts) texts.keys
 
--- whether a question is true of the whole message that takes no strings; None, where it does, or is about a part
-abbrev pub decided : Mail → Question → Option Bool
-decided mail (Constant value) = Some value
-decided mail (Header fields) = None
-decided mail (Exists scope) = None
-decided mail (Size order number) = Some (is_size order number (size_of mail))
-decided mail (String how) = None
-decided mail (PartSize order number) = None
-decided mail (PartBody how) = None
-decided mail PartDigest = None
-
 -- ---- what is looked at of the current part
 
 -- what a question needs of its content
@@ -150,8 +139,10 @@ pub record IsDecidedAs (mail : Mail) (part : Option ℕ) (question : Question) (
 
 -- content that the message lends
 abbrev pub IsLent : Shown → Type 0
+IsLent shown.Nothing = ⊥
+IsLent (shown.Length octets) = ⊥
 IsLent (shown.Content content) = IsBorrowedSlice content.now
-IsLent _ = ⊥
+IsLent (shown.Digest digest) = ⊥
 
 -- none is taken: of fields whole values are compared, of which none is folded; of texts, and of content that was decoded,
 -- nothing is captured

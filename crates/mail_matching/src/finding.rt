@@ -17,7 +17,7 @@ pub enum Finding {
 }
 
 /// Who is told of each value that is compared, up to the first that matches a key.
-pub(crate) trait Telling: Drop {
+pub trait Telling: Drop {
     // It knows what the values so far come to, of which it keeps so many octets.
     ghost knows: { ℕ → Self → Finding → Type 0 };
 
@@ -38,9 +38,9 @@ pub(crate) trait Telling: Drop {
         ensures free { is_free → IsOk result };
 }
 
-/// Nobody is told.
+/// Nobody is told. That takes no memory.
 #[derive(Drop)]
-pub(crate) struct Nobody;
+pub struct Nobody;
 
 impl Telling for Nobody {
     ghost knows = { λ most nobody finding. Unit {0} };

@@ -3,7 +3,8 @@ ghost use Rattle.std.specs.Prelude.{◌≡◌, ◌<◌, ◌^◌, All, IfOk, IfSo
 ghost use Rattle.mail_matching.specs.Headers.{selected_in_all};
 ghost use Rattle.mail_matching.specs.Costs.{extent_of as extent_of_texts, names_cost};
 ghost use Rattle.mail_matching.specs.HeaderTests.{AreUnfolded, fields_in_scope, headers_in_scope};
-ghost use Rattle.mail_matching.specs.Private.{GoesOn, HasAsked, IsFresh};
+ghost use Rattle.mail_matching.specs.Private.{GoesOn};
+ghost use Rattle.mail_matching.specs.Outcomes.{HasAsked, IsFresh};
 ghost use Rattle.mail_matching.specs.Questions.{compares};
 ghost use Rattle.mail_matching.specs.Selection.{selected_values};
 ghost use Rattle.mail_matching.specs.Texts.{AreTexts};

@@ -8,7 +8,7 @@ ghost use Rattle.bytecode_format.specs.declared.question.Question.{Question};
 ghost use Rattle.mail_matching.specs.Costs.{extent_of, values_cost};
 ghost use Rattle.mail_matching.specs.Findings.{after_pair, first_pair};
 ghost use Rattle.mail_matching.specs.FirstMatch.{first_match};
-ghost use Rattle.mail_matching.specs.QuestionCosts.{AreWithin, Sizes, most_of, value_of};
+ghost use Rattle.mail_matching.specs.QuestionCosts.{AreWithin, value_of};
 ghost use Rattle.mail_matching.specs.Questions.{Texts, answer, question_cost};
 
 /// Asking costs no more than this, where the texts are no larger: for names, for each octet of the message, what the names have; for

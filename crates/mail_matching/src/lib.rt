@@ -1,8 +1,8 @@
 //! What the questions of simple tests come to on a message: `header`, `exists` and `size` (RFC 5228, sections 5.5, 5.7 and 5.9;
 //! RFC 5703, section 4), `string` (RFC 5229, section 5), and ours about the current part's content, its size and its digest.
 //!
-//! [`ask`] answers what a question comes to, and what asking it costs; [`ask_and_find`] also what it found: the first value and key
-//! that match, or how many values there were. What matches first, which captures it leaves, and what is charged stands in `specs/`;
+//! [`ask`] answers a question in the [`Progress`] that it is given, and says what asking it costs; [`ask_and_find`] also what it found:
+//! the first value and key that match, or how many values there were. What matches first, which captures it leaves, and what is charged stands in `specs/`;
 //! how much that is at most of a message that was read is in the [`laws`]. Names, sources and keys are lent by any [`Texts`], and
 //! the current part's content by who asks, as far as the question [`Need`]s it. A field's value is copied only where it is folded,
 //! or where its type or a parameter is asked for, and of any other value that isn't lent by the message only what it captures is.
@@ -25,7 +25,8 @@ mod string_test;
 mod texts;
 mod typed;
 
-pub use finding::Finding;
+pub use finding::{Finding, Nobody, Telling};
 pub use outcome::{Answer, Captured, Outcome};
-pub use questions::{Need, Shown, TestTexts, ask, ask_and_find, decide, decided};
+pub use progress::Progress;
+pub use questions::{Need, Shown, TestTexts, ask, ask_and_find, decide};
 pub use texts::Texts;

@@ -5,7 +5,7 @@ ghost use Rattle.std.specs.Cow.{IsBorrowedSlice, cow_slice_items};
 ghost use Rattle.octets.specs.Limits.{max_message};
 ghost use Rattle.mail_matching.specs.FirstMatch.{KeepsCaptures, first_match};
 ghost use Rattle.mail_matching.specs.PartTests.{exactly};
-ghost use Rattle.mail_matching.specs.Private.{HasAsked, IsFresh};
+ghost use Rattle.mail_matching.specs.Outcomes.{HasAsked, IsFresh};
 ghost use Rattle.mail_matching.specs.Questions.{IsLent, IsShown, answered, compares, decides, is_size, of_part};
 ghost use Rattle.mail_matching.specs.Texts.{AreTexts};
 ghost use Rattle.mail_matching.specs.declared.questions.Need.TheVariants as need;

@@ -8,8 +8,8 @@ ghost use Rattle.mail_matching.specs.Costs.{extent_of};
 ghost use Rattle.mail_matching.specs.Headers.{selected_among, selected_named, values_of_params};
 ghost use Rattle.mail_matching.specs.HeaderTests.{AreUnfolded, IsUnfolded};
 ghost use Rattle.mail_matching.specs.FirstMatch.{KeepsCaptures, first_key};
-ghost use Rattle.mail_matching.specs.Outcomes.{holds};
-ghost use Rattle.mail_matching.specs.Private.{GoesOn, HasAsked, IsFresh};
+ghost use Rattle.mail_matching.specs.Outcomes.{HasAsked, IsFresh, holds};
+ghost use Rattle.mail_matching.specs.Private.{GoesOn};
 ghost use Rattle.mail_matching.specs.Questions.{decides};
 ghost use Rattle.mail_matching.specs.Texts.{AreTexts};
 ghost use Rattle.mail_matching.specs.declared.outcome.Outcome.TheVariants.{Fails};
@@ -39,18 +39,21 @@ pub(crate) struct Comparison<'t, P, K> {
     pub how: Match,
 }
 
-/// What comparing the values so far comes to, how many octets they have, and one more for each, and who is told of them.
+/// What a question comes to so far. It stays where it is, since captures are large: what is asked is answered in it.
 #[derive(Drop)]
-pub(crate) struct Progress<'m, T> {
+pub struct Progress<'m, T> {
+    /// What comparing the values so far comes to.
     pub outcome: Outcome<'m>,
-    pub extent: u64,
+    /// How many octets they have, and one more for each.
+    pub(crate) extent: u64,
+    /// Who is told of them.
     pub told: T,
 }
 
 impl<'m, T: Telling> Progress<'m, T> {
     /// Nothing was asked yet.
     #[inline(always)]
-    pub(crate) fn new(told: T) -> Progress<'m, T>
+    pub fn new(told: T) -> Progress<'m, T>
         ensures { result ≡ record { outcome = Fails; extent = 0; told = told } }
     {
         Progress {

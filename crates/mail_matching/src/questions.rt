@@ -1,14 +1,14 @@
 // Questions, asked.
-ghost use Rattle.std.specs.Prelude.{◌≡◌, ◌<◌, ℕ, List, Option, IfOk, IfSome, IsOk, is_some, length, option_map};
+ghost use Rattle.std.specs.Prelude.{◌≡◌, ◌<◌, ℕ, List, Option, IfOk, IfSome, IsOk, is_some, length, not, option_map};
+ghost use Rattle.bytecode_format.specs.Questions.{row_of};
 ghost use Rattle.mail_matching.specs.Findings.{shortened};
-ghost use Rattle.mail_matching.specs.Outcomes.{after};
-ghost use Rattle.mail_matching.specs.Private.{HasAsked, IsFresh};
-ghost use Rattle.mail_matching.specs.Questions.{IsDecidedAs, IsShown, TakesNoMemory, Texts as TextsOf, answer, asked, current as current_part, decided, found, looked_cost, need_of, question_cost, texts_of};
+ghost use Rattle.mail_matching.specs.Outcomes.{HasAsked, IsFresh, after};
+ghost use Rattle.mail_matching.specs.Questions.{IsDecidedAs, IsShown, TakesNoMemory, Texts as TextsOf, answer, asked, current as current_part, found, looked_cost, need_of, question_cost, texts_of};
 ghost use Rattle.mail_matching.specs.Texts.{AreTexts};
 ghost use Rattle.mime_decode.specs.Mail.{Mail};
 
 use crate::existence::exists;
-use crate::finding::{Finding, Found, Nobody, Telling};
+use crate::finding::{Finding, Found, Telling};
 use crate::header_test::header;
 use crate::headers::Reach;
 use crate::outcome::Answer;
@@ -69,26 +69,8 @@ impl Need {
     }
 }
 
-/// Whether the question is true of the whole message, if it is one that takes no strings and is about no part: `true`, `false` and
-/// `size`. It takes no memory, and costs nothing.
-#[inline(always)]
-pub fn decided(message: &Message, question: Question) -> Option<bool>
-    ensures { result ≡ decided message.now question }
-{
-    match question {
-        Question::Constant(value) => Some(value),
-        Question::Size(order, number) => Some(is_size(order, number, message.size() as u64)),
-        Question::Header(_)
-        | Question::Exists(_)
-        | Question::String(_)
-        | Question::PartSize(..)
-        | Question::PartBody(_)
-        | Question::PartDigest => None,
-    }
-}
-
-/// Whether the question is true, if it compares no values with keys; and what finding that out costs. It takes no memory. `current`
-/// and `shown` are as for [`ask`], and `names` are the names of the test.
+/// Whether the question is true, if it compares no values with keys; and what finding that out costs. `None` exactly where it takes
+/// keys. It takes no memory. `current` and `shown` are as for [`ask`], and `names` are the names of the test.
 #[inline(always)]
 pub fn decide<N: Texts>(
     message: &Message,
@@ -100,7 +82,8 @@ pub fn decide<N: Texts>(
     requires current { IfSome current (λ number. number < length message.now.parts) }
     requires shown { IsShown (need_of question) (current_part message.now current) shown }
     requires names { AreTexts (N.texts names.now) }
-    ensures { IfSome result (λ r. IsDecidedAs message.now current question (N.texts names.now) r.0 r.1) }
+    ensures keys { is_some result ≡ not (row_of question).takes.keys }
+    ensures value { IfSome result (λ r. IsDecidedAs message.now current question (N.texts names.now) r.0 r.1) }
 {
     match question {
         Question::Constant(value) => Some((value, 0)),
@@ -122,8 +105,9 @@ pub struct TestTexts<'t, N: Texts, P: Texts, K: Texts> {
     pub keys: &'t K,
 }
 
-/// What the question comes to on the message, and what asking it costs. `current` is the current part, by its number, or `None`
-/// outside of loops; `shown` is what the question needs of its content.
+/// Asks the question of the message, and says what that costs. What it comes to is the outcome of the progress then, which is given
+/// fresh; and who is told there knows what was found. `current` is the current part, by its number, or `None` outside of loops;
+/// `shown` is what the question needs of its content.
 ///
 /// Values are compared in order, and each with the keys in order, up to the first that matches. Those of fields are taken part by
 /// part, in each name by name, for each field by field, and for each parameter name by name. A field's value is unfolded at most once
@@ -136,51 +120,49 @@ pub struct TestTexts<'t, N: Texts, P: Texts, K: Texts> {
 ///
 /// # Errors
 ///
-/// An allocation was refused; none is made but for values that are folded, for types and parameters, and for what is captured of a
-/// value that the message doesn't lend.
+/// An allocation was refused; none is made but for values that are folded, for types and parameters, for what is captured of a value
+/// that the message doesn't lend, and by who is told.
 #[inline(always)]
-pub fn ask<'m, N: Texts, P: Texts, K: Texts>(
+pub fn ask<'m, N: Texts, P: Texts, K: Texts, T: Telling>(
     alloc: Global,
     message: &Message<'m>,
     current: Option<usize>,
     question: Question,
     shown: Shown<'_, 'm>,
     texts: TestTexts<'_, N, P, K>,
-) -> Result<Answer<'m>, AllocError>
+    progress: &mut Progress<'m, T>,
+) -> Result<u128, AllocError>
     requires current { IfSome current (λ number. number < length message.now.parts) }
     requires shown { IsShown (need_of question) (current_part message.now current) shown }
     requires names { AreTexts (N.texts texts.names.now) }
     requires params { AreTexts (P.texts texts.params.now) }
     requires keys { AreTexts (K.texts texts.keys.now) }
-    ensures outcome { IfOk result (λ reply. (captures : List (List ℕ))
-        → after reply.outcome captures
-        ≡ answer message.now current question (texts_of (N.texts texts.entry.names.now)
-        (P.texts texts.entry.params.now) (K.texts texts.entry.keys.now)) captures) }
-    ensures cost { IfOk result (λ reply. reply.cost
-        ≡ question_cost message.now current question (texts_of (N.texts texts.entry.names.now)
-        (P.texts texts.entry.params.now) (K.texts texts.entry.keys.now))) }
-    ensures no_memory { TakesNoMemory message.now current question (texts_of (N.texts texts.entry.names.now)
-        (P.texts texts.entry.params.now) (K.texts texts.entry.keys.now)) shown.entry
-        → IsOk result }
+    requires fresh { IsFresh progress.old }
+    ensures asked { IfOk result (λ cost. HasAsked T.knows
+        (asked message.now current question (texts_of (N.texts texts.entry.names.now)
+        (P.texts texts.entry.params.now) (K.texts texts.entry.keys.now)))
+        (K.texts texts.entry.keys.now)
+        (looked_cost message.now current question (texts_of (N.texts texts.entry.names.now)
+        (P.texts texts.entry.params.now) (K.texts texts.entry.keys.now)))
+        progress.old progress.new cost) }
+    ensures no_memory { T.is_free → TakesNoMemory message.now current question
+        (texts_of (N.texts texts.entry.names.now) (P.texts texts.entry.params.now)
+        (K.texts texts.entry.keys.now)) shown.entry → IsOk result }
 {
-    let mut progress = Progress::new(Nobody);
-    let cost = put(
-        alloc,
-        message,
-        current,
-        question,
-        shown,
-        texts,
-        &mut progress,
-    )?;
-    Ok(Answer {
-        outcome: progress.outcome,
-        cost,
-    })
+    match question {
+        Question::Header(test) => header(alloc, message, current, test, texts, progress),
+        Question::String(how) => string(alloc, texts.names, texts.keys, how, progress),
+        Question::PartBody(how) => part_body(alloc, shown, texts.keys, how, progress),
+        Question::PartDigest => part_digest(alloc, shown, texts.keys, progress),
+        Question::Constant(_) | Question::Exists(_) | Question::Size(..) | Question::PartSize(..) => {
+            let (value, looked) = decide(message, current, question, shown, texts.names).unwrap();
+            Ok(progress.decide(value, looked))
+        }
+    }
 }
 
-/// The same, and what it finds, if it compares values with keys: the first value that matches a key and that key, each up to so many
-/// octets; or how many values there are.
+/// What the question comes to and costs, and what it finds, if it compares values with keys: the first value that matches a key and
+/// that key, each up to so many octets; or how many values there are.
 ///
 /// # Errors
 ///
@@ -212,7 +194,7 @@ pub fn ask_and_find<'m, N: Texts, P: Texts, K: Texts>(
         (P.texts texts.entry.params.now) (K.texts texts.entry.keys.now)))) }
 {
     let mut progress = Progress::new(Found::new(most));
-    let cost = put(
+    let cost = ask(
         alloc,
         message,
         current,
@@ -241,55 +223,5 @@ fn compares(question: Question, shown: Shown) -> bool
         Question::PartBody(_) | Question::PartDigest => !matches!(shown, Shown::Nothing),
         Question::Constant(_) | Question::Exists(_) | Question::Size(..) | Question::PartSize(..) =>
             false,
-    }
-}
-
-// Puts the question, and says what that costs. What it comes to is the outcome of the progress then.
-//
-// An error comes only where memory was refused.
-#[inline(always)]
-fn put<'m, N: Texts, P: Texts, K: Texts, T: Telling>(
-    alloc: Global,
-    message: &Message<'m>,
-    current: Option<usize>,
-    question: Question,
-    shown: Shown<'_, 'm>,
-    texts: TestTexts<'_, N, P, K>,
-    progress: &mut Progress<'m, T>,
-) -> Result<u128, AllocError>
-    requires current { IfSome current (λ number. number < length message.now.parts) }
-    requires shown { IsShown (need_of question) (current_part message.now current) shown }
-    requires names { AreTexts (N.texts texts.names.now) }
-    requires params { AreTexts (P.texts texts.params.now) }
-    requires keys { AreTexts (K.texts texts.keys.now) }
-    requires fresh { IsFresh progress.old }
-    ensures asked { IfOk result (λ cost. HasAsked T.knows
-        (asked message.now current question (texts_of (N.texts texts.entry.names.now)
-        (P.texts texts.entry.params.now) (K.texts texts.entry.keys.now)))
-        (K.texts texts.entry.keys.now)
-        (looked_cost message.now current question (texts_of (N.texts texts.entry.names.now)
-        (P.texts texts.entry.params.now) (K.texts texts.entry.keys.now)))
-        progress.old progress.new cost) }
-    ensures no_memory { T.is_free → TakesNoMemory message.now current question
-        (texts_of (N.texts texts.entry.names.now) (P.texts texts.entry.params.now)
-        (K.texts texts.entry.keys.now)) shown.entry → IsOk result }
-{
-    match question {
-        Question::Constant(value) => Ok(progress.decide(value, 0)),
-        Question::Header(test) => header(alloc, message, current, test, texts, progress),
-        Question::Exists(scope) => {
-            let (all, looked) = exists(message, Reach { scope, current }, texts.names);
-            Ok(progress.decide(all, looked))
-        }
-        Question::Size(order, number) => {
-            let octets = message.size() as u64;
-            Ok(progress.decide(is_size(order, number, octets), 0))
-        }
-        Question::String(how) => string(alloc, texts.names, texts.keys, how, progress),
-        Question::PartSize(order, number) => {
-            Ok(progress.decide(part_is_size(order, number, shown), 0))
-        }
-        Question::PartBody(how) => part_body(alloc, shown, texts.keys, how, progress),
-        Question::PartDigest => part_digest(alloc, shown, texts.keys, progress),
     }
 }

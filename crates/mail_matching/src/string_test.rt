@@ -1,7 +1,7 @@
 // The test `string`.
 ghost use Rattle.std.specs.Prelude.{IfOk, IsOk};
 ghost use Rattle.mail_matching.specs.FirstMatch.{KeepsCaptures, first_match};
-ghost use Rattle.mail_matching.specs.Private.{HasAsked, IsFresh};
+ghost use Rattle.mail_matching.specs.Outcomes.{HasAsked, IsFresh};
 ghost use Rattle.mail_matching.specs.Questions.{compares};
 ghost use Rattle.mail_matching.specs.Texts.{AreTexts};
 

@@ -1,6 +1,6 @@
 use Rattle.std.proofs.Common.{◌∷◌, [], inl, inr, subst, sym}
 use Rattle.mime_decode.specs.Mail.{Part}
-use Rattle.mail_matching.specs.Private.{HasAsked}
+use Rattle.mail_matching.specs.Outcomes.{HasAsked}
 use Rattle.mail_matching.specs.Questions.{compares}
 use Rattle.mail_matching.proofs.Asking.{content_takes, no_content}
 use Rattle.mail_matching.proofs.part_tests.part_body.Goals as goal

@@ -2,7 +2,7 @@ use Rattle.std.proofs.Common.{◌∷◌, [], subst, sym}
 use Rattle.mime_decode.specs.Mail.{Part}
 use Rattle.mime_decode.specs.Content.{digest_of}
 use Rattle.mail_matching.specs.PartTests.{exactly}
-use Rattle.mail_matching.specs.Private.{HasAsked}
+use Rattle.mail_matching.specs.Outcomes.{HasAsked}
 use Rattle.mail_matching.specs.Questions.{compares}
 use Rattle.mail_matching.proofs.Asking.{no_digest}
 use Rattle.mail_matching.proofs.part_tests.part_digest.Goals as goal

@@ -1,9 +1,9 @@
 use Rattle.std.proofs.Common.{◌∙◌, ◌∷◌, [], ap, subst, sym}
 use Rattle.mime_decode.specs.Mail.{Part}
-use Rattle.mail_matching.specs.Private.{HasAsked}
+use Rattle.mail_matching.specs.Outcomes.{HasAsked}
 use Rattle.mail_matching.specs.Questions.{IsShown, TakesNoMemory, asked, compares, current, decides, is_size, looked_cost, need_of, of_part, texts_of}
 use Rattle.mail_matching.proofs.Asking.{asked_so, if_ok_so}
-use Rattle.mail_matching.proofs.questions.put.Goals as goal
+use Rattle.mail_matching.proofs.questions.ask.Goals as goal
 
 pub returns-in-Constant-clause-asked : goal.returns-in-Constant-clause-asked
 returns-in-Constant-clause-asked g c =
