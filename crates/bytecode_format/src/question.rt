@@ -262,7 +262,12 @@ impl TestOperation {
         requires keys { sizes.keys ≤ max_stack * (max_string + 1) }
         ensures { result ≡ most_of self sizes }
     {
-        let Sizes { names, number, params, keys } = sizes;
+        let Sizes {
+            names,
+            number,
+            params,
+            keys,
+        } = sizes;
         let (fixed, scaled) = match self {
             TestOperation::Constant | TestOperation::Size | TestOperation::PartSize => (0, 0),
             TestOperation::Header => (0, names + number * params.max(1) * keys),

@@ -154,10 +154,17 @@ pub fn ask<'m, N: Texts, P: Texts, K: Texts, T: Telling>(
         Question::String(how) => string(alloc, texts.names, texts.keys, how, progress),
         Question::PartBody(how) => part_body(alloc, shown, texts.keys, how, progress),
         Question::PartDigest => part_digest(alloc, shown, texts.keys, progress),
-        Question::Constant(_) | Question::Exists(_) | Question::Size(..) | Question::PartSize(..) => {
-            let (value, looked) = decide(message, current, question, shown, texts.names).unwrap();
-            Ok(progress.decide(value, looked))
-        }
+        Question::Constant(_) | Question::Exists(_) | Question::Size(..) | Question::PartSize(..) =>
+            {
+                let (value, looked) = decide(
+                    message,
+                    current,
+                    question,
+                    shown,
+                    texts.names,
+                ).unwrap();
+                Ok(progress.decide(value, looked))
+            }
     }
 }
 
