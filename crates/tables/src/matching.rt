@@ -7,7 +7,7 @@ use crate::printed::Printed;
 use bytecode_format::{FieldTest, Question, Scope, Selector};
 use glob_match::{Captures, Comparator, MAX_CAPTURES, Match, MatchType, contains, is, matches};
 use lanes_base64_mime::encode_mime;
-use mail_matching::{Answer, Need, Outcome, Shown, TestTexts, ask};
+use mail_matching::{Need, Nobody, Outcome, Progress, Shown, TestTexts, ask};
 use mime_decode::{Message, digest_of};
 use octets::{MAX_STRING, Octets};
 use sieve_meaning::Subject;
@@ -226,9 +226,18 @@ fn existence(
         keys: &none,
     };
     let question = Question::Exists(Scope::Message);
-    let found = ask(alloc, &message, None, question, Shown::Nothing, texts)?;
-    print_truth(found.outcome.holds(), answer)?;
-    answer.large_number(found.cost)?;
+    let mut progress = Progress::new(Nobody);
+    let cost = ask(
+        alloc,
+        &message,
+        None,
+        question,
+        Shown::Nothing,
+        texts,
+        &mut progress,
+    )?;
+    print_truth(progress.outcome.holds(), answer)?;
+    answer.large_number(cost)?;
     Ok(true)
 }
 
@@ -315,8 +324,17 @@ fn header_answer(
         keys,
     };
     let question = Question::Header(test);
-    let found = ask(alloc, &message, current, question, Shown::Nothing, texts)?;
-    print_answer(&found, answer)?;
+    let mut progress = Progress::new(Nobody);
+    let cost = ask(
+        alloc,
+        &message,
+        current,
+        question,
+        Shown::Nothing,
+        texts,
+        &mut progress,
+    )?;
+    print_answer(&progress.outcome, cost, answer)?;
     Ok(true)
 }
 
@@ -390,37 +408,35 @@ fn content_answer(
         params: &none,
         keys,
     };
-    let found = match Need::of(question) {
-        Need::Content => {
-            let shown = Shown::Content(&content);
-            ask(alloc, &message, Some(0), question, shown, texts)?
-        }
-        Need::Digest => {
-            let digits = digest_of(content.as_slice());
-            ask(
-                alloc,
-                &message,
-                Some(0),
-                question,
-                Shown::Digest(&digits),
-                texts,
-            )?
-        }
+    let digits = digest_of(content.as_slice());
+    let shown = match Need::of(question) {
+        Need::Content => Shown::Content(&content),
+        Need::Digest => Shown::Digest(&digits),
         Need::Nothing | Need::Length => return Ok(false),
     };
-    print_answer(&found, answer)?;
+    let mut progress = Progress::new(Nobody);
+    let cost = ask(
+        alloc,
+        &message,
+        Some(0),
+        question,
+        shown,
+        texts,
+        &mut progress,
+    )?;
+    print_answer(&progress.outcome, cost, answer)?;
     Ok(true)
 }
 
 // What a test comes to, what it costs, and the captures that it sets, up to the last that isn't empty.
-fn print_answer(found: &Answer<'_>, answer: &mut Printed) -> Result<(), AllocError> {
-    answer.word(match &found.outcome {
+fn print_answer(outcome: &Outcome<'_>, cost: u128, answer: &mut Printed) -> Result<(), AllocError> {
+    answer.word(match outcome {
         Outcome::Fails => "fails",
         Outcome::Holds => "holds",
         Outcome::Captures(_) => "sets",
     })?;
-    answer.large_number(found.cost)?;
-    let Outcome::Captures(captured) = &found.outcome else {
+    answer.large_number(cost)?;
+    let Outcome::Captures(captured) = outcome else {
         return Ok(());
     };
     let mut empty = 0usize;
