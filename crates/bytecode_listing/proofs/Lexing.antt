@@ -1,5 +1,5 @@
 -- Tokens, octet by octet.
-use Rattle.std.proofs.Common.{◌≡◌, ℕ, suc, ◌+◌, ◌*◌, ◌<◌, ◌==◌, ◌&&◌, Bool, true, false, cond, if◌then◌else◌, List, [], ◌∷◌, ◌++◌, length, take, drop, Option, Some, None, Err, refl, sym, ap, ◌∙◌, append_assoc, arith}
+use Rattle.std.proofs.Common.{◌≡◌, ℕ, suc, ◌+◌, ◌*◌, ◌==◌, ◌&&◌, Bool, true, false, cond, if◌then◌else◌, List, [], ◌∷◌, ◌++◌, length, take, drop, Option, Some, None, Err, refl, sym, ap, ◌∙◌, append_assoc, arith}
 use Rattle.std.specs.Prelude.{not}
 use Rattle.std.specs.List.{prefix_len, take_while}
 use Rattle.std.specs.Char.{digit_value}
@@ -116,6 +116,15 @@ stopped_text start (x ∷ rest) = stopped_text start rest
 pub quote_first : (rest : List ℕ) → tokens_of (34 ∷ rest) ≡ tokens_from (InText (length (34 ∷ rest)) []) rest
 unfolding tokens_from
 quote_first rest = refl
+
+-- no string stands first
+pub no_text : (text : List ℕ) → IsStart text → ((x : ℕ) (rest : List ℕ) → text ≡ x ∷ rest → (x == 34) ≡ false) → text_at (tokens_of text) ≡ Err (length text)
+unfolding tokens_from
+no_text [] h k = refl
+no_text (x ∷ rest) h k =
+    ap text_at (begins_so x rest h.0 h.1)
+    ∙ ap (λ b. text_at (tokens_from (if b then InText (suc (length rest)) [] else (if is_word_octet x then InWord (suc (length rest)) (x ∷ []) else Stopped (suc (length rest)))) rest)) (k x rest refl)
+    ∙ choice (is_word_octet x) (λ s. text_at (tokens_from s rest) ≡ Err (suc (length rest))) (InWord (suc (length rest)) (x ∷ [])) (Stopped (suc (length rest))) (ap text_at (word_run (suc (length rest)) (x ∷ []) rest)) (stopped_text (suc (length rest)) rest)
 
 -- where no word stands, the place is that of the first token
 word_left : (tokens : Tokens) (left : ℕ) → word_at tokens ≡ Err left → left_at tokens ≡ left

@@ -6,9 +6,9 @@ use Rattle.std.specs.Fmt.{digit_glyph}
 use Rattle.std.specs.Option.{option_map}
 use Rattle.std.proofs.lemmas.Bool.{and_parts, agree_below_at}
 use Rattle.std.proofs.lemmas.Bool.Decides.{nat_tests}
-use Rattle.bytecode_format.specs.Operations.{operation_of}
+use Rattle.bytecode_format.specs.Operations.{name_of, operation_of}
 use Rattle.bytecode_format.specs.declared.operation.Operation.{Operation}
-use Rattle.bytecode_listing.specs.Names.{name_of, named_among, octet_named}
+use Rattle.bytecode_listing.specs.Names.{named_among, octet_named}
 use Rattle.bytecode_listing.specs.Listing.{title, operation_text}
 use Rattle.bytecode_listing.specs.Quoted.{escaped_octet, is_plain, quoted, two_digits}
 use Rattle.bytecode_listing.specs.Tokens.{InText, is_word_octet, tokens_from, tokens_of}

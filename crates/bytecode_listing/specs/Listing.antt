@@ -3,7 +3,7 @@ use Rattle.std.specs.Prelude.{ℕ, suc, ◌^◌, ◌<◌, ◌==◌, nat_lt, List
 use Rattle.std.specs.List.{flat_map}
 use Rattle.std.specs.Fmt.{decimal}
 use Rattle.bytecode_format.specs.Code.{Code}
-use Rattle.bytecode_format.specs.Operations.{operation_of}
+use Rattle.bytecode_format.specs.Operations.{name_of, operation_of}
 use Rattle.bytecode_format.specs.declared.instruction.Instruction.{Instruction}
 use Rattle.bytecode_format.specs.declared.operation.Operation.{Operation}
 use Rattle.bytecode_verifier.specs.Rows.{row_of}
@@ -16,7 +16,6 @@ use Rattle.refusals.specs.Causes.{of_verifier}
 use Rattle.refusals.specs.Lines.{name_of as refusal_name, number_of, place_of}
 use Rattle.refusals.specs.declared.refusal.Refusal.{Refusal}
 use Rattle.bytecode_verifier.specs.declared.share.Share.{Share}
-use Rattle.bytecode_listing.specs.Names.{name_of}
 use Rattle.bytecode_listing.specs.Quoted.{cut, quoted, two_digits}
 use Rattle.bytecode_listing.specs.Wording.{a_words, after_a, said_a}
 use Rattle.bytecode_listing.specs.declared.comments.Table.{Table}

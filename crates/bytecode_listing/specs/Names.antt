@@ -1,4 +1,4 @@
--- What operations are called.
+-- Operations by their names.
 use Rattle.std.specs.Prelude.{ℕ, suc, List, [], ◌∷◌, Option, Some, None, bytes_eq, if◌then◌else◌}
 use Rattle.bytecode_format.specs.Operations.{name_of, operations}
 use Rattle.bytecode_format.specs.declared.operation.Operation.{Operation}

@@ -18,5 +18,4 @@ mod writing;
 
 pub use assembling::assemble;
 pub use error::{FaultKind, ListingError};
-pub use names::name_of;
 pub use writing::{disassemble, disassemble_accepted, disassemble_refused, put_instruction};

@@ -7,7 +7,6 @@ ghost use Rattle.bytecode_listing.specs.Items.{Lists};
 ghost use Rattle.bytecode_listing.specs.Noted.{notes_in};
 
 use crate::comments::put_comment;
-use crate::names::name_of;
 use crate::notes::{Notes, put_note};
 use crate::quoting::{put_quoted, two_digits};
 use bytecode_format::{Instruction, Operation, Program};
@@ -28,7 +27,7 @@ fn put_operation(out: &mut Vec<u8>, octet: u8) -> Result<(), AllocError>
     ensures { OnOk result (out.new.items ≡ out.old.items ++ operation_text octet) }
 {
     if let Some(operation) = Operation::of(octet) {
-        out.extend_from_slice(name_of(operation))
+        out.extend_from_slice(operation.name())
     } else {
         out.extend_from_slice(b"OP ")?;
         out.extend_from_slice(&two_digits(octet))

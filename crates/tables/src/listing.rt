@@ -1,6 +1,6 @@
 // Programs of the bytecode by their listings, whose strings come apart from them.
 use bytecode_format::{Instruction, Operation, Program};
-use bytecode_listing::{ListingError, assemble, name_of};
+use bytecode_listing::{ListingError, assemble};
 use itoa::Buffer;
 use octets::Octets;
 use refusals::Refusal;
@@ -55,7 +55,7 @@ fn put(code: &mut Vec<u8>, word: &[u8], number: u64) -> Result<(), AllocError> {
 fn put_instruction(code: &mut Vec<u8>, instruction: Instruction) -> Result<(), AllocError> {
     code.push(b' ')?;
     if let Some(operation) = Operation::of(instruction.op) {
-        code.extend_from_slice(name_of(operation))?;
+        code.extend_from_slice(operation.name())?;
     }
     let Instruction { a, b, c, .. } = instruction;
     let fields = [
