@@ -29,6 +29,12 @@ three_chains (suc (suc n)) =
     let two : suc (suc n) - 2 ≡ n = omega arith in
     rw (one, two) (six_triples n)
 
+pub pairs_halved : (n : ℕ) → n * (n - 1) / 2 ≡ chains n 2
+pairs_halved n = let h = two_chains n in omega arith
+
+pub triples_divided : (n : ℕ) → n * (n - 1) * (n - 2) / 6 ≡ chains n 3
+triples_divided n = let h = three_chains n in omega arith
+
 power_grows : (n k : ℕ) → n ^ k ≤ suc n ^ k
 power_grows n zero = rw (pow-zero n, pow-zero (suc n)) (omega arith)
 power_grows n (suc k) =

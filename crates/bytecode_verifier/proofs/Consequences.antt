@@ -1,5 +1,5 @@
 -- What acceptance says of the instruction at a place, for what is proved of runs.
-use Rattle.std.proofs.Common.{◌≡◌, ℕ, zero, suc, ◌+◌, ◌-◌, ◌<◌, ◌≤◌, ◌≢◌, nat_lt, Bool, true, false, not, ◌&&◌, ◌||◌, ◌==◌, nat_le, [], ◌∷◌, Option, Some, None, is_some, is_none, if◌then◌else◌, length, get_or, slice_get, refl, sym, ap, ◌∙◌, inl, inr, arith, leb-false, leb-true}
+use Rattle.std.proofs.Common.{◌≡◌, ℕ, zero, suc, ◌+◌, ◌-◌, ◌<◌, ◌≤◌, nat_lt, Bool, true, false, not, ◌&&◌, ◌||◌, ◌==◌, nat_le, List, [], ◌∷◌, Option, Some, None, is_some, is_none, if◌then◌else◌, length, get_or, slice_get, refl, sym, ap, ◌∙◌, inl, inr, arith, leb-false, leb-true}
 use Rattle.std.proofs.lemmas.Bool.{cases_lt, eqb-true, ltb-false}
 use Rattle.std.proofs.lemmas.Option.{slice_get_within, slice_get-get_or}
 use Rattle.std.proofs.lemmas.Map.Keys.{any_passes_from_place}
@@ -7,16 +7,14 @@ use Rattle.octets.specs.Limits.{max_loops, max_value}
 use Rattle.bytecode_format.specs.declared.instruction.Instruction.{Instruction}
 use Rattle.bytecode_format.specs.declared.operation.Operation.TheVariants.{Literal, Variable, Set, Break, Take, Test}
 use Rattle.bytecode_format.specs.declared.operation.TestOperation.{TestOperation}
-use Rattle.bytecode_format.specs.declared.operation.TestOperation.TheVariants.{Constant, Header, Exists, String, Size, PartSize, PartBody, PartDigest}
+use Rattle.bytecode_format.specs.declared.operation.TestOperation.TheVariants.{Constant}
 use Rattle.bytecode_format.specs.declared.question.Order.{Order}
 use Rattle.bytecode_format.specs.declared.question.Question.{Question}
-use Rattle.bytecode_format.specs.declared.question.Question.TheVariants as question
 use Rattle.bytecode_format.specs.Questions.{question_in}
 use Rattle.bytecode_format.specs.Operations.{operation_of}
 use Rattle.bytecode_format.specs.Code.{Code}
 use Rattle.bytecode_format.specs.declared.modifiers.Modifiers.{Modifiers}
 use Rattle.bytecode_format.specs.Modifiers.{modifiers_numbered}
-use Rattle.bytecode_format.specs.Selection.{field_test_numbered, match_numbered, order_numbered, scope_numbered, truth_numbered}
 use Rattle.bytecode_verifier.specs.Loops.{open_loops, same_loops}
 use Rattle.std.specs.Option.{option_and_then, option_map}
 use Rattle.bytecode_format.specs.declared.operation.Operation.{Operation}
@@ -68,20 +66,40 @@ all_three false b c h = absurd cc
 in_range : (row : Row) (i : Instruction) → is_well_formed (Some row) i ≡ true → takes i.a row.a i.a ≡ true
 in_range row i h = (all_three (takes i.a row.a i.a) (takes i.a row.b i.b) (takes i.a row.c i.c) h).0
 
+-- an operation that its version has: its first field is in its range, and its index there
+row_taken : (code : Code) (row : Row) (i : Instruction) (without : Bool) → is_well_formed (if without then None else Some row) i ≡ true → misses_index code (if without then None else Some row) i ≡ false
+    → (takes i.a row.a i.a ≡ true) × (misses_index code (Some row) i ≡ false)
+row_taken code row i true formed indexed = absurd cc
+row_taken code row i false formed indexed = (in_range row i formed, indexed)
+
 -- an operation of version 2 alone that is allowed is so in version 2
 in_two : (row : Row) (i : Instruction) (two : Bool) → is_well_formed (if not two then None else Some row) i ≡ true → two ≡ true
 in_two row i true h = refl
 in_two row i false h = absurd cc
 
--- what a field means, where it means something, with a number that is there
+-- what a field means, where it means something
 meant : {A : Type 0} (o : Option A) (make : A → Question) → is_some o ≡ true → (q : Question) × (option_map make o ≡ Some q)
 meant None make h = absurd cc
 meant (Some x) make h = (make x, refl)
 
-compared : (order : Option Order) (number : Option ℕ) (make : Order → ℕ → Question) → is_some order ≡ true → (n : ℕ) × (number ≡ Some n)
-    → (q : Question) × (option_and_then (λ o. option_map (make o) number) order ≡ Some q)
-compared None number make h there = absurd cc
-compared (Some order) number make h there = (make order there.0, rw there.1 refl)
+-- and with a number that is there
+compared : (order : Option Order) (numbers : List ℕ) (place : ℕ) (make : Order → ℕ → Question) → is_some order ≡ true → nat_le (length numbers) place ≡ false
+    → (q : Question) × (option_and_then (λ o. option_map (make o) (slice_get numbers place)) order ≡ Some q)
+compared None numbers place make h below = absurd cc
+compared (Some order) numbers place make h below =
+    (make order (get_or numbers place 0), rw (slice_get-get_or numbers place 0 (leb-false (length numbers) place below)) refl)
+
+-- or whatever the fields are
+asked : (question : Question) → (q : Question) × (Some question ≡ Some q)
+asked question = (question, refl)
+
+ruleset asking = (meant, compared, asked)
+
+-- a test whose first field is in its range, and whose number is there, asks something
+asks : (code : Code) (i : Instruction) (test : TestOperation) → takes i.a (test_row test).a i.a ≡ true → misses_index code (Some (test_row test)) i ≡ false
+    → (q : Question) × (question_in code.numbers test i ≡ Some q)
+asks code i Constant fits there = search asking
+asks code i _ fits there = search asking
 
 -- the form of the instruction at a place, where the rule isn't broken there
 pub form_at : (code : Code) (place : ℕ) (i : Instruction) → breaks_form code place ≡ false → slice_get code.instructions place ≡ Some i → is_well_formed (row_in code i) i ≡ true
@@ -118,21 +136,9 @@ module _ (code : Code) (is : IsAccepted code) where
 
     -- a test asks something
     pub question_known : (test : TestOperation) → operation_of i.op ≡ Some (Test test) → (q : Question) × (question_in code.numbers test i ≡ Some q)
-    question_known test named = asks test (formed_as (Test test) named) (indexed_as (Test test) named)
-      where
-        number : nat_le (length code.numbers) i.c ≡ false → (n : ℕ) × (slice_get code.numbers i.c ≡ Some n)
-        number below = (get_or code.numbers i.c 0, slice_get-get_or code.numbers i.c 0 (leb-false (length code.numbers) i.c below))
-
-        asks : (test : TestOperation) → is_well_formed (row_in_version code.version (Test test)) i ≡ true → misses_index code (row_in_version code.version (Test test)) i ≡ false
-            → (q : Question) × (question_in code.numbers test i ≡ Some q)
-        asks Constant formed indexed = meant (truth_numbered i.a) question.Constant (in_range (test_row Constant) i formed)
-        asks Header formed indexed = meant (field_test_numbered i.a) question.Header (in_range (test_row Header) i formed)
-        asks Exists formed indexed = meant (scope_numbered i.a) question.Exists (in_range (test_row Exists) i formed)
-        asks String formed indexed = meant (match_numbered i.a) question.String (in_range (test_row String) i formed)
-        asks Size formed indexed = compared (order_numbered i.a) (slice_get code.numbers i.c) question.Size (in_range (test_row Size) i formed) (number indexed)
-        asks PartSize formed indexed = compared (order_numbered i.a) (slice_get code.numbers i.c) question.PartSize (in_range (test_row PartSize) i formed) (number indexed)
-        asks PartBody formed indexed = meant (match_numbered i.a) question.PartBody (in_range (test_row PartBody) i formed)
-        asks PartDigest formed indexed = (question.PartDigest, refl)
+    question_known test named =
+        let taken = row_taken code (test_row test) i _ (formed_as (Test test) named) (indexed_as (Test test) named) in
+        asks code i test taken.0 taken.1
 
     -- a Break is of one loop or more, and of no more than are open
     pub break_known : operation_of i.op ≡ Some Break → (1 ≤ i.a) × (i.a ≤ length (open_loops code place))

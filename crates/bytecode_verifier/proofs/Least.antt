@@ -1,9 +1,10 @@
 -- The least number that passes a test.
-use Rattle.std.proofs.Common.{◌≡◌, ℕ, zero, suc, ◌+◌, ◌<◌, Bool, true, false, Option, Some, None, refl, ap, ◌∙◌, inl, inr, arith, add-one}
+use Rattle.std.proofs.Common.{◌≡◌, ℕ, zero, suc, ◌+◌, ◌<◌, Bool, true, false, Option, Some, None, length, refl, ap, ◌∙◌, inl, inr, arith, add-one}
 use Rattle.std.proofs.lemmas.Bool.{cases_lt}
 use Rattle.std.specs.Bool.{then_some}
 use Rattle.std.specs.Option.{option_or}
-use Rattle.bytecode_verifier.specs.Places.{least_below}
+use Rattle.bytecode_format.specs.Code.{Code}
+use Rattle.bytecode_verifier.specs.Places.{least_below, least_place}
 
 -- one more number is tried
 pub least_more : (test : ℕ → Bool) (place : ℕ) (old new : Option ℕ) (broken : Bool) → old ≡ least_below test place → broken ≡ test place → new ≡ option_or old (then_some broken place) → new ≡ least_below test (place + 1)
@@ -35,3 +36,7 @@ least_of_none test (suc n) h = rw (least_of_none test n (λ p lt. h p (omega ari
 pub or_none_right : (o : Option ℕ) → option_or o None ≡ o
 or_none_right None = refl
 or_none_right (Some x) = refl
+
+-- the end of the program adds nothing to a rule on its instructions
+pub least_at_end : (test : ℕ → Bool) (code : Code) → test (length code.instructions) ≡ false → least_place test code ≡ least_below test (length code.instructions)
+least_at_end test code h = rw h (or_none_right _)

@@ -3,12 +3,15 @@ use Rattle.std.proofs.Common.{◌≡◌, ℕ, zero, suc, ◌+◌, ◌-◌, ◌*�
 use Rattle.std.proofs.lemmas.List.Sums.{sum_by-cons, sum_by_push}
 use Rattle.std.specs.Bool.{then_some}
 use Rattle.std.specs.Option.{option_and_then, option_map, option_map_or}
+use Rattle.bytecode_format.specs.declared.operation.TestOperation.{TestOperation}
 use Rattle.bytecode_format.specs.declared.question.Counts.{Counts}
+use Rattle.bytecode_verifier.specs.declared.cap.Cap.{Cap}
+use Rattle.bytecode_verifier.specs.declared.shape.Totals.{Totals}
 use Rattle.bytecode_verifier.specs.declared.shape.Entry.TheVariants.{Truth, Text}
 use Rattle.bytecode_verifier.specs.Taken.{with_last, with_params_and_keys, lists_below}
 use Rattle.bytecode_verifier.specs.Shape.{Entries, Texts, Lists, bound_in, with_entry, with_joined, take_texts, take_counted}
-use Rattle.bytecode_verifier.specs.Budget.{one_more_each, one_charge, cap_of_octets}
-use Rattle.bytecode_verifier.specs.Pass.{AreShort, Passes, Takes}
+use Rattle.bytecode_verifier.specs.Budget.{one_more_each, one_charge, cap_of_octets, cap_of_test}
+use Rattle.bytecode_verifier.specs.Pass.{AreShort, AreTotals, Passes, Takes, TakesLists}
 
 -- the sum of the bounds with a sum before it, their number with one before it, and the entries below
 pub record Total : Type 0 where
@@ -70,6 +73,16 @@ joined number total octets bound fine now after (Some texts) h sum-is bound-is r
     go : (fine : Bool) → octets ≡ sum texts.texts → (if fine then Some after else None) ≡ with_joined texts → Passes (then_some fine (record { fixed = 1 + octets; scaled = 0 })) after (cap_of_octets texts) (with_joined texts)
     go true all room = (rw all refl, sym room)
     go false all room = sym room
+
+-- the truth value of a test that took its lists
+pub tested : (test : TestOperation) (counts : Counts) (totals : Totals) (cap : Cap) (fine : Bool) (now after : Entries) (taken : Option Lists) → TakesLists counts (Some totals) now taken → ((lists : Lists) → AreTotals counts totals lists → cap ≡ cap_of_test test lists) → (if fine then Some after else None) ≡ with_entry Truth now
+    → Passes (then_some fine cap) after (option_map_or (cap_of_test test) taken one_charge) (option_and_then (λ (lists : Lists). with_entry Truth lists.below) taken)
+tested test counts totals cap fine now after None h capped room = absurd h
+tested test counts totals cap fine now after (Some lists) h capped room = go fine (room ∙ ap (with_entry Truth) h.1)
+  where
+    go : (fine : Bool) → (if fine then Some after else None) ≡ with_entry Truth lists.below → Passes (then_some fine cap) after (cap_of_test test lists) (with_entry Truth lists.below)
+    go true room = (capped lists h.0, sym room)
+    go false room = sym room
 
 -- texts that were taken from short entries
 pub record Taken (number : ℕ) (entries : Entries) (texts : Texts) : Type 0 where

@@ -8,7 +8,7 @@ use Rattle.bytecode_format.specs.Code.{Code}
 use Rattle.bytecode_format.proofs.Operations.{each}
 use Rattle.bytecode_cost.specs.Sums.{Sums, budget_at}
 use Rattle.bytecode_verifier.specs.Places.{holds_at, sum_below}
-use Rattle.bytecode_verifier.specs.Loops.{loops, open_loops, same_loops}
+use Rattle.bytecode_verifier.specs.Loops.{open_loops, same_loops}
 use Rattle.bytecode_verifier.specs.declared.row.Row.{Row}
 use Rattle.bytecode_verifier.specs.Rows.{row_of, row_in_version, row_named, is_well_formed, is_jump, needs_part}
 use Rattle.bytecode_verifier.specs.Shape.{is_target, shape_at}

@@ -1,17 +1,17 @@
 -- The budget of a program: the sums of its instructions' caps, by the number of open loops.
-use Rattle.std.specs.Prelude.{ℕ, ◌+◌, ◌*◌, max, Option, Some, None, List, [], ◌∷◌, if◌then◌else◌, length, ◌==◌, slice_get, sum, sum_by}
+use Rattle.std.specs.Prelude.{ℕ, ◌+◌, Option, Some, None, List, [], ◌∷◌, if◌then◌else◌, length, ◌==◌, slice_get, sum, sum_by}
 use Rattle.std.specs.Option.{option_map_or}
 use Rattle.bytecode_format.specs.declared.instruction.Instruction.{Instruction}
 use Rattle.bytecode_format.specs.declared.operation.Operation.{Operation}
 use Rattle.bytecode_format.specs.declared.operation.Operation.TheVariants.{Halt, Literal, Variable, Capture, Join, Set, Not, Jump, JumpIfTrue, JumpIfFalse, Keep, Discard, File, Store, Each, Next, Break, Take, Test}
 use Rattle.bytecode_format.specs.declared.operation.TestOperation.{TestOperation}
-use Rattle.bytecode_format.specs.declared.operation.TestOperation.TheVariants.{Constant, Header, Exists, String, Size, PartSize, PartBody, PartDigest}
+use Rattle.bytecode_format.specs.declared.question.Sizes.{Sizes}
+use Rattle.bytecode_format.specs.Questions.{counts_in, most_of}
 use Rattle.bytecode_format.specs.Operations.{operation_of}
 use Rattle.bytecode_format.specs.Code.{Code}
 use Rattle.bytecode_cost.specs.Sums.{Sums}
 use Rattle.bytecode_verifier.specs.Places.{sum_below}
 use Rattle.bytecode_verifier.specs.Loops.{open_loops}
-use Rattle.bytecode_format.specs.Questions.{counts_in}
 use Rattle.bytecode_verifier.specs.Shape.{Entries, Texts, Lists, take_texts, take_counted, shape_at}
 use Rattle.bytecode_verifier.specs.declared.cap.Cap.{Cap}
 use Rattle.bytecode_verifier.specs.declared.share.Share.{Share}
@@ -31,47 +31,17 @@ one_more_each bounds = sum_by (λ bound. bound + 1) bounds
 abbrev pub cap_of_octets : Texts → Cap
 cap_of_octets taken = record { fixed = 1 + sum taken.texts; scaled = 0 }
 
--- for each octet of the message and one more, the names, each with one more: a message has no more fields than octets
-abbrev pub cap_of_names : Lists → Cap
-cap_of_names lists = record { fixed = 1; scaled = one_more_each lists.names }
-
--- the same, and for each name, or each parameter of each name, the keys, each with one more: what a
--- name, or a parameter of that name, selects of all fields has no more octets than the message
-abbrev pub cap_of_matching : Lists → Cap
-cap_of_matching lists =
-    record { fixed = 1; scaled = one_more_each lists.names + length lists.names * max (length lists.params) 1 * one_more_each lists.keys }
-
--- one charge, and for each source the keys, both with one more for each
-abbrev pub cap_of_comparing : Lists → Cap
-cap_of_comparing lists = record { fixed = 1 + one_more_each lists.names * one_more_each lists.keys; scaled = 0 }
-
--- for each octet of the message and one more, the keys, each with one more: a part's content has no
--- more octets than the message
-abbrev pub cap_of_body : Lists → Cap
-cap_of_body lists = record { fixed = 1; scaled = one_more_each lists.keys }
-
 -- one charge, and one for each octet of a part's content that a variable may be set to
 abbrev pub cap_of_content : ℕ → Cap
 cap_of_content most = record { fixed = 1 + most; scaled = 0 }
 
--- how many octets a digest has
-abbrev pub digest_length : ℕ
-digest_length = 64
+-- how large the texts are that are taken, by their bounds
+abbrev pub sizes_of : Lists → Sizes
+sizes_of lists = record { names = one_more_each lists.names; number = length lists.names; params = length lists.params; keys = one_more_each lists.keys }
 
--- one charge, and for each octet of a digest and one more the keys, each with one more
-abbrev pub cap_of_digest : Lists → Cap
-cap_of_digest lists = record { fixed = 1 + (digest_length + 1) * one_more_each lists.keys; scaled = 0 }
-
--- the cap of a test that takes these lists
+-- one charge, and what asking costs at most
 abbrev pub cap_of_test : TestOperation → Lists → Cap
-cap_of_test Constant lists = one_charge
-cap_of_test Header lists = cap_of_matching lists
-cap_of_test Exists lists = cap_of_names lists
-cap_of_test String lists = cap_of_comparing lists
-cap_of_test Size lists = one_charge
-cap_of_test PartSize lists = one_charge
-cap_of_test PartBody lists = cap_of_body lists
-cap_of_test PartDigest lists = cap_of_digest lists
+cap_of_test test lists = record { fixed = 1 + (most_of test (sizes_of lists)).fixed; scaled = (most_of test (sizes_of lists)).scaled }
 
 -- the cap of an instruction that finds these entries
 abbrev pub cap_of : Option Operation → Instruction → Entries → Cap

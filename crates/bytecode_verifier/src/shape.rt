@@ -9,16 +9,13 @@ ghost use Rattle.bytecode_verifier.specs.Budget.{one_charge, cap_of_octets, cap_
 ghost use Rattle.bytecode_verifier.specs.Pass.{AreTotals, IsSmall, Passes, Takes, TakesLists};
 
 use crate::cap::{Cap, ONE_CHARGE};
-use bytecode_format::{Counts, Instruction, Operation, Program, TestOperation};
+use bytecode_format::{Counts, Instruction, Most, Operation, Program, Sizes, TestOperation};
 use octets::{MAX_STRING, MAX_VALUE};
 use std::alloc::{AllocError, Global};
 use std::marker::Model;
 
 /// How many entries the stack takes at most.
 const MAX_STACK: usize = 1024;
-
-/// How many octets a digest has.
-const DIGEST_LENGTH: u64 = 64;
 
 /// What is known of an entry of the stack.
 #[derive(Clone, Copy)]
@@ -243,7 +240,7 @@ impl Shape {
     }
 }
 
-// What a test may charge that takes so many texts.
+// What a test may charge that takes so many texts: one charge, and what asking costs at most.
 #[inline(always)]
 fn cap_of_test(test: TestOperation, counts: Counts, totals: Totals) -> Cap
     requires names { counts.names ≤ max_stack }
@@ -252,31 +249,15 @@ fn cap_of_test(test: TestOperation, counts: Counts, totals: Totals) -> Cap
     requires keys { totals.keys ≤ max_stack * (max_string + 1) }
     ensures { (lists : Lists) → AreTotals counts totals lists → result ≡ cap_of_test test lists }
 {
-    match test {
-        TestOperation::Constant | TestOperation::Size | TestOperation::PartSize => ONE_CHARGE,
-        TestOperation::Header => {
-            let selected = counts.names as u64 * counts.params.max(1) as u64;
-            Cap {
-                fixed: 1,
-                scaled: totals.names + selected * totals.keys,
-            }
-        }
-        TestOperation::Exists => Cap {
-            fixed: 1,
-            scaled: totals.names,
-        },
-        TestOperation::String => Cap {
-            fixed: 1 + totals.names * totals.keys,
-            scaled: 0,
-        },
-        TestOperation::PartBody => Cap {
-            fixed: 1,
-            scaled: totals.keys,
-        },
-        TestOperation::PartDigest => Cap {
-            fixed: 1 + (DIGEST_LENGTH + 1) * totals.keys,
-            scaled: 0,
-        },
+    let Most { fixed, scaled } = test.most(Sizes {
+        names: totals.names,
+        number: counts.names as u64,
+        params: counts.params as u64,
+        keys: totals.keys,
+    });
+    Cap {
+        fixed: 1 + fixed,
+        scaled,
     }
 }
 

@@ -41,7 +41,7 @@ use Rattle.part_store.proofs.Faults.{IsAsked, IsAnswered}
 use Rattle.part_store.proofs.Asked.{over}
 use Rattle.part_store.proofs.ContentRows.{content_taken}
 use Rattle.part_store.proofs.Runs.{and_true, taken_as}
-use Rattle.part_store.proofs.Meaning.{alone, is_given, drop_user_query, drop_content_query, drop_entry_query}
+use Rattle.part_store.proofs.Meaning.{alone, is_given, drop_user_query, drop_user_is, drop_content_query, drop_content_is, drop_entry_query, drop_entry_is}
 use Rattle.part_store.proofs.Parents.{all_refer, refers, parent_stays, orphan, other_content}
 use Rattle.part_store.proofs.Stopped.{at_once, err_not_ok, stops_in, edit_stops, delete_writes, named_is_no_failure, named_leaves, stopped, IsStoreFailure, Stops}
 use Rattle.part_store.proofs.Writes.{no_works, same_value, taken_next, went}

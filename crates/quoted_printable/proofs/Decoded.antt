@@ -1,8 +1,8 @@
 -- Escapes, and lines by their ends.
-use Rattle.std.proofs.Common.{◌≡◌, ◌≢◌, ℕ, ◌-◌, ◌<◌, ◌≤◌, ◌==◌, cond, List, [], ◌∷◌, ◌++◌, zero, suc, refl, ◌∙◌, ap, arith, length, take, drop, get_or}
+use Rattle.std.proofs.Common.{◌≡◌, ◌≢◌, ℕ, ◌-◌, ◌<◌, ◌≤◌, ◌==◌, cond, List, [], ◌∷◌, ◌++◌, zero, suc, refl, sym, ◌∙◌, ap, arith, length, take, drop, get_or}
 use Rattle.std.proofs.lemmas.Bool.{ne_eqb}
 use Rattle.std.specs.Prelude.{Result, Ok, Err, OnOk, is_ok}
-use Rattle.quoted_printable.specs.QuotedPrintable.{unescaped}
+use Rattle.quoted_printable.specs.QuotedPrintable.{unescaped, ends_in_equals}
 
 -- what an `extend_from_slice` appended, and what follows from it
 pub ok_then : {T F Q : Type 0} (r : Result T F) (now was more : List ℕ) → now ≡ cond (is_ok r) (was ++ more) was → (now ≡ was ++ more → Q) → OnOk r Q
@@ -30,3 +30,10 @@ unescaped-none (octet ∷ rest) none =
     unescaped-other octet rest (none 0 (omega arith)) ∙ ap (λ l. octet ∷ l) (unescaped-none rest (λ k lt. none (suc k) (omega arith)))
 
 -- ---- the last octet
+
+pub ends_by_last : (text : List ℕ) → 0 < length text → ends_in_equals text ≡ (get_or text (length text - 1) 0 == 61)
+ends_by_last [] some = absurd (omega arith)
+ends_by_last (octet ∷ []) some = refl
+ends_by_last (octet ∷ following ∷ rest) some =
+    let at : suc (suc (length rest)) - 1 ≡ suc (length (following ∷ rest) - 1) = omega arith in
+    ends_by_last (following ∷ rest) (omega arith) ∙ ap (λ n. get_or (octet ∷ following ∷ rest) n 0 == 61) (sym at)

@@ -1,5 +1,5 @@
 -- What octets that are kept stand for once it is known what follows them.
-use Rattle.std.proofs.Common.{◌≡◌, ◌≢◌, ◌⊎◌, ℕ, ◌-◌, ◌+◌, ◌*◌, ◌<◌, ◌==◌, ◌&&◌, ◌||◌, Bool, true, false, List, [], ◌∷◌, ◌++◌, inl, inr, refl, sym, ◌∙◌, ap, arith, length, take, drop, get_or, reverse, subst}
+use Rattle.std.proofs.Common.{◌≡◌, ◌≢◌, ◌⊎◌, ℕ, ◌-◌, ◌+◌, ◌*◌, ◌<◌, ◌==◌, ◌&&◌, ◌||◌, Bool, true, false, List, [], ◌∷◌, ◌++◌, suc, inl, inr, refl, sym, ◌∙◌, ap, arith, length, take, drop, get_or, reverse, subst}
 use Rattle.std.specs.Char.{digit_value}
 use Rattle.std.specs.List.{flat_map}
 use Rattle.std.proofs.lemmas.Bool.{ne_eqb, eqb-true, eqb-false, cases_Bool, true≢false}
@@ -392,6 +392,15 @@ release_hard was now held (x ∷ rest) is digit some feed first e =
     ∙ ap (λ n. without_leading_blanks held ++ decoding_of (n ∷ (rest ++ after))) (sym feed))
 
 -- ---- octets that go on
+
+pub goes_on_last : (held : List ℕ) (octet : ℕ) → 0 < length held → goes_on held octet ≡ follows (get_or held (length held - 1) 0) octet
+goes_on_last [] octet some = absurd (omega arith)
+goes_on_last (first ∷ rest) octet some = ap (λ n. follows n octet) (last_at first rest) where
+  last_at : (first : ℕ) (rest : List ℕ) → last_of first rest ≡ get_or (first ∷ rest) (length (first ∷ rest) - 1) 0
+  last_at first [] = refl
+  last_at first (following ∷ rest) =
+      let at : suc (suc (length rest)) - 1 ≡ suc (length (following ∷ rest) - 1) = omega arith in
+      last_at following rest ∙ ap (λ n. get_or (first ∷ following ∷ rest) n 0) (sym at)
 
 all_follow_more : (last : ℕ) (w : List ℕ) (x : ℕ) → all_follow last w ≡ true → follows (last_of last w) x ≡ true → all_follow last (w ++ x ∷ []) ≡ true
 all_follow_more last [] x all e = rw e refl
