@@ -1,7 +1,7 @@
 -- How many octets texts have, and one more for each.
 use Rattle.std.proofs.Common.{max, ◌≡◌, ℕ, ◌+◌, ◌*◌, ◌≤◌, List, [], ◌∷◌, ◌++◌, flat_map, map, length, take, drop, refl, sym, ◌∙◌, ap, arith, mul-add, add-mul, mul-zero, zero-mul, mul_assoc, mul-le-mul_left, mul-le-mul_right, le_trans, add-zero, inl, inr}
 use Rattle.std.specs.Prelude.{MatchOption, None, Option, Some, slice_get, sum_by}
-use Rattle.std.proofs.Math.Nat.{le-max_left, max-le}
+use Rattle.std.proofs.Math.Nat.{le-max_left}
 use Rattle.std.proofs.lemmas.Nat.{mul-le}
 use Rattle.std.proofs.lemmas.List.{append-nil}
 use Rattle.std.proofs.lemmas.List.Folds.{flat_map-map}
@@ -19,24 +19,17 @@ use Rattle.sha2.proofs.Facts256.{length-sha256}
 use Rattle.hex.specs.Hex.{lower_digits}
 use Rattle.hex.proofs.HexLemmas.{length-encode_with}
 use Rattle.mime_decode.specs.Content.{digest_of}
+use Rattle.bytecode_format.specs.Questions.{digest_length}
 use Rattle.bytecode_format.specs.declared.selection.Scope.{Scope}
 use Rattle.bytecode_format.specs.declared.selection.Scope.TheVariants as scopes
 use Rattle.bytecode_format.specs.declared.selection.Selector.{Selector}
 use Rattle.bytecode_format.specs.declared.selection.Selector.TheVariants.{Value, Main, Sub, ContentType, Param}
-use Rattle.mail_matching.specs.Costs.{extent_of, names_cost, values_cost}
+use Rattle.mail_matching.specs.Costs.{extent_of, names_cost, values_cost, values_of_a_field}
 use Rattle.mail_matching.specs.Headers.{AreWithin, selected_among, selected_in_all, selected_named, values_of_params}
 use Rattle.mail_matching.specs.HeaderTests.{fields_in_scope, headers_in_scope}
 use Rattle.mail_matching.specs.Selection.{content_type_of, current_or_root, first_and_below, given, main_of, params_of, parts_in_scope, reading_of, selected_of, selected_values, sub_of}
 use Rattle.mail_matching.specs.Texts.{AreTexts}
 use Rattle.mail_matching.proofs.Lengths.{given_in, reading_in}
-
--- how many values are selected of a field at most, and 1 where that is none
-abbrev pub values_of_a_field : Selector → List (List ℕ) → ℕ
-values_of_a_field Value params = 1
-values_of_a_field Main params = 1
-values_of_a_field Sub params = 1
-values_of_a_field ContentType params = 1
-values_of_a_field Param params = max (length params) 1
 
 -- what comparing the content with the keys costs
 abbrev pub body_cost : Part → List (List ℕ) → ℕ
@@ -221,24 +214,21 @@ body_cost-within mail is place part at keys =
     let within = is.within place part at in
     rw (value_cost part.content keys) (mul-le-mul_right (extent_of keys) (omega (arith, within.content, within.body)))
 
-digest_length : (octets : List ℕ) → length (digest_of octets) ≡ 64
-digest_length octets = omega (arith, length-encode_with lower_digits (sha256 octets), length-sha256 octets)
+length-digest : (octets : List ℕ) → length (digest_of octets) ≡ digest_length
+length-digest octets = omega (arith, length-encode_with lower_digits (sha256 octets), length-sha256 octets)
 
-pub digest_cost-is : (part : Part) (keys : List (List ℕ)) → digest_cost part keys ≡ 65 * extent_of keys
-digest_cost-is part keys = value_cost (digest_of part.content) keys ∙ ap (λ n. (n + 1) * extent_of keys) (digest_length part.content)
+pub digest_cost-is : (part : Part) (keys : List (List ℕ)) → digest_cost part keys ≡ (digest_length + 1) * extent_of keys
+digest_cost-is part keys = value_cost (digest_of part.content) keys ∙ ap (λ n. (n + 1) * extent_of keys) (length-digest part.content)
 
 -- ---- what a test selects is little enough to be counted
 
-values_few : (selector : Selector) (params : List (List ℕ)) → AreTexts params → values_of_a_field selector params ≤ max_stack
-values_few Value params are = omega arith
-values_few Main params are = omega arith
-values_few Sub params are = omega arith
-values_few ContentType params are = omega arith
-values_few Param params are = max-le are.few (omega arith)
+pub values_few : (selector : Selector) (params : List (List ℕ)) (most : ℕ) → length params ≤ most → values_of_a_field selector params ≤ max most 1
+values_few Param params most le = omega (arith, le)
+values_few _ params most le = omega arith
 
 pub all_few : (selector : Selector) (params names : List (List ℕ)) (headers : List (List Field)) → AreTexts params → AreTexts names → sum_by fields_extent headers ≤ max_message
     → extent_of (selected_in_all selector params names headers) ≤ max_stack * max_stack * max_message
 all_few selector params names headers are few short =
-    let factor = mul-le (length names) (values_of_a_field selector params) max_stack max_stack few.few (values_few selector params are) in
+    let factor = mul-le (length names) (values_of_a_field selector params) max_stack max_stack few.few (omega (arith, values_few selector params max_stack are.few)) in
     le_trans (all_within selector params names headers)
     (mul-le (length names * values_of_a_field selector params) (sum_by fields_extent headers) (max_stack * max_stack) max_message factor short)

@@ -1,35 +1,25 @@
 -- What holds of each question: what it costs at most, how its answer and what it finds agree, and which captures it leaves.
-use Rattle.std.proofs.Common.{◌≡◌, ℕ, ◌+◌, ◌*◌, ◌≤◌, max, true, false, All, List, [], ◌∷◌, length, Option, None, Some, IfSome, is_some, slice_get, Bool, refl, ap, arith}
-use Rattle.std.proofs.Math.Nat.{mul-le-mul}
-use Rattle.std.specs.Bool.{then_some}
+use Rattle.std.proofs.Common.{◌≡◌, ℕ, ◌+◌, ◌*◌, ◌≤◌, max, true, false, All, List, [], ◌∷◌, length, Option, None, Some, IfSome, is_some, slice_get, refl, arith}
+use Rattle.std.proofs.Math.Nat.{mul-le-mul, mul-le-mul_left}
 use Rattle.glob_match.specs.Matching.{max_capture, max_captures}
 use Rattle.bytecode_format.specs.declared.question.Question.{Question}
-use Rattle.bytecode_format.specs.declared.question.Question.TheVariants.{Constant, Header, Exists, Size, String, PartSize, PartBody, PartDigest}
-use Rattle.bytecode_format.specs.declared.selection.Selector.{Selector}
-use Rattle.bytecode_format.specs.declared.selection.Selector.TheVariants as selectors
-use Rattle.bytecode_format.specs.declared.instruction.Instruction.{Instruction}
-use Rattle.bytecode_format.specs.Questions.{counts_in, operation_asking}
+use Rattle.bytecode_format.specs.declared.question.Question.TheVariants.{Header, Exists, String, PartSize, PartBody, PartDigest}
+use Rattle.bytecode_format.specs.declared.question.Sizes.{Sizes}
+use Rattle.bytecode_format.specs.Questions.{digest_length, most_of, operation_asking}
 use Rattle.mime_decode.specs.Content.{digest_of}
 use Rattle.mime_decode.specs.Mail.{IsMail, Mail, Part, size_of}
-use Rattle.mail_matching.specs.Costs.{extent_of, names_cost, values_cost}
+use Rattle.mail_matching.specs.Costs.{extent_of, names_cost, values_cost, values_of_a_field}
 use Rattle.mail_matching.specs.Findings.{is_pair}
 use Rattle.mail_matching.specs.HeaderTests.{fields_in_scope}
 use Rattle.mail_matching.specs.PartTests.{exactly}
 use Rattle.mail_matching.specs.QuestionCosts.{AreWithin, value_of}
-use Rattle.mail_matching.specs.Questions.{Asked, Texts, answer, answered, asked, compared_cost, compares, current, decided, decides, finding_in, found, is_size, of_part, question_cost}
+use Rattle.mail_matching.specs.Questions.{Asked, Texts, answer, answered, asked, compared_cost, compares, current, decides, finding_in, found, is_size, of_part, question_cost}
 use Rattle.mail_matching.specs.Selection.{selected_values}
-use Rattle.mail_matching.proofs.Extents.{body_cost-within, digest_cost-is, names_cost-within, values_cost-product, values_cost-within, values_of_a_field}
+use Rattle.mail_matching.proofs.Extents.{body_cost-within, digest_cost-is, names_cost-within, values_cost-product, values_cost-within, values_few}
 use Rattle.mail_matching.proofs.Pairs.{finding_holds}
 use Rattle.mail_matching.proofs.TenCaptures.{stay_short, stay_ten}
 
 -- ---- what asking costs at most
-
-values_few : (selector : Selector) (params : List (List ℕ)) (most : ℕ) → length params ≤ most → values_of_a_field selector params ≤ max most 1
-values_few selectors.Value params most le = omega arith
-values_few selectors.Main params most le = omega arith
-values_few selectors.Sub params most le = omega arith
-values_few selectors.ContentType params most le = omega arith
-values_few selectors.Param params most le = omega (arith, le)
 
 -- octets that are looked at once for each octet of the message
 each_octet : (octets extent most cost : ℕ) → cost ≤ (octets + 1) * extent → extent ≤ most → cost ≤ most * (octets + 1)
@@ -61,7 +51,6 @@ of_part_within mail asks keys most each (Some place) = go (slice_get mail.parts 
     go (Some part) here = each place part here
 
 pub question_within : (mail : Mail) → IsMail mail → (at : Option ℕ) (q : Question) (texts : Texts) (sizes : Sizes) → AreWithin sizes texts → question_cost mail at q texts ≤ value_of (most_of (operation_asking q) sizes) (size_of mail)
-question_within mail is at (Constant value) texts sizes are = omega arith
 question_within mail is at (Header fields) texts sizes are =
     let both = names_and_values (size_of mail) (extent_of texts.names) (extent_of texts.keys) (length texts.names) (values_of_a_field fields.selector texts.params) sizes.names sizes.keys sizes.number (max sizes.params 1)
     (names_cost (fields_in_scope fields.scope at mail) texts.names) (values_cost (selected_values fields.scope at fields.selector texts.params texts.names mail) texts.keys)
@@ -71,7 +60,6 @@ question_within mail is at (Header fields) texts sizes are =
     omega (arith, both)
 question_within mail is at (Exists scope) texts sizes are =
     omega (arith, each_octet (size_of mail) (extent_of texts.names) sizes.names _ (names_cost-within mail is scope at texts.names) are.names)
-question_within mail is at (Size order number) texts sizes are = omega arith
 question_within mail is at (String how) texts sizes are =
     let most : extent_of texts.names * extent_of texts.keys ≤ sizes.names * sizes.keys = mul-le-mul are.names are.keys in
     omega (arith, values_cost-product texts.names texts.keys, most)
@@ -81,8 +69,9 @@ question_within mail is at (PartBody how) texts sizes are =
     let cost = of_part_within mail (λ part. compares how (part.content ∷ [])) texts.keys ((size_of mail + 1) * extent_of texts.keys) (λ place part here. body_cost-within mail is place part here texts.keys) at in
     omega (arith, each_octet (size_of mail) (extent_of texts.keys) sizes.keys _ cost are.keys)
 question_within mail is at PartDigest texts sizes are =
-    let cost = of_part_within mail (λ part. compares exactly (digest_of part.content ∷ [])) texts.keys (65 * extent_of texts.keys) (λ place part here. omega (arith, digest_cost-is part texts.keys)) at in
-    omega (arith, cost, are.keys)
+    let cost = of_part_within mail (λ part. compares exactly (digest_of part.content ∷ [])) texts.keys ((digest_length + 1) * extent_of texts.keys) (λ place part here. omega (arith, digest_cost-is part texts.keys)) at in
+    omega (arith, cost, mul-le-mul_left (digest_length + 1) are.keys)
+question_within mail is at _ texts sizes are = omega arith
 
 -- ---- what is found agrees with the answer
 
@@ -110,16 +99,3 @@ answer_ten mail at q texts captures after ten is = answered_ten (asked mail at q
 
 pub answer_short : (mail : Mail) (at : Option ℕ) (q : Question) (texts : Texts) (captures after : List (List ℕ)) → All (λ capture. length capture ≤ max_capture) captures → answer mail at q texts captures ≡ Some after → All (λ capture. length capture ≤ max_capture) after
 answer_short mail at q texts captures after short is = answered_short (asked mail at q texts) texts.keys captures after short is
-
--- ---- questions that are decided without strings
-
--- one takes none, costs nothing and leaves the captures
-pub record IsDecided (mail : Mail) (q : Question) (value : Bool) : Type 0 where
-  pub answers : (at : Option ℕ) (texts : Texts) (captures : List (List ℕ)) → answer mail at q texts captures ≡ then_some value captures
-  pub cost : (at : Option ℕ) (texts : Texts) → question_cost mail at q texts ≡ 0
-  pub takes : (i : Instruction) → counts_in (operation_asking q) i ≡ record { names = 0; params = 0; keys = 0 }
-
-pub is_decided : (mail : Mail) (q : Question) (value : Bool) → decided mail q ≡ Some value → IsDecided mail q value
-is_decided mail (Constant held) value e = let same : held ≡ value = cc in record { answers = λ at texts captures. ap (λ b. then_some b captures) same; cost = λ at texts. refl; takes = λ i. refl }
-is_decided mail (Size order number) value e = let same : is_size order number (size_of mail) ≡ value = cc in record { answers = λ at texts captures. ap (λ b. then_some b captures) same; cost = λ at texts. refl; takes = λ i. refl }
-is_decided mail _ value e = absurd cc

@@ -1,5 +1,5 @@
 -- Private: the captures after a comparison, how a test goes on, and what is kept of what it finds.
-use Rattle.std.specs.Prelude.{ℕ, List, Option, None, Some, IfSome, ◌≡◌, ◌<◌, ◌+◌, ◌-◌, ◌^◌, min}
+use Rattle.std.specs.Prelude.{ℕ, List, Option, None, Some, ◌≡◌, ◌+◌, ◌-◌, ◌^◌, min}
 use Rattle.mail_matching.specs.FirstMatch.{first_match, ten_of}
 use Rattle.std.specs.Option.{option_or}
 use Rattle.glob_match.specs.Captures.{texts}
@@ -12,9 +12,7 @@ use Rattle.mail_matching.specs.declared.finding.Finding.{Finding}
 use Rattle.mail_matching.specs.declared.finding.Finding.TheVariants.{Pair, NoneOf}
 use Rattle.mail_matching.specs.declared.finding.Found.{Found}
 use Rattle.mail_matching.specs.declared.progress.Progress.{Progress}
-use Rattle.mail_matching.specs.declared.outcome.Outcome.TheVariants.{Fails}
 use Rattle.mail_matching.specs.Outcomes.{after, holds}
-use Rattle.mail_matching.specs.Questions.{Asked, answered, compared_cost, finding_in}
 
 -- the captures after a value was compared with a key; None where they differ
 abbrev pub after_compared : List ℕ → Compared → List (List ℕ) → Option (List (List ℕ))

@@ -50,7 +50,7 @@ pub(crate) fn first_key<'a, K: Texts, T: Telling>(
         → OnOk result (T.knows most told.new (further (NoneOf number)
         (finding_of how (cow_slice_items value.now ∷ []) (K.texts keys.now)))) }
     ensures lent { T.is_free → IsBorrowedSlice value.now → IsOk result }
-    ensures told { T.is_free
+    ensures no_memory { T.is_free
         → KeepsCaptures (first_key how (cow_slice_items value.now) (K.texts keys.now))
         → IsOk result }
 {
@@ -88,7 +88,7 @@ pub(crate) fn first_key_of_lent<'a, K: Texts, T: Telling>(
     ensures found { (most number : ℕ) → T.knows most told.old (NoneOf number)
         → OnOk result (T.knows most told.new (further (NoneOf number)
         (finding_of how (value.now ∷ []) (K.texts keys.now)))) }
-    ensures told { T.is_free → KeepsCaptures (first_key how value.now (K.texts keys.now))
+    ensures no_memory { T.is_free → KeepsCaptures (first_key how value.now (K.texts keys.now))
         → IsOk result }
 {
     match first_comparison(value, keys, how) {

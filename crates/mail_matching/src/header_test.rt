@@ -44,7 +44,7 @@ pub(crate) fn header<'m, N: Texts, P: Texts, K: Texts, T: Telling>(
         (K.texts texts.entry.keys.now)
         (names_cost (fields_in_scope test.scope current message.now)
         (N.texts texts.entry.names.now)) progress.old progress.new cost) }
-    ensures told { T.is_free → test.selector ≡ Value
+    ensures no_memory { T.is_free → test.selector ≡ Value
         → All (AreUnfolded (N.texts texts.entry.names.now))
         (headers_in_scope test.scope current message.now)
         → IsOk result }
@@ -85,7 +85,7 @@ fn take_headers<'m, N: Texts, P: Texts, K: Texts, T: Telling>(
     ensures few { OnOk result (extent_of_texts
         (selected_in_all test.now.selector (P.texts test.now.params.now)
         (N.texts names.now) headers.now) < 2 ^ 64) }
-    ensures told { T.is_free → test.now.selector ≡ Value → All (AreUnfolded (N.texts names.now)) headers.now
+    ensures no_memory { T.is_free → test.now.selector ≡ Value → All (AreUnfolded (N.texts names.now)) headers.now
         → IsOk result }
 {
     for place in 0..headers.count() {

@@ -1,15 +1,20 @@
 //! The laws of questions: how much asking costs at most, and which captures are left.
-ghost use Rattle.std.specs.Prelude.{◌≡◌, ◌*◌, ◌≤◌, ℕ, List, Option, Some, is_some, length};
+ghost use Rattle.std.specs.Prelude.{◌≡◌, ◌+◌, ◌*◌, ◌≤◌, ◌∷◌, [], ℕ, List, Option, Some, is_some, length};
 ghost use Rattle.glob_match.specs.Matching.{max_captures};
 ghost use Rattle.glob_match.specs.declared.match_type.Match.{Match};
-ghost use Rattle.mime_decode.specs.Mail.{IsMail, Mail, size_of};
-ghost use Rattle.bytecode_format.specs.Questions.{operation_asking};
+ghost use Rattle.mime_decode.specs.Content.{digest_of};
+ghost use Rattle.mime_decode.specs.Mail.{IsMail, Mail, Part, size_of};
+ghost use Rattle.bytecode_format.specs.Questions.{digest_length, most_of, operation_asking};
 ghost use Rattle.bytecode_format.specs.declared.question.Question.{Question};
-ghost use Rattle.mail_matching.specs.Costs.{extent_of, values_cost};
+ghost use Rattle.bytecode_format.specs.declared.question.Sizes.{Sizes};
+ghost use Rattle.bytecode_format.specs.declared.selection.Scope.{Scope};
+ghost use Rattle.bytecode_format.specs.declared.selection.Selector.{Selector};
+ghost use Rattle.mail_matching.specs.Costs.{extent_of, values_cost, values_of_a_field};
 ghost use Rattle.mail_matching.specs.Findings.{after_pair, first_pair};
 ghost use Rattle.mail_matching.specs.FirstMatch.{first_match};
 ghost use Rattle.mail_matching.specs.QuestionCosts.{AreWithin, value_of};
 ghost use Rattle.mail_matching.specs.Questions.{Texts, answer, question_cost};
+ghost use Rattle.mail_matching.specs.Selection.{selected_values};
 
 /// Asking costs no more than this, where the texts are no larger: for names, for each octet of the message, what the names have; for
 /// what they select, that many times what the keys have, and that for each value that may be selected of a field; for a part's
@@ -25,6 +30,23 @@ pub fn question_cost_is_within_the_message()
 pub fn values_cost_is_a_product()
     ensures { (values keys : List (List ℕ))
         → values_cost values keys ≡ extent_of values * extent_of keys }
+{}
+
+/// What is selected of fields costs no more than this to compare: for each name, for each value that may be selected of a field, and
+/// for each octet of the message, what the keys have.
+pub fn values_cost_is_within_the_message()
+    ensures { (mail : Mail) → IsMail mail
+        → (scope : Scope) (current : Option ℕ) (selector : Selector)
+        (params names keys : List (List ℕ))
+        → values_cost (selected_values scope current selector params names mail) keys
+        ≤ length names * values_of_a_field selector params * size_of mail * extent_of keys }
+{}
+
+/// Comparing the digest of a part's content costs as much for any content.
+pub fn digest_cost_is_fixed()
+    ensures { (part : Part) (keys : List (List ℕ))
+        → values_cost (digest_of part.content ∷ []) keys
+        ≡ (digest_length + 1) * extent_of keys }
 {}
 
 /// There are always ten captures.

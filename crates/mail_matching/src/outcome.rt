@@ -1,5 +1,5 @@
 // What a test comes to.
-ghost use Rattle.std.specs.Prelude.{◌≡◌, [], IfOk, IsOk, length, slice_index_or};
+ghost use Rattle.std.specs.Prelude.{◌≡◌, [], IfOk, IsOk, slice_index_or};
 
 use glob_match::Captures;
 use std::alloc::{AllocError, Global};

@@ -90,7 +90,7 @@ fn body<'m, K: Texts, T: Telling>(
     ensures asked { IfOk result (λ cost. HasAsked T.knows (compares how (cow_slice_items content.now ∷ []))
         (K.texts keys.now) 0 progress.old progress.new cost) }
     ensures lent { T.is_free → IsBorrowedSlice content.now → IsOk result }
-    ensures told { T.is_free → KeepsCaptures
+    ensures no_memory { T.is_free → KeepsCaptures
         (first_match how (cow_slice_items content.now ∷ []) (K.texts keys.now)) → IsOk result }
 {
     progress.take(alloc, content, keys, how)?;
@@ -135,7 +135,7 @@ fn digest<'m, K: Texts, T: Telling>(
     requires fresh { IsFresh progress.old }
     ensures asked { IfOk result (λ cost. HasAsked T.knows (compares exactly (digest.now ∷ []))
         (K.texts keys.now) 0 progress.old progress.new cost) }
-    ensures told { T.is_free → IsOk result }
+    ensures no_memory { T.is_free → IsOk result }
 {
     let exactly = Match {
         kind: MatchType::Is,

@@ -94,7 +94,7 @@ impl<'m, T: Telling> Progress<'m, T> {
         ensures goes { OnOk result (GoesOn T.knows test.now.how
             (selected_among test.now.selector (P.texts test.now.params.now)
             (N.texts names.now) fields.now) (K.texts test.now.keys.now) self.old self.new) }
-        ensures told { T.is_free → test.now.selector ≡ Value → AreUnfolded (N.texts names.now) fields.now
+        ensures no_memory { T.is_free → test.now.selector ≡ Value → AreUnfolded (N.texts names.now) fields.now
             → IsOk result }
     {
         if fields.is_empty() {
@@ -124,7 +124,7 @@ impl<'m, T: Telling> Progress<'m, T> {
         ensures goes { OnOk result (GoesOn T.knows test.now.how
             (selected_named test.now.selector (P.texts test.now.params.now)
             fields.now name.now) (K.texts test.now.keys.now) self.old self.new) }
-        ensures told { T.is_free → test.now.selector ≡ Value → All (IsUnfolded name.now) fields.now
+        ensures no_memory { T.is_free → test.now.selector ≡ Value → All (IsUnfolded name.now) fields.now
             → IsOk result }
     {
         for place in 0..fields.count() {
@@ -151,7 +151,7 @@ impl<'m, T: Telling> Progress<'m, T> {
         ensures goes { OnOk result (GoesOn T.knows test.now.how
             (selected_named test.now.selector (P.texts test.now.params.now)
             (field.now ∷ []) name.now) (K.texts test.now.keys.now) self.old self.new) }
-        ensures told { T.is_free → test.now.selector ≡ Value → IsUnfolded name.now field.now → IsOk result }
+        ensures no_memory { T.is_free → test.now.selector ≡ Value → IsUnfolded name.now field.now → IsOk result }
     {
         if is_named(field.field(), name) {
             self.take_field(alloc, field, test)?;
@@ -176,7 +176,7 @@ impl<'m, T: Telling> Progress<'m, T> {
         ensures goes { OnOk result (GoesOn T.knows test.now.how
             (selected_of test.now.selector (P.texts test.now.params.now)
             field.now) (K.texts test.now.keys.now) self.old self.new) }
-        ensures told { T.is_free → test.now.selector ≡ Value → field.now.folded ≡ false → IsOk result }
+        ensures no_memory { T.is_free → test.now.selector ≡ Value → field.now.folded ≡ false → IsOk result }
     {
         match test.selector {
             Selector::Value => self.take_value(alloc, field.field(), test.keys, test.how),
@@ -213,7 +213,7 @@ impl<'m, T: Telling> Progress<'m, T> {
         requires room { self.old.extent + extent_of (field.now.value ∷ []) < 2 ^ 64 }
         ensures goes { OnOk result (GoesOn T.knows how (field.now.value ∷ []) (K.texts keys.now) self.old
             self.new) }
-        ensures told { T.is_free → field.now.folded ≡ false → IsOk result }
+        ensures no_memory { T.is_free → field.now.folded ≡ false → IsOk result }
     {
         if self.outcome.holds() {
             self.extent += unfolded_length(field) as u64 + 1;
@@ -285,7 +285,7 @@ impl<'m, T: Telling> Progress<'m, T> {
         ensures goes { OnOk result (GoesOn T.knows how (cow_slice_items value.now ∷ []) (K.texts keys.now)
             self.old self.new) }
         ensures lent { T.is_free → IsBorrowedSlice value.now → IsOk result }
-        ensures told { T.is_free → (holds self.old.outcome ≡ false
+        ensures no_memory { T.is_free → (holds self.old.outcome ≡ false
             → KeepsCaptures (first_key how (cow_slice_items value.now) (K.texts keys.now)))
             → IsOk result }
     {
@@ -310,7 +310,7 @@ impl<'m, T: Telling> Progress<'m, T> {
         requires lent { length lent.now ≤ max_message }
         requires room { self.old.extent + extent_of (lent.now ∷ []) < 2 ^ 64 }
         ensures goes { OnOk result (GoesOn T.knows how (lent.now ∷ []) (K.texts keys.now) self.old self.new) }
-        ensures told { T.is_free → (holds self.old.outcome ≡ false
+        ensures no_memory { T.is_free → (holds self.old.outcome ≡ false
             → KeepsCaptures (first_key how lent.now (K.texts keys.now))) → IsOk result }
     {
         self.extent += lent.len() as u64 + 1;

@@ -28,7 +28,7 @@ pub(crate) fn string<'m, S: Texts, K: Texts, T: Telling>(
     requires fresh { IsFresh progress.old }
     ensures asked { IfOk result (λ cost. HasAsked T.knows (compares how (S.texts sources.now))
         (K.texts keys.now) 0 progress.old progress.new cost) }
-    ensures told { T.is_free → KeepsCaptures (first_match how (S.texts sources.now) (K.texts keys.now))
+    ensures no_memory { T.is_free → KeepsCaptures (first_match how (S.texts sources.now) (K.texts keys.now))
         → IsOk result }
 {
     for place in 0..sources.count() {

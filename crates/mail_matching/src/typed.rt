@@ -1,5 +1,5 @@
 // Fields with what is kept of their types.
-ghost use Rattle.std.specs.Prelude.{◌≡◌, ◌<◌, ◌==◌, [], IfSome, length, slice_index_or};
+ghost use Rattle.std.specs.Prelude.{◌≡◌, ◌<◌, ◌==◌, IfSome, length, slice_index_or};
 ghost use Rattle.mime_tree.specs.TypeTexts.{AreTypeTexts, IsTypeText};
 
 use header_fields::Field;

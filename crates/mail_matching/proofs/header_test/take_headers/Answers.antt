@@ -29,11 +29,11 @@ loop-place-preserved g c =
     let lt : c.loop-place.place < length headers = omega (arith, c.loop-place-test.true, c.count-place-end.ensures.count) in
     goes_on_more g.T.Telling.knows c.args.test.now.how (g.K.Texts.texts c.args.test.now.keys.now) (selected_among selector params names) headers c.loop-place.place c.typed.result [] c.args.progress.now c.loop-place.progress c.take_header.new.self lt c.typed.ensures c.loop-place.invariant c.in_ok-take_header.ensures.goes
 
-pub returns-in_err-take_header-clause-told : goal.returns-in_err-take_header-clause-told
-returns-in_err-take_header-clause-told g c = λ free value plain.
+pub returns-in_err-take_header-clause-no_memory : goal.returns-in_err-take_header-clause-no_memory
+returns-in_err-take_header-clause-no_memory g c = λ free value plain.
     let headers = c.args.headers.now in
     let lt : c.loop-place.place < length headers = omega (arith, c.loop-place-test.true, c.count-place-end.ensures.count) in
-    absurd (false≢true (c.in_err-take_header.ensures.told free value
+    absurd (false≢true (c.in_err-take_header.ensures.no_memory free value
     (subst (AreUnfolded (g.N.Texts.texts c.args.names.now)) (sym c.typed.ensures) (plain c.loop-place.place [] lt))))
 
 pub returns-clause-few : goal.returns-clause-few

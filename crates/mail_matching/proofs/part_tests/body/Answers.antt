@@ -13,8 +13,8 @@ returns-clause-asked g c =
     (omega (arith, extent_one value, c.requires.content))
     c.extent_of.ensures c.product.ensures (omega arith)
 
-pub returns-in_err-take-clause-told : goal.returns-in_err-take-clause-told
-returns-in_err-take-clause-told g c = λ free keeps.
+pub returns-in_err-take-clause-no_memory : goal.returns-in_err-take-clause-no_memory
+returns-in_err-take-clause-no_memory g c = λ free keeps.
     let value = cow_slice_items c.args.content.now in
     let keys = g.K.Texts.texts c.args.keys.now in
-    absurd (false≢true (c.in_err-take.ensures.told free (λ missed. keeps_first c.args.how value [] keys keeps)))
+    absurd (false≢true (c.in_err-take.ensures.no_memory free (λ missed. keeps_first c.args.how value [] keys keeps)))

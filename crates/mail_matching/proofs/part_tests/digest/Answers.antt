@@ -13,6 +13,6 @@ returns-clause-asked g c =
     (omega (arith, extent_one value, c.told-digest))
     c.extent_of.ensures c.product.ensures (omega arith)
 
-pub returns-in_err-take_lent-clause-told : goal.returns-in_err-take_lent-clause-told
-returns-in_err-take_lent-clause-told g c = λ free.
-    absurd (false≢true (c.in_err-take_lent.ensures.told free (λ missed. equals_keep c.args.digest.now (g.K.Texts.texts c.args.keys.now))))
+pub returns-in_err-take_lent-clause-no_memory : goal.returns-in_err-take_lent-clause-no_memory
+returns-in_err-take_lent-clause-no_memory g c = λ free.
+    absurd (false≢true (c.in_err-take_lent.ensures.no_memory free (λ missed. equals_keep c.args.digest.now (g.K.Texts.texts c.args.keys.now))))

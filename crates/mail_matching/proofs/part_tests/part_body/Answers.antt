@@ -15,6 +15,6 @@ returns-in_default-clause-asked g c = λ part known.
 pub returns-in-Content-clause-no_memory : goal.returns-in-Content-clause-no_memory
 returns-in-Content-clause-no_memory g c = λ free part known takes.
     elim (content_takes c.args.how (g.K.Texts.texts c.args.keys.now) part c.args.shown c.in-Content.content c.in-Content.is known takes) [
-      | inl keeps ↦ c.body.ensures.told free keeps
+      | inl keeps ↦ c.body.ensures.no_memory free keeps
       | inr lent ↦ c.body.ensures.lent free lent
     ]

@@ -13,7 +13,7 @@ returns-clause-found g c =
     let finding = found c.args.message.now c.args.current c.args.question texts in
     let told = ap (λ p. p.told) c.new-progress.ensures ∙ c.new.ensures in
     c.then_some-found.ensures
-    ∙ found_so most finding c.put.new.progress.told c.compares.result
+    ∙ found_so most finding c.ask.new.progress.told c.compares.result
     (c.compares.ensures c.args.message.now c.args.current texts c.requires.shown)
     (c.in_ok-cost.ensures.asked.found most (subst (λ f. IsCounted most (NoneOf 0) f) (sym told) (begins most)))
     c.in_ok-cost.ensures.asked.few

@@ -28,15 +28,15 @@ loop-place-preserved g c =
     let lt : c.loop-place.place < length sources = omega (arith, c.loop-place-test.true, c.count-place-end.ensures) in
     goes_on_next g.T.Telling.knows c.args.how (g.K.Texts.texts c.args.keys.now) sources c.loop-place.place c.text.result.now c.args.progress.now c.loop-place.progress c.take_lent.new.self lt c.text.ensures c.loop-place.invariant c.in_ok-take_lent.ensures.goes
 
-pub returns-in_err-take_lent-clause-told : goal.returns-in_err-take_lent-clause-told
-returns-in_err-take_lent-clause-told g c = λ free keeps.
+pub returns-in_err-take_lent-clause-no_memory : goal.returns-in_err-take_lent-clause-no_memory
+returns-in_err-take_lent-clause-no_memory g c = λ free keeps.
     let sources = g.S.Texts.texts c.args.sources.now in
     let keys = g.K.Texts.texts c.args.keys.now in
     let so_far = take c.loop-place.place sources in
     let lt : c.loop-place.place < length sources = omega (arith, c.loop-place-test.true, c.count-place-end.ensures) in
     let comes : (captures : List (List ℕ)) → after c.loop-place.progress.outcome captures ≡ first_match c.args.how so_far keys captures =
     λ captures. c.loop-place.invariant.outcome captures ∙ ap (λ o. option_or (after o captures) (first_match c.args.how so_far keys captures)) c.requires.fresh.0 in
-    absurd (false≢true (c.in_err-take_lent.ensures.told free
+    absurd (false≢true (c.in_err-take_lent.ensures.no_memory free
     (λ missed. keeps_next c.args.how sources keys c.loop-place.place c.text.result.now c.loop-place.progress.outcome lt c.text.ensures comes missed keeps)))
 
 pub returns-clause-asked : goal.returns-clause-asked

@@ -40,8 +40,8 @@ returns-clause-goes g c =
     subst (λ values. GoesOn g.T.Telling.knows how values keys c.args.self.now c.loop-place.self) (sym (named_each selector params name fields))
     (goes_on_all g.T.Telling.knows how keys (where_named selector params name) fields c.loop-place.place c.args.self.now c.loop-place.self (omega (arith, c.loop-place-test.false, c.count-place-end.ensures)) c.loop-place.invariant)
 
-pub returns-in_err-take_where_named-clause-told : goal.returns-in_err-take_where_named-clause-told
-returns-in_err-take_where_named-clause-told g c = λ free value plain.
+pub returns-in_err-take_where_named-clause-no_memory : goal.returns-in_err-take_where_named-clause-no_memory
+returns-in_err-take_where_named-clause-no_memory g c = λ free value plain.
     let lt : c.loop-place.place < length c.args.fields.now = omega (arith, c.loop-place-test.true, c.count-place-end.ensures) in
-    absurd (false≢true (c.in_err-take_where_named.ensures.told free value
+    absurd (false≢true (c.in_err-take_where_named.ensures.no_memory free value
     (subst (IsUnfolded c.args.name.now) (sym c.at.ensures) (plain c.loop-place.place c.at.result lt))))
