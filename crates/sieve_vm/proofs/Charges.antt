@@ -5,20 +5,19 @@ use Rattle.bytecode_format.specs.declared.instruction.Instruction.{Instruction}
 use Rattle.bytecode_format.specs.declared.operation.Operation.{Operation}
 use Rattle.bytecode_format.specs.declared.operation.Operation.TheVariants.{Join, Set, File, Store, Take, Test}
 use Rattle.bytecode_format.specs.declared.operation.TestOperation.{TestOperation}
-use Rattle.bytecode_format.specs.declared.operation.TestOperation.TheVariants.{Constant}
 use Rattle.bytecode_format.specs.declared.question.Question.{Question}
-use Rattle.bytecode_format.specs.Questions.{counts_in, question_in}
+use Rattle.bytecode_format.specs.Questions.{counts_in, most_of, question_in}
 use Rattle.bytecode_format.specs.Operations.{operation_of}
 use Rattle.bytecode_format.proofs.QuestionLemmas.{only_its_own}
 use Rattle.bytecode_format.specs.Code.{Code}
 use Rattle.bytecode_verifier.specs.declared.shape.Entry.TheVariants.{Truth, Text}
 use Rattle.bytecode_verifier.specs.Shape.{Entries, Texts, Lists as ListBounds, with_entry, with_joined, take_texts, take_counted}
 use Rattle.bytecode_verifier.specs.declared.cap.Cap.{Cap}
-use Rattle.bytecode_verifier.specs.Budget.{one_more_each, one_charge, cap_of_octets, cap_of_test, cap_of}
+use Rattle.bytecode_verifier.specs.Budget.{one_charge, cap_of_octets, cap_of_test, cap_of, sizes_of}
 use Rattle.bytecode_verifier.specs.Acceptance.{IsAccepted}
 use Rattle.bytecode_verifier.proofs.Consequences.{left_by, question_known}
 use Rattle.mime_decode.specs.Mail.{Mail, Part, IsMail, size_of}
-use Rattle.mail_matching.specs.QuestionCosts.{Sizes, most_of, value_of}
+use Rattle.mail_matching.specs.QuestionCosts.{value_of}
 use Rattle.mail_matching.proofs.QuestionLemmas.{question_within}
 use Rattle.sieve_vm.specs.State.{Value, truth, text, State, current_part}
 use Rattle.sieve_vm.specs.Stack.{Lists, texts_on_top, lists_counted, texts_in, length_on_top}
@@ -35,13 +34,8 @@ pub record IsWithinCap (mail : Mail) (charge : ℕ) (cap : Cap) : Type 0 where
 one : (mail : Mail) → IsWithinCap mail 1 one_charge
 one mail = record { some = omega arith; most = omega arith }
 
--- how large the texts of a test are at most, by the bounds of their entries
-abbrev sizes_of : ListBounds → Sizes
-sizes_of bounds = record { names = one_more_each bounds.names; number = length bounds.names; params = length bounds.params; keys = one_more_each bounds.keys }
-
 -- the cap of a test has one charge more than asking costs at most
 cap_is : (mail : Mail) (test : TestOperation) (bounds : ListBounds) → cap_value mail (cap_of_test test bounds) ≡ 1 + value_of (most_of test (sizes_of bounds)) (size_of mail)
-cap_is mail Constant bounds = omega arith
 cap_is mail test bounds = omega arith
 
 -- the charge of a test

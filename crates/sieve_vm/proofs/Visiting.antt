@@ -1,12 +1,12 @@
 -- The open loops of the code, and what is known of the parts that they visit.
-use Rattle.std.proofs.Common.{◌≡◌, ℕ, ◌+◌, ◌-◌, ◌<◌, ◌≤◌, ◌==◌, Bool, if◌then◌else◌, slice_index_or, inl, inr, List, [], ◌∷◌, ◌++◌, Option, Some, None, length, map, reverse, take, drop, get_or, slice_get, refl, sym, ap, ◌∙◌, arith}
+use Rattle.std.proofs.Common.{◌≡◌, ℕ, ◌+◌, ◌-◌, ◌<◌, ◌≤◌, ◌==◌, if◌then◌else◌, slice_index_or, inl, inr, List, [], ◌∷◌, ◌++◌, Option, Some, None, length, map, reverse, take, drop, get_or, slice_get, refl, sym, ap, ◌∙◌, arith}
 use Rattle.std.proofs.lemmas.Bool.{cases_eq, eq-eqb, ne_eqb}
 use Rattle.std.proofs.lemmas.List.{take-append-drop, take_more, drop_at, map-append, reverse-append, length-reverse, length-drop, length-map}
 use Rattle.std.specs.Option.{option_and_then}
-use Rattle.mime_decode.specs.Mail.{Mail, Part}
+use Rattle.mime_decode.specs.Mail.{Part}
 use Rattle.sieve_vm.specs.declared.frame.Frame as code
 use Rattle.sieve_vm.specs.State.{Frame, current_part}
-use Rattle.sieve_vm.specs.Visits.{Visits, frame_of, frames_of, IsKnown, Learns, part_in}
+use Rattle.sieve_vm.specs.Visits.{Visits, frame_of, frames_of, Learns, part_in}
 
 -- ---- loops that are closed
 
@@ -58,7 +58,3 @@ pub learns : (found wanted : List ℕ) (old before new : List (Option (List ℕ)
 learns found wanted old before new visits place current kept same is = λ part other e.
     let at : part ≡ place = (let both : Some part ≡ Some place = sym e ∙ current in cc) in
     rw (at, ← same, ← is) (kept other)
-
--- ---- what is known
-
-module _ (mail : Mail) (lengths : List (Option ℕ)) (digests beginnings : List (Option (List ℕ))) (known : IsKnown mail lengths digests beginnings) where

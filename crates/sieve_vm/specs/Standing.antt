@@ -1,8 +1,11 @@
 -- Private: how the machine's fields stand for a state of a run.
-use Rattle.std.specs.Prelude.{◌≡◌, ◌+◌, ℕ, Bool, true, List, [], ◌∷◌, Option, Some, None, map, reverse}
+use Rattle.std.specs.Prelude.{◌≡◌, ◌+◌, ℕ, Bool, true, List, [], ◌∷◌, Option, Some, None, is_some, map, reverse}
+use Rattle.std.specs.Option.{unwrap_or}
 use Rattle.bytecode_format.specs.Actions.{first_occurrences}
 use Rattle.bytecode_format.specs.Code.{Code}
+use Rattle.bytecode_format.specs.declared.question.Question.{Question}
 use Rattle.mail_matching.specs.FirstMatch.{no_captures}
+use Rattle.mail_matching.specs.Questions.{answer}
 use Rattle.mime_decode.specs.Mail.{Mail}
 use Rattle.sieve_vm.specs.declared.entry.Entry.{Entry}
 use Rattle.sieve_vm.specs.declared.entry.Entry.TheVariants.{Truth, Text}
@@ -17,6 +20,7 @@ use Rattle.sieve_vm.specs.declared.workspace.Workspace.{Workspace}
 use Rattle.sieve_vm.specs.State.{Value, truth, text, State, start}
 use Rattle.sieve_vm.specs.Machine.{Effect, on, jumps, halts}
 use Rattle.sieve_vm.specs.Runs.{Run}
+use Rattle.sieve_vm.specs.Stack.{Lists, texts_in}
 
 -- an entry of the stack as the value that it is
 abbrev pub value_of : Entry → Value
@@ -54,6 +58,15 @@ IsNew work = (work.top ≡ None) × (work.entries.items ≡ []) × (work.variabl
 -- what a state holds there
 abbrev pub held_by : State → Held
 held_by state = record { stack = state.stack; variables = state.variables; captures = state.captures }
+
+-- what is held after a question with these lists: they are taken, whether it is true is pushed, and the captures are those after it
+abbrev pub asked : Mail → Option ℕ → Question → Lists → Held → Held
+asked mail current question top held =
+    record {
+      stack = truth (is_some (answer mail current question (texts_in top) held.captures)) ∷ top.below;
+      variables = held.variables;
+      captures = unwrap_or (answer mail current question (texts_in top) held.captures) held.captures;
+    }
 
 -- the octets of the entries that are lent for a test
 abbrev pub texts_of : Pushed → List (List ℕ)

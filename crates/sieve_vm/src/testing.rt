@@ -1,19 +1,19 @@
 // The machine's tests.
-ghost use Rattle.std.specs.Prelude.{◌≡◌, ◌<◌, ℕ, List, IfOk, IfSome, IsSome, OnOk, is_some, length, if◌then◌else◌};
-ghost use Rattle.mail_matching.specs.Outcomes.{after};
-ghost use Rattle.mail_matching.specs.Questions as questions;
-ghost use Rattle.mail_matching.specs.Questions.{IsDecidedAs, answer, need_of, question_cost};
+ghost use Rattle.std.specs.Prelude.{◌≡◌, ◌<◌, IfOk, IfSome, IsSome, OnOk, Some, is_some, length, if◌then◌else◌};
+ghost use Rattle.mail_matching.specs.Questions.{need_of};
 ghost use Rattle.mail_matching.specs.Texts.{AreTexts};
 ghost use Rattle.mime_decode.specs.Mail.{IsMail};
-ghost use Rattle.sieve_vm.specs.Standing.{texts_of};
+ghost use Rattle.sieve_vm.specs.Charge.{cost_of_asking};
+ghost use Rattle.sieve_vm.specs.Stack.{Lists, lists_counted};
+ghost use Rattle.sieve_vm.specs.Standing.{asked, held_of};
 ghost use Rattle.sieve_vm.specs.State.{current_part};
 ghost use Rattle.sieve_vm.specs.Visits.{HasSameLoops, holding};
 
 use crate::loops::Loops;
 use crate::machine::{Done, Flow, Machine};
-use crate::workspace::PushedLists;
-use bytecode_format::{Instruction, Program, Question, TestOperation};
-use mail_matching::{Answer, Need, Shown, TestTexts, ask, decide, decided};
+use crate::workspace::Workspace;
+use bytecode_format::{Counts, Instruction, Program, Question, TestOperation};
+use mail_matching::{Need, Nobody, Progress, Shown, TestTexts, ask, decide};
 use mime_decode::Message;
 use std::alloc::{AllocError, Global};
 
@@ -22,10 +22,9 @@ impl<'p, 's, 'm> Machine<'p, 's, 'm> {
     ghost use Rattle.std.specs.Option.{unwrap_or};
     ghost use Rattle.bytecode_format.specs.declared.question.Question.{Question};
     ghost use Rattle.bytecode_format.specs.Questions.{counts_in, question_in};
-    ghost use Rattle.mail_matching.specs.Outcomes.{after};
     ghost use Rattle.mail_matching.specs.Questions.{answer, need_of};
     ghost use Rattle.mail_matching.specs.Texts.{AreTexts};
-    ghost use Rattle.mime_decode.specs.Mail.{Mail, IsMail};
+    ghost use Rattle.mime_decode.specs.Mail.{IsMail};
     ghost use Rattle.sieve_vm.specs.Charge.{cost_of_asking};
     ghost use Rattle.sieve_vm.specs.Stack.{Lists, lists_counted, texts_in};
     ghost use Rattle.sieve_vm.specs.Standing.{Represents};
@@ -70,82 +69,75 @@ impl<'p, 's, 'm> Machine<'p, 's, 'm> {
             → self.new.loops ≡ holding self.old.loops) }
     {
         let question = test.question_in(instruction, program.numbers()).unwrap();
-        if let Some(value) = decided(message, question) {
-            return self.push(value);
-        }
         let counts = test.counts_in(instruction);
-        let lists = self.work.lists(counts);
-        if let Some((value, cost)) = plain(alloc, message, &mut self.loops, question, lists)? {
-            self.work.drop_lists(counts);
-            self.push(value)?;
-            return Ok(Done {
-                flow: Flow::On,
-                cost: cost as u128,
-            });
-        }
-        let answer = answer(alloc, message, &mut self.loops, question, lists)?;
-        self.work.drop_lists(counts);
-        self.settle(answer)
-    }
-
-    // Keeps the captures that a test has set, and pushes whether it has matched.
-    #[inline(always)]
-    fn settle(&mut self, answer: Answer<'m>) -> Result<Done, AllocError>
-        ensures done { IfOk result (λ done.
-            (done ≡ record { flow = Flow.On; cost = answer.entry.cost })
-            × ((mail : Mail) (s : State) → Represents mail s self.old
-            → Represents mail (record
-            s {
-              stack = truth (is_some (after answer.entry.outcome s.captures))
-                  ∷ s.stack;
-              captures = unwrap_or (after answer.entry.outcome s.captures)
-                  s.captures;
-            }) self.new)) }
-        ensures loops { self.new.loops ≡ self.old.loops }
-    {
-        let matched = self.work.settle(answer.outcome);
-        self.push(matched)?;
+        let cost = answer(
+            alloc,
+            message,
+            &mut self.loops,
+            &mut self.work,
+            question,
+            counts,
+        )?;
         Ok(Done {
             flow: Flow::On,
-            cost: answer.cost,
+            cost,
         })
     }
 }
 
-// Whether a question that compares no values is true, and what that costs. An answer, which has room for captures, isn't made for it.
-//
-// An error comes only where memory was refused.
-#[inline(always)]
-fn plain<'m>(
-    alloc: Global,
-    message: &Message<'m>,
-    loops: &mut Loops<'_, 'm>,
-    question: Question,
-    lists: PushedLists<'_, '_>,
-) -> Result<Option<(bool, u64)>, AllocError>
-    requires mail { IsMail message.now }
-    requires same { loops.old.mail ≡ message.now }
-    requires current { IfSome (current_part loops.old.frames) (λ part. part < length message.now.parts) }
-    requires names { AreTexts (texts_of lists.names) }
-    ensures plain { IfOk result (λ found. IfSome found (λ r. IsDecidedAs message.now
-        (current_part loops.old.frames) question (texts_of lists.entry.names) r.0 r.1)) }
-    ensures loops { OnOk result (HasSameLoops loops.old loops.new) }
-    ensures kept { OnOk result (IsSome (current_part loops.old.frames) → need_of question ≡ Need.Content
-        → loops.new ≡ loops.old) }
-{
-    let current = loops.current();
-    match needed(question, current) {
-        Need::Nothing => { Ok(decide(message, current, question, Shown::Nothing, &lists.names)) }
-        Need::Length => {
-            let shown = Shown::Length(loops.length(alloc)? as u64);
-            Ok(decide(message, current, question, shown, &lists.names))
+impl<'p, 'm> Workspace<'p, 'm> {
+    ghost use Rattle.std.specs.Prelude.{◌≡◌, ◌<◌, Some, IfOk, IfSome, length};
+    ghost use Rattle.mail_matching.specs.Questions.{IsShown, current, need_of};
+    ghost use Rattle.mail_matching.specs.Texts.{AreTexts};
+    ghost use Rattle.sieve_vm.specs.Charge.{cost_of_asking};
+    ghost use Rattle.sieve_vm.specs.Stack.{Lists, lists_counted};
+    ghost use Rattle.sieve_vm.specs.Standing.{asked, held_of};
+
+    // Takes the lists of a question, and pushes whether it is true; `shown` is what it needs of the current part's content. Says what
+    // asking it costs. Only where values are compared is there room for captures, which stay where they are found.
+    //
+    // An error comes only where memory was refused.
+    #[inline(always)]
+    fn ask(
+        &mut self,
+        alloc: Global,
+        message: &Message<'m>,
+        part: Option<usize>,
+        question: Question,
+        shown: Shown<'_, 'm>,
+        counts: Counts,
+    ) -> Result<u128, AllocError>
+        requires current { IfSome part (λ part. part < length message.now.parts) }
+        requires shown { IsShown (need_of question) (current message.now part) shown }
+        requires top { (top : Lists) × ((lists_counted counts (held_of self.old).stack ≡ Some top)
+            × AreTexts top.names × AreTexts top.params × AreTexts top.keys) }
+        ensures { IfOk result (λ cost. (top : Lists)
+            → lists_counted counts (held_of self.old).stack ≡ Some top
+            → (cost ≡ cost_of_asking message.now part question top)
+            × (held_of self.new ≡ asked message.now part question top (held_of self.old))) }
+    {
+        let lists = self.lists(counts);
+        if let Some((value, cost)) = decide(message, part, question, shown, &lists.names) {
+            self.drop_lists(counts);
+            self.push_truth(value)?;
+            return Ok(cost as u128);
         }
-        Need::Content | Need::Digest => Ok(None),
+        let texts = TestTexts {
+            names: &lists.names,
+            params: &lists.params,
+            keys: &lists.keys,
+        };
+        let mut progress = Progress::new(Nobody);
+        let cost = ask(alloc, message, part, question, shown, texts, &mut progress)?;
+        self.drop_lists(counts);
+        let matched = self.settle(&mut progress.outcome);
+        self.push_truth(matched)?;
+        Ok(cost)
     }
 }
 
-// The answer to a question with these lists. What it needs of the current part's content is held by the innermost loop from then on, or
-// was known.
+// Takes the lists of a question, and pushes whether it is true. Says what asking it costs. What it needs of the current part's content is
+// held by the innermost loop from then on, or was known.
 //
 // An error comes only where memory was refused.
 #[inline(always)]
@@ -153,49 +145,40 @@ fn answer<'m>(
     alloc: Global,
     message: &Message<'m>,
     loops: &mut Loops<'_, 'm>,
+    work: &mut Workspace<'_, 'm>,
     question: Question,
-    lists: PushedLists<'_, '_>,
-) -> Result<Answer<'m>, AllocError>
+    counts: Counts,
+) -> Result<u128, AllocError>
     requires mail { IsMail message.now }
     requires same { loops.old.mail ≡ message.now }
     requires current { IfSome (current_part loops.old.frames) (λ part. part < length message.now.parts) }
-    requires names { AreTexts (texts_of lists.names) }
-    requires params { AreTexts (texts_of lists.params) }
-    requires keys { AreTexts (texts_of lists.keys) }
-    ensures outcome { IfOk result (λ reply. (captures : List (List ℕ))
-        → after reply.outcome captures
-        ≡ answer message.now (current_part loops.old.frames) question
-        (questions.texts_of (texts_of lists.entry.names) (texts_of lists.entry.params)
-        (texts_of lists.entry.keys)) captures) }
-    ensures cost { IfOk result (λ reply. reply.cost
-        ≡ question_cost message.now (current_part loops.old.frames) question
-        (questions.texts_of (texts_of lists.entry.names) (texts_of lists.entry.params)
-        (texts_of lists.entry.keys))) }
+    requires top { (top : Lists) × ((lists_counted counts (held_of work.old).stack ≡ Some top)
+        × AreTexts top.names × AreTexts top.params × AreTexts top.keys) }
+    ensures answer { IfOk result (λ cost. (top : Lists)
+        → lists_counted counts (held_of work.old).stack ≡ Some top
+        → (cost ≡ cost_of_asking message.now (current_part loops.old.frames) question top)
+        × (held_of work.new ≡ asked message.now (current_part loops.old.frames) question top
+        (held_of work.old))) }
     ensures loops { OnOk result (HasSameLoops loops.old loops.new) }
     ensures held { OnOk result (IsSome (current_part loops.old.frames)
         → need_of question ≡ Need.Content → loops.new ≡ holding loops.old) }
 {
-    let current = loops.current();
-    let texts = TestTexts {
-        names: &lists.names,
-        params: &lists.params,
-        keys: &lists.keys,
-    };
-    match needed(question, current) {
-        Need::Nothing => ask(alloc, message, current, question, Shown::Nothing, texts),
+    let part = loops.current();
+    match needed(question, part) {
+        Need::Nothing => work.ask(alloc, message, part, question, Shown::Nothing, counts),
         Need::Length => {
             let shown = Shown::Length(loops.length(alloc)? as u64);
-            ask(alloc, message, current, question, shown, texts)
+            work.ask(alloc, message, part, question, shown, counts)
         }
         Need::Content => {
             loops.fetch(alloc)?;
             let shown = Shown::Content(loops.content());
-            ask(alloc, message, current, question, shown, texts)
+            work.ask(alloc, message, part, question, shown, counts)
         }
         Need::Digest => {
             let digest = loops.digest(alloc)?;
             let shown = Shown::Digest(&digest);
-            ask(alloc, message, current, question, shown, texts)
+            work.ask(alloc, message, part, question, shown, counts)
         }
     }
 }

@@ -24,6 +24,7 @@ use bytecode_format::{Counts, Modifiers};
 use mail_matching::{Outcome, Texts};
 use octets::{MAX_VALUE, Octets};
 use std::alloc::{AllocError, Global};
+use std::mem;
 
 /// The stack, the variables and the captures. What a variable or a capture holds isn't copied where it is pushed:
 /// the entry shares it, and so keeps it where the variable or the captures change.
@@ -277,6 +278,7 @@ impl<'p, 'm> Workspace<'p, 'm> {
     }
 
     /// So many names or sources on the stack, so many parameters above them, and so many keys above these.
+    #[inline(always)]
     pub fn lists<'s>(&'s self, counts: Counts) -> PushedLists<'s, 'p>
         requires { (top : Lists) × (lists_counted counts (held_of self.now).stack ≡ Some top) }
         ensures names { (top : Lists) → lists_counted counts (held_of self.now).stack ≡ Some top
@@ -329,21 +331,23 @@ impl<'p, 'm> Workspace<'p, 'm> {
         self.entries.truncate(names);
     }
 
-    /// Keeps the captures that a test has set, and says whether it has matched.
+    /// Keeps the captures that a test has set, and says whether it has matched. Only captures are moved, since they are large.
     #[inline(always)]
-    pub fn settle(&mut self, outcome: Outcome<'m>) -> bool
-        ensures matched { result ≡ is_some (after outcome.entry (held_of self.old).captures) }
+    pub fn settle(&mut self, outcome: &mut Outcome<'m>) -> bool
+        ensures matched { result ≡ is_some (after outcome.old (held_of self.old).captures) }
         ensures kept { held_of self.new
             ≡ record (held_of self.old) {
               captures = unwrap_or
-                  (after outcome.entry (held_of self.old).captures) (held_of self.old).captures;
+                  (after outcome.old (held_of self.old).captures) (held_of self.old).captures;
             } }
     {
         match outcome {
             Outcome::Fails => false,
             Outcome::Holds => true,
-            Outcome::Captures(captured) => {
-                self.captures.set(captured);
+            Outcome::Captures(_) => {
+                if let Outcome::Captures(captured) = mem::replace(outcome, Outcome::Fails) {
+                    self.captures.set(captured);
+                }
                 true
             }
         }
