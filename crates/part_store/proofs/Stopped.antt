@@ -59,7 +59,7 @@ IsStoreFailure e = (cause : Cause) × (e ≡ store_error cause)
 -- that a row is still named is no failure of the store
 pub named_is_no_failure : IsStoreFailure still_named → ⊥
 named_is_no_failure (OutOfMemory, h) = absurd cc
-named_is_no_failure _ = absurd cc
+named_is_no_failure (_, h) = absurd cc
 
 either : (b : Bool) (A B : Type 0) → MatchBool b A B → A ⊎ B
 either true A B h = inl h
