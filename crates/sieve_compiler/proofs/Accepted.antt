@@ -82,13 +82,15 @@ some_open code place h = ne_eqb (length (open_loops code place)) 0 (λ e. omega 
 
 -- an operation on the current part stands in a loop
 part_kept : (code : Code) (place : ℕ) (o : Option Operation) (i : Instruction) → KeepsLoops code.instructions place o i → (needs_part (option_and_then (row_in_version written_version) o) && (length (open_loops code place) == 0)) ≡ false
+part_kept code place None i h = refl
+part_kept code place (Some Each) i h = refl
+part_kept code place (Some Next) i h = refl
+part_kept code place (Some Break) i h = refl
 part_kept code place (Some o) i h = ap (λ row. needs_part row && (length (open_loops code place) == 0)) (row_written o) ∙ around (row_of o).needs_part h
   where
     around : (needs : Bool) → IsInside needs (length (inside code.instructions place)) → (needs && (length (open_loops code place) == 0)) ≡ false
     around true deep = some_open code place deep
     around false deep = refl
-part_kept code place _ i h = refl
-
 goes_on : (before after : Option Entries) (entries : Entries) → after ≡ Some entries → (is_some before && is_none after) ≡ false
 goes_on before after entries e = rw e (and-false (is_some before))
 
