@@ -1,5 +1,5 @@
 -- The instruction of a question says it again, and how many strings it has.
-use Rattle.std.proofs.Common.{◌≡◌, ℕ, ◌<◌, Bool, true, false, List, [], ◌∷◌, Option, Some, None, slice_get, refl, ap}
+use Rattle.std.proofs.Common.{◌≡◌, ℕ, ◌<◌, Bool, true, false, List, [], Option, Some, None, slice_get, refl, ap}
 use Rattle.std.proofs.lemmas.List.Elements.{All-head}
 use Rattle.std.specs.Option.{option_and_then, option_map}
 use Rattle.bytecode_format.specs.declared.instruction.Instruction.{Instruction}

@@ -6,7 +6,6 @@ use Rattle.bytecode_format.specs.declared.operation.TestOperation.{TestOperation
 use Rattle.bytecode_format.specs.declared.operation.TestOperation.TheVariants as test
 use Rattle.bytecode_format.specs.declared.question.Counts.{Counts}
 use Rattle.bytecode_format.specs.declared.question.Most.{Most}
-use Rattle.bytecode_format.specs.declared.question.Order.{Order}
 use Rattle.bytecode_format.specs.declared.question.Question.{Question}
 use Rattle.bytecode_format.specs.declared.question.Question.TheVariants.{Constant, Header, Exists, Size, String, PartSize, PartBody, PartDigest}
 use Rattle.bytecode_format.specs.declared.question.Sizes.{Sizes}

@@ -28,8 +28,8 @@ first_operation = refl
 last_operation : operation_text 0x1A ≡ codes "TAKE"
 last_operation = refl
 
-no_operation : (operation_text 0x00 ≡ codes "OP 00") × (operation_text 0x1B ≡ codes "OP 1b") × (operation_text 0xFF ≡ codes "OP ff")
-no_operation = (refl, refl, refl)
+no_operation : (operation_text 0x00 ≡ codes "OP 00") × (operation_text 0xFF ≡ codes "OP ff")
+no_operation = (refl, refl)
 
 -- fields in their order, without those that are 0
 no_field : fields_text (record { op = 0; a = 0; b = 0; c = 0 }) ≡ []

@@ -98,8 +98,6 @@ module _ (all front later : List (Vec ℕ Global)) (are : all ≡ front ++ later
       (takes (subst (λ (ls : List (Vec ℕ Global)). CanTake (concat (lines_of ls)) before.left limit) (sym is) (first_ready before.left limit can))
       (subst (λ (ls : List (Vec ℕ Global)). HasShown (concat (lines_of ls)) before old) (sym is) (first_shown before old has)))
 
--- ---- lines that are taken
-
 -- ---- the first line of octets
 
 -- octets up to the first break, with it, are a line

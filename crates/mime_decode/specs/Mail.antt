@@ -1,5 +1,5 @@
 -- What filters know of a message.
-use Rattle.std.specs.Prelude.{◌≡◌, ℕ, ◌+◌, ◌<◌, ◌≤◌, List, length, map, slice_get, sum_by, Some}
+use Rattle.std.specs.Prelude.{◌≡◌, ℕ, ◌<◌, ◌≤◌, List, length, map, slice_get, sum_by, Some}
 use Rattle.octets.specs.Limits.{max_message, max_parts}
 use Rattle.header_fields.specs.Fields.{Field}
 use Rattle.header_fields.specs.Extent.{fields_extent}

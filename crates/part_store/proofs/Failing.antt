@@ -12,7 +12,6 @@ use Rattle.sqlite.specs.Held.{Held, state}
 use Rattle.sqlite.specs.State.{State, HasCleanDisk, Survives}
 use Rattle.part_store.specs.Entries.{Entries}
 use Rattle.part_store.specs.Refusals.{refusal_of, HasFailed, OnlyWhenFailedOr}
-use Rattle.part_store.specs.Causes.{Faults}
 use Rattle.part_store.specs.declared.error.StoreError.{StoreError}
 use Rattle.part_store.specs.declared.error.StoreError.TheVariants.{Database}
 use Rattle.part_store.proofs.Faults.{failed, never}

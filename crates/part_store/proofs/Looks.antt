@@ -1,5 +1,5 @@
 -- What is asked of a database's tables, one after another.
-use Rattle.std.proofs.Common.{◌≡◌, ◌≢◌, true, List, [], ◌∷◌, length, get_or, refl, ap, ◌∙◌, arith}
+use Rattle.std.proofs.Common.{◌≡◌, true, List, [], ◌∷◌, length, get_or, refl, ap, ◌∙◌, arith}
 use Rattle.sqlite_schema.specs.declared.schema.Table.{Table}
 use Rattle.part_store.specs.Looking.{are_tables, three_tables}
 use Rattle.part_store.specs.Tables.{store_schema}

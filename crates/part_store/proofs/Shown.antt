@@ -1,5 +1,5 @@
 -- The rows of an answer over tables that stand for a state can be read.
-use Rattle.std.proofs.Common.{◌≡◌, ℕ, ◌+◌, ◌<◌, ◌≤◌, ◌^◌, true, List, [], ◌∷◌, length, map, filter, Option, Some, None, refl, sym, ap, ◌∙◌, arith}
+use Rattle.std.proofs.Common.{◌≡◌, ℕ, ◌<◌, ◌^◌, true, List, [], ◌∷◌, length, map, filter, Option, Some, None, refl, sym, ap, ◌∙◌, arith}
 use Rattle.std.specs.List.{AllByRecursion}
 use Rattle.std.proofs.lemmas.Bool.{true≢false}
 use Rattle.std.proofs.lemmas.List.Sorted.{IsPermutation-sym}
@@ -17,7 +17,6 @@ use Rattle.part_store.specs.Entries.{Entries}
 use Rattle.part_store.specs.Refusals.{AreNamed}
 use Rattle.part_store.specs.Readings.{ShowsProgram, ShowsSize, ShowsUser}
 use Rattle.part_store.specs.Standing.{IsContentRow, IsUserRow, Stands}
-use Rattle.part_store.specs.declared.entry.Kind.{Kind}
 use Rattle.part_store.proofs.Equals.{blob_length}
 use Rattle.part_store.proofs.Rows.{has_permuted}
 

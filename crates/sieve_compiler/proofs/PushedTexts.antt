@@ -1,5 +1,5 @@
 -- The entries of texts that are pushed, and that as many can be taken.
-use Rattle.std.proofs.Common.{◌≡◌, ℕ, ◌+◌, List, [], ◌∷◌, ◌++◌, Some, map, length, min, sum, refl, ap, ◌∙◌}
+use Rattle.std.proofs.Common.{◌≡◌, ℕ, List, [], ◌∷◌, ◌++◌, Some, map, length, min, sum, refl, ap, ◌∙◌}
 use Rattle.std.proofs.lemmas.List.{length-map, map-append}
 use Rattle.bytecode_verifier.specs.Shape.{Entries, Texts, bound_in, take_texts}
 use Rattle.bytecode_verifier.proofs.Again.{onto, on_top_again}

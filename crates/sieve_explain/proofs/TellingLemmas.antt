@@ -1,5 +1,5 @@
 -- A refusal that is told is the script's explanation.
-use Rattle.std.proofs.Common.{◌≡◌, ◌≢◌, ◌∙◌, ◌<◌, ℕ, List, ◌++◌, length, map, nat_lt, take, ap, subst, sym, arith, inl, inr}
+use Rattle.std.proofs.Common.{◌≡◌, ◌≢◌, ◌∙◌, ◌<◌, ℕ, List, length, map, nat_lt, take, ap, subst, sym, arith, inl, inr}
 use Rattle.std.proofs.lemmas.Bool.{cases_lt, lt-ltb}
 use Rattle.std.proofs.lemmas.List.{length-map, length-take, take-map, take-take, take_all}
 use Rattle.refusals.specs.Causes.{of_checker, of_parser}
@@ -21,7 +21,6 @@ use Rattle.sieve_parser.specs.Scripts.{IsParseRefusal}
 use Rattle.sieve_parser.specs.declared.error.ParseError.{ParseError}
 use Rattle.sieve_parser.specs.declared.error.ParseError.TheVariants as parser
 use Rattle.sieve_explain.specs.Explaining.{TellsFault, TellsReasons}
-use Rattle.sieve_explain.specs.Private.{IsFaultTold}
 
 -- what `IsFaultTold` says of a refusal and its text
 abbrev pub IsTold : List ℕ → List ℕ → Refusal → List ℕ → Type 0

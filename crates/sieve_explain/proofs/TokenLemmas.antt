@@ -1,5 +1,5 @@
 -- The token of a script with a number, or none.
-use Rattle.std.proofs.Common.{◌≡◌, ◌∙◌, ℕ, zero, suc, ◌-◌, Bool, true, false, List, [], ◌∷◌, drop, sym, subst, refl, arith}
+use Rattle.std.proofs.Common.{◌≡◌, ℕ, zero, suc, Bool, true, false, List, [], ◌∷◌, drop, sym, subst, refl, arith}
 use Rattle.std.specs.Prelude.{◌&&◌, ◌==◌, if◌then◌else◌, Option, Some, None, IfOk, IfSome, Result, Ok, Err}
 use Rattle.std.specs.List.{slice_get}
 use Rattle.std.specs.Option.{option_or}

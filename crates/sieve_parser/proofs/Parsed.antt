@@ -3,8 +3,6 @@ use Rattle.std.proofs.Common.{arith, ℕ, ◌<◌, ◌≤◌, List, [], ◌∷�
 use Rattle.std.specs.Prelude.{None}
 use Rattle.std.proofs.lemmas.List.{take_all, drop_all, append-nil}
 use Rattle.sieve_lexer.specs.Tokens as lexer
-use Rattle.sieve_lexer.specs.declared.error.LexicalError.{LexicalError}
-use Rattle.sieve_lexer.specs.declared.error.LexicalError.TheVariants.{Memory, ScriptTooLong, Lexical}
 use Rattle.octets.specs.Limits.{max_script}
 use Rattle.sieve_lexer.specs.declared.token.Token.{Token}
 use Rattle.sieve_parser.specs.declared.error.ParseError.{ParseError}
