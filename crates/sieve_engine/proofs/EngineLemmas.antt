@@ -17,8 +17,6 @@ use Rattle.bytecode_verifier.specs.Acceptance.{IsAccepted}
 use Rattle.refusals.specs.Causes.{of_verifier}
 use Rattle.sieve_engine.specs.Execution.{Spells, IsProgramRefusal, IsReport}
 use Rattle.sieve_engine.specs.Evaluation.{IsCompiled, IsEvaluation}
-use Rattle.refusals.specs.declared.refusal.Refusal.{Refusal}
-use Rattle.refusals.specs.declared.refusal.Refusal.TheVariants as engine
 
 pub refused_by_verifier : (octets : List ℕ) (code : Code) → Spells octets code → (r : BrokenRule) → (r ≢ Memory → refusal_of code ≡ Some r) → IsProgramRefusal octets (of_verifier r)
 refused_by_verifier octets code spells Memory h = tt
