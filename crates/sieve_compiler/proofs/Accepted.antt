@@ -91,6 +91,7 @@ part_kept code place (Some o) i h = ap (λ row. needs_part row && (length (open_
     around : (needs : Bool) → IsInside needs (length (inside code.instructions place)) → (needs && (length (open_loops code place) == 0)) ≡ false
     around true deep = some_open code place deep
     around false deep = refl
+
 goes_on : (before after : Option Entries) (entries : Entries) → after ≡ Some entries → (is_some before && is_none after) ≡ false
 goes_on before after entries e = rw e (and-false (is_some before))
 
