@@ -55,13 +55,9 @@ take_texts n entries = texts_on_top bound_in n entries
 abbrev pub Lists : Type 0
 Lists = taken.Lists Entry ℕ
 
--- so many names or sources, so many parameters above them, and so many keys above these
-abbrev pub take_lists : ℕ → ℕ → ℕ → Entries → Option Lists
-take_lists names params keys entries = lists_on_top bound_in names params keys entries
-
 -- the lists of a test that has so many
 abbrev pub take_counted : Counts → Entries → Option Lists
-take_counted counts entries = take_lists counts.names counts.params counts.keys entries
+take_counted counts entries = lists_on_top bound_in counts.names counts.params counts.keys entries
 
 -- a text of at most as many octets as the string has, where there is one
 abbrev pub with_string : Option (List ℕ) → Entries → Option Entries

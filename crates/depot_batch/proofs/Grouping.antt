@@ -15,7 +15,6 @@ use Rattle.encodings.proofs.Outputs.{broken_first, broken_later}
 use Rattle.depot_actions.specs.Deliveries.{DoesAll, MayLeaveAll, reply_of}
 use Rattle.depot_actions.specs.DepotState.{Command, Listed}
 use Rattle.depot_jobs.specs.Host.{HostState}
-use Rattle.depot_jobs.specs.declared.request.OnDepot.TheVariants as requests
 use Rattle.depot_batch.specs.Batch.{AreAnsweredBy, AreDeliveries, AreLookedUp, AreWithdrawn, IsDelivery, DepotAndOutput, filed_text, most_together}
 use Rattle.depot_batch.specs.Private.{IsPassedOver, command_of, filed_by, lines_of}
 use Rattle.depot_batch.specs.declared.mails.Mail.{Mail}

@@ -32,8 +32,8 @@ pub fn values_cost_is_a_product()
         → values_cost values keys ≡ extent_of values * extent_of keys }
 {}
 
-/// What is selected of fields costs no more than this to compare: for each name, for each value that may be selected of a field, and
-/// for each octet of the message, what the keys have.
+/// Comparing what is selected of fields costs at most the product of four numbers: the names, the values that may be selected of one
+/// field, the octets of the message, and what the keys come to.
 pub fn values_cost_is_within_the_message()
     ensures { (mail : Mail) → IsMail mail
         → (scope : Scope) (current : Option ℕ) (selector : Selector)

@@ -2,10 +2,11 @@
 //! RFC 5703, section 4), `string` (RFC 5229, section 5), and ours about the current part's content, its size and its digest.
 //!
 //! [`ask`] answers a question in the [`Progress`] that it is given, and says what asking it costs; [`ask_and_find`] also what it found:
-//! the first value and key that match, or how many values there were. What matches first, which captures it leaves, and what is charged stands in `specs/`;
-//! how much that is at most of a message that was read is in the [`laws`]. Names, sources and keys are lent by any [`Texts`], and
-//! the current part's content by who asks, as far as the question [`Need`]s it. A field's value is copied only where it is folded,
-//! or where its type or a parameter is asked for, and of any other value that isn't lent by the message only what it captures is.
+//! the first value and key that match, or how many values there were. What matches first, which captures it leaves, and what is
+//! charged stands in `specs/`; how much that is at most of a message that was read is in the [`laws`]. Names, sources and keys are
+//! lent by any [`Texts`], and the current part's content by who asks, as far as the question [`Need`]s it. A field's value is copied
+//! only where it is folded, or where its type or a parameter is asked for, and of any other value that isn't lent by the message only
+//! what it captures is.
 #![tactic(auto)]
 
 mod asked;

@@ -227,11 +227,6 @@ stray_passed alphabet octet text other is =
 pub no_padding_first : (octet : ℕ) (text : List ℕ) → octet ≢ padding → contains_padding (octet ∷ text) ≡ contains_padding text
 no_padding_first octet text other = ap (λ b. b || contains_padding text) (ne_eqb _ _ other)
 
-pub padding_first : (alphabet : Alphabet) (octet : ℕ) (text : List ℕ) → octet ≡ padding → (text_bits alphabet (octet ∷ text) ≡ []) × (contains_padding (octet ∷ text) ≡ true)
-padding_first alphabet octet text is =
-    let e = eq-eqb octet padding is in
-    (ap (λ b. all_bits (width alphabet) (values_of alphabet (take (cond (not b) (1 + prefix_len (λ o. not (eqb o padding)) text) 0) (octet ∷ text)))) e, ap (λ b. b || contains_padding text) e)
-
 -- a whole quantum's bits are whole octets
 pub quantum_bits : (alphabet : Alphabet) (n : ℕ) → n ≡ quantum alphabet → n * width alphabet ≡ n * width alphabet / 8 * 8
 quantum_bits Base64 n e = omega arith

@@ -6,8 +6,9 @@ use Rattle.std.proofs.lemmas.List.{reverse-append}
 use Rattle.std.specs.Option.{option_and_then, option_map}
 use Rattle.octets.specs.Limits.{max_string}
 use Rattle.bytecode_verifier.specs.declared.shape.Entry.TheVariants.{Truth, Text}
+use Rattle.bytecode_verifier.specs.Taken as taken
 use Rattle.bytecode_verifier.specs.Taken.{with_last, with_params_and_keys, lists_below}
-use Rattle.bytecode_verifier.specs.Shape.{Entries, Texts, Lists as ListBounds, bound_in, with_entry, with_joined, take_texts, take_lists}
+use Rattle.bytecode_verifier.specs.Shape.{Entries, Texts, Lists as ListBounds, bound_in, with_entry, with_joined, take_texts}
 use Rattle.bytecode_verifier.specs.Budget.{one_more_each}
 use Rattle.bytecode_verifier.specs.Pass.{AreShort}
 use Rattle.mail_matching.specs.Costs.{extent_of}
@@ -84,7 +85,7 @@ pub record ListsAreOnTop (names params keys : ℕ) (bounds : ListBounds) (stack 
   pub params_number : length top.params ≡ length bounds.params
   pub keys_extent : extent_of top.keys ≤ one_more_each bounds.keys
 
-pub lists_are_on_top : (names params keys : ℕ) (entries : Entries) (bounds : ListBounds) (stack : List Value) → take_lists names params keys entries ≡ Some bounds → Describes entries stack → ListsAreOnTop names params keys bounds stack
+pub lists_are_on_top : (names params keys : ℕ) (entries : Entries) (bounds : ListBounds) (stack : List Value) → taken.lists_on_top bound_in names params keys entries ≡ Some bounds → Describes entries stack → ListsAreOnTop names params keys bounds stack
 lists_are_on_top names params keys entries bounds stack e d = go (take_texts keys entries) refl e
   where
     all : (above between under : Texts) → (k : AreOnTop keys above stack) → (p : AreOnTop params between k.top.below) → AreOnTop names under p.top.below → with_params_and_keys between.texts above.texts under ≡ bounds → ListsAreOnTop names params keys bounds stack
@@ -180,11 +181,11 @@ octets_within n bounds stack are =
     let most : one_more_each bounds.texts ≡ sum bounds.texts + length bounds.texts = one_more_each_is (λ b. b) bounds.texts in
     omega (arith, texts, most, are.extent, are.number)
 
-pub lists_there : (names params keys : ℕ) (entries after : Entries) (stack : List Value) → option_and_then (λ (lists : ListBounds). with_entry Truth lists.below) (take_lists names params keys entries) ≡ Some after → Describes entries stack
+pub lists_there : (names params keys : ℕ) (entries after : Entries) (stack : List Value) → option_and_then (λ (lists : ListBounds). with_entry Truth lists.below) (taken.lists_on_top bound_in names params keys entries) ≡ Some after → Describes entries stack
     → (top : Lists) × (lists_on_top names params keys stack ≡ Some top)
-lists_there names params keys entries after stack e d = go (take_lists names params keys entries) refl e
+lists_there names params keys entries after stack e d = go (taken.lists_on_top bound_in names params keys entries) refl e
   where
-    go : (o : Option ListBounds) → take_lists names params keys entries ≡ o → option_and_then (λ (lists : ListBounds). with_entry Truth lists.below) o ≡ Some after → (top : Lists) × (lists_on_top names params keys stack ≡ Some top)
+    go : (o : Option ListBounds) → taken.lists_on_top bound_in names params keys entries ≡ o → option_and_then (λ (lists : ListBounds). with_entry Truth lists.below) o ≡ Some after → (top : Lists) × (lists_on_top names params keys stack ≡ Some top)
     go None h f = absurd cc
     go (Some bounds) h f = let are = lists_are_on_top names params keys entries bounds stack h d in (are.top, are.is)
 
