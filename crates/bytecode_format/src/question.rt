@@ -213,6 +213,7 @@ impl TestOperation {
     ghost use Rattle.bytecode_format.specs.Questions.{counts_in, most_of, question_in};
 
     /// What an instruction of this operation asks, if its fields say it; its number is one of these.
+    #[inline(always)]
     pub fn question_in(self, instruction: &Instruction, numbers: &[u64]) -> Option<Question>
         ensures { result ≡ question_in numbers.now self instruction.now }
     {
@@ -232,6 +233,7 @@ impl TestOperation {
     }
 
     /// How many strings an instruction of this operation takes.
+    #[inline(always)]
     pub fn counts_in(self, instruction: &Instruction) -> Counts
         ensures { result ≡ counts_in self instruction.now }
     {

@@ -27,7 +27,7 @@ use Rattle.sieve_vm.specs.Stack.{Lists, lists_counted, texts_in, length_on_top}
 use Rattle.sieve_vm.specs.Visits.{part_in}
 use Rattle.sieve_vm.specs.Charge.{cost_of_asking, octets_taken, charge_of}
 use Rattle.sieve_vm.specs.Machine.{Effect, on, fails, ask, with_lists, with_meant, tested, with_part, set_content, with_text, store, store_part, effect, referred_in}
-use Rattle.sieve_vm.specs.Standing.{Represents, IsIn, HasDone}
+use Rattle.sieve_vm.specs.Standing.{charged_for, Represents, IsIn, HasDone}
 use Rattle.sieve_vm.proofs.Taking.{lists_there, folder_there}
 use Rattle.sieve_vm.proofs.Pushed.{lists_are}
 use Rattle.sieve_vm.proofs.Reached.{IsReached, Leads, HasPart}
@@ -35,7 +35,7 @@ use Rattle.sieve_vm.proofs.PartEffects.{has_part, has_current}
 use Rattle.sieve_vm.proofs.Opened.{open-current}
 use Rattle.sieve_vm.proofs.Bounds.{reached}
 use Rattle.sieve_vm.proofs.Charges.{test_charge}
-use Rattle.sieve_vm.proofs.Steps.{charged_at, after, fine}
+use Rattle.sieve_vm.proofs.Steps.{after, fine}
 use Rattle.sieve_vm.proofs.StackSteps.{few, short, HasFolder, had_tested}
 
 module _ (code : Code) (mail : Mail) (is : IsAccepted code) (known : IsMail mail) (pos : Position) (m : Machine) (s : State) (at : IsIn code mail s pos m) where
@@ -99,7 +99,7 @@ module _ (code : Code) (mail : Mail) (is : IsAccepted code) (known : IsMail mail
 
     pub had_test : (test : TestOperation) → operation_of i.op ≡ Some (Test test) → (done : Done) (m' : Machine)
         → ((t : State) (top : Lists) (question : Question) → Represents mail t m → lists_counted (counts_in test i) t.stack ≡ Some top → question_in code.numbers test i ≡ Some question
-        → (done ≡ charged_at (cost_of_asking mail (current_part t.frames) question top))
+        → (done ≡ charged_for (cost_of_asking mail (current_part t.frames) question top))
         × Represents mail (record t { stack = truth (is_some (answer_with question top t)) ∷ top.below; captures = unwrap_or (answer_with question top t) t.captures }) m')
         → HasDone mail (effect (referred_in code) mail (Test test) i s) (charge_of (referred_in code) mail (Test test) i s) done m'
     had_test test e done m' tests =
@@ -121,11 +121,11 @@ module _ (code : Code) (mail : Mail) (is : IsAccepted code) (known : IsMail mail
     pub store_some : operation_of i.op ≡ Some Store → HasFolder code mail is known pos m s at i here
     store_some e = let f = store_top e in (mail, (s, (f.0, (f.1.0, (at.stands.holds, f.1.1)))))
 
-    pub had_store : operation_of i.op ≡ Some Store → (done : Done) (m' : Machine)
+    pub had_store : operation_of i.op ≡ Some Store → (octets : ℕ) (m' : Machine)
         → ((t : State) (folder : List ℕ) (rest : List Value) (part : ℕ) → Represents mail t m → t.stack ≡ text folder ∷ rest → current_part t.frames ≡ Some part
-        → (done ≡ charged_at (length folder)) × Represents mail (record t { stack = rest; actions = t.actions ++ action.Store folder part ∷ [] }) m')
-        → HasDone mail (effect (referred_in code) mail Store i s) (charge_of (referred_in code) mail Store i s) done m'
-    had_store e done m' stores =
+        → (octets ≡ length folder) × Represents mail (record t { stack = rest; actions = t.actions ++ action.Store folder part ∷ [] }) m')
+        → HasDone mail (effect (referred_in code) mail Store i s) (charge_of (referred_in code) mail Store i s) (charged_for octets) m'
+    had_store e octets m' stores =
         let f = store_top e in
         let p = part_here Store e refl in
         let now = stores s f.0 f.1.0 p.frame.part at.stands.holds f.1.1 (current_is Store e refl) in
@@ -139,11 +139,11 @@ module _ (code : Code) (mail : Mail) (is : IsAccepted code) (known : IsMail mail
     pub take_some : operation_of i.op ≡ Some Take → (w : Mail) × ((t : State) × (Represents w t m × (i.c < length t.variables)))
     take_some e = (mail, (s, (at.stands.holds, taken_within e)))
 
-    pub had_take : operation_of i.op ≡ Some Take → (done : Done) (m' : Machine)
+    pub had_take : operation_of i.op ≡ Some Take → (octets : ℕ) (m' : Machine)
         → ((t : State) (part : Part) → Represents mail t m → part_in m.loops ≡ Some part
-        → (done ≡ charged_at (min i.b (length part.content))) × Represents mail (record t { variables = slice_set t.variables i.c (take i.b part.content) }) m')
-        → HasDone mail (effect (referred_in code) mail Take i s) (charge_of (referred_in code) mail Take i s) done m'
-    had_take e done m' takes =
+        → (octets ≡ min i.b (length part.content)) × Represents mail (record t { variables = slice_set t.variables i.c (take i.b part.content) }) m')
+        → HasDone mail (effect (referred_in code) mail Take i s) (charge_of (referred_in code) mail Take i s) (charged_for octets) m'
+    had_take e octets m' takes =
         let p = part_here Take e refl in
         let now = takes s p.part at.stands.holds (part_is Take e refl) in
         let next : State = record s { variables = slice_set s.variables i.c (take i.b p.part.content) } in

@@ -26,7 +26,7 @@ use Rattle.sieve_vm.specs.State.{Value, truth, text, State}
 use Rattle.sieve_vm.specs.Stack.{OnTop, texts_on_top}
 use Rattle.sieve_vm.specs.Charge.{octets_on_top, charge_of}
 use Rattle.sieve_vm.specs.Machine.{fails, push, branch, with_truth, with_texts, with_string, join, tested, is_sound_jump, effect, referred_in}
-use Rattle.sieve_vm.specs.Standing.{once, Represents, IsIn, HasDone}
+use Rattle.sieve_vm.specs.Standing.{charged_for, once, Represents, IsIn, HasDone}
 use Rattle.std.specs.List.{concat}
 use Rattle.octets.specs.Limits.{max_string, max_value}
 use Rattle.bytecode_format.specs.declared.modifiers.Modifiers.{Modifiers}
@@ -35,7 +35,7 @@ use Rattle.sieve_vm.proofs.Taking.{Describes, AreShortTexts, short_texts, parts_
 use Rattle.sieve_vm.proofs.Pushed.{texts_are}
 use Rattle.sieve_vm.proofs.Reached.{IsReached, Leads, TopTruth, top_truth, has_truth-some, length-described}
 use Rattle.sieve_vm.proofs.Bounds.{reached}
-use Rattle.sieve_vm.proofs.Steps.{charged_at, pushed, after, fine, jumps_soundly, branch_top}
+use Rattle.sieve_vm.proofs.Steps.{pushed, after, fine, jumps_soundly, branch_top}
 
 module _ (code : Code) (mail : Mail) (is : IsAccepted code) (known : IsMail mail) (pos : Position) (m : Machine) (s : State) (at : IsIn code mail s pos m) where
   abbrev there : IsReached code mail s
@@ -136,11 +136,11 @@ module _ (code : Code) (mail : Mail) (is : IsAccepted code) (known : IsMail mail
     pub folder_some : operation_of i.op ≡ Some File → HasFolder
     folder_some e = let f = folder_top e in (mail, (s, (f.0, (f.1.0, (at.stands.holds, f.1.1)))))
 
-    pub had_file : operation_of i.op ≡ Some File → (done : Done) (m' : Machine)
+    pub had_file : operation_of i.op ≡ Some File → (octets : ℕ) (m' : Machine)
         → ((t : State) (folder : List ℕ) (rest : List Value) → Represents mail t m → t.stack ≡ text folder ∷ rest
-        → (done ≡ charged_at (length folder)) × Represents mail (record t { stack = rest; actions = t.actions ++ action.File folder ∷ []; implicit_keep = false }) m')
-        → HasDone mail (effect (referred_in code) mail File i s) (charge_of (referred_in code) mail File i s) done m'
-    had_file e done m' files =
+        → (octets ≡ length folder) × Represents mail (record t { stack = rest; actions = t.actions ++ action.File folder ∷ []; implicit_keep = false }) m')
+        → HasDone mail (effect (referred_in code) mail File i s) (charge_of (referred_in code) mail File i s) (charged_for octets) m'
+    had_file e octets m' files =
         let f = folder_top e in
         let filed = files s f.0 f.1.0 at.stands.holds f.1.1 in
         rw (f.1.1, filed.0) (filed.1, refl)
@@ -164,11 +164,11 @@ module _ (code : Code) (mail : Mail) (is : IsAccepted code) (known : IsMail mail
     pub modifiers_some : operation_of i.op ≡ Some Set → IsSome (modifiers_numbered i.a)
     modifiers_some e = rw (modifiers_there e).1 refl
 
-    pub had_set : operation_of i.op ≡ Some Set → (done : Done) (m' : Machine)
+    pub had_set : operation_of i.op ≡ Some Set → (octets : ℕ) (m' : Machine)
         → ((t : State) (value : List ℕ) (rest : List Value) (modifiers : Modifiers) → Represents mail t m → t.stack ≡ text value ∷ rest → modifiers_numbered i.a ≡ Some modifiers
-        → (done ≡ charged_at (length value)) × Represents mail (record t { stack = rest; variables = slice_set t.variables i.c (take max_value (modified modifiers value)) }) m')
-        → HasDone mail (effect (referred_in code) mail Set i s) (charge_of (referred_in code) mail Set i s) done m'
-    had_set e done m' sets =
+        → (octets ≡ length value) × Represents mail (record t { stack = rest; variables = slice_set t.variables i.c (take max_value (modified modifiers value)) }) m')
+        → HasDone mail (effect (referred_in code) mail Set i s) (charge_of (referred_in code) mail Set i s) (charged_for octets) m'
+    had_set e octets m' sets =
         let v = value_top e in
         let k = modifiers_there e in
         let set = sets s v.0 v.1.0 k.0 at.stands.holds v.1.1 k.1 in
@@ -181,18 +181,18 @@ module _ (code : Code) (mail : Mail) (is : IsAccepted code) (known : IsMail mail
     pub parts_some : IsProgram code → operation_of i.op ≡ Some Join → (w : Mail) × ((t : State) × ((top : OnTop) × (Represents w t m × (texts_on_top i.b t.stack ≡ Some top) × AreTexts top.texts)))
     parts_some fits e = let n = parts_top e in (mail, (s, (n.0, (at.stands.holds, n.1, texts_are i.b s.stack n.0 (few fits) (short fits) n.1))))
 
-    pub had_join : operation_of i.op ≡ Some Join → (done : Done) (m' : Machine)
+    pub had_join : operation_of i.op ≡ Some Join → (octets : ℕ) (m' : Machine)
         → ((t : State) (top : OnTop) → Represents mail t m → texts_on_top i.b t.stack ≡ Some top
-        → (done ≡ charged_at (octets_on_top top)) × Represents mail (record t { stack = text (take max_string (concat top.texts)) ∷ top.below }) m')
-        → HasDone mail (effect (referred_in code) mail Join i s) (charge_of (referred_in code) mail Join i s) done m'
-    had_join e done m' joins =
+        → (octets ≡ octets_on_top top) × Represents mail (record t { stack = text (take max_string (concat top.texts)) ∷ top.below }) m')
+        → HasDone mail (effect (referred_in code) mail Join i s) (charge_of (referred_in code) mail Join i s) (charged_for octets) m'
+    had_join e octets m' joins =
         let n = parts_top e in
         let joined = joins s n.0 at.stands.holds n.1 in
         let fits : Leads code mail s (join n.0.texts (record s { stack = n.0.below })) = subst (λ (o : Option OnTop). Leads code mail s (with_texts join s o)) n.1 (fine code mail is known pos m s at i here Join e) in
         rw (n.1, pushed code mail s (text (take max_string (concat n.0.texts))) (record s { stack = n.0.below }) fits, joined.0) (joined.1, refl)
 
     -- what a test has found, kept and pushed
-    pub had_tested : (t : State) (found : Option (List (List ℕ))) (cost : ℕ) (done : Done) (m' : Machine) → Leads code mail s (tested t found) → done ≡ charged_at cost
+    pub had_tested : (t : State) (found : Option (List (List ℕ))) (cost : ℕ) (done : Done) (m' : Machine) → Leads code mail s (tested t found) → done ≡ charged_for cost
         → Represents mail (record t { stack = truth (is_some found) ∷ t.stack; captures = unwrap_or found t.captures }) m' → HasDone mail (tested t found) (1 + cost) done m'
     had_tested t None cost done m' fits e stands = rw (pushed code mail s (truth false) t fits, e) (stands, refl)
     had_tested t (Some captures) cost done m' fits e stands = rw (pushed code mail s (truth true) (record t { captures = captures }) fits, e) (stands, refl)

@@ -40,10 +40,6 @@ use Rattle.sieve_vm.proofs.Bounds.{reached, spent, ends_within, Run-push}
 abbrev pub no_instruction : Instruction
 no_instruction = record { op = 0; a = 0; b = 0; c = 0 }
 
--- an instruction that is charged so much beyond one, and goes on
-abbrev pub charged_at : ℕ → Done
-charged_at cost = record { flow = On; cost = cost }
-
 -- a push that leads on has room
 pub pushed : (code : Code) (mail : Mail) (from : State) (value : Value) (t : State) → Leads code mail from (push value t) → push value t ≡ on (record t { stack = value ∷ t.stack })
 pushed code mail from value t fits = go (nat_lt (length t.stack) max_stack) fits

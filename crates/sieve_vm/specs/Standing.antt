@@ -3,9 +3,11 @@ use Rattle.std.specs.Prelude.{◌≡◌, ◌+◌, ℕ, Bool, true, List, [], ◌
 use Rattle.std.specs.Option.{unwrap_or}
 use Rattle.bytecode_format.specs.Actions.{first_occurrences}
 use Rattle.bytecode_format.specs.Code.{Code}
+use Rattle.bytecode_format.specs.declared.question.Counts.{Counts}
 use Rattle.bytecode_format.specs.declared.question.Question.{Question}
 use Rattle.mail_matching.specs.FirstMatch.{no_captures}
 use Rattle.mail_matching.specs.Questions.{answer}
+use Rattle.mail_matching.specs.Texts.{AreTexts}
 use Rattle.mime_decode.specs.Mail.{Mail}
 use Rattle.sieve_vm.specs.declared.entry.Entry.{Entry}
 use Rattle.sieve_vm.specs.declared.entry.Entry.TheVariants.{Truth, Text}
@@ -20,7 +22,8 @@ use Rattle.sieve_vm.specs.declared.workspace.Workspace.{Workspace}
 use Rattle.sieve_vm.specs.State.{Value, truth, text, State, start}
 use Rattle.sieve_vm.specs.Machine.{Effect, on, jumps, halts}
 use Rattle.sieve_vm.specs.Runs.{Run}
-use Rattle.sieve_vm.specs.Stack.{Lists, texts_in}
+use Rattle.sieve_vm.specs.Stack.{Lists, lists_counted, texts_in}
+use Rattle.sieve_vm.specs.Charge.{cost_of_asking}
 
 -- an entry of the stack as the value that it is
 abbrev pub value_of : Entry → Value
@@ -68,6 +71,17 @@ asked mail current question top held =
       captures = unwrap_or (answer mail current question (texts_in top) held.captures) held.captures;
     }
 
+-- lists of so many texts of a test are on top of the stack
+abbrev pub HasLists : Counts → Held → Type 0
+HasLists counts held =
+    (top : Lists) × ((lists_counted counts held.stack ≡ Some top) × AreTexts top.names × AreTexts top.params × AreTexts top.keys)
+
+-- a question was asked with lists of so many texts, and that costs so much
+abbrev pub WasAsked : Mail → Option ℕ → Question → Counts → Held → Held → ℕ → Type 0
+WasAsked mail current question counts old new cost =
+    (top : Lists) → lists_counted counts old.stack ≡ Some top
+    → (cost ≡ cost_of_asking mail current question top) × (new ≡ asked mail current question top old)
+
 -- the octets of the entries that are lent for a test
 abbrev pub texts_of : Pushed → List (List ℕ)
 texts_of pushed = map octets_of pushed.entries.now
@@ -75,6 +89,10 @@ texts_of pushed = map octets_of pushed.entries.now
 -- what is charged one
 abbrev pub once : Flow → Done
 once flow = record { flow = flow; cost = 0 }
+
+-- what is charged so much beyond one, and goes on
+abbrev pub charged_for : ℕ → Done
+charged_for cost = record { flow = On; cost = cost }
 
 -- the machine stands for the state of a run on the message, but for its place and charge
 pub record Represents (mail : Mail) (state : State) (machine : Machine) : Type 0 where

@@ -1,8 +1,10 @@
 -- Private: what the open loops of the code stand for.
-use Rattle.std.specs.Prelude.{◌≡◌, ℕ, suc, ◌-◌, ◌==◌, Bool, true, false, List, [], ◌∷◌, Option, Some, None, IfSome, is_some, length, map, reverse, take, drop, slice_get, slice_index_or, if◌then◌else◌}
+use Rattle.std.specs.Prelude.{◌≡◌, ℕ, suc, ◌-◌, ◌==◌, Bool, true, false, List, [], ◌∷◌, Option, Some, None, IfSome, IsSome, is_some, length, map, reverse, take, drop, slice_get, slice_index_or, if◌then◌else◌}
 use Rattle.std.specs.Cow.{cow_slice_items}
 use Rattle.std.specs.Option.{option_and_then}
 use Rattle.octets.specs.Limits.{max_value}
+use Rattle.mail_matching.specs.declared.questions.Need.{Need}
+use Rattle.mail_matching.specs.declared.questions.Need.TheVariants as need
 use Rattle.mime_decode.specs.Content.{digest_of}
 use Rattle.mime_decode.specs.Mail.{Mail, Part}
 use Rattle.mime_decode.specs.Visited.{numbers_from}
@@ -72,6 +74,20 @@ pub record HasSameLoops (old new : Visits) : Type 0 where
 -- what is known of the current part, in such a list
 abbrev pub known_of : {A : Type 0} → List (Option A) → Visits → Option A
 known_of list visits = option_and_then (λ part. slice_index_or list part None) (current_part visits.frames)
+
+-- there is a current part, if anything is needed of it
+abbrev pub HasPartFor : Need → Visits → Type 0
+HasPartFor need.Nothing visits = Unit {0}
+HasPartFor need.Length visits = IsSome (part_in visits)
+HasPartFor need.Content visits = IsSome (part_in visits)
+HasPartFor need.Digest visits = IsSome (part_in visits)
+
+-- what is needed of the current part is known or held
+abbrev pub IsFound : Need → Visits → Type 0
+IsFound need.Nothing visits = Unit {0}
+IsFound need.Length visits = IsSome (part_in visits) × IsSome (known_of visits.lengths visits)
+IsFound need.Content visits = IsSome (part_in visits) × (holds visits ≡ true)
+IsFound need.Digest visits = IsSome (part_in visits) × IsSome (known_of visits.digests visits)
 
 -- this is known of the current part from then on, and of the others what was known before
 abbrev pub Learns : {A : Type 0} → A → List (Option A) → List (Option A) → Visits → Type 0

@@ -15,6 +15,18 @@ pub fn known<T: Copy>(list: &[Option<T>], part: usize) -> Option<T>
     }
 }
 
+/// The digest that is known of a part.
+#[inline(always)]
+pub fn digest_known(list: &[Option<[u8; 64]>], part: usize) -> Option<&[u8; 64]>
+    ensures some { IfSome result (λ digest. slice_index_or list.now part None ≡ Some digest.now) }
+    ensures none { IsNone result → slice_index_or list.now part None ≡ None }
+{
+    match list.get(part) {
+        Some(found) => found.as_ref(),
+        None => None,
+    }
+}
+
 /// The octets that are known of a part.
 pub fn octets_known(list: &[Option<Octets>], part: usize) -> Option<&[u8]>
     ensures some { IfSome result (λ octets. slice_index_or list.now part None ≡ Some octets.now) }

@@ -3,18 +3,20 @@ ghost use Rattle.std.specs.Prelude.{◌≡◌, ◌<◌, ◌≤◌, ◌+◌, ◌-
 ghost use Rattle.std.specs.Cow.{cow_slice_items};
 ghost use Rattle.octets.specs.Limits.{max_loops, max_parts, max_value};
 ghost use Rattle.mime_decode.specs.Content.{digest_of, is_decoded};
-ghost use Rattle.mime_decode.specs.Mail.{Part};
+ghost use Rattle.mail_matching.specs.Questions.{IsShown, current};
+ghost use Rattle.mime_decode.specs.Mail.{IsMail, Part};
 ghost use Rattle.mime_decode.specs.Visited.{numbers_from, visited};
 ghost use Rattle.sieve_vm.specs.State;
 ghost use Rattle.sieve_vm.specs.State.{current_part};
-ghost use Rattle.sieve_vm.specs.Visits.{Continues, HasSameLoops, Learns, Opens, holding, holds, known_of, part_in};
+ghost use Rattle.sieve_vm.specs.Visits.{Continues, HasPartFor, HasSameLoops, IsFound, Learns, Opens, holding, holds, known_of, part_in};
 
 use crate::frame::Frame;
 use crate::joining::{as_many, first};
-use crate::known::{keep, known, octets_known};
+use crate::known::{digest_known, keep, known, octets_known};
 use crate::shared_text::copied;
 use arrayvec::ArrayVec;
 use bytecode_format::MAX_LOOPS;
+use mail_matching::{Need, Shown};
 use mime_decode::{Message, digest_of};
 use mime_params::TransferEncoding;
 use octets::Octets;
@@ -155,10 +157,10 @@ impl<'s, 'm> Loops<'s, 'm> {
         next
     }
 
-    /// Holds the content of the current part from now on, as long as the loop stays on it. It is decoded only where it isn't held.
-    ///
-    /// An error comes only where memory was refused, and none where the content is held.
-    pub fn fetch(&mut self, alloc: Global) -> Result<(), AllocError>
+    // Holds the content of the current part from now on, as long as the loop stays on it. It is decoded only where it isn't held.
+    //
+    // An error comes only where memory was refused, and none where the content is held.
+    fn fetch(&mut self, alloc: Global) -> Result<(), AllocError>
         requires { IsSome (part_in self.old) }
         ensures held { OnOk result (self.new ≡ holding self.old) }
         ensures refused { OnErr result ((self.new ≡ self.old) × (holds self.old ≡ false)) }
@@ -190,8 +192,8 @@ impl<'s, 'm> Loops<'s, 'm> {
         self.frames[innermost].content = Some(content);
     }
 
-    /// The content of the current part, which is held.
-    pub fn content(&self) -> &CowSlice<'m, u8>
+    // The content of the current part, which is held.
+    fn content(&self) -> &CowSlice<'m, u8>
         requires part { IsSome (part_in self.now) }
         requires held { holds self.now ≡ true }
         ensures { (part : Part) → part_in self.now ≡ Some part
@@ -201,59 +203,135 @@ impl<'s, 'm> Loops<'s, 'm> {
         self.frames[innermost].content.as_ref().unwrap()
     }
 
-    /// The length of the current part's content.
+    /// Finds what is needed of the current part's content, unless it is known or held.
     ///
-    /// Where it isn't known yet, the content is held from now on. An error comes only where memory was refused, and none where the
-    /// length is known.
-    pub fn length(&mut self, alloc: Global) -> Result<usize, AllocError>
+    /// An error comes only where memory was refused.
+    #[inline(always)]
+    pub fn find(&mut self, alloc: Global, need: Need) -> Result<(), AllocError>
+        requires { HasPartFor need self.old }
+        ensures found { OnOk result (IsFound need self.new) }
+        ensures same { OnOk result (HasSameLoops self.old self.new) }
+        ensures content { OnOk result (need ≡ Need.Content → self.new ≡ holding self.old) }
+    {
+        if self.is_found(need) {
+            return Ok(());
+        }
+        self.make(alloc, need)
+    }
+
+    // Whether what is needed of the current part's content is known or held.
+    #[inline(always)]
+    fn is_found(&self, need: Need) -> bool
+        requires { HasPartFor need self.now }
+        ensures { result ≡ true → IsFound need self.now }
+    {
+        match need {
+            Need::Nothing => true,
+            Need::Length => known(&self.lengths, self.part()).is_some(),
+            Need::Content => self.is_held(),
+            Need::Digest => digest_known(&self.digests, self.part()).is_some(),
+        }
+    }
+
+    // The same as `find`. It isn't inlined, since it is rare.
+    #[inline(never)]
+    fn make(&mut self, alloc: Global, need: Need) -> Result<(), AllocError>
+        requires { HasPartFor need self.old }
+        ensures found { OnOk result (IsFound need self.new) }
+        ensures same { OnOk result (HasSameLoops self.old self.new) }
+        ensures content { OnOk result (need ≡ Need.Content → self.new ≡ holding self.old) }
+    {
+        match need {
+            Need::Nothing => Ok(()),
+            Need::Length => self.find_length(alloc),
+            Need::Content => self.fetch(alloc),
+            Need::Digest => self.find_digest(alloc),
+        }
+    }
+
+    /// What is needed of the current part's content, which was found.
+    #[inline(always)]
+    pub fn shown(&self, need: Need) -> Shown<'_, 'm>
+        requires mail { IsMail self.now.mail }
+        requires found { IsFound need self.now }
+        ensures { IsShown need (current self.now.mail (current_part self.now.frames)) result }
+    {
+        match need {
+            Need::Nothing => Shown::Nothing,
+            Need::Length => Shown::Length(self.length() as u64),
+            Need::Content => Shown::Content(self.content()),
+            Need::Digest => Shown::Digest(self.digest()),
+        }
+    }
+
+    // Finds the length of the current part's content, unless it is known.
+    //
+    // Where it isn't known yet, the content is held from now on. An error comes only where memory was refused, and none where the
+    // length is known.
+    fn find_length(&mut self, alloc: Global) -> Result<(), AllocError>
         requires { IsSome (part_in self.old) }
-        ensures length { IfOk result
-            (λ found. (part : Part) → part_in self.old ≡ Some part → found ≡ length part.content) }
+        ensures found { OnOk result (IsSome (known_of self.new.lengths self.new)) }
         ensures same { OnOk result (HasSameLoops self.old self.new) }
         ensures known { OnOk result
             (IsSome (known_of self.old.lengths self.old) → self.new ≡ self.old) }
         ensures held { OnOk result (known_of self.old.lengths self.old ≡ None
             → self.new ≡ record (holding self.old) { lengths = self.new.lengths }) }
-        ensures kept { IfOk result (λ found. Learns found self.old.lengths self.new.lengths
-            self.old) }
+        ensures kept { OnOk result ((part : Part) → part_in self.old ≡ Some part
+            → Learns (length part.content) self.old.lengths self.new.lengths self.old) }
         ensures refused { OnErr result (known_of self.old.lengths self.old ≡ None) }
     {
         let part = self.part();
-        if let Some(found) = known(&self.lengths, part) {
-            return Ok(found);
+        if known(&self.lengths, part).is_some() {
+            return Ok(());
         }
         self.fetch(alloc)?;
         let found = self.content().len();
-        keep(&mut self.lengths, self.message.parts(), part, found)?;
-        Ok(found)
+        keep(&mut self.lengths, self.message.parts(), part, found)
     }
 
-    /// The digest of the current part's content.
-    ///
-    /// Where it isn't known yet, the content is held from now on. An error comes only where memory was refused, and none where the
-    /// digest is known.
-    pub fn digest(&mut self, alloc: Global) -> Result<[u8; 64], AllocError>
+    // The length of the current part's content, which is known.
+    #[inline(always)]
+    fn length(&self) -> usize
+        requires part { IsSome (part_in self.now) }
+        requires known { IsSome (known_of self.now.lengths self.now) }
+        ensures { (part : Part) → part_in self.now ≡ Some part → result ≡ length part.content }
+    {
+        known(&self.lengths, self.part()).unwrap()
+    }
+
+    // Finds the digest of the current part's content, unless it is known.
+    //
+    // Where it isn't known yet, the content is held from now on. An error comes only where memory was refused, and none where the
+    // digest is known.
+    fn find_digest(&mut self, alloc: Global) -> Result<(), AllocError>
         requires { IsSome (part_in self.old) }
-        ensures digest { IfOk result
-            (λ found. (part : Part) → part_in self.old ≡ Some part
-            → found ≡ digest_of part.content) }
+        ensures found { OnOk result (IsSome (known_of self.new.digests self.new)) }
         ensures same { OnOk result (HasSameLoops self.old self.new) }
         ensures known { OnOk result
             (IsSome (known_of self.old.digests self.old) → self.new ≡ self.old) }
         ensures held { OnOk result (known_of self.old.digests self.old ≡ None
             → self.new ≡ record (holding self.old) { digests = self.new.digests }) }
-        ensures kept { IfOk result (λ found. Learns found self.old.digests self.new.digests
-            self.old) }
+        ensures kept { OnOk result ((part : Part) → part_in self.old ≡ Some part
+            → Learns (digest_of part.content) self.old.digests self.new.digests self.old) }
         ensures refused { OnErr result (known_of self.old.digests self.old ≡ None) }
     {
         let part = self.part();
-        if let Some(found) = known(&self.digests, part) {
-            return Ok(found);
+        if digest_known(&self.digests, part).is_some() {
+            return Ok(());
         }
         self.fetch(alloc)?;
         let found = digest_of(self.content().as_slice());
-        keep(&mut self.digests, self.message.parts(), part, found)?;
-        Ok(found)
+        keep(&mut self.digests, self.message.parts(), part, found)
+    }
+
+    // The digest of the current part's content, which is known.
+    #[inline(always)]
+    fn digest(&self) -> &[u8; 64]
+        requires part { IsSome (part_in self.now) }
+        requires known { IsSome (known_of self.now.digests self.now) }
+        ensures { (part : Part) → part_in self.now ≡ Some part → result.now ≡ digest_of part.content }
+    {
+        digest_known(&self.digests, self.part()).unwrap()
     }
 
     /// A copy of the first octets of the current part's content: so many, or all where there are fewer.

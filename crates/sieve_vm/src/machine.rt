@@ -1,6 +1,6 @@
 // The machine as it runs.
 ghost use Rattle.std.specs.Prelude.{◌≡◌};
-ghost use Rattle.sieve_vm.specs.Standing.{once};
+ghost use Rattle.sieve_vm.specs.Standing.{charged_for, once};
 
 use crate::loops::Loops;
 use crate::shared_text::SharedText;
@@ -159,8 +159,8 @@ impl<'p, 's, 'm> Machine<'p, 's, 'm> {
         Ok(position.after(done))
     }
 
-    // What the instruction at the position does, where the run goes then, and what is charged. What a call answers that isn't inlined is
-    // taken out of its result, since the answer of all arms would else stand in memory for it, and not in registers.
+    // What the instruction at the position does, where the run goes then, and what is charged. What a call answers that isn't inlined fits
+    // into registers, and is taken out of its result: the answer of all arms would else stand in memory for it.
     #[inline(always)]
     fn act(
         &mut self,
@@ -188,8 +188,8 @@ impl<'p, 's, 'm> Machine<'p, 's, 'm> {
             }
             Operation::Variable => self.push_variable(instruction.c as usize),
             Operation::Capture => self.push_capture(alloc, instruction.a),
-            Operation::Join => Ok(self.join(alloc, instruction.b as usize)?),
-            Operation::Set => Ok(self.set(alloc, instruction)?),
+            Operation::Join => Ok(charged_for(self.join(alloc, instruction.b as usize)?)),
+            Operation::Set => Ok(charged_for(self.set(alloc, instruction)?)),
             Operation::Test(test) => Ok(self.ask(alloc, program, message, test, instruction)?),
             Operation::Not => {
                 let value = self.take();
@@ -200,12 +200,12 @@ impl<'p, 's, 'm> Machine<'p, 's, 'm> {
             Operation::JumpIfFalse => Ok(self.branch(instruction.c, false)),
             Operation::Keep => self.keep(),
             Operation::Discard => Ok(self.discard()),
-            Operation::File => Ok(self.file(alloc)?),
-            Operation::Store => Ok(self.store(alloc)?),
+            Operation::File => Ok(charged_for(self.file(alloc)?)),
+            Operation::Store => Ok(charged_for(self.store(alloc)?)),
             Operation::Each => Ok(self.each(position.place, instruction.c)),
             Operation::Next => Ok(self.next()),
             Operation::Break => Ok(self.close(instruction.a as usize)),
-            Operation::Take => Ok(self.set_content(alloc, instruction)?),
+            Operation::Take => Ok(charged_for(self.set_content(alloc, instruction)?)),
         }
     }
 
@@ -301,14 +301,15 @@ impl<'p, 's, 'm> Machine<'p, 's, 'm> {
         Ok(self.discard())
     }
 
-    // Lists File for the folder on top of the stack, which is taken, and takes the implicit keep away.
-    fn file(&mut self, alloc: Global) -> Result<Done, AllocError>
+    // Lists File for the folder on top of the stack, which is taken, and takes the implicit keep away. Answers how many octets the folder
+    // has.
+    fn file(&mut self, alloc: Global) -> Result<usize, AllocError>
         requires { (mail : Mail) × ((s : State)
             × ((t : List ℕ) × ((rest : List Value)
             × (Represents mail s self.old × (s.stack ≡ text t ∷ rest))))) }
-        ensures { IfOk result (λ done. (mail : Mail) (s : State) (t : List ℕ) (rest : List Value)
+        ensures { IfOk result (λ octets. (mail : Mail) (s : State) (t : List ℕ) (rest : List Value)
             → Represents mail s self.old → s.stack ≡ text t ∷ rest
-            → (done ≡ record { flow = Flow.On; cost = length t })
+            → (octets ≡ length t)
             × Represents mail (record s {
               stack = rest;
               actions = s.actions ++ Action.File t
@@ -317,10 +318,10 @@ impl<'p, 's, 'm> Machine<'p, 's, 'm> {
             }) self.new) }
     {
         let folder = self.work.take_text(alloc)?;
-        let cost = folder.len() as u128;
+        let octets = folder.len();
         self.list(Action::File(folder))?;
-        let Done { flow, .. } = self.discard();
-        Ok(Done { flow, cost })
+        self.discard();
+        Ok(octets)
     }
 
     // Lists an action.
@@ -343,17 +344,17 @@ impl<'p, 's, 'm> Machine<'p, 's, 'm> {
         once(Flow::On)
     }
 
-    // Lists Store for the current part and the folder on top of the stack, which is taken.
-    fn store(&mut self, alloc: Global) -> Result<Done, AllocError>
+    // Lists Store for the current part and the folder on top of the stack, which is taken. Answers how many octets the folder has.
+    fn store(&mut self, alloc: Global) -> Result<usize, AllocError>
         requires part { IsSome (current_part self.old.loops.frames) }
         requires top { (mail : Mail)
             × ((s : State) × ((t : List ℕ)
             × ((rest : List Value) × (Represents mail s self.old
             × (s.stack ≡ text t ∷ rest))))) }
-        ensures { IfOk result (λ done. (mail : Mail) (s : State) (t : List ℕ) (rest : List Value)
+        ensures { IfOk result (λ octets. (mail : Mail) (s : State) (t : List ℕ) (rest : List Value)
             (part : ℕ) → Represents mail s self.old → s.stack ≡ text t ∷ rest
             → current_part s.frames ≡ Some part
-            → (done ≡ record { flow = Flow.On; cost = length t })
+            → (octets ≡ length t)
             × Represents mail (record s {
               stack = rest;
               actions = s.actions
@@ -362,12 +363,9 @@ impl<'p, 's, 'm> Machine<'p, 's, 'm> {
     {
         let part = self.loops.current().unwrap();
         let folder = self.work.take_text(alloc)?;
-        let cost = folder.len() as u128;
+        let octets = folder.len();
         self.list(Action::Store(folder, part))?;
-        Ok(Done {
-            flow: Flow::On,
-            cost,
-        })
+        Ok(octets)
     }
 
     // Opens the loop of the Each at the place on its first part; or goes on after its Next.
@@ -416,37 +414,33 @@ impl<'p, 's, 'm> Machine<'p, 's, 'm> {
         once(Flow::To(next + 1))
     }
 
-    // Joins so many texts on top of the stack.
-    fn join(&mut self, alloc: Global, number: usize) -> Result<Done, AllocError>
+    // Joins so many texts on top of the stack. Answers how many octets they have.
+    fn join(&mut self, alloc: Global, number: usize) -> Result<usize, AllocError>
         requires { (mail : Mail) × ((s : State)
             × ((top : OnTop) × (Represents mail s self.old
             × (texts_on_top number s.stack ≡ Some top) × AreTexts top.texts))) }
-        ensures { IfOk result (λ done. (mail : Mail) (s : State) (top : OnTop)
+        ensures { IfOk result (λ octets. (mail : Mail) (s : State) (top : OnTop)
             → Represents mail s self.old → texts_on_top number s.stack ≡ Some top
-            → (done ≡ record { flow = Flow.On; cost = octets_on_top top })
+            → (octets ≡ octets_on_top top)
             × Represents mail (record s {
               stack = text (take max_string (concat top.texts))
                   ∷ top.below;
             }) self.new) }
     {
-        let len = self.work.join(alloc, number)?;
-        Ok(Done {
-            flow: Flow::On,
-            cost: len as u128,
-        })
+        self.work.join(alloc, number)
     }
 
-    // Takes the text on top of the stack, and gives it, modified, to a variable.
-    fn set(&mut self, alloc: Global, instruction: &Instruction) -> Result<Done, AllocError>
+    // Takes the text on top of the stack, and gives it, modified, to a variable. Answers how many octets the text has.
+    fn set(&mut self, alloc: Global, instruction: &Instruction) -> Result<usize, AllocError>
         requires modifiers { IsSome (modifiers_numbered instruction.now.a) }
         requires top { (mail : Mail)
             × ((s : State) × ((t : List ℕ)
             × ((rest : List Value) × (Represents mail s self.old × (s.stack ≡ text t ∷ rest)
             × (instruction.now.c < length s.variables))))) }
-        ensures { IfOk result (λ done. (mail : Mail) (s : State) (t : List ℕ) (rest : List Value)
+        ensures { IfOk result (λ octets. (mail : Mail) (s : State) (t : List ℕ) (rest : List Value)
             (modifiers : Modifiers) → Represents mail s self.old → s.stack ≡ text t ∷ rest
             → modifiers_numbered instruction.now.a ≡ Some modifiers
-            → (done ≡ record { flow = Flow.On; cost = length t })
+            → (octets ≡ length t)
             × Represents mail (record s {
               stack = rest;
               variables = slice_set s.variables
@@ -454,40 +448,29 @@ impl<'p, 's, 'm> Machine<'p, 's, 'm> {
             }) self.new) }
     {
         let modifiers = Modifiers::of(instruction.a).unwrap();
-        let taken = self.work.set(alloc, instruction.c as usize, modifiers)?;
-        Ok(Done {
-            flow: Flow::On,
-            cost: taken as u128,
-        })
+        self.work.set(alloc, instruction.c as usize, modifiers)
     }
 
-    // Gives the first octets of the current part's content to a variable.
-    fn set_content(&mut self, alloc: Global, instruction: &Instruction) -> Result<Done, AllocError>
+    // Gives the first octets of the current part's content to a variable. Answers how many.
+    fn set_content(&mut self, alloc: Global, instruction: &Instruction) -> Result<usize, AllocError>
         requires part { IsSome (part_in self.old.loops) }
         requires few { instruction.now.b ≤ max_value }
         requires variable { (mail : Mail)
             × ((s : State) × (Represents mail s self.old
             × (instruction.now.c < length s.variables))) }
-        ensures { IfOk result (λ done. (mail : Mail) (s : State) (part : Part)
+        ensures { IfOk result (λ octets. (mail : Mail) (s : State) (part : Part)
             → Represents mail s self.old → part_in self.old.loops ≡ Some part
-            → (done ≡ record {
-              flow = Flow.On;
-              cost = min instruction.now.b
-                  (length part.content);
-            })
+            → (octets ≡ min instruction.now.b (length part.content))
             × Represents mail (record s {
               variables = slice_set s.variables instruction.now.c
                   (take instruction.now.b part.content);
             }) self.new) }
     {
         let octets = self.loops.beginning(alloc, instruction.b as usize)?;
-        let cost = octets.len() as u128;
+        let number = octets.len();
         let value = SharedText::new(alloc, octets)?;
         self.work.assign(instruction.c as usize, value);
-        Ok(Done {
-            flow: Flow::On,
-            cost,
-        })
+        Ok(number)
     }
 }
 
@@ -497,4 +480,15 @@ pub fn once(flow: Flow) -> Done
     ensures { result ≡ once flow }
 {
     Done { flow, cost: 0 }
+}
+
+// An instruction that is charged for so many octets beyond one, and goes on.
+#[inline(always)]
+fn charged_for(octets: usize) -> Done
+    ensures { result ≡ charged_for octets }
+{
+    Done {
+        flow: Flow::On,
+        cost: octets as u128,
+    }
 }

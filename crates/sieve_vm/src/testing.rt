@@ -1,37 +1,30 @@
 // The machine's tests.
-ghost use Rattle.std.specs.Prelude.{◌≡◌, ◌<◌, IfOk, IfSome, IsSome, OnOk, Some, is_some, length, if◌then◌else◌};
-ghost use Rattle.mail_matching.specs.Questions.{need_of};
+ghost use Rattle.std.specs.Prelude.{◌≡◌, ◌<◌, ◌∷◌, IfOk, IfSome, IsSome, OnOk, Some, is_some, length, if◌then◌else◌};
+ghost use Rattle.std.specs.Option.{unwrap_or};
+ghost use Rattle.bytecode_format.specs.declared.question.Question.{Question};
+ghost use Rattle.bytecode_format.specs.Questions.{counts_in, question_in};
+ghost use Rattle.mail_matching.specs.Questions.{IsShown, answer, current, need_of};
 ghost use Rattle.mail_matching.specs.Texts.{AreTexts};
 ghost use Rattle.mime_decode.specs.Mail.{IsMail};
 ghost use Rattle.sieve_vm.specs.Charge.{cost_of_asking};
-ghost use Rattle.sieve_vm.specs.Stack.{Lists, lists_counted};
-ghost use Rattle.sieve_vm.specs.Standing.{asked, held_of};
-ghost use Rattle.sieve_vm.specs.State.{current_part};
-ghost use Rattle.sieve_vm.specs.Visits.{HasSameLoops, holding};
+ghost use Rattle.sieve_vm.specs.Stack.{Lists, lists_counted, texts_in};
+ghost use Rattle.sieve_vm.specs.Standing.{HasLists, Represents, WasAsked, held_of};
+ghost use Rattle.sieve_vm.specs.State.{State, current_part, truth};
+ghost use Rattle.sieve_vm.specs.Visits.{holding};
 
 use crate::loops::Loops;
 use crate::machine::{Done, Flow, Machine};
-use crate::workspace::Workspace;
+use crate::workspace::{Pushed, Workspace};
 use bytecode_format::{Counts, Instruction, Program, Question, TestOperation};
 use mail_matching::{Need, Nobody, Progress, Shown, TestTexts, ask, decide};
 use mime_decode::Message;
 use std::alloc::{AllocError, Global};
 
 impl<'p, 's, 'm> Machine<'p, 's, 'm> {
-    ghost use Rattle.std.specs.Prelude.{◌≡◌, ◌<◌, ◌∷◌, Some, IfOk, IfSome, IsSome, OnOk, is_some, length};
-    ghost use Rattle.std.specs.Option.{unwrap_or};
-    ghost use Rattle.bytecode_format.specs.declared.question.Question.{Question};
-    ghost use Rattle.bytecode_format.specs.Questions.{counts_in, question_in};
-    ghost use Rattle.mail_matching.specs.Questions.{answer, need_of};
-    ghost use Rattle.mail_matching.specs.Texts.{AreTexts};
-    ghost use Rattle.mime_decode.specs.Mail.{IsMail};
-    ghost use Rattle.sieve_vm.specs.Charge.{cost_of_asking};
-    ghost use Rattle.sieve_vm.specs.Stack.{Lists, lists_counted, texts_in};
-    ghost use Rattle.sieve_vm.specs.Standing.{Represents};
-    ghost use Rattle.sieve_vm.specs.State.{State, truth, current_part};
-    ghost use Rattle.sieve_vm.specs.Visits.{holding};
-
-    /// Takes the lists of a test, and pushes whether what it asks is true.
+    /// Takes the lists of a test, and pushes whether what it asks is true. What that needs of the current part's content is held by the
+    /// innermost loop from then on, or was known.
+    ///
+    /// An error comes only where memory was refused.
     #[inline(always)]
     pub fn ask(
         &mut self,
@@ -70,14 +63,13 @@ impl<'p, 's, 'm> Machine<'p, 's, 'm> {
     {
         let question = test.question_in(instruction, program.numbers()).unwrap();
         let counts = test.counts_in(instruction);
-        let cost = answer(
-            alloc,
-            message,
-            &mut self.loops,
-            &mut self.work,
-            question,
-            counts,
-        )?;
+        let part = self.loops.current();
+        let need = needed(question, part);
+        self.loops.find(alloc, need)?;
+        let shown = self.loops.shown(need);
+        let cost = self
+            .work
+            .ask(alloc, message, part, question, shown, counts)?;
         Ok(Done {
             flow: Flow::On,
             cost,
@@ -86,15 +78,8 @@ impl<'p, 's, 'm> Machine<'p, 's, 'm> {
 }
 
 impl<'p, 'm> Workspace<'p, 'm> {
-    ghost use Rattle.std.specs.Prelude.{◌≡◌, ◌<◌, Some, IfOk, IfSome, length};
-    ghost use Rattle.mail_matching.specs.Questions.{IsShown, current, need_of};
-    ghost use Rattle.mail_matching.specs.Texts.{AreTexts};
-    ghost use Rattle.sieve_vm.specs.Charge.{cost_of_asking};
-    ghost use Rattle.sieve_vm.specs.Stack.{Lists, lists_counted};
-    ghost use Rattle.sieve_vm.specs.Standing.{asked, held_of};
-
     // Takes the lists of a question, and pushes whether it is true; `shown` is what it needs of the current part's content. Says what
-    // asking it costs. Only where values are compared is there room for captures, which stay where they are found.
+    // asking it costs. A question that takes no strings is decided here, without a call.
     //
     // An error comes only where memory was refused.
     #[inline(always)]
@@ -109,12 +94,44 @@ impl<'p, 'm> Workspace<'p, 'm> {
     ) -> Result<u128, AllocError>
         requires current { IfSome part (λ part. part < length message.now.parts) }
         requires shown { IsShown (need_of question) (current message.now part) shown }
-        requires top { (top : Lists) × ((lists_counted counts (held_of self.old).stack ≡ Some top)
-            × AreTexts top.names × AreTexts top.params × AreTexts top.keys) }
-        ensures { IfOk result (λ cost. (top : Lists)
-            → lists_counted counts (held_of self.old).stack ≡ Some top
-            → (cost ≡ cost_of_asking message.now part question top)
-            × (held_of self.new ≡ asked message.now part question top (held_of self.old))) }
+        requires lists { HasLists counts (held_of self.old) }
+        ensures { IfOk result
+            (WasAsked message.now part question counts (held_of self.old) (held_of self.new)) }
+    {
+        if let Counts {
+            names: 0,
+            params: 0,
+            keys: 0,
+        } = counts
+        {
+            let none = Pushed { entries: &[] };
+            if let Some((value, cost)) = decide(message, part, question, shown, &none) {
+                self.push_truth(value)?;
+                return Ok(cost as u128);
+            }
+        }
+        self.ask_with_lists(alloc, message, part, question, shown, counts)
+    }
+
+    // The same for any question. Captures stay where they are found. This isn't inlined, since the run would else clear the room for
+    // them for each instruction.
+    //
+    // An error comes only where memory was refused.
+    #[inline(never)]
+    fn ask_with_lists(
+        &mut self,
+        alloc: Global,
+        message: &Message<'m>,
+        part: Option<usize>,
+        question: Question,
+        shown: Shown<'_, 'm>,
+        counts: Counts,
+    ) -> Result<u128, AllocError>
+        requires current { IfSome part (λ part. part < length message.now.parts) }
+        requires shown { IsShown (need_of question) (current message.now part) shown }
+        requires lists { HasLists counts (held_of self.old) }
+        ensures { IfOk result
+            (WasAsked message.now part question counts (held_of self.old) (held_of self.new)) }
     {
         let lists = self.lists(counts);
         if let Some((value, cost)) = decide(message, part, question, shown, &lists.names) {
@@ -133,53 +150,6 @@ impl<'p, 'm> Workspace<'p, 'm> {
         let matched = self.settle(&mut progress.outcome);
         self.push_truth(matched)?;
         Ok(cost)
-    }
-}
-
-// Takes the lists of a question, and pushes whether it is true. Says what asking it costs. What it needs of the current part's content is
-// held by the innermost loop from then on, or was known.
-//
-// An error comes only where memory was refused.
-#[inline(always)]
-fn answer<'m>(
-    alloc: Global,
-    message: &Message<'m>,
-    loops: &mut Loops<'_, 'm>,
-    work: &mut Workspace<'_, 'm>,
-    question: Question,
-    counts: Counts,
-) -> Result<u128, AllocError>
-    requires mail { IsMail message.now }
-    requires same { loops.old.mail ≡ message.now }
-    requires current { IfSome (current_part loops.old.frames) (λ part. part < length message.now.parts) }
-    requires top { (top : Lists) × ((lists_counted counts (held_of work.old).stack ≡ Some top)
-        × AreTexts top.names × AreTexts top.params × AreTexts top.keys) }
-    ensures answer { IfOk result (λ cost. (top : Lists)
-        → lists_counted counts (held_of work.old).stack ≡ Some top
-        → (cost ≡ cost_of_asking message.now (current_part loops.old.frames) question top)
-        × (held_of work.new ≡ asked message.now (current_part loops.old.frames) question top
-        (held_of work.old))) }
-    ensures loops { OnOk result (HasSameLoops loops.old loops.new) }
-    ensures held { OnOk result (IsSome (current_part loops.old.frames)
-        → need_of question ≡ Need.Content → loops.new ≡ holding loops.old) }
-{
-    let part = loops.current();
-    match needed(question, part) {
-        Need::Nothing => work.ask(alloc, message, part, question, Shown::Nothing, counts),
-        Need::Length => {
-            let shown = Shown::Length(loops.length(alloc)? as u64);
-            work.ask(alloc, message, part, question, shown, counts)
-        }
-        Need::Content => {
-            loops.fetch(alloc)?;
-            let shown = Shown::Content(loops.content());
-            work.ask(alloc, message, part, question, shown, counts)
-        }
-        Need::Digest => {
-            let digest = loops.digest(alloc)?;
-            let shown = Shown::Digest(&digest);
-            work.ask(alloc, message, part, question, shown, counts)
-        }
     }
 }
 

@@ -129,10 +129,21 @@ impl<'p, 'm> Workspace<'p, 'm> {
         ensures same { OnOk result (held_of self.new ≡ held_of self.old) }
         ensures none { OnOk result (self.new.top ≡ None) }
     {
-        if let Some(value) = self.top {
-            self.entries.push(Entry::Truth(value))?;
-            self.top = None;
+        match self.top {
+            Some(value) => self.put_below(value),
+            None => Ok(()),
         }
+    }
+
+    // Puts this truth value, which stands apart, among the entries. It is rare, and so it isn't inlined.
+    #[inline(never)]
+    fn put_below(&mut self, value: bool) -> Result<(), AllocError>
+        requires { self.old.top ≡ Some value }
+        ensures same { OnOk result (held_of self.new ≡ held_of self.old) }
+        ensures none { OnOk result (self.new.top ≡ None) }
+    {
+        self.entries.push(Entry::Truth(value))?;
+        self.top = None;
         Ok(())
     }
 

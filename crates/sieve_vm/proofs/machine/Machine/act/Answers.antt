@@ -80,11 +80,11 @@ returns-in-Break c = λ s at. rw c.in-Break.is (had_break c.args.program.now c.a
 
 pub returns-in_ok-file-in-File : goal.returns-in_ok-file-in-File
 returns-in_ok-file-in-File c =
-    λ s at. rw c.in-File.is (had_file c.args.program.now c.args.message.now c.requires.accepted c.requires.mail c.args.position c.args.self.now s at c.args.instruction.now c.requires.here (c.requires.named ∙ ap (λ o. Some o) c.in-File.is) c.in_ok-file-in-File.field-0 c.file.new.self (c.in_ok-file-in-File.ensures c.args.message.now))
+    λ s at. rw (c.in-File.is, c.charged_for-in-File.ensures) (had_file c.args.program.now c.args.message.now c.requires.accepted c.requires.mail c.args.position c.args.self.now s at c.args.instruction.now c.requires.here (c.requires.named ∙ ap (λ o. Some o) c.in-File.is) c.in_ok-file-in-File.field-0 c.file.new.self (c.in_ok-file-in-File.ensures c.args.message.now))
 
 pub returns-in_ok-store-in-Store : goal.returns-in_ok-store-in-Store
 returns-in_ok-store-in-Store c =
-    λ s at. rw c.in-Store.is (had_store c.args.program.now c.args.message.now c.requires.accepted c.requires.mail c.args.position c.args.self.now s at c.args.instruction.now c.requires.here (c.requires.named ∙ ap (λ o. Some o) c.in-Store.is) c.in_ok-store-in-Store.field-0 c.store.new.self (c.in_ok-store-in-Store.ensures c.args.message.now))
+    λ s at. rw (c.in-Store.is, c.charged_for-in-Store.ensures) (had_store c.args.program.now c.args.message.now c.requires.accepted c.requires.mail c.args.position c.args.self.now s at c.args.instruction.now c.requires.here (c.requires.named ∙ ap (λ o. Some o) c.in-Store.is) c.in_ok-store-in-Store.field-0 c.store.new.self (c.in_ok-store-in-Store.ensures c.args.message.now))
 
 pub returns-in-Variable : goal.returns-in-Variable
 returns-in-Variable c =
@@ -96,11 +96,11 @@ returns-in-Capture c =
 
 pub returns-in_ok-join-in-Join : goal.returns-in_ok-join-in-Join
 returns-in_ok-join-in-Join c =
-    λ s at. rw c.in-Join.is (had_join c.args.program.now c.args.message.now c.requires.accepted c.requires.mail c.args.position c.args.self.now s at c.args.instruction.now c.requires.here (c.requires.named ∙ ap (λ o. Some o) c.in-Join.is) c.in_ok-join-in-Join.field-0 c.join.new.self (c.in_ok-join-in-Join.ensures c.args.message.now))
+    λ s at. rw (c.in-Join.is, c.charged_for.ensures) (had_join c.args.program.now c.args.message.now c.requires.accepted c.requires.mail c.args.position c.args.self.now s at c.args.instruction.now c.requires.here (c.requires.named ∙ ap (λ o. Some o) c.in-Join.is) c.in_ok-join-in-Join.field-0 c.join.new.self (c.in_ok-join-in-Join.ensures c.args.message.now))
 
 pub returns-in_ok-set-in-Set : goal.returns-in_ok-set-in-Set
 returns-in_ok-set-in-Set c =
-    λ s at. rw c.in-Set.is (had_set c.args.program.now c.args.message.now c.requires.accepted c.requires.mail c.args.position c.args.self.now s at c.args.instruction.now c.requires.here (c.requires.named ∙ ap (λ o. Some o) c.in-Set.is) c.in_ok-set-in-Set.field-0 c.set.new.self (c.in_ok-set-in-Set.ensures c.args.message.now))
+    λ s at. rw (c.in-Set.is, c.charged_for-in-Set.ensures) (had_set c.args.program.now c.args.message.now c.requires.accepted c.requires.mail c.args.position c.args.self.now s at c.args.instruction.now c.requires.here (c.requires.named ∙ ap (λ o. Some o) c.in-Set.is) c.in_ok-set-in-Set.field-0 c.set.new.self (c.in_ok-set-in-Set.ensures c.args.message.now))
 
 pub store-requires-clause-part : goal.store-requires-clause-part
 store-requires-clause-part c = current_some c.args.program.now c.args.message.now c.requires.accepted c.requires.mail c.args.position c.args.self.now c.requires.running.0 c.requires.running.1 c.args.instruction.now c.requires.here Store (c.requires.named ∙ ap (λ o. Some o) c.in-Store.is) refl
@@ -134,7 +134,7 @@ set_content-requires-clause-variable c = take_some c.args.program.now c.args.mes
 
 pub returns-in_ok-set_content-in-Take : goal.returns-in_ok-set_content-in-Take
 returns-in_ok-set_content-in-Take c =
-    λ s at. rw c.in-Take.is (had_take c.args.program.now c.args.message.now c.requires.accepted c.requires.mail c.args.position c.args.self.now s at c.args.instruction.now c.requires.here (c.requires.named ∙ ap (λ o. Some o) c.in-Take.is) c.in_ok-set_content-in-Take.field-0 c.set_content.new.self (c.in_ok-set_content-in-Take.ensures c.args.message.now))
+    λ s at. rw (c.in-Take.is, c.charged_for-in-Take.ensures) (had_take c.args.program.now c.args.message.now c.requires.accepted c.requires.mail c.args.position c.args.self.now s at c.args.instruction.now c.requires.here (c.requires.named ∙ ap (λ o. Some o) c.in-Take.is) c.in_ok-set_content-in-Take.field-0 c.set_content.new.self (c.in_ok-set_content-in-Take.ensures c.args.message.now))
 
 pub returns-in-Discard : goal.returns-in-Discard
 returns-in-Discard c = λ s at. rw (c.in-Discard.is, c.discard.ensures.flow) (c.discard.ensures.stands c.args.message.now s at.stands.holds, refl)

@@ -1,10 +1,10 @@
-use Rattle.std.proofs.Common.{◌≡◌, Some, sym, ap, ◌∙◌}
+use Rattle.std.proofs.Common.{◌≡◌, true, Some, is_some, if◌then◌else◌, sym, ap, ◌∙◌}
 use Rattle.bytecode_format.specs.Questions.{counts_in, question_in}
 use Rattle.mail_matching.specs.Questions.{need_of}
+use Rattle.mail_matching.specs.declared.questions.Need.TheVariants as need
 use Rattle.sieve_vm.specs.Charge.{cost_of_asking}
-use Rattle.sieve_vm.specs.Standing.{asked, held_of}
+use Rattle.sieve_vm.specs.Standing.{asked, charged_for, held_of}
 use Rattle.sieve_vm.specs.State.{current_part}
-use Rattle.sieve_vm.proofs.Steps.{charged_at}
 use Rattle.sieve_vm.proofs.Tests.{lists_there, holds_now, same_loops}
 use Rattle.sieve_vm.proofs.machine.Machine.ask.Goals as goal
 
@@ -15,16 +15,17 @@ returns-clause-done c = λ s top question stands e asks.
     let is : Some c.unwrap-question.result ≡ Some question = sym c.unwrap-question.ensures ∙ c.question_in.ensures ∙ ap (λ ns. question_in ns c.args.test c.args.instruction.now) c.numbers.ensures.value ∙ asks in
     let same : c.unwrap-question.result ≡ question = cc in
     let there = lists_there mail s m stands c.counts_in-counts.result (counts_in c.args.test c.args.instruction.now) top c.counts_in-counts.ensures e in
-    let at = ap current_part stands.frames in
-    let told = c.in_ok-cost.ensures.answer top there in
+    let at = c.current-part.ensures ∙ ap current_part stands.frames in
+    let told = c.in_ok-cost.ensures top there in
     let costs : c.in_ok-cost.cost ≡ cost_of_asking mail (current_part s.frames) question top = told.0 ∙ ap (λ x. cost_of_asking mail x c.unwrap-question.result top) at ∙ ap (λ q. cost_of_asking mail (current_part s.frames) q top) same in
     let held = told.1 ∙ ap (λ x. asked mail x c.unwrap-question.result top (held_of m.work)) at ∙ ap (λ q. asked mail (current_part s.frames) q top (held_of m.work)) same in (
-      ap charged_at costs,
-      same_loops mail _ _ (holds_now mail s m stands c.answer.new.work (asked mail (current_part s.frames) question top) held) c.answer.new.loops c.in_ok-cost.ensures.loops,
+      ap charged_for costs,
+      same_loops mail _ _ (holds_now mail s m stands c.ask.new.self (asked mail (current_part s.frames) question top) held) c.find.new.self c.in_ok-find.ensures.same,
     )
 
 pub returns-clause-held : goal.returns-clause-held
 returns-clause-held c = λ question asks needs some.
     let is : Some c.unwrap-question.result ≡ Some question = sym c.unwrap-question.ensures ∙ c.question_in.ensures ∙ ap (λ ns. question_in ns c.args.test c.args.instruction.now) c.numbers.ensures.value ∙ asks in
     let same : c.unwrap-question.result ≡ question = cc in
-    c.in_ok-cost.ensures.held some (ap need_of same ∙ needs)
+    let part : is_some c.current-part.result ≡ true = ap is_some c.current-part.ensures ∙ some in
+    c.in_ok-find.ensures.content (c.needed-need.ensures ∙ ap (λ b. if b then need_of c.unwrap-question.result else need.Nothing) part ∙ ap need_of same ∙ needs)

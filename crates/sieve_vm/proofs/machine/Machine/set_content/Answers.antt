@@ -1,7 +1,6 @@
 use Rattle.std.proofs.Common.{take, slice_set, length, ap, ◌∙◌}
 use Rattle.std.proofs.lemmas.List.{length-take}
 use Rattle.sieve_vm.specs.Standing.{Held, held_of}
-use Rattle.sieve_vm.proofs.Steps.{charged_at}
 use Rattle.sieve_vm.proofs.Tests.{holds_now, same_loops}
 use Rattle.sieve_vm.proofs.machine.Machine.set_content.Goals as goal
 
@@ -13,6 +12,6 @@ returns c = λ mail s part stands at.
     let loops = same_loops mail s m stands c.beginning.new.self c.in_ok-octets.ensures.same in
     let items = c.in_ok-value.ensures ∙ octets in
     let now = c.assign.ensures ∙ ap (λ v. let h : Held = record (held_of m.work) { variables = slice_set (held_of m.work).variables i.c v } in h) items in (
-      ap charged_at (c.len-cost.ensures ∙ c.in_ok-octets.octets.ok.0 ∙ ap length octets ∙ length-take i.b part.content),
+      c.len-number.ensures ∙ c.in_ok-octets.octets.ok.0 ∙ ap length octets ∙ length-take i.b part.content,
       holds_now mail s (record m { loops = c.beginning.new.self }) loops c.assign.new.self (λ (h : Held). record h { variables = slice_set h.variables i.c (take i.b part.content) }) now,
     )

@@ -2,7 +2,6 @@ use Rattle.std.proofs.Common.{◌≡◌, [], ◌∷◌, ◌++◌, Some, length, 
 use Rattle.bytecode_format.specs.declared.action.Action.TheVariants as action
 use Rattle.sieve_vm.specs.State.{current_part}
 use Rattle.sieve_vm.specs.Standing.{Held, Represents}
-use Rattle.sieve_vm.proofs.Steps.{charged_at}
 use Rattle.sieve_vm.proofs.Tests.{stack_is, holds_now}
 use Rattle.sieve_vm.proofs.machine.Machine.store.Goals as goal
 
@@ -13,7 +12,7 @@ returns c = λ mail s t rest part stands top at.
     let left = holds_now mail s m stands c.take_text.new.self (λ (h : Held). record h { stack = rest }) took.1 in
     let is : Some c.unwrap-part.result ≡ Some part = sym c.unwrap-part.ensures ∙ c.current.ensures ∙ ap current_part stands.frames ∙ at in
     let same : c.unwrap-part.result ≡ part = cc in (
-      ap charged_at (c.len-cost.ensures ∙ ap length took.0),
+      c.len-octets.ensures ∙ ap length took.0,
       subst (λ folder. Represents mail (record s { stack = rest; actions = s.actions ++ action.Store folder part ∷ [] }) c.list.new.self) took.0
           (subst (λ number. Represents mail (record s { stack = rest; actions = s.actions ++ action.Store c.in_ok-folder.folder number ∷ [] }) c.list.new.self) same (c.in_ok-list.ensures mail (record s { stack = rest }) left)),
     )

@@ -4,7 +4,7 @@ use Rattle.sieve_vm.specs.Stack.{texts_in}
 use Rattle.sieve_vm.specs.Standing.{Held, held_of, texts_of}
 use Rattle.sieve_vm.specs.State.{truth}
 use Rattle.sieve_vm.proofs.Tests.{same_texts, decided_held, settled, plain_answers}
-use Rattle.sieve_vm.proofs.workspace.Workspace.ask.Goals as goal
+use Rattle.sieve_vm.proofs.workspace.Workspace.ask_with_lists.Goals as goal
 
 pub returns-in-Some : goal.returns-in-Some
 returns-in-Some c = λ top there.
