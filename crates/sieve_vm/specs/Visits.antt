@@ -66,10 +66,18 @@ holds visits = holds_first visits.held
 abbrev pub holding : Visits → Visits
 holding visits = record visits { held = true ∷ drop 1 visits.held }
 
--- the message and its open loops are the same
+-- what is known of a part in such a list stays known
+abbrev pub StaysKnown : {A : Type 0} → List (Option A) → List (Option A) → Type 0
+StaysKnown old new = (part : ℕ) → IsSome (slice_index_or old part None) → IsSome (slice_index_or new part None)
+
+-- the message and its open loops are the same, and what was held or known of parts still is
 pub record HasSameLoops (old new : Visits) : Type 0 where
   pub mail : new.mail ≡ old.mail
   pub frames : new.frames ≡ old.frames
+  pub held : holds old ≡ true → holds new ≡ true
+  pub lengths : StaysKnown old.lengths new.lengths
+  pub digests : StaysKnown old.digests new.digests
+  pub beginnings : StaysKnown old.beginnings new.beginnings
 
 -- what is known of the current part, in such a list
 abbrev pub known_of : {A : Type 0} → List (Option A) → Visits → Option A
