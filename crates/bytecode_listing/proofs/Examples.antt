@@ -10,7 +10,7 @@ use Rattle.bytecode_listing.specs.declared.drafts.Line.TheVariants.{Label, Step}
 use Rattle.bytecode_listing.specs.Labels.{resolved}
 use Rattle.bytecode_verifier.specs.declared.error.Refusal.TheVariants.{Jump as JumpRefused}
 use Rattle.bytecode_listing.specs.Listing.{listing_of, operation_text, fields_text, instruction_text, comment, meant, share_text, accepted_listing, refused_listing}
-use Rattle.bytecode_listing.specs.Quoted.{quoted}
+use Rattle.readable_text.specs.Quoted.{quoted}
 
 -- a quote, a backslash and what isn't printed are told by their digits
 quotes : quoted (97 ∷ 0 ∷ 97 ∷ 34 ∷ 98 ∷ 92 ∷ 126 ∷ 127 ∷ 255 ∷ []) ≡ codes "\"a\\00a\\22b\\5c~\\7f\\ff\""

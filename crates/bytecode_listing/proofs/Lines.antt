@@ -11,7 +11,7 @@ use Rattle.bytecode_format.specs.Operations.{operation_of}
 use Rattle.bytecode_format.specs.Spelling.{Fits, IsProgram}
 use Rattle.bytecode_format.specs.declared.instruction.Instruction.{Instruction}
 use Rattle.bytecode_listing.specs.Listing.{line, operation_text, field_text, fields_text, instruction_text, comment, meant, instruction_line, instruction_lines, number_line, string_line, Notes, listing_with, AreOctets}
-use Rattle.bytecode_listing.specs.Quoted.{quoted}
+use Rattle.readable_text.specs.Quoted.{quoted}
 use Rattle.bytecode_listing.specs.Tokens.{is_word_octet, tokens_from, tokens_of}
 use Rattle.bytecode_listing.specs.Labels.{◌>>=◌, count, double_after, instructions_of, unless_double, instructions_in, strings_in}
 use Rattle.bytecode_listing.specs.declared.drafts.Target.{Target}

@@ -26,7 +26,7 @@ use Rattle.bytecode_listing.specs.Wording.{words, word_of, both, match_words, sc
 use Rattle.bytecode_listing.specs.declared.comments.Table.{Table}
 use Rattle.bytecode_listing.specs.declared.comments.Table.TheVariants.{Strings, Numbers, Instructions}
 use Rattle.bytecode_listing.specs.Listing.{shown, table_of, entry_text, in_words, told, meant, comment, added, scaled_text, share_notes, refused_at, refusal_notes}
-use Rattle.bytecode_listing.specs.Quoted.{escaped_octet, is_plain, quoted, two_digits}
+use Rattle.readable_text.specs.Quoted.{escaped_octet, is_plain, quoted, two_digits}
 
 abbrev IsShort : Option (List ℕ) → Type 0
 IsShort None = Unit {0}

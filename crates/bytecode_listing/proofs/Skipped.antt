@@ -23,7 +23,7 @@ use Rattle.bytecode_listing.specs.Wording.{words, word_of, both, match_words, sc
 use Rattle.bytecode_listing.specs.declared.comments.Table.{Table}
 use Rattle.bytecode_listing.specs.declared.comments.Table.TheVariants.{Strings, Numbers, Instructions}
 use Rattle.bytecode_listing.specs.Listing.{max_shown, shown, table_of, entry_text, in_words, told, meant, comment, added, scaled_text, share_text, share_notes, refused_at, refusal_notes}
-use Rattle.bytecode_listing.specs.Quoted.{escaped_octet, is_plain, quoted, two_digits}
+use Rattle.readable_text.specs.Quoted.{escaped_octet, is_plain, quoted, two_digits}
 use Rattle.bytecode_listing.specs.Tokens.{Comment, tokens_from, tokens_of}
 use Rattle.bytecode_listing.proofs.Lexing.{after_white, after_semicolon, comment_ends, comment_goes_on}
 use Rattle.bytecode_listing.proofs.Words.{Stops}

@@ -10,7 +10,7 @@ use Rattle.bytecode_format.specs.Operations.{name_of, operation_of}
 use Rattle.bytecode_format.specs.declared.operation.Operation.{Operation}
 use Rattle.bytecode_listing.specs.Names.{named_among, octet_named}
 use Rattle.bytecode_listing.specs.Listing.{title, operation_text}
-use Rattle.bytecode_listing.specs.Quoted.{escaped_octet, is_plain, quoted, two_digits}
+use Rattle.readable_text.specs.Quoted.{escaped_octet, is_plain, quoted, two_digits}
 use Rattle.bytecode_listing.specs.Tokens.{InText, is_word_octet, tokens_from, tokens_of}
 use Rattle.bytecode_listing.specs.Labels.{◌>>=◌}
 use Rattle.bytecode_listing.specs.Items.{Tokens, word_at, text_at, left_at, octet_in, octet_at, found, operation_at}

@@ -1,6 +1,5 @@
 pub mod Names
 pub mod Wording
-pub mod Quoted
 pub mod Listing
 pub mod Tokens
 pub mod Labels

@@ -16,7 +16,7 @@ use Rattle.refusals.specs.Causes.{of_verifier}
 use Rattle.refusals.specs.Lines.{name_of as refusal_name, number_of, place_of}
 use Rattle.refusals.specs.declared.refusal.Refusal.{Refusal}
 use Rattle.bytecode_verifier.specs.declared.share.Share.{Share}
-use Rattle.bytecode_listing.specs.Quoted.{cut, quoted, two_digits}
+use Rattle.readable_text.specs.Quoted.{cut, quoted, two_digits}
 use Rattle.bytecode_listing.specs.Wording.{a_words, after_a, said_a}
 use Rattle.bytecode_listing.specs.declared.comments.Table.{Table}
 use Rattle.bytecode_listing.specs.declared.comments.Table.TheVariants.{Strings, Numbers, Instructions}

@@ -5,11 +5,11 @@ ghost use Rattle.bytecode_listing.specs.Listing.{comment, entry_text, meant, sho
 ghost use Rattle.bytecode_listing.specs.declared.wording.Facet.TheVariants.{Scope};
 ghost use Rattle.bytecode_listing.specs.Wording.{counts_words, match_words, said_a, scope_words, selection_words, word_of};
 
-use crate::quoting::put_cut;
 use crate::wording::{Facet, word_of};
 use crate::writing::put_number;
 use bytecode_format::{Instruction, Operation, Program, TestCounts};
 use bytecode_verifier::{Range, row_of};
+use readable_text::quoting::put_cut;
 use std::alloc::AllocError;
 
 /// The most octets of a string that a comment has.

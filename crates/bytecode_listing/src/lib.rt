@@ -10,7 +10,6 @@ mod labels;
 pub mod laws;
 mod names;
 mod notes;
-pub mod quoting;
 mod strings;
 mod tokens;
 mod wording;

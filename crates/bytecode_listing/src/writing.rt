@@ -8,11 +8,11 @@ ghost use Rattle.bytecode_listing.specs.Noted.{notes_in};
 
 use crate::comments::put_comment;
 use crate::notes::{Notes, put_note};
-use crate::quoting::{put_quoted, two_digits};
 use bytecode_format::{Instruction, Operation, Program};
 use bytecode_verifier::{Refusal, Verified};
 use itoa::Buffer;
 use octets::Octets;
+use readable_text::quoting::{put_quoted, two_digits};
 use std::alloc::{AllocError, Global};
 
 /// Appends a number in decimal digits.

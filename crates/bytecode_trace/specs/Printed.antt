@@ -9,7 +9,7 @@ use Rattle.bytecode_format.specs.declared.instruction.Instruction.{Instruction}
 use Rattle.bytecode_format.specs.declared.operation.Operation.{Operation}
 use Rattle.bytecode_format.specs.declared.operation.Operation.TheVariants.{Halt, Literal, Variable, Capture, Join, Set as SetOp, Not, Jump, JumpIfTrue, JumpIfFalse, Keep, Discard, File, Store, Each, Next, Break, Take, Test}
 use Rattle.bytecode_listing.specs.Listing.{instruction_text}
-use Rattle.bytecode_listing.specs.Quoted.{quoted_start}
+use Rattle.readable_text.specs.Quoted.{quoted_start}
 use Rattle.mime_decode.specs.Mail.{Mail}
 use Rattle.sieve_vm.specs.State.{Value, truth, text, current_part}
 use Rattle.sieve_vm.specs.Lent.{top}

@@ -11,8 +11,8 @@ ghost use Rattle.bytecode_trace.specs.Private.{IsBegun, beginning, told_after, t
 use crate::telling::{Told, told_of};
 use bytecode_format::{Instruction, Operation};
 use bytecode_listing::put_instruction;
-use bytecode_listing::quoting::put_quoted_start;
 use itoa::Buffer;
+use readable_text::quoting::put_quoted_start;
 use sieve_vm::{Progress, StackValue};
 use std::alloc::{AllocError, Global};
 

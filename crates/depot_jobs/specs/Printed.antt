@@ -4,8 +4,8 @@ use Rattle.std.specs.List.{flat_map}
 use Rattle.std.specs.Fmt.{decimal}
 use Rattle.bytecode_format.specs.declared.action.Action.{Action}
 use Rattle.bytecode_format.specs.declared.action.Action.TheVariants.{Keep, File, Store}
-use Rattle.bytecode_listing.specs.Quoted as quoting
-use Rattle.bytecode_listing.specs.Quoted.{escape}
+use Rattle.readable_text.specs.Quoted as quoting
+use Rattle.readable_text.specs.Quoted.{escape}
 use Rattle.mime_params.specs.declared.media.MediaType.{MediaType}
 use Rattle.mime_params.specs.MediaValue.{media_text}
 use Rattle.mime_decode.specs.Content.{digest_of}

@@ -10,9 +10,9 @@ ghost use Rattle.depot_jobs.specs.Printed as Printed;
 use crate::gathering::{Line, gather, send};
 use crate::piece::{Piece, Setting};
 use bytecode_format::Action;
-use bytecode_listing::quoting::{self, escape};
 use encodings::{DeviceFailed, Sink};
 use itoa::Buffer;
+use readable_text::quoting::{self, escape};
 use refusals::Refusal;
 use sieve_engine::Report;
 

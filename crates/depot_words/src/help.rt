@@ -50,7 +50,7 @@ macro_rules! with_version {
     ($($before:literal,)* ; $after:literal) => {
         concat!(
             $($before,)*
-            "depot 0.31.0, proved with Rattle, logic dac8208d650f15bf",
+            "depot 0.32.0, proved with Rattle, logic dac8208d650f15bf",
             $after
         )
     };

@@ -20,22 +20,11 @@ use Rattle.sieve_explain.specs.Faults.{beginnings, end_blanks, lexical_blanks, l
 use Rattle.sieve_explain.specs.Hints.{known_capabilities, known_commands, known_tags, known_tests, lacking, meant, meant_too, unknown_capability, unknown_command, unknown_tag, unknown_test}
 use Rattle.sieve_explain.specs.Words.{begin_off, differ_at, is_near, nearest}
 use Rattle.sieve_explain.specs.Marks.{has_unit, has_value, is_unit, label_behind, string_among, unclosed}
-use Rattle.sieve_explain.specs.Places.{column, line_at, line_number, octets_after, octets_before, without_return}
+use Rattle.readable_text.specs.Places.{column, line_at, line_number, octets_after, octets_before, without_return}
 use Rattle.sieve_explain.specs.Reasons.{capability_words, no_argument_words, no_test_words, other_blanks, place_text, reason_blanks}
 use Rattle.sieve_explain.specs.Sentences.{filled, filled_octet}
 use Rattle.sieve_explain.specs.Shown.{excerpt, line, marked, named, quoted, shown, shown_end, shown_octet, shown_start}
 use Rattle.sieve_explain.specs.declared.shown.Style.TheVariants.{Line, Name}
-
--- a line ends with its LF, after the last of which comes one more line, in which nothing stands
-places :
-    (line_number (codes "keep;\nstop;\n") 4 ≡ 1)
-    × (line_number (codes "keep;\nstop;\n") 5 ≡ 1)
-    × (line_number (codes "keep;\nstop;\n") 6 ≡ 2)
-    × (column (codes "keep;\nstop;\n") 10 ≡ 5)
-    × (line_at (codes "keep;\n") 6 ≡ [])
-    × (line_at (codes "keep;\r\nstop") 2 ≡ codes "keep;")
-unfolding line_number octets_before octets_after without_return
-places = (refl, refl, refl, refl, refl, refl)
 
 -- TAB, NUL, the octets of a letter that isn't in ASCII, and a backslash; 60 octets, and one too many on either side; a line with its
 -- mark, and the empty line at the end

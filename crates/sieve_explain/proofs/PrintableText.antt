@@ -13,7 +13,7 @@ use Rattle.sieve_explain.specs.Marks.{foreign_among, has_unit, label_behind, unc
 use Rattle.sieve_lexer.specs.declared.token.Token.{Token}
 use Rattle.sieve_check.specs.Causes.{Reason, Refused, fault_of_kind}
 use Rattle.sieve_check.specs.Rules.{max_reasons, reasons_of}
-use Rattle.sieve_explain.specs.Places.{column, line_at, line_number, octets_before}
+use Rattle.readable_text.specs.Places.{column, line_at, line_number, octets_before}
 use Rattle.sieve_explain.specs.Printable.{are_ascii, have_no_controls, is_no_control, is_printable}
 use Rattle.sieve_explain.specs.Reasons.{reason_blanks}
 use Rattle.sieve_explain.specs.Sentences.{Blanks, filled, plain}

@@ -22,7 +22,7 @@ use Rattle.sieve_check.specs.Rules.{fault_of, max_reasons, reasons_of}
 use Rattle.sieve_explain.specs.declared.explanation.Explanation.{Explanation}
 use Rattle.sieve_explain.specs.Faults.{colon_blanks, end_blanks, foreign_blanks, lexical_blanks, listing_blanks, look_text, more_blanks, token_blanks, too_deep_blanks, too_long_blanks, unclosed_blanks, unit_blanks}
 use Rattle.sieve_explain.specs.Marks.{arguments_behind, foreign_among, has_unit, is_string, label_behind, string_among, text_of, unclosed}
-use Rattle.sieve_explain.specs.Places.{column, line_number}
+use Rattle.readable_text.specs.Places.{column, line_number}
 use Rattle.sieve_explain.specs.Reasons.{reason_blanks}
 use Rattle.sieve_explain.specs.Sentences.{Blanks, filled, plain}
 use Rattle.sieve_explain.specs.Shown.{excerpt, line, shown}

@@ -1,4 +1,3 @@
-pub mod Places
 pub mod Shown
 pub mod Sentences
 pub mod Words

@@ -1,7 +1,7 @@
 -- How octets are printed: escaped, and cut where there are many.
 use Rattle.std.specs.Prelude.{ℕ, ◌-◌, ◌/◌, ◌%◌, false, nat_le, not, ◌&&◌, ◌==◌, if◌then◌else◌, Bool, List, [], ◌∷◌, ◌++◌, length, take, drop, replicate, flat_map, codes}
 use Rattle.std.specs.Fmt.{digit_glyph}
-use Rattle.sieve_explain.specs.Places.{line_at, octets_before}
+use Rattle.readable_text.specs.Places.{line_at, octets_before}
 use Rattle.sieve_explain.specs.declared.shown.Style.{Style}
 use Rattle.sieve_explain.specs.declared.shown.Style.TheVariants.{Line, Between, Name}
 

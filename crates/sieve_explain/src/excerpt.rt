@@ -2,8 +2,8 @@
 ghost use Rattle.std.specs.Prelude.{◌≡◌, ◌≤◌, ◌++◌, IfOk, OnOk, length, replicate};
 ghost use Rattle.sieve_explain.specs.Shown.{excerpt, marked, shown_end};
 
-use crate::places::{around, line_at, octets_before};
 use crate::shown::{Style, push_end, push_start};
+use readable_text::places::{around, line_at, octets_before};
 use std::alloc::AllocError;
 
 // Stands before each line of a script, so that no such line begins as a remark does.

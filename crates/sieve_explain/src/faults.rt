@@ -3,10 +3,10 @@ ghost use Rattle.std.specs.Prelude.{◌≡◌, ◌≤◌, Some, bytes_eq, length
 ghost use Rattle.sieve_explain.specs.Faults.{beginnings, begins_as_mail, dark_at, foreign_blanks, is_dark, is_field_octet, lexical_blanks, listing_blanks, listing_text, look_text, misplaced_text, more_blanks, misplaced_token, other_text, text_at, token_blanks, too_deep_blanks, too_long_blanks, unclosed_blanks};
 ghost use Rattle.sieve_explain.specs.Private.{beginning_of, Stands, blanks_of};
 
-use crate::places::around;
 use crate::sentence::{Sentence, plain};
 use crate::words::with_words;
 use bytecode_listing::FaultKind;
+use readable_text::places::around;
 use sieve_check::MAX_REASONS;
 use sieve_lexer::{MAX_SCRIPT, Token, TokenKind};
 use sieve_parser::MAX_NESTING;

@@ -9,10 +9,10 @@
 //! nothing is wrong where a string of `header` may match nothing.
 //!
 //! `specs/Explaining` says the text of each refusal, `specs/Faults`, `specs/Reasons` and `specs/Hints`
-//! are its sentences, `specs/Words` is which words are one letter off, `specs/Marks` what is looked for
-//! among the tokens, and `specs/Places` what lines and columns are. Octets of the script are escaped
-//! and cut by `specs/Shown`. `laws` says that a refusal has one text, which can be printed anywhere,
-//! whoever wrote the script.
+//! are its sentences, `specs/Words` is which words are one letter off, and `specs/Marks` what is looked
+//! for among the tokens. What lines and columns are stands in `specs/Places` of readable_text. Octets
+//! of the script are escaped and cut by `specs/Shown`. `laws` says that a refusal has one text, which
+//! can be printed anywhere, whoever wrote the script.
 #![tactic(auto)]
 
 mod excerpt;
@@ -22,7 +22,6 @@ mod faults;
 mod hints;
 pub mod laws;
 mod marks;
-mod places;
 mod reasons;
 mod remarks;
 mod sentence;

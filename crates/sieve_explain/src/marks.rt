@@ -7,10 +7,10 @@ ghost use Rattle.sieve_explain.specs.Marks.{foreign_among, has_unit, has_value, 
 ghost use Rattle.sieve_explain.specs.Private.{Stands};
 
 use crate::hints::is_tag;
-use crate::places::around;
 use crate::remarks::Source;
 use crate::words::is_any;
 use octets::is_word;
+use readable_text::places::around;
 use sieve_lexer::{Token, TokenKind, string_of};
 use std::alloc::AllocError;
 

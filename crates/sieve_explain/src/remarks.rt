@@ -4,10 +4,10 @@ ghost use Rattle.sieve_explain.specs.Explaining.{heading, note, numbered, remark
 ghost use Rattle.sieve_explain.specs.Private.{blanks_of};
 
 use crate::excerpt::push_excerpt;
-use crate::places::{line_number, octets_before};
 use crate::sentence::{Sentence, push_sentence};
 use crate::shown::{Style, push_shown};
 use itoa::Buffer;
+use readable_text::places::{line_number, octets_before};
 use std::alloc::{AllocError, Global};
 
 /// A script, or a listing, and the name that it is told by; and where memory for the text comes from.

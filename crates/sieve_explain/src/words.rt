@@ -6,8 +6,8 @@ ghost use Rattle.sieve_explain.specs.Words.{begin_off, begin_swapped, differ_at,
 ghost use Rattle.sieve_check.specs.Rows.{command_word, test_word};
 ghost use Rattle.sieve_explain.specs.Private.{hint_of, names_of, texts_of};
 
-use crate::places::around;
 use octets::is_word;
+use readable_text::places::around;
 use sieve_check::{CommandName, TestName, all_commands, all_tests, command_word, test_word};
 
 /// The names of one kind.

@@ -6,7 +6,7 @@ use Rattle.std.specs.Prelude.{codes, count_by, reverse, take_while, min, if◌th
 use Rattle.std.proofs.lemmas.Bool.{cases_Bool}
 use Rattle.std.proofs.lemmas.List.{length-reverse, length-take, reverse-append, take_more, take_min, map-append}
 use Rattle.std.proofs.lemmas.List.Sums.{count_by-le-length, count_by_more_no, count_by_more_yes}
-use Rattle.sieve_explain.specs.Places.{is_in_line, is_line_feed, line_number, octets_before}
+use Rattle.readable_text.specs.Places.{is_in_line, is_line_feed, line_number, octets_before}
 use Rattle.sieve_trace.specs.declared.places.Place.{Place}
 use Rattle.sieve_lexer.specs.declared.token.Token.{Token}
 use Rattle.sieve_trace.specs.Places.{place_at, place_text, places_of}

@@ -2,7 +2,7 @@
 use Rattle.std.proofs.Common.{◌≡◌, OnOk, Result, Ok, Err, is_ok, ℕ, Bool, false, List, [], ◌∷◌, ◌++◌, slice_get, nat_le, length, take, Option, None, Some, option_map, refl, sym, append_assoc, ◌∙◌, ap, subst, inl, inr, arith, codes, if◌then◌else◌}
 use Rattle.std.proofs.lemmas.Bool.{cases_Bool, leb-false, leb-true}
 use Rattle.std.proofs.lemmas.List.{length-take, take-take, take_all}
-use Rattle.bytecode_listing.specs.Quoted.{max_start, quoted, quoted_start}
+use Rattle.readable_text.specs.Quoted.{max_start, quoted, quoted_start}
 use Rattle.encodings.specs.Device.{HasTaken, Output}
 use Rattle.mail_matching.specs.Findings.{shortened}
 use Rattle.mail_matching.specs.declared.finding.Finding.{Finding}

@@ -1,7 +1,7 @@
 -- Where the tokens of a script stand.
 use Rattle.std.specs.Prelude.{ℕ, List, ◌++◌, codes, map}
 use Rattle.std.specs.Fmt.{decimal}
-use Rattle.sieve_explain.specs.Places.{column, line_number}
+use Rattle.readable_text.specs.Places.{column, line_number}
 use Rattle.sieve_lexer.specs.declared.token.Token.{Token}
 use Rattle.sieve_trace.specs.declared.places.Place.{Place}
 

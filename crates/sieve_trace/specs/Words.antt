@@ -2,7 +2,7 @@
 use Rattle.std.specs.Prelude.{ℕ, Bool, true, false, List, [], ◌++◌, codes, Option, None, Some}
 use Rattle.std.specs.Fmt.{decimal}
 use Rattle.bytecode_format.specs.declared.question.Question.{Question}
-use Rattle.bytecode_listing.specs.Quoted.{quoted_start}
+use Rattle.readable_text.specs.Quoted.{quoted_start}
 use Rattle.glob_match.specs.declared.match_type.MatchType.{MatchType}
 use Rattle.sieve_check.specs.Acts.{act_row, left_by}
 use Rattle.sieve_check.specs.Questions.{compared_by, named_by}

@@ -2,7 +2,7 @@
 ghost use Rattle.std.specs.Prelude.{◌≡◌, ◌++◌, IfOk, OnOk};
 ghost use Rattle.sieve_trace.specs.Printed.{is_plain, named, named_octet};
 
-use bytecode_listing::quoting::escape;
+use readable_text::quoting::escape;
 use std::alloc::{AllocError, Global};
 
 // The last octet of ASCII, a control character.

@@ -16,8 +16,6 @@ mod error;
 mod label;
 mod line;
 mod places;
-#[cfg(test)]
-mod rows;
 mod scene;
 mod telling;
 mod tests_told;

@@ -2,7 +2,7 @@
 ghost use Rattle.std.specs.Prelude.{◌≡◌, ◌≤◌, ◌<◌, ◌+◌, ◌++◌, ◌^◌, List, IfOk, IfErr, OnOk, length, min};
 ghost use Rattle.std.specs.Prelude.{if◌then◌else◌, slice_get, slice_range};
 ghost use Rattle.octets.specs.Limits.{max_script};
-ghost use Rattle.sieve_explain.specs.Places.{is_line_feed};
+ghost use Rattle.readable_text.specs.Places.{is_line_feed};
 ghost use Rattle.sieve_lexer.specs.Tokens.{AreTokens, IsLexicalRefusal};
 ghost use Rattle.sieve_lexer.specs.declared.token.Token.{Token as Piece};
 ghost use Rattle.sieve_trace.specs.Pieces.{Rise, pieces};

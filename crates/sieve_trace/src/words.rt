@@ -2,15 +2,15 @@
 ghost use Rattle.std.specs.Prelude.{◌≡◌, ◌++◌, ℕ, List, OnOk, option_map};
 ghost use Rattle.std.specs.Borrow.{Bor};
 ghost use Rattle.std.specs.Fmt.{decimal};
-ghost use Rattle.bytecode_listing.specs.Quoted.{quoted_start};
+ghost use Rattle.readable_text.specs.Quoted.{quoted_start};
 ghost use Rattle.sieve_check.specs.Acts.{act_row};
 ghost use Rattle.sieve_meaning.specs.Traced.{variable_of};
 ghost use Rattle.sieve_trace.specs.Words.{act_text, comparison_word, left_text, object_text, question_word};
 
 use bytecode_format::Question;
-use bytecode_listing::quoting::put_quoted_start;
 use itoa::Buffer;
 use octets::Octets;
+use readable_text::quoting::put_quoted_start;
 use sieve_check::{Act, command_word, comparison_of, kind_word, name_of, test_word};
 use std::alloc::AllocError;
 

@@ -2,7 +2,7 @@
 ghost use Rattle.std.specs.Prelude.{◌≡◌, ◌++◌, ◌<◌, false, OnOk};
 ghost use Rattle.std.specs.List.{flat_map};
 ghost use Rattle.std.specs.Fmt.{digit_glyph};
-ghost use Rattle.bytecode_listing.specs.Quoted.{cut, escape, escaped_octet, is_plain, quoted, quoted_start, two_digits};
+ghost use Rattle.readable_text.specs.Quoted.{cut, escape, escaped_octet, is_plain, quoted, quoted_start, two_digits};
 
 use std::alloc::AllocError;
 
@@ -18,7 +18,7 @@ fn digit(n: u8) -> u8
 }
 
 /// The two hexadecimal digits of an octet.
-pub(crate) fn two_digits(octet: u8) -> [u8; 2]
+pub fn two_digits(octet: u8) -> [u8; 2]
     ensures { result ≡ two_digits octet }
 {
     [digit(octet / 16), digit(octet % 16)]
@@ -72,12 +72,7 @@ pub fn put_quoted(out: &mut Vec<u8>, octets: &[u8]) -> Result<(), AllocError>
 }
 
 /// Appends a text between quotes; of one with more octets than `most` the first ones, and after them the mark.
-pub(crate) fn put_cut(
-    out: &mut Vec<u8>,
-    text: &[u8],
-    most: usize,
-    mark: &[u8],
-) -> Result<(), AllocError>
+pub fn put_cut(out: &mut Vec<u8>, text: &[u8], most: usize, mark: &[u8]) -> Result<(), AllocError>
     ensures { OnOk result (out.new.items ≡ out.old.items ++ cut most mark.now text.now) }
 {
     if text.len() <= most {

@@ -1,5 +1,5 @@
--- The line and the column of a place in a script, and the text of its line. LF ends a line; the end
--- of the script is a place, too.
+-- The line and the column of a place in a text, and what stands on its line. LF ends a line; the end of the text is a
+-- place, too.
 use Rattle.std.specs.Prelude.{ℕ, ◌+◌, ◌-◌, Bool, not, ◌==◌, if◌then◌else◌, List, length, reverse, take, drop, slice_index, slice_range, count_by, take_while}
 
 abbrev pub is_line_feed : ℕ → Bool
@@ -10,19 +10,19 @@ is_in_line octet = not (is_line_feed octet)
 
 -- the octets of the place's line that stand before the place, by their number
 unfoldable pub octets_before : List ℕ → ℕ → ℕ
-octets_before script place = length (take_while is_in_line (reverse (take place script)))
+octets_before text place = length (take_while is_in_line (reverse (take place text)))
 
 -- those from the place on
 unfoldable pub octets_after : List ℕ → ℕ → ℕ
-octets_after script place = length (take_while is_in_line (drop place script))
+octets_after text place = length (take_while is_in_line (drop place text))
 
 -- the line's number, the first being 1
 unfoldable pub line_number : List ℕ → ℕ → ℕ
-line_number script place = count_by is_line_feed (take place script) + 1
+line_number text place = count_by is_line_feed (take place text) + 1
 
 -- the column, in octets, the first being 1
 abbrev pub column : List ℕ → ℕ → ℕ
-column script place = octets_before script place + 1
+column text place = octets_before text place + 1
 
 -- the text, without the CR that it may end with
 unfoldable pub without_return : List ℕ → List ℕ
@@ -30,5 +30,5 @@ without_return text = if slice_index text (length text - 1) == 13 then take (len
 
 -- the line of the place, without its break
 abbrev pub line_at : List ℕ → ℕ → List ℕ
-line_at script place = without_return
-    (slice_range script (place - octets_before script place) (place + octets_after script place))
+line_at text place = without_return
+    (slice_range text (place - octets_before text place) (place + octets_after text place))

@@ -1,10 +1,10 @@
 // Scripts traced on small mails.
-use crate::{TraceError, token_places, trace};
-use encodings::OfWrite;
+use encodings::{OfWrite, Sink};
 use mime_decode::Message;
-use sieve_check::check;
+use sieve_check::{Checked, check};
 use sieve_parser::parse;
-use std::alloc::Global;
+use sieve_trace::{Places, TraceError, token_places, trace};
+use std::alloc::{AllocError, Global};
 use std::io;
 use std::io::Write;
 use std::test::Fail;
@@ -21,14 +21,63 @@ const MAIL: &[u8] = b"From: ann@example.org\n\
       x\n\
       --o--\n";
 
+/// A checked script with the places of its tokens, and a message.
+#[derive(Drop)]
+struct Scene<'m> {
+    checked: Checked,
+    places: Places,
+    message: Message<'m>,
+}
+
+fn scene_of<'m>(alloc: Global, script: &[u8], mail: &'m [u8]) -> Result<Scene<'m>, Fail> {
+    Ok(Scene {
+        checked: check(alloc, parse(alloc, script)?)?,
+        places: token_places(alloc, script)?,
+        message: Message::read(alloc, mail)?,
+    })
+}
+
+/// Writes the trace of the script on the message.
+fn write<O: Sink>(alloc: Global, scene: &Scene<'_>, out: &mut O) -> Result<(), TraceError> {
+    let _actions = trace(
+        alloc,
+        "f.sieve",
+        &scene.places,
+        &scene.checked,
+        &scene.message,
+        out,
+    )?;
+    Ok(())
+}
+
 /// The trace of a script on a mail, where it is written to its end.
 fn traced(alloc: Global, script: &[u8], mail: &[u8]) -> Result<Vec<u8>, Fail> {
-    let checked = check(alloc, parse(alloc, script)?)?;
-    let places = token_places(alloc, script)?;
-    let message = Message::read(alloc, mail)?;
+    let scene = scene_of(alloc, script, mail)?;
     let mut out = OfWrite::new(Vec::new(alloc));
-    let _actions = trace(alloc, "f.sieve", &places, &checked, &message, &mut out)?;
+    write(alloc, &scene, &mut out)?;
     Ok(out.inner)
+}
+
+/// Whether this is the trace of a script on a mail.
+fn is_traced_as(alloc: Global, script: &[u8], mail: &[u8], told: &[u8]) -> Result<bool, Fail> {
+    let text = traced(alloc, script, mail)?;
+    Ok(text.as_slice() == told)
+}
+
+/// A piece, so many times one after another, between two other texts.
+fn repeated(
+    alloc: Global,
+    before: &[u8],
+    piece: &[u8],
+    count: usize,
+    after: &[u8],
+) -> Result<Vec<u8>, AllocError> {
+    let mut text = Vec::from_slice(alloc, before)?;
+    for _ in 0..count {
+        text.extend_from_slice(piece)?;
+    }
+    text.extend_from_slice(after)?;
+    Ok(text)
 }
 
 /// Scripts with their traces.
@@ -181,27 +230,22 @@ fn each_kind_of_event(rt: HostRuntime) -> Result<(), Fail> {
 #[test]
 fn a_folder_of_81_octets(rt: HostRuntime) -> Result<(), Fail> {
     let alloc = rt.alloc();
-    let mut script = Vec::from_slice(alloc, b"require \"fileinto\"; fileinto \"")?;
-    let mut told = Vec::from_slice(alloc, b"f.sieve:1:21: fileinto \"")?;
-    for place in 0..81 {
-        script.push(b'a')?;
-        if place < 80 {
-            told.push(b'a')?;
-        }
-    }
-    script.extend_from_slice(b"\";")?;
-    told.extend_from_slice(b"\"..\n")?;
-    assert!(rt; traced(alloc, &script, MAIL)? == told);
+    let script = repeated(
+        alloc,
+        b"require \"fileinto\"; fileinto \"",
+        b"a",
+        81,
+        b"\";",
+    )?;
+    let told = repeated(alloc, b"f.sieve:1:21: fileinto \"", b"a", 80, b"\"..\n")?;
+    assert!(rt; is_traced_as(alloc, &script, MAIL, &told)?);
     Ok(())
 }
 
 #[test]
 fn many_commands(rt: HostRuntime) -> Result<(), Fail> {
     let alloc = rt.alloc();
-    let mut script = Vec::new(alloc);
-    for _ in 0..5_000 {
-        script.extend_from_slice(b"keep;\n")?;
-    }
+    let script = repeated(alloc, b"", b"keep;\n", 5_000, b"")?;
     let text = traced(alloc, &script, MAIL)?;
     assert!(rt; text.starts_with(b"f.sieve:1:1: keep\nf.sieve:2:1: keep\n"));
     assert!(rt; text.ends_with(b"f.sieve:5000:1: keep\n"));
@@ -211,31 +255,26 @@ fn many_commands(rt: HostRuntime) -> Result<(), Fail> {
 #[test]
 fn a_value_that_is_cut_and_one_that_cannot_be_printed(rt: HostRuntime) -> Result<(), Fail> {
     let alloc = rt.alloc();
-    let mut mail = Vec::from_slice(alloc, b"Subject: \xc3\xa9 \"")?;
-    let mut told = Vec::from_slice(alloc, b"f.sieve:1:4: header yes \"\\c3\\a9 \\22")?;
-    for place in 0..90 {
-        mail.push(b'a')?;
-        if place < 76 {
-            told.push(b'a')?;
-        }
-    }
-    mail.extend_from_slice(b"\n\n")?;
-    told.extend_from_slice(b"\".. matches \"*\\22a*\"\n")?;
+    let mail = repeated(alloc, b"Subject: \xc3\xa9 \"", b"a", 90, b"\n\n")?;
+    let told = repeated(
+        alloc,
+        b"f.sieve:1:4: header yes \"\\c3\\a9 \\22",
+        b"a",
+        76,
+        b"\".. matches \"*\\22a*\"\n",
+    )?;
     let script = b"if header :matches \"subject\" \"*\\\"a*\" {}";
-    assert!(rt; traced(alloc, script, &mail)? == told);
+    assert!(rt; is_traced_as(alloc, script, &mail, &told)?);
     Ok(())
 }
 
 #[test]
 fn many_values(rt: HostRuntime) -> Result<(), Fail> {
     let alloc = rt.alloc();
-    let mut mail = Vec::new(alloc);
-    for _ in 0..20_000 {
-        mail.extend_from_slice(b"A: b\n")?;
-    }
-    mail.push(b'\n')?;
-    let told = traced(alloc, b"if header [\"a\", \"b\", \"a\"] \"c\" {}", &mail)?;
-    assert!(rt; told.as_slice() == b"f.sieve:1:4: header no, 40000 values\n".as_slice());
+    let mail = repeated(alloc, b"", b"A: b\n", 20_000, b"\n")?;
+    let script = b"if header [\"a\", \"b\", \"a\"] \"c\" {}";
+    let told = b"f.sieve:1:4: header no, 40000 values\n";
+    assert!(rt; is_traced_as(alloc, script, &mail, told)?);
     Ok(())
 }
 
@@ -266,22 +305,24 @@ impl Write for Full {
     }
 }
 
+/// Whether a sink with room for the beginning of a trace takes exactly that, and then fails.
+fn stops_after(alloc: Global, scene: &Scene<'_>, beginning: &[u8]) -> bool {
+    let mut out = OfWrite::new(Full {
+        room: beginning.len(),
+        taken: Vec::new(alloc),
+    });
+    let told = write(alloc, scene, &mut out);
+    matches!(told, Err(TraceError::Write)) && out.inner.taken.as_slice() == beginning
+}
+
 #[test]
 fn a_sink_that_fails_in_the_middle(rt: HostRuntime) -> Result<(), Fail> {
     let alloc = rt.alloc();
     let script = b"if header :contains \"subject\" \"nvoi\" { keep; } stop;";
     let whole = traced(alloc, script, MAIL)?;
-    let checked = check(alloc, parse(alloc, script)?)?;
-    let places = token_places(alloc, script)?;
-    let message = Message::read(alloc, MAIL)?;
+    let scene = scene_of(alloc, script, MAIL)?;
     for room in 0..whole.len() {
-        let mut out = OfWrite::new(Full {
-            room,
-            taken: Vec::new(alloc),
-        });
-        let told = trace(alloc, "f.sieve", &places, &checked, &message, &mut out);
-        assert!(rt; matches!(told, Err(TraceError::Write)));
-        assert!(rt; out.inner.taken.as_slice() == &whole[..room]);
+        assert!(rt; stops_after(alloc, &scene, &whole[..room]), "{room}");
     }
     Ok(())
 }
