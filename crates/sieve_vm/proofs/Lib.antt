@@ -27,6 +27,7 @@ pub mod PartSteps
 pub mod LoopSteps
 pub mod Holding
 pub mod Visiting
+pub mod Looking
 pub mod Tests
 pub mod Examples
 pub mod LoopExamples

@@ -13,7 +13,8 @@ use Rattle.sieve_vm.specs.declared.machine.Machine.{Machine}
 use Rattle.sieve_vm.specs.declared.workspace.Workspace.{Workspace}
 use Rattle.sieve_vm.specs.Charge.{cost_of_asking}
 use Rattle.sieve_vm.specs.Machine.{next_part}
-use Rattle.sieve_vm.specs.Visits.{Visits, Continues, HasSameLoops}
+use Rattle.sieve_vm.specs.Looks.{Visits}
+use Rattle.sieve_vm.specs.Visits.{Continues, HasSameLoops}
 use Rattle.sieve_vm.specs.State.{Value, truth, Frame, State}
 use Rattle.sieve_vm.specs.Stack.{Lists, lists_counted, texts_in}
 use Rattle.sieve_vm.specs.Standing.{Held, held_of, held_by, Represents, GoesFrom}

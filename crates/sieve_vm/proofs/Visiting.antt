@@ -6,7 +6,8 @@ use Rattle.std.specs.Option.{option_and_then}
 use Rattle.mime_decode.specs.Mail.{Part}
 use Rattle.sieve_vm.specs.declared.frame.Frame as code
 use Rattle.sieve_vm.specs.State.{Frame, current_part}
-use Rattle.sieve_vm.specs.Visits.{Visits, frame_of, frames_of, Learns, part_in}
+use Rattle.sieve_vm.specs.Looks.{Visits}
+use Rattle.sieve_vm.specs.Visits.{frame_of, frames_of, Learns, part_in}
 
 -- ---- loops that are closed
 

@@ -11,6 +11,7 @@ pub mod Potential
 pub mod Chained
 pub mod Plain
 pub mod Ending
+pub mod Looks
 -- private: how the code goes; no public contract names these
 pub mod SharedTexts
 pub mod Visits

@@ -3,24 +3,19 @@ use Rattle.std.specs.Prelude.{◌≡◌, ℕ, suc, ◌-◌, ◌==◌, Bool, true
 use Rattle.std.specs.Cow.{cow_slice_items}
 use Rattle.std.specs.Option.{option_and_then}
 use Rattle.octets.specs.Limits.{max_value}
+use Rattle.bytecode_format.specs.declared.instruction.Instruction.{Instruction}
+use Rattle.bytecode_format.specs.declared.operation.Operation.{Operation}
+use Rattle.bytecode_format.specs.declared.operation.Operation.TheVariants.{Take, Test}
+use Rattle.bytecode_format.specs.Questions.{question_in}
+use Rattle.mail_matching.specs.Questions.{need_of}
 use Rattle.mail_matching.specs.declared.questions.Need.{Need}
 use Rattle.mail_matching.specs.declared.questions.Need.TheVariants as need
 use Rattle.mime_decode.specs.Content.{digest_of}
 use Rattle.mime_decode.specs.Mail.{Mail, Part}
 use Rattle.mime_decode.specs.Visited.{numbers_from}
 use Rattle.sieve_vm.specs.declared.frame.Frame as code
+use Rattle.sieve_vm.specs.Looks.{Visits, StaysKnown, Sought, Length, Digest, Beginning}
 use Rattle.sieve_vm.specs.State.{Frame, current_part}
-
--- a message, the loops that are open on its parts, the innermost first, and whether each holds the
--- content of its current part; and by the numbers of the parts what is known of their contents: how
--- long they are, their digests, and their first octets
-pub record Visits : Type 0 where
-  pub mail : Mail
-  pub frames : List Frame
-  pub held : List Bool
-  pub lengths : List (Option ℕ)
-  pub digests : List (Option (List ℕ))
-  pub beginnings : List (Option (List ℕ))
 
 -- an open loop: the parts not yet visited are the numbers after the current one up to the last
 abbrev pub frame_of : code.Frame → Frame
@@ -66,15 +61,12 @@ holds visits = holds_first visits.held
 abbrev pub holding : Visits → Visits
 holding visits = record visits { held = true ∷ drop 1 visits.held }
 
--- what is known of a part in such a list stays known
-abbrev pub StaysKnown : {A : Type 0} → List (Option A) → List (Option A) → Type 0
-StaysKnown old new = (part : ℕ) → IsSome (slice_index_or old part None) → IsSome (slice_index_or new part None)
-
 -- the message and its open loops are the same, and what was held or known of parts still is
 pub record HasSameLoops (old new : Visits) : Type 0 where
   pub mail : new.mail ≡ old.mail
   pub frames : new.frames ≡ old.frames
   pub held : holds old ≡ true → holds new ≡ true
+  pub outer : drop 1 new.held ≡ drop 1 old.held
   pub lengths : StaysKnown old.lengths new.lengths
   pub digests : StaysKnown old.digests new.digests
   pub beginnings : StaysKnown old.beginnings new.beginnings
@@ -119,3 +111,18 @@ abbrev pub Continues : Frame → List Frame → List ℕ → Option ℕ → Visi
 Continues frame frames [] place old new = (place ≡ None) × (new ≡ record old { frames = frames; held = drop 1 old.held })
 Continues frame frames (part ∷ rest) place old new =
     (place ≡ Some frame.each) × (new ≡ record old { frames = record frame { part = part; rest = rest } ∷ frames; held = false ∷ drop 1 old.held })
+
+-- ---- what steps look for
+
+-- what is sought for a test that needs this
+abbrev pub sought_for : Need → Option Sought
+sought_for need.Nothing = None
+sought_for need.Length = Some Length
+sought_for need.Content = None
+sought_for need.Digest = Some Digest
+
+-- what an instruction of this operation looks for: PARTSIZE the length, PARTDIGEST the digest, TAKE the first octets
+abbrev pub sought_by : List ℕ → Operation → Instruction → Option Sought
+sought_by numbers (Test test) i = option_and_then (λ question. sought_for (need_of question)) (question_in numbers test i)
+sought_by numbers Take i = Some Beginning
+sought_by numbers _ i = None

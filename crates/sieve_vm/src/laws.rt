@@ -16,6 +16,7 @@ ghost use Rattle.sieve_vm.specs.Plain.{IsChain, IsPlain};
 ghost use Rattle.bytecode_format.specs.declared.action.Action.{Action};
 ghost use Rattle.sieve_vm.specs.Ending.{IsOutcome};
 ghost use Rattle.sieve_vm.specs.Listed.{number_of};
+ghost use Rattle.sieve_vm.specs.Looks.{AreLooks, Look, Sought, Visits, times_found};
 ghost use Rattle.sieve_vm.specs.Stores.{NamesPart};
 
 /// Accepted programs never trap: no state that a run reaches from the start steps to a trap.
@@ -118,4 +119,11 @@ pub fn plain_programs_charge_their_budget_on_chains()
     ensures { (code : Code) (mail : Mail) → IsAccepted code → IsMail mail → code.version ≡ 2
         → IsPlain code → IsChain mail → (end : State) → RunEnds code mail end
         → end.charge ≡ limit_of code mail }
+{}
+
+/// In a run the length of a part's content is found at most once, and so is its digest, and so are the first octets of a content that
+/// has to be decoded: a step that looks for one of them later knows it.
+pub fn what_is_sought_is_found_once()
+    ensures { (from : Visits) (looks : List Look) → AreLooks from looks → (sought : Sought) (part : ℕ)
+        → times_found sought part looks ≤ 1 }
 {}

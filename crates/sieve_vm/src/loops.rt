@@ -1,5 +1,5 @@
 // The open loops, and what is known of the parts that they visit.
-ghost use Rattle.std.specs.Prelude.{◌≡◌, ◌<◌, ◌≤◌, ◌+◌, ◌-◌, ℕ, suc, false, true, List, [], ◌∷◌, None, Some, IfOk, OnErr, OnOk, IfSome, IsSome, length, drop, take};
+ghost use Rattle.std.specs.Prelude.{◌≡◌, ◌<◌, ◌≤◌, ◌+◌, ◌-◌, ℕ, suc, false, true, List, [], ◌∷◌, None, Some, IfOk, OnErr, OnOk, IfSome, IsOk, IsSome, length, drop, take};
 ghost use Rattle.std.specs.Cow.{cow_slice_items};
 ghost use Rattle.octets.specs.Limits.{max_loops, max_parts, max_value};
 ghost use Rattle.mime_decode.specs.Content.{digest_of, is_decoded};
@@ -8,6 +8,7 @@ ghost use Rattle.mime_decode.specs.Mail.{IsMail, Part};
 ghost use Rattle.mime_decode.specs.Visited.{numbers_from, visited};
 ghost use Rattle.sieve_vm.specs.State;
 ghost use Rattle.sieve_vm.specs.State.{current_part};
+ghost use Rattle.sieve_vm.specs.Looks.{Remembers};
 ghost use Rattle.sieve_vm.specs.Visits.{Continues, HasPartFor, HasSameLoops, IsFound, Learns, Opens, holding, holds, known_of, part_in};
 
 use crate::frame::Frame;
@@ -42,7 +43,8 @@ pub struct Loops<'s, 'm> {
 
 impl<'s, 'm> Model for Loops<'s, 'm> {
     ghost use Rattle.std.specs.Prelude.{All};
-    ghost use Rattle.sieve_vm.specs.Visits.{Visits, HasContent, IsKnown, frames_of, held_in};
+    ghost use Rattle.sieve_vm.specs.Looks.{Visits};
+    ghost use Rattle.sieve_vm.specs.Visits.{HasContent, IsKnown, frames_of, held_in};
 
     ghost Value = { Visits };
 
@@ -108,8 +110,9 @@ impl<'s, 'm> Loops<'s, 'm> {
         requires room { length self.old.frames < max_loops }
         requires current { IfSome (current_part self.old.frames)
             (λ part. part < length self.old.mail.parts) }
-        ensures { Opens each next (visited (current_part self.old.frames) self.old.mail) result
+        ensures opens { Opens each next (visited (current_part self.old.frames) self.old.mail) result
             self.old self.new }
+        ensures known { Remembers self.old self.new }
     {
         let (first, number) = self.visited();
         if number == 0 {
@@ -129,9 +132,10 @@ impl<'s, 'm> Loops<'s, 'm> {
     #[inline(always)]
     pub fn next_part(&mut self) -> Option<usize>
         requires { 0 < length self.old.frames }
-        ensures { (frame : State.Frame) (frames : List State.Frame)
+        ensures continues { (frame : State.Frame) (frames : List State.Frame)
             → self.old.frames ≡ frame ∷ frames
             → Continues frame frames frame.rest result self.old self.new }
+        ensures known { Remembers self.old self.new }
     {
         let innermost = self.frames.len() - 1;
         let each = self.frames[innermost].each;
@@ -146,10 +150,11 @@ impl<'s, 'm> Loops<'s, 'm> {
     pub fn close(&mut self, number: usize) -> usize
         requires some { 0 < number }
         requires there { number ≤ length self.old.frames }
-        ensures { (frame : State.Frame) (frames : List State.Frame)
+        ensures closes { (frame : State.Frame) (frames : List State.Frame)
             → drop (number - 1) self.old.frames ≡ frame ∷ frames
             → (result ≡ frame.next) × (self.new
             ≡ record self.old { frames = frames; held = drop number self.old.held }) }
+        ensures known { Remembers self.old self.new }
     {
         let left = self.frames.len() - number;
         let next = self.frames[left].next;
@@ -203,7 +208,7 @@ impl<'s, 'm> Loops<'s, 'm> {
         self.frames[innermost].content.as_ref().unwrap()
     }
 
-    /// Finds what is needed of the current part's content, unless it is known or held.
+    /// Finds what is needed of the current part's content, unless it is known or held: then nothing is done.
     ///
     /// An error comes only where memory was refused.
     #[inline(always)]
@@ -212,6 +217,8 @@ impl<'s, 'm> Loops<'s, 'm> {
         ensures found { OnOk result (IsFound need self.new) }
         ensures same { OnOk result (HasSameLoops self.old self.new) }
         ensures content { OnOk result (need ≡ Need.Content → self.new ≡ holding self.old) }
+        ensures known { IsFound need self.old → self.new ≡ self.old }
+        ensures no_memory { IsFound need self.old → IsOk result }
     {
         if self.is_found(need) {
             return Ok(());
@@ -223,7 +230,8 @@ impl<'s, 'm> Loops<'s, 'm> {
     #[inline(always)]
     fn is_found(&self, need: Need) -> bool
         requires { HasPartFor need self.now }
-        ensures { result ≡ true → IsFound need self.now }
+        ensures found { result ≡ true → IsFound need self.now }
+        ensures other { result ≡ false → IsFound need self.now → ⊥ }
     {
         match need {
             Need::Nothing => true,
@@ -353,6 +361,8 @@ impl<'s, 'm> Loops<'s, 'm> {
             → is_decoded part.encoding ≡ true
             → Learns (take max_value part.content) self.old.beginnings self.new.beginnings
             self.old) }
+        ensures lent { IfOk result (λ _. (part : Part) → part_in self.old ≡ Some part
+            → is_decoded part.encoding ≡ false → self.new.beginnings ≡ self.old.beginnings) }
     {
         let part = self.part();
         if let Some(found) = octets_known(&self.beginnings, part) {

@@ -105,16 +105,19 @@ impl Position {
 }
 
 impl<'p, 's, 'm> Machine<'p, 's, 'm> {
-    ghost use Rattle.std.specs.Prelude.{◌≡◌, ◌<◌, ◌≤◌, ◌-◌, ℕ, suc, List, [], ◌∷◌, ◌++◌, Bool, false, Some, None, IfOk, OnOk, IfSome, IsSome, length, min, drop, take, slice_get, slice_index_or, slice_set};
+    ghost use Rattle.std.specs.Prelude.{◌≡◌, ◌<◌, ◌≤◌, ◌-◌, ℕ, suc, List, [], ◌∷◌, ◌++◌, Bool, false, Option, Some, None, IfOk, OnOk, IfSome, IsSome, length, min, drop, take, slice_get, slice_index_or, slice_set};
     ghost use Rattle.std.specs.List.{concat};
     ghost use Rattle.octets.specs.Limits.{max_instructions, max_loops, max_string, max_value};
+    ghost use Rattle.bytecode_format.specs.declared.instruction.Instruction.{Instruction};
     ghost use Rattle.bytecode_format.specs.declared.modifiers.Modifiers.{Modifiers};
+    ghost use Rattle.bytecode_format.specs.declared.operation.Operation.{Operation};
     ghost use Rattle.bytecode_format.specs.Modifiers.{modified, modifiers_numbered};
     ghost use Rattle.bytecode_format.specs.Spelling.{IsProgram};
     ghost use Rattle.bytecode_format.specs.Operations.{operation_of};
     ghost use Rattle.bytecode_verifier.specs.Acceptance.{IsAccepted};
     ghost use Rattle.mime_decode.specs.Mail.{Mail, Part, IsMail};
-    ghost use Rattle.sieve_vm.specs.Visits.{part_in};
+    ghost use Rattle.sieve_vm.specs.Looks.{Beginning, HasLooked, Remembers};
+    ghost use Rattle.sieve_vm.specs.Visits.{Continues, HasSameLoops, Opens, part_in, sought_by};
     ghost use Rattle.mime_decode.specs.Visited.{visited};
     ghost use Rattle.mail_matching.specs.Outcomes.{after};
     ghost use Rattle.mail_matching.specs.Texts.{AreTexts};
@@ -149,9 +152,14 @@ impl<'p, 's, 'm> Machine<'p, 's, 'm> {
         requires accepted { IsAccepted program.now }
         requires mail { IsMail message.now }
         requires running { IsRunning program.now message.now position self.old }
-        ensures { IfOk result (λ turn. (s : State)
+        ensures stands { IfOk result (λ turn. (s : State)
             → IsIn program.now message.now s position self.old
             → StandsFor message.now (step program.now message.now s) turn self.new) }
+        ensures looked { OnOk result ((instruction : Instruction) (operation : Operation)
+            → slice_get program.now.instructions position.place ≡ Some instruction
+            → operation_of instruction.op ≡ Some operation
+            → HasLooked (sought_by program.now.numbers operation instruction)
+            self.old.loops self.new.loops) }
     {
         let instruction = program.instructions()[position.place];
         let operation = Operation::of(instruction.op).unwrap();
@@ -177,9 +185,11 @@ impl<'p, 's, 'm> Machine<'p, 's, 'm> {
         requires here { slice_get program.now.instructions position.place ≡ Some instruction.now }
         requires named { operation_of instruction.now.op ≡ Some operation }
         requires running { IsRunning program.now message.now position self.old }
-        ensures { IfOk result (λ done. (s : State) → IsIn program.now message.now s position self.old
+        ensures done { IfOk result (λ done. (s : State) → IsIn program.now message.now s position self.old
             → HasDone message.now (effect (referred_in program.now) message.now operation instruction.now s)
             (charge_of (referred_in program.now) message.now operation instruction.now s) done self.new) }
+        ensures looked { OnOk result (HasLooked (sought_by program.now.numbers operation instruction.now)
+            self.old.loops self.new.loops) }
     {
         match operation {
             Operation::Halt => Ok(once(Flow::Ends)),
@@ -224,9 +234,10 @@ impl<'p, 's, 'm> Machine<'p, 's, 'm> {
     // Puts a text that the program lends on top of the stack.
     #[inline(always)]
     fn push_text(&mut self, octets: &'p [u8]) -> Result<Done, AllocError>
-        ensures { IfOk result (λ done. (done ≡ once Flow.On)
+        ensures done { IfOk result (λ done. (done ≡ once Flow.On)
             × ((mail : Mail) (s : State) → Represents mail s self.old
             → Represents mail (record s { stack = text octets.now ∷ s.stack }) self.new)) }
+        ensures loops { self.new.loops ≡ self.old.loops }
     {
         self.work.push_text(SharedText::Lent(octets))?;
         Ok(once(Flow::On))
@@ -235,11 +246,12 @@ impl<'p, 's, 'm> Machine<'p, 's, 'm> {
     // Puts the value of a variable on top of the stack.
     #[inline(always)]
     fn push_variable(&mut self, number: usize) -> Result<Done, AllocError>
-        ensures { IfOk result (λ done. (done ≡ once Flow.On)
+        ensures done { IfOk result (λ done. (done ≡ once Flow.On)
             × ((mail : Mail) (s : State) → Represents mail s self.old
             → Represents mail (record
             s { stack = text (slice_index_or s.variables number []) ∷ s.stack })
             self.new)) }
+        ensures loops { self.new.loops ≡ self.old.loops }
     {
         self.work.push_variable(number)?;
         Ok(once(Flow::On))
@@ -248,11 +260,12 @@ impl<'p, 's, 'm> Machine<'p, 's, 'm> {
     // Puts a capture on top of the stack.
     #[inline(always)]
     fn push_capture(&mut self, alloc: Global, number: u8) -> Result<Done, AllocError>
-        ensures { IfOk result (λ done. (done ≡ once Flow.On)
+        ensures done { IfOk result (λ done. (done ≡ once Flow.On)
             × ((mail : Mail) (s : State) → Represents mail s self.old
             → Represents mail (record
             s { stack = text (slice_index_or s.captures number []) ∷ s.stack })
             self.new)) }
+        ensures loops { self.new.loops ≡ self.old.loops }
     {
         self.work.push_capture(alloc, number)?;
         Ok(once(Flow::On))
@@ -264,9 +277,10 @@ impl<'p, 's, 'm> Machine<'p, 's, 'm> {
         requires { (mail : Mail) × ((s : State)
             × ((b : Bool) × ((rest : List Value)
             × (Represents mail s self.old × (s.stack ≡ truth b ∷ rest))))) }
-        ensures { (mail : Mail) (s : State) (b : Bool) (rest : List Value)
+        ensures done { (mail : Mail) (s : State) (b : Bool) (rest : List Value)
             → Represents mail s self.old → s.stack ≡ truth b ∷ rest
             → (result ≡ b) × Represents mail (record s { stack = rest }) self.new }
+        ensures loops { self.new.loops ≡ self.old.loops }
     {
         self.work.take_truth()
     }
@@ -277,9 +291,10 @@ impl<'p, 's, 'm> Machine<'p, 's, 'm> {
         requires { (mail : Mail) × ((s : State)
             × ((b : Bool) × ((rest : List Value)
             × (Represents mail s self.old × (s.stack ≡ truth b ∷ rest))))) }
-        ensures { (mail : Mail) (s : State) (b : Bool) (rest : List Value)
+        ensures done { (mail : Mail) (s : State) (b : Bool) (rest : List Value)
             → Represents mail s self.old → s.stack ≡ truth b ∷ rest
             → HasDone mail (branch target wanted b (record s { stack = rest })) 1 result self.new }
+        ensures loops { self.new.loops ≡ self.old.loops }
     {
         if self.take() == wanted {
             once(Flow::To(target as usize))
@@ -291,11 +306,12 @@ impl<'p, 's, 'm> Machine<'p, 's, 'm> {
     // Lists Keep, and takes the implicit keep away.
     #[inline(always)]
     fn keep(&mut self) -> Result<Done, AllocError>
-        ensures { IfOk result (λ done. (done ≡ once Flow.On)
+        ensures done { IfOk result (λ done. (done ≡ once Flow.On)
             × ((mail : Mail) (s : State) → Represents mail s self.old
             → Represents mail (record
             s { actions = s.actions ++ Action.Keep ∷ []; implicit_keep = false })
             self.new)) }
+        ensures loops { self.new.loops ≡ self.old.loops }
     {
         self.list(Action::Keep)?;
         Ok(self.discard())
@@ -307,7 +323,7 @@ impl<'p, 's, 'm> Machine<'p, 's, 'm> {
         requires { (mail : Mail) × ((s : State)
             × ((t : List ℕ) × ((rest : List Value)
             × (Represents mail s self.old × (s.stack ≡ text t ∷ rest))))) }
-        ensures { IfOk result (λ octets. (mail : Mail) (s : State) (t : List ℕ) (rest : List Value)
+        ensures done { IfOk result (λ octets. (mail : Mail) (s : State) (t : List ℕ) (rest : List Value)
             → Represents mail s self.old → s.stack ≡ text t ∷ rest
             → (octets ≡ length t)
             × Represents mail (record s {
@@ -316,6 +332,7 @@ impl<'p, 's, 'm> Machine<'p, 's, 'm> {
                   ∷ [];
               implicit_keep = false;
             }) self.new) }
+        ensures loops { self.new.loops ≡ self.old.loops }
     {
         let folder = self.work.take_text(alloc)?;
         let octets = folder.len();
@@ -327,8 +344,9 @@ impl<'p, 's, 'm> Machine<'p, 's, 'm> {
     // Lists an action.
     #[inline(always)]
     fn list(&mut self, action: Action) -> Result<(), AllocError>
-        ensures { OnOk result ((mail : Mail) (s : State) → Represents mail s self.old
+        ensures done { OnOk result ((mail : Mail) (s : State) → Represents mail s self.old
             → Represents mail (record s { actions = s.actions ++ action ∷ [] }) self.new) }
+        ensures loops { self.new.loops ≡ self.old.loops }
     {
         Ok(self.actions.push(action)?)
     }
@@ -339,6 +357,7 @@ impl<'p, 's, 'm> Machine<'p, 's, 'm> {
         ensures flow { result ≡ once Flow.On }
         ensures stands { (mail : Mail) (s : State) → Represents mail s self.old
             → Represents mail (record s { implicit_keep = false }) self.new }
+        ensures loops { self.new.loops ≡ self.old.loops }
     {
         self.implicit_keep = false;
         once(Flow::On)
@@ -351,7 +370,7 @@ impl<'p, 's, 'm> Machine<'p, 's, 'm> {
             × ((s : State) × ((t : List ℕ)
             × ((rest : List Value) × (Represents mail s self.old
             × (s.stack ≡ text t ∷ rest))))) }
-        ensures { IfOk result (λ octets. (mail : Mail) (s : State) (t : List ℕ) (rest : List Value)
+        ensures done { IfOk result (λ octets. (mail : Mail) (s : State) (t : List ℕ) (rest : List Value)
             (part : ℕ) → Represents mail s self.old → s.stack ≡ text t ∷ rest
             → current_part s.frames ≡ Some part
             → (octets ≡ length t)
@@ -360,6 +379,7 @@ impl<'p, 's, 'm> Machine<'p, 's, 'm> {
               actions = s.actions
                   ++ Action.Store t part ∷ [];
             }) self.new) }
+        ensures loops { self.new.loops ≡ self.old.loops }
     {
         let part = self.loops.current().unwrap();
         let folder = self.work.take_text(alloc)?;
@@ -373,9 +393,12 @@ impl<'p, 's, 'm> Machine<'p, 's, 'm> {
         requires room { length self.old.loops.frames < max_loops }
         requires current { IfSome (current_part self.old.loops.frames)
             (λ part. part < length self.old.loops.mail.parts) }
-        ensures { (mail : Mail) (s : State) → Represents mail s self.old → place ≡ s.place
+        ensures done { (mail : Mail) (s : State) → Represents mail s self.old → place ≡ s.place
             → HasDone mail (open_loop next (visited (current_part s.frames) mail) s) 1 result
             self.new }
+        ensures visits { (opened : Bool) × Opens place next (visited (current_part self.old.loops.frames)
+            self.old.loops.mail) opened self.old.loops self.new.loops }
+        ensures known { Remembers self.old.loops self.new.loops }
     {
         if self.loops.open(place, next as usize) {
             once(Flow::On)
@@ -389,9 +412,12 @@ impl<'p, 's, 'm> Machine<'p, 's, 'm> {
     fn next(&mut self) -> Done
         requires { (frame : Frame) × ((frames : List Frame)
             × ((self.old.loops.frames ≡ frame ∷ frames) × (frame.each < max_instructions))) }
-        ensures { (mail : Mail) (s : State) (frame : Frame) (frames : List Frame)
+        ensures done { (mail : Mail) (s : State) (frame : Frame) (frames : List Frame)
             → Represents mail s self.old → s.frames ≡ frame ∷ frames
             → HasDone mail (next_part frame frames frame.rest s) 1 result self.new }
+        ensures visits { (frame : Frame) (frames : List Frame) → self.old.loops.frames ≡ frame ∷ frames
+            → (each : Option ℕ) × Continues frame frames frame.rest each self.old.loops self.new.loops }
+        ensures known { Remembers self.old.loops self.new.loops }
     {
         match self.loops.next_part() {
             Some(each) => once(Flow::To(each + 1)),
@@ -405,10 +431,15 @@ impl<'p, 's, 'm> Machine<'p, 's, 'm> {
         requires there { (frame : Frame)
             × ((frames : List Frame) × ((drop (number - 1) self.old.loops.frames ≡ frame ∷ frames)
             × (frame.next < max_instructions))) }
-        ensures { (mail : Mail) (s : State) (frame : Frame) (frames : List Frame)
+        ensures done { (mail : Mail) (s : State) (frame : Frame) (frames : List Frame)
             → Represents mail s self.old → drop (number - 1) s.frames ≡ frame ∷ frames
             → HasDone mail (jumps (suc frame.next) (record s { frames = frames })) 1 result
             self.new }
+        ensures visits { (frame : Frame) (frames : List Frame)
+            → drop (number - 1) self.old.loops.frames ≡ frame ∷ frames
+            → self.new.loops ≡ record
+            self.old.loops { frames = frames; held = drop number self.old.loops.held } }
+        ensures known { Remembers self.old.loops self.new.loops }
     {
         let next = self.loops.close(number);
         once(Flow::To(next + 1))
@@ -419,13 +450,14 @@ impl<'p, 's, 'm> Machine<'p, 's, 'm> {
         requires { (mail : Mail) × ((s : State)
             × ((top : OnTop) × (Represents mail s self.old
             × (texts_on_top number s.stack ≡ Some top) × AreTexts top.texts))) }
-        ensures { IfOk result (λ octets. (mail : Mail) (s : State) (top : OnTop)
+        ensures done { IfOk result (λ octets. (mail : Mail) (s : State) (top : OnTop)
             → Represents mail s self.old → texts_on_top number s.stack ≡ Some top
             → (octets ≡ octets_on_top top)
             × Represents mail (record s {
               stack = text (take max_string (concat top.texts))
                   ∷ top.below;
             }) self.new) }
+        ensures loops { self.new.loops ≡ self.old.loops }
     {
         self.work.join(alloc, number)
     }
@@ -437,7 +469,7 @@ impl<'p, 's, 'm> Machine<'p, 's, 'm> {
             × ((s : State) × ((t : List ℕ)
             × ((rest : List Value) × (Represents mail s self.old × (s.stack ≡ text t ∷ rest)
             × (instruction.now.c < length s.variables))))) }
-        ensures { IfOk result (λ octets. (mail : Mail) (s : State) (t : List ℕ) (rest : List Value)
+        ensures done { IfOk result (λ octets. (mail : Mail) (s : State) (t : List ℕ) (rest : List Value)
             (modifiers : Modifiers) → Represents mail s self.old → s.stack ≡ text t ∷ rest
             → modifiers_numbered instruction.now.a ≡ Some modifiers
             → (octets ≡ length t)
@@ -446,6 +478,7 @@ impl<'p, 's, 'm> Machine<'p, 's, 'm> {
               variables = slice_set s.variables
                   instruction.now.c (take max_value (modified modifiers t));
             }) self.new) }
+        ensures loops { self.new.loops ≡ self.old.loops }
     {
         let modifiers = Modifiers::of(instruction.a).unwrap();
         self.work.set(alloc, instruction.c as usize, modifiers)
@@ -458,13 +491,15 @@ impl<'p, 's, 'm> Machine<'p, 's, 'm> {
         requires variable { (mail : Mail)
             × ((s : State) × (Represents mail s self.old
             × (instruction.now.c < length s.variables))) }
-        ensures { IfOk result (λ octets. (mail : Mail) (s : State) (part : Part)
+        ensures done { IfOk result (λ octets. (mail : Mail) (s : State) (part : Part)
             → Represents mail s self.old → part_in self.old.loops ≡ Some part
             → (octets ≡ min instruction.now.b (length part.content))
             × Represents mail (record s {
               variables = slice_set s.variables instruction.now.c
                   (take instruction.now.b part.content);
             }) self.new) }
+        ensures loops { OnOk result (HasSameLoops self.old.loops self.new.loops) }
+        ensures looked { OnOk result (HasLooked (Some Beginning) self.old.loops self.new.loops) }
     {
         let octets = self.loops.beginning(alloc, instruction.b as usize)?;
         let number = octets.len();

@@ -10,7 +10,8 @@ ghost use Rattle.sieve_vm.specs.Charge.{cost_of_asking};
 ghost use Rattle.sieve_vm.specs.Stack.{Lists, lists_counted, texts_in};
 ghost use Rattle.sieve_vm.specs.Standing.{HasLists, Represents, WasAsked, held_of};
 ghost use Rattle.sieve_vm.specs.State.{State, current_part, truth};
-ghost use Rattle.sieve_vm.specs.Visits.{holding};
+ghost use Rattle.sieve_vm.specs.Looks.{HasLooked};
+ghost use Rattle.sieve_vm.specs.Visits.{HasSameLoops, IsFound, holding, sought_for};
 
 use crate::loops::Loops;
 use crate::machine::{Done, Flow, Machine};
@@ -60,6 +61,15 @@ impl<'p, 's, 'm> Machine<'p, 's, 'm> {
             → question_in program.now.numbers test instruction.now ≡ Some question
             → need_of question ≡ Need.Content → IsSome (current_part self.old.loops.frames)
             → self.new.loops ≡ holding self.old.loops) }
+        ensures known { OnOk result ((question : Question)
+            → question_in program.now.numbers test instruction.now ≡ Some question
+            → IsFound (if is_some (current_part self.old.loops.frames) then need_of question else Need.Nothing)
+            self.old.loops
+            → self.new.loops ≡ self.old.loops) }
+        ensures loops { OnOk result (HasSameLoops self.old.loops self.new.loops) }
+        ensures looked { OnOk result ((question : Question)
+            → question_in program.now.numbers test instruction.now ≡ Some question
+            → HasLooked (sought_for (need_of question)) self.old.loops self.new.loops) }
     {
         let question = test.question_in(instruction, program.numbers()).unwrap();
         let counts = test.counts_in(instruction);

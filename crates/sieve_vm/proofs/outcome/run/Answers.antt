@@ -4,7 +4,7 @@ use Rattle.sieve_vm.specs.Ending.{IsOutcome}
 use Rattle.sieve_vm.specs.Moment.{come_to}
 use Rattle.sieve_vm.specs.State.{start}
 use Rattle.sieve_vm.specs.Standing.{Represents}
-use Rattle.sieve_vm.specs.Visits.{Visits}
+use Rattle.sieve_vm.specs.Looks.{Visits}
 use Rattle.sieve_vm.proofs.Moments.{stands_first, stands_as, stands_next, going_at, over_at}
 use Rattle.sieve_vm.proofs.Steps.{charged_on, outcome_of}
 use Rattle.sieve_vm.proofs.outcome.run.Goals as goal
@@ -31,7 +31,7 @@ steps-preserved c =
     let n = c.steps.invariant.0 in
     let on = sym (stands_as mail (come_to code mail n) c.steps.turn c.steps.machine c.steps.invariant.1) ∙ c.steps-test.true in
     let at = going_at code mail n c.steps.turn c.steps.machine c.steps.invariant.1 on in
-    (suc n, stands_next code mail n at.0 _ c.advance.new.self at.1 (c.in_ok-turn.ensures at.0 at.2))
+    (suc n, stands_next code mail n at.0 _ c.advance.new.self at.1 (c.in_ok-turn.ensures.stands at.0 at.2))
 
 pub steps-smaller : goal.steps-smaller
 steps-smaller c =
@@ -41,7 +41,7 @@ steps-smaller c =
     let on = sym (stands_as mail (come_to code mail n) c.steps.turn c.steps.machine c.steps.invariant.1) ∙ c.steps-test.true in
     let at = going_at code mail n c.steps.turn c.steps.machine c.steps.invariant.1 on in
     let is = subst IsAccepted (sym c.program-program.ensures.value) c.program-program.ensures.accepted in
-    let charged = charged_on code mail is c.size-size.ensures.mail c.steps.turn.position c.steps.machine at.0 at.2 _ c.advance.new.self (c.in_ok-turn.ensures at.0 at.2) in
+    let charged = charged_on code mail is c.size-size.ensures.mail c.steps.turn.position c.steps.machine at.0 at.2 _ c.advance.new.self (c.in_ok-turn.ensures.stands at.0 at.2) in
     omega (arith, charged.0, charged.1)
 
 pub returns : goal.returns

@@ -5,7 +5,8 @@ use Rattle.std.proofs.lemmas.Result.{IfOk-weaker}
 use Rattle.mime_decode.specs.Content.{is_decoded}
 use Rattle.mime_decode.specs.Mail.{Mail, Part}
 use Rattle.octets.specs.Limits.{max_value}
-use Rattle.sieve_vm.specs.Visits.{Visits, Learns, part_in}
+use Rattle.sieve_vm.specs.Looks.{Visits}
+use Rattle.sieve_vm.specs.Visits.{Learns, part_in}
 use Rattle.sieve_vm.proofs.Visiting.{current_at, learnt, learns}
 use Rattle.sieve_vm.proofs.loops.Loops.beginning.Goals as goal
 use Rattle.sieve_vm.proofs.loops.Loops.beginning.Goals.{then-is_decoded+in_ok-found+in_ok-keep, else-is_decoded}
@@ -47,4 +48,15 @@ returns-clause-kept c = λ part e decoded.
           let encoding = c.encoding.ensures part ∙ ap (λ (p : Part). p.encoding) (get_or_from_slice_get _ c.part-part.result part part here) in
           let told = sym (c.is_decoded.ensures ∙ ap is_decoded encoding ∙ decoded) ∙ w.if-is_decoded.false in
           absurd (let both : true ≡ false = told in cc)
+    ]
+
+pub returns-clause-lent : goal.returns-clause-lent
+returns-clause-lent c = λ part e lent.
+    elim c.if-is_decoded.branch [
+      | then-is_decoded+in_ok-found+in_ok-keep w ↦
+          let here = ap (λ (v : Visits). slice_get v.mail.parts c.part-part.result) (c.self-2.view_is ∙ c.in_ok-fetch.ensures.held) ∙ current_at c.args.self.now c.part-part.result part c.part-part.ensures.current e in
+          let encoding = c.encoding.ensures part ∙ ap (λ (p : Part). p.encoding) (get_or_from_slice_get _ c.part-part.result part part here) in
+          let told = sym (c.is_decoded.ensures ∙ ap is_decoded encoding ∙ lent) ∙ w.if-is_decoded.true in
+          absurd (let both : false ≡ true = told in cc)
+      | else-is_decoded w ↦ ap (λ (v : Visits). v.beginnings) (w.self-is ∙ c.in_ok-fetch.ensures.held)
     ]

@@ -1,14 +1,15 @@
 use Rattle.std.proofs.Common.{◌≡◌, ◌≤◌, reverse, length, drop, ap, ◌∙◌, ◌-◌, List, take, get_or, arith}
 use Rattle.sieve_vm.specs.declared.frame.Frame as code
 use Rattle.sieve_vm.specs.State.{Frame}
-use Rattle.sieve_vm.specs.Visits.{Visits, frame_of, frames_of, held_in}
+use Rattle.sieve_vm.specs.Looks.{Visits}
+use Rattle.sieve_vm.specs.Visits.{frame_of, frames_of, held_in}
 use Rattle.std.proofs.lemmas.List.{length-map, length-reverse}
 use Rattle.sieve_vm.proofs.Contents.{held_left}
 use Rattle.sieve_vm.proofs.Visiting.{closes}
 use Rattle.sieve_vm.proofs.loops.Loops.close.Goals as goal
 
-pub returns : goal.returns
-returns c = λ frame frames e.
+pub returns-clause-closes : goal.returns-clause-closes
+returns-clause-closes c = λ frame frames e.
     let items = c.self.inside.frames.items in
     let frames_are = ap (λ (v : Visits). v.frames) c.self.view_is in
     let there : c.args.number ≤ length items = omega (arith, c.requires.there, ap length frames_are, length-map (reverse items) frame_of, length-reverse items) in

@@ -3,8 +3,8 @@ use Rattle.bytecode_format.specs.Actions.{with_action}
 use Rattle.bytecode_format.proofs.ActionLemmas.{first_occurrences-push}
 use Rattle.sieve_vm.proofs.machine.Machine.list.Goals as goal
 
-pub returns : goal.returns
-returns c = λ mail s stands.
+pub returns-clause-done : goal.returns-clause-done
+returns-clause-done c = λ mail s stands.
     record {
       work = stands.work;
       mail_is = stands.mail_is;

@@ -1,4 +1,4 @@
-use Rattle.std.proofs.Common.{◌≡◌, Some, slice_set, take, sym, subst, ap, ◌∙◌}
+use Rattle.std.proofs.Common.{◌≡◌, Some, slice_set, take, sym, subst, ◌∙◌}
 use Rattle.std.proofs.lemmas.Result.{IfOk-weaker}
 use Rattle.bytecode_format.specs.Modifiers.{modified}
 use Rattle.bytecode_format.specs.declared.modifiers.Modifiers.{Modifiers}
@@ -6,8 +6,8 @@ use Rattle.sieve_vm.specs.Standing.{Held, held_of}
 use Rattle.sieve_vm.proofs.Tests.{stack_is, holds_now}
 use Rattle.sieve_vm.proofs.machine.Machine.set.Goals as goal
 
-pub returns : goal.returns
-returns c =
+pub returns-clause-done : goal.returns-clause-done
+returns-clause-done c =
     IfOk-weaker c.set.result _ _
     (λ octets told mail s t rest modifiers stands top known.
     let m = c.args.self.now in

@@ -24,6 +24,6 @@ invariant_of-result c =
     let p = c.self.inside in
     let on = subst (λ (m : Moment). goes_on (turn_at m) ≡ true) (sym c.self.view_is) c.requires in
     let at = going_at p.program.now p.message.now p.steps p.turn p.machine c.self.invariant.3 on in
-    let next = stands_next p.program.now p.message.now p.steps at.0 c.in_ok-next.next c.advance.new.self at.1 (c.in_ok-next.ensures at.0 at.2) in
+    let next = stands_next p.program.now p.message.now p.steps at.0 c.in_ok-next.next c.advance.new.self at.1 (c.in_ok-next.ensures.stands at.0 at.2) in
     let more : suc p.steps ≡ p.steps + 1 = omega arith in
     (c.self.invariant.0, c.self.invariant.1, c.self.invariant.2, subst (λ n. StandsFor p.message.now (come_to p.program.now p.message.now n) c.in_ok-next.next c.advance.new.self) more next)

@@ -2,7 +2,7 @@ use Rattle.std.proofs.Common.{sym, ap, subst}
 use Rattle.bytecode_verifier.specs.Acceptance.{IsAccepted}
 use Rattle.sieve_vm.specs.State.{start}
 use Rattle.sieve_vm.specs.Standing.{Represents}
-use Rattle.sieve_vm.specs.Visits.{Visits}
+use Rattle.sieve_vm.specs.Looks.{Visits}
 use Rattle.sieve_vm.proofs.Moments.{stands_first}
 use Rattle.sieve_vm.proofs.stepping.Stepping.begin.Goals as goal
 
