@@ -156,7 +156,7 @@ module _ {T U V : Type 0} (Happens Breaks : Turn → T → T → Type 0) (Others
           let end = ends status (length was.turns) was.rest input2 err err2 Made was.last was.mid new turns.after turns.fits sound was.ended in
           record {
             after = end.after;
-            served = record { turns = was.turns; rest = was.rest; mid = turns.after; taken = turns.taken; last = was.last; ended = end.other };
+            served = record { turns = was.turns; rest = was.rest; mid = turns.after; taken = turns.taken; last = was.last; ended = end.other; progress = was.progress };
             fits = follows.widen (λ v. Made v ⊎ LastIs (Makes v) was.last turns.after end.after)
                 (λ v. OneIs (Makes v) Others was.turns input was.rest u turns.after turns.taken ⊎ LastIs (Makes v) was.last turns.after end.after) new end.after (λ v made. some made) end.fits;
           }

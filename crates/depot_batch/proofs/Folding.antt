@@ -1,6 +1,5 @@
 -- The turns of a batch as steps of what its depot holds.
 use Rattle.std.proofs.Common.{◌≡◌, ◌⊎◌, ◌++◌, ap, arith, inl, inr, refl, subst, sym, ℕ, IsTrue, List, [], ◌∷◌, Some, length, map}
-use Rattle.std.specs.List.{AllZip}
 use Rattle.sqlite_trees.specs.declared.store.Store.{Ghosts}
 use Rattle.sqlite_trees.specs.Tree.{Trees}
 use Rattle.sqlite.specs.Held.{Held, state}
@@ -9,13 +8,15 @@ use Rattle.encodings.specs.Supply.{Supply}
 use Rattle.part_store.specs.Entries.{Entries}
 use Rattle.part_store.specs.Standing.{LeavesUnchanged, Stands}
 use Rattle.depot_actions.specs.Deliveries.{calls_of}
-use Rattle.depot_actions.specs.DepotState.{Command, Does, Listed, Reply as DepotReply, Text as Written}
+use Rattle.depot_actions.specs.DepotState.{Command, Does, Export as Exports, Listed, Reply as DepotReply, Text as Written}
 use Rattle.depot_actions.specs.History.{AreSteps, Call}
 use Rattle.depot_jobs.specs.Host.{HostState}
+use Rattle.depot_cli.specs.Requests.{request_command}
+use Rattle.depot_batch.specs.Asked.{Text}
 use Rattle.depot_jobs.specs.declared.request.OnDepot.TheVariants as requests
 use Rattle.refusals.specs.declared.refusal.Refusal.{Refusal}
-use Rattle.depot_batch.specs.Batch.{AreDeliveries, AreTaken, Happens, HasCome, IsAsked, IsCallOf, IsDone, IsMadeAtOne, IsRefused, DepotAndOutput, Outlasts, command_asked}
-use Rattle.depot_batch.specs.Turns.{Alone, Together, Turn, Withdrawn, done_in, lines_done}
+use Rattle.depot_batch.specs.Batch.{AreCallsIn, AreCallsOf, AreDeliveries, AreTaken, Happens, HasCome, IsAsked, IsCallFor, IsDone, IsMadeAtOne, IsRefused, DepotAndOutput, Outlasts}
+use Rattle.depot_batch.specs.Turns.{Alone, Together, Turn, Withdrawn, done_in}
 use Rattle.depot_batch.specs.declared.asked.Asked.{Asked}
 use Rattle.depot_batch.specs.declared.asked.Asked.TheVariants.{Reply, Export as IntoFile}
 use Rattle.depot_batch.specs.declared.outcome.Outcome.{Outcome}
@@ -32,35 +33,32 @@ steps_both : (first later : List Call) (before mid after : Entries) → AreSteps
 steps_both [] later before mid after are more = subst (λ (e : Entries). AreSteps later e after) are more
 steps_both (call ∷ calls) later before mid after are more = (are.0, are.1, steps_both calls later are.0 mid after are.2 more)
 
-zips_both : (lines others : List (List ℕ)) (calls more : List Call) → AllZip IsCallOf lines calls → AllZip IsCallOf others more → AllZip IsCallOf (lines ++ others) (calls ++ more)
-zips_both [] others [] more are later = later
-zips_both [] others (call ∷ calls) more are later = absurd are
-zips_both (line ∷ lines) others [] more are later = absurd are
-zips_both (line ∷ lines) others (call ∷ calls) more are later = (are.0, zips_both lines others calls more are.1 later)
-
 -- deliveries that were read are calls of their lines
-delivered : (lines : List (List ℕ)) (commands : List Command) (replies : List DepotReply) (host host2 : HostState) → AreDeliveries lines commands host host2
-    → length replies ≡ length commands → AllZip IsCallOf lines (calls_of commands replies)
-delivered [] [] replies host host2 are each = tt
-delivered [] (command ∷ commands) replies host host2 are each = absurd are
-delivered (line ∷ lines) [] replies host host2 are each = absurd are
-delivered (line ∷ lines) (command ∷ commands) [] host host2 are each = absurd (omega (arith, each))
-delivered (line ∷ lines) (command ∷ commands) (reply ∷ replies) host host2 are each =
+delivered : (name : Text) (lines : List (List ℕ)) (commands : List Command) (replies : List DepotReply) (host host2 : HostState) → AreDeliveries lines commands host host2
+    → length replies ≡ length commands → AreCallsOf name lines (calls_of commands replies) host
+delivered name [] [] replies host host2 are each = tt
+delivered name [] (command ∷ commands) replies host host2 are each = absurd are
+delivered name (line ∷ lines) [] replies host host2 are each = absurd are
+delivered name (line ∷ lines) (command ∷ commands) [] host host2 are each = absurd (omega (arith, each))
+delivered name (line ∷ lines) (command ∷ commands) (reply ∷ replies) host host2 are each =
     let one = are.1 in (
-      (Reply (requests.Deliver one.0 one.1), one.2, one.3, reply, ap (λ (c : Command). record { command = c; reply = Some reply }) one.5),
-      delivered lines commands replies are.0 host2 are.2 (omega (arith, each)),
+      Reply (requests.Deliver one.0 one.1),
+      one.2,
+      are.0,
+      (one.3, one.4, reply, ap (λ (c : Command). record { command = c; reply = Some reply }) one.5),
+      delivered name lines commands replies are.0 host2 are.2 (omega (arith, each)),
     )
 
--- what lines made of what was held
-record Went (lines : List (List ℕ)) (before : Entries) (new : State) : Type 0 where
+-- what lines made of what was held, as the host was
+record Went (name : Text) (lines : List (List ℕ)) (host : HostState) (before : Entries) (new : State) : Type 0 where
   calls : List Call
   after : Entries
-  are : AllZip IsCallOf lines calls
+  are : AreCallsOf name lines calls host
   steps : AreSteps calls before after
   stands : IsTrue new.is_open → Stands new.now after
 
-unchanged : (old new : State) (before : Entries) → LeavesUnchanged old new → (IsTrue old.is_open → Stands old.now before) → Went [] before new
-unchanged old new before spares given = record {
+unchanged : (name : Text) (host : HostState) (old new : State) (before : Entries) → LeavesUnchanged old new → (IsTrue old.is_open → Stands old.now before) → Went name [] host before new
+unchanged name host old new before spares given = record {
   calls = [];
   after = before;
   are = tt;
@@ -70,21 +68,23 @@ unchanged old new before spares given = record {
       subst (λ d. Stands d before) (sym (spares.same stood.schema is_open).0) stood;
 }
 
-did : (line : List ℕ) (asked : Asked) (octets : List ℕ) (reply : DepotReply) (old new : State) (before : Entries) → IsAsked line asked → Does (command_asked asked octets) reply old new
-    → (IsTrue old.is_open → Stands old.now before) → Went (line ∷ []) before new
-did line asked octets reply old new before is does given =
+did : (name line : Text) (asked : Asked) (command : Command) (reply : DepotReply) (host host2 : HostState) (old new : State) (before : Entries) → IsAsked line asked
+    → IsCallFor name asked (record { command = command; reply = Some reply }) host host2 → Does command reply old new → (IsTrue old.is_open → Stands old.now before)
+    → Went name (line ∷ []) host before new
+did name line asked command reply host host2 old new before is call does given =
     let done = does.1 before (given does.0) in
     record {
-      calls = record { command = command_asked asked octets; reply = Some reply } ∷ [];
+      calls = record { command = command; reply = Some reply } ∷ [];
       after = done.0;
-      are = ((asked, is, octets, reply, refl), tt);
+      are = (asked, is, host2, call, tt);
       steps = (done.0, done.1, refl);
       stands = λ is_open. (done.2.stands is_open).0;
     }
 
 module _ {S : Type 0} (g : Ghosts S) where
-  same : (old new : Held S) (before : Entries) → new ≡ old → (IsTrue (state g old).is_open → Stands (state g old).now before) → Went [] before (state g new)
-  same old new before is given = record {
+  same : (name : Text) (host : HostState) (old new : Held S) (before : Entries) → new ≡ old → (IsTrue (state g old).is_open → Stands (state g old).now before)
+      → Went name [] host before (state g new)
+  same name host old new before is given = record {
     calls = [];
     after = before;
     are = tt;
@@ -94,32 +94,32 @@ module _ {S : Type 0} (g : Ghosts S) where
 
   module _ (name line : List ℕ) (old new : Held S) (host host2 : HostState) (before : Entries) (clean : HasCleanDisk (state g new))
       (given : IsTrue (state g old).is_open → Stands (state g old).now before) where
-    done_went : (asked : Asked) (text : List ℕ) → IsAsked line asked → IsDone g name asked text old new host host2 → Went (line ∷ []) before (state g new)
+    done_went : (asked : Asked) (text : List ℕ) → IsAsked line asked → IsDone g name asked text old new host host2 → Went name (line ∷ []) host before (state g new)
     done_went (Reply request) text is done =
         let answered = done.2 in
-        did line (Reply request) done.0 answered.0 (state g old) (state g new) before is (answered.1 clean) given
+        did name line (Reply request) (request_command request done.0) answered.0 host host2 (state g old) (state g new) before is (done.0, done.1, answered.0, refl) (answered.1 clean) given
     done_went (IntoFile export) text is done =
         let made = done.1 in
-        did line (IntoFile export) [] (Written made.0) (state g old) (state g new) before is (made.2 clean) given
+        did name line (IntoFile export) (Exports export.user.now export.number export.encoding) (Written made.0) host host2 (state g old) (state g new) before is (made.0, made.1, refl) (made.2 clean) given
 
-    refused_went : (asked : Asked) (refusal : Refusal) → IsRefused g name asked refusal old new host host2 → Went [] before (state g new)
+    refused_went : (asked : Asked) (refusal : Refusal) → IsRefused g name asked refusal old new host host2 → Went name [] host before (state g new)
     refused_went (Reply request) refusal refused = elim refused [
-      | inl unread ↦ same old new before unread.1 given
-      | inr asked ↦ unchanged (state g old) (state g new) before (asked.2.1 clean).2 given
+      | inl unread ↦ same name host old new before unread.1 given
+      | inr asked ↦ unchanged name host (state g old) (state g new) before (asked.2.1 clean).2 given
     ]
-    refused_went (IntoFile export) refusal refused = unchanged (state g old) (state g new) before (refused.1 clean) given
+    refused_went (IntoFile export) refusal refused = unchanged name host (state g old) (state g new) before (refused.1 clean) given
 
   module _ (name : List ℕ) (old new : DepotAndOutput S) (before : Entries) (clean : HasCleanDisk (state g new.depot))
       (given : IsTrue (state g old.depot).is_open → Stands (state g old.depot).now before) where
-    come_went : (line : List ℕ) (outcome : Outcome) (text : List ℕ) → HasCome g name line outcome text old new → Went (done_in (Alone line outcome)) before (state g new.depot)
+    come_went : (line : List ℕ) (outcome : Outcome) (text : List ℕ) → HasCome g name line outcome text old new → Went name (done_in (Alone line outcome)) old.host before (state g new.depot)
     come_went line Done text come = done_went name line old.depot new.depot old.host new.host before clean given come.0 text come.1 come.2
     come_went line (Refused refusal) text come = elim come.1 [
-      | inl idle ↦ let still = idle.1 in same old.depot new.depot before still.0 given
+      | inl idle ↦ let still = idle.1 in same name old.host old.depot new.depot before still.0 given
       | inr asked ↦ refused_went name line old.depot new.depot old.host new.host before clean given asked.0 refusal asked.2
     ]
-    come_went line Wrong text come = let still = come.3 in same old.depot new.depot before still.0 given
+    come_went line Wrong text come = let still = come.3 in same name old.host old.depot new.depot before still.0 given
 
-    turn_went : (turn : Turn) → Happens g name turn old new → Went (done_in turn) before (state g new.depot)
+    turn_went : (turn : Turn) → Happens g name turn old new → Went name (done_in turn) old.host before (state g new.depot)
     turn_went (Alone line outcome) happens = come_went line outcome happens.text happens.come
     turn_went (Together lines) happens =
         let does = happens.done clean in
@@ -127,11 +127,11 @@ module _ {S : Type 0} (g : Ghosts S) where
         record {
           calls = calls_of happens.commands (map Listed happens.filed);
           after = done.0;
-          are = delivered lines happens.commands (map Listed happens.filed) old.host new.host happens.files done.1.each;
+          are = delivered name lines happens.commands (map Listed happens.filed) old.host new.host happens.files done.1.each;
           steps = done.1.steps;
           stands = λ is_open. (done.2.stands is_open).0;
         }
-    turn_went (Withdrawn lines) happens = unchanged (state g old.depot) (state g new.depot) before (happens.unchanged clean) given
+    turn_went (Withdrawn lines) happens = unchanged name old.host (state g old.depot) (state g new.depot) before (happens.unchanged clean) given
 
   outlasts : (name : List ℕ) (turn : Turn) (old new : DepotAndOutput S) → Happens g name turn old new → Outlasts g turn old new
   outlasts name (Alone line outcome) old new happens = happens.outlasts
@@ -145,18 +145,18 @@ module _ {S : Type 0} (g : Ghosts S) where
   clean_all name (turn ∷ turns) input rest old new are clean =
       clean_before (state g old.depot) (state g are.1.depot) (outlasts name turn old are.1 are.3) (clean_all name turns are.0 rest are.1 new are.5 clean)
 
-  pub turns_went : (name : List ℕ) (turns : List Turn) (input rest : Supply) (old new : DepotAndOutput S) (before : Entries) → AreTaken g name turns input rest old new
+  pub turns_went : (name : List ℕ) (turns : List Turn) (input rest : Supply) (old new : DepotAndOutput S) (before : Entries) (taken : AreTaken g name turns input rest old new)
       → HasCleanDisk (state g new.depot) → (IsTrue (state g old.depot).is_open → Stands (state g old.depot).now before)
-      → (calls : List Call) × (after : Entries) × AllZip IsCallOf (lines_done turns) calls × AreSteps calls before after
+      → (calls : List Call) × (after : Entries) × AreCallsIn g name turns input rest old new taken calls × AreSteps calls before after
       × (IsTrue (state g new.depot).is_open → Stands (state g new.depot).now after)
   turns_went name [] input rest old new before are clean given =
-      ([], before, tt, refl, subst (λ (o : DepotAndOutput S). IsTrue (state g o.depot).is_open → Stands (state g o.depot).now before) (sym are.1) given)
+      ([], before, refl, refl, subst (λ (o : DepotAndOutput S). IsTrue (state g o.depot).is_open → Stands (state g o.depot).now before) (sym are.1) given)
   turns_went name (turn ∷ turns) input rest old new before are clean given =
       let one = turn_went name old are.1 before (clean_all name turns are.0 rest are.1 new are.5 clean) given turn are.3 in
       let more = turns_went name turns are.0 rest are.1 new one.after are.5 clean one.stands in (
         one.calls ++ more.0,
         more.1,
-        zips_both (done_in turn) (lines_done turns) one.calls more.0 one.are more.2,
+        (one.calls, more.0, refl, one.are, more.2),
         steps_both one.calls more.0 before one.after more.1 one.steps more.3,
         more.4,
       )

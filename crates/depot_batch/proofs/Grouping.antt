@@ -1,5 +1,5 @@
 -- Lines that are to be done together.
-use Rattle.std.proofs.Common.{◌≡◌, ◌++◌, ◌∙◌, ◌+◌, ◌<◌, ◌≤◌, suc, arith, append-nil, ap, inl, inr, refl, subst, sym, ℕ, IfNone, List, [], ◌∷◌, None, Option, Some, length, map, take, drop, Vec, Global}
+use Rattle.std.proofs.Common.{◌≡◌, ◌++◌, ◌∙◌, ◌+◌, ◌<◌, ◌≤◌, suc, zero, arith, append-nil, ap, inl, inr, refl, subst, sym, ℕ, IfNone, List, [], ◌∷◌, None, Option, Some, length, map, take, drop, Vec, Global}
 use Rattle.std.specs.List.{flat_map}
 use Rattle.std.proofs.Math.ListN.{get_or}
 use Rattle.std.proofs.lemmas.Grind.{flat_map-append}
@@ -110,6 +110,15 @@ cut_lines lines shown cut n k is count same =
 
 pub cut_rest : (lines cut : List (Vec ℕ Global)) (n : ℕ) → cut ≡ take n lines → lines ≡ cut ++ drop n lines
 cut_rest lines cut n is = sym (take-append-drop n lines) ∙ ap (λ (ls : List (Vec ℕ Global)). ls ++ drop n lines) (sym is)
+
+first_some : (lines : List (Vec ℕ Global)) (n : ℕ) → 0 < n → 0 < length (lines_of lines) → 0 < length (lines_of (take n lines))
+first_some [] n some all = absurd (omega (arith, all))
+first_some (line ∷ lines) zero some all = absurd (omega (arith, some))
+first_some (line ∷ lines) (suc n) some all = omega arith
+
+pub cut_some : (lines cut : List (Vec ℕ Global)) (n k : ℕ) → cut ≡ take n lines → n ≡ k → 0 < k → 0 < length (lines_of lines) → 0 < length (lines_of cut)
+cut_some lines cut n k is count some all =
+    subst (λ (ls : List (Vec ℕ Global)). 0 < length (lines_of ls)) (sym is) (first_some lines n (omega (arith, count, some)) all)
 
 -- ---- answers
 

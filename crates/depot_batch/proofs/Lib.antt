@@ -5,6 +5,7 @@ mod Taking
 mod Writing
 mod LineLemmas
 mod LineReading
+mod Progress
 mod Batches
 mod Readying
 mod Grouping

@@ -29,7 +29,7 @@ use Rattle.refusals.specs.declared.refusal.Refusal.{Refusal}
 use Rattle.refusals.specs.declared.refusal.Refusal.TheVariants.{Memory, Write}
 use Rattle.depot_batch.specs.Asked.{AskNothing, Asks, Text}
 use Rattle.depot_batch.specs.Sentences.{wrong_line}
-use Rattle.depot_batch.specs.Turns.{Alone, AreTakenBy, HasServedBy, Together, Turn, Withdrawn}
+use Rattle.depot_batch.specs.Turns.{Alone, AreTakenBy, HasServedBy, Together, Turn, Withdrawn, done_in}
 use Rattle.depot_batch.specs.Words.{words_of}
 use Rattle.depot_batch.specs.declared.asked.Asked.{Asked}
 use Rattle.depot_batch.specs.declared.asked.Asked.TheVariants.{Reply, Export as IntoFile}
@@ -285,13 +285,31 @@ module _ {S : Type 0} (g : Ghosts S) where
 
 -- ---- lines as calls
 
--- what is asked of a depot, with the octets of its file
-abbrev pub command_asked : Asked → List ℕ → Command
-command_asked (Reply request) octets = request_command request octets
-command_asked (IntoFile export) octets = Exports export.user.now export.number export.encoding
+-- A call of a depot does what is asked: a request with the octets that were read of its file; or an
+-- export, whose text was made a file.
+abbrev pub IsCallFor : Text → Asked → Call → HostState → HostState → Type 0
+IsCallFor name (Reply request) call host host2 =
+    (octets : List ℕ) × HasReadFile (file_of request) octets host host2
+    × (reply : DepotReply) × (call ≡ record { command = request_command request octets; reply = Some reply })
+IsCallFor name (IntoFile export) call host host2 =
+    (text : List ℕ) × HasMade export.file.now name text host host2
+    × (call ≡ record { command = Exports export.user.now export.number export.encoding; reply = Some (Written text) })
 
--- a call of the depot is what a line asks for, and is accepted
-abbrev pub IsCallOf : List ℕ → Call → Type 0
-IsCallOf line call =
-    (asked : Asked) × IsAsked line asked × (octets : List ℕ) × (reply : DepotReply)
-    × (call ≡ record { command = command_asked asked octets; reply = Some reply })
+-- calls do what lines ask for, one after another
+abbrev pub AreCallsOf : Text → List (List ℕ) → List Call → HostState → Type 0
+AreCallsOf name [] [] host = Unit {0}
+AreCallsOf name (line ∷ lines) (call ∷ calls) host =
+    (asked : Asked) × IsAsked line asked
+    × (mid : HostState) × IsCallFor name asked call host mid × AreCallsOf name lines calls mid
+AreCallsOf name lines calls host = ⊥
+
+module _ {S : Type 0} (g : Ghosts S) where
+  -- Calls do what the lines ask for that are answered as done in turns that were taken, each with the
+  -- host as it was then.
+  abbrev pub AreCallsIn :
+      (name : Text) (turns : List Turn) (input rest : Supply) (old new : DepotAndOutput S)
+      → AreTaken g name turns input rest old new → List Call → Type 0
+  AreCallsIn name [] input rest old new taken calls = calls ≡ []
+  AreCallsIn name (turn ∷ turns) input rest old new taken calls =
+      (first later : List Call) × (calls ≡ first ++ later) × AreCallsOf name (done_in turn) first old.host
+      × AreCallsIn name turns taken.0 rest taken.1 new taken.5 later

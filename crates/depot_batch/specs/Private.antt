@@ -1,5 +1,5 @@
 -- Private: how lines are read, parted and done together.
-use Rattle.std.specs.Prelude.{◌≡◌, ◌≢◌, ◌⊎◌, ◌<◌, ◌≤◌, ◌^◌, ℕ, List, [], ◌∷◌, ◌++◌, Option, Some, None, IfSome, take, drop, length, map, Vec, string_bytes}
+use Rattle.std.specs.Prelude.{◌≡◌, ◌≢◌, ◌⊎◌, ◌<◌, ◌≤◌, ◌+◌, ◌^◌, ℕ, List, [], ◌∷◌, ◌++◌, Option, Some, None, IfSome, take, drop, length, map, Vec, string_bytes}
 use Rattle.std.specs.Io.{StartsWith}
 use Rattle.std.specs.List.{All, concat}
 use Rattle.std.specs.declared.alloc.Global.{Global}
@@ -22,7 +22,7 @@ use Rattle.depot_batch.specs.declared.together.Tried.TheVariants as tried
 use Rattle.depot_batch.specs.Asked.{Text}
 use Rattle.depot_batch.specs.Batch.{AreAnsweredBy, AreWithdrawn, Breaks, Happens, IsUnread, DepotAndOutput, most_together}
 use Rattle.depot_batch.specs.Lines.{HasShown, HasTakenAll, IsLine, IsUnfinished}
-use Rattle.depot_batch.specs.Turns.{Alone, EndsBy, GoesOn, HasServedLastBy, Takes, Turn}
+use Rattle.depot_batch.specs.Turns.{Alone, EndsBy, GoesOn, HasServedLastBy, Takes, Together, Turn, Withdrawn}
 use Rattle.depot_batch.specs.Words.{texts_of}
 
 -- what was taken of an input next: a line; what it ends with; or nothing, at its end
@@ -103,6 +103,18 @@ filed_by rows = map listed rows.items
 abbrev pub IsPassedOver : List ℕ → HostState → HostState → Type 0
 IsPassedOver line host host2 = (host2 ≡ host) ⊎ IsUnread line host host2
 
+-- a turn comes where so many lines are to be done alone, and leaves so many
+abbrev pub ComesNext : ℕ → Turn → ℕ → Type 0
+ComesNext alone (Alone line outcome) later = alone ≤ later + 1
+ComesNext alone (Together lines) later = (alone ≡ 0) × (0 < length lines)
+ComesNext alone (Withdrawn lines) later = (alone ≡ 0) × (0 < length lines) × (length lines ≤ later)
+
+-- so does the last turn, if there is one
+abbrev pub ComesLast : ℕ → List Turn → ℕ → Type 0
+ComesLast alone [] later = Unit {0}
+ComesLast alone (turn ∷ []) later = ComesNext alone turn later
+ComesLast alone (turn ∷ next ∷ turns) later = ⊥
+
 module _ {S : Type 0} (g : Ghosts S) where
   -- what came of lines that were to be done together
   abbrev pub HasTried : Tried → List (List ℕ) → DepotAndOutput S → DepotAndOutput S → Type 0
@@ -110,11 +122,11 @@ module _ {S : Type 0} (g : Ghosts S) where
   HasTried tried.Withdrawn lines old new = AreWithdrawn g lines old new
 
   -- a turn was taken, and the batch goes on; or it ended, with this status
-  abbrev pub HasTurned : Text → Option ℕ → Supply → Supply → DepotAndOutput S → DepotAndOutput S → Output → Output → Type 0
-  HasTurned name None input rest old new err err2 =
-      (turn : Turn) × Takes turn input rest × Happens g name turn old new × GoesOn turn × (err2 ≡ err)
-  HasTurned name (Some status) input rest old new err err2 =
-      (last : List Turn) × EndsBy (Happens g name) (Breaks g name) status 0 last input rest old new err err2
+  abbrev pub HasTurned : Text → Option ℕ → ℕ → ℕ → Supply → Supply → DepotAndOutput S → DepotAndOutput S → Output → Output → Type 0
+  HasTurned name None alone later input rest old new err err2 =
+      (turn : Turn) × Takes turn input rest × Happens g name turn old new × GoesOn turn × (err2 ≡ err) × ComesNext alone turn later
+  HasTurned name (Some status) alone later input rest old new err err2 =
+      (last : List Turn) × EndsBy (Happens g name) (Breaks g name) status 0 last input rest old new err err2 × ComesLast alone last later
 
   -- the last octets of the input were answered, in which no line break is
   abbrev pub HasServedLast : Text → ℕ → List ℕ → DepotAndOutput S → DepotAndOutput S → Output → Output → Type 0

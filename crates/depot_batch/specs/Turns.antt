@@ -1,5 +1,5 @@
 -- A batch, turn by turn.
-use Rattle.std.specs.Prelude.{◌≡◌, ◌≢◌, ◌⊎◌, ℕ, ◌-◌, ◌^◌, List, [], ◌∷◌, ◌++◌, length}
+use Rattle.std.specs.Prelude.{◌<◌, ◌≡◌, ◌≢◌, ◌⊎◌, ℕ, ◌-◌, ◌^◌, List, [], ◌∷◌, ◌++◌, length, take}
 use Rattle.std.specs.List.{All, concat}
 use Rattle.encodings.specs.Device.{Output}
 use Rattle.encodings.specs.Supply.{HasGiven, Supply}
@@ -25,11 +25,6 @@ done_in (Alone line Wrong) = []
 done_in (Together lines) = lines
 done_in (Withdrawn lines) = []
 
--- the lines that are answered as done in turns
-abbrev pub lines_done : List Turn → List (List ℕ)
-lines_done [] = []
-lines_done (turn ∷ turns) = done_in turn ++ lines_done turns
-
 -- the lines that are answered in a turn
 abbrev pub answered_in : Turn → List (List ℕ)
 answered_in (Alone line outcome) = line ∷ []
@@ -53,6 +48,20 @@ abbrev pub GoesOn : Turn → Type 0
 GoesOn (Alone line outcome) = outcome ≢ Refused Database
 GoesOn (Together lines) = Unit {0}
 GoesOn (Withdrawn lines) = Unit {0}
+
+-- a line is answered alone
+abbrev pub IsAlone : Turn → Type 0
+IsAlone (Alone line outcome) = Unit {0}
+IsAlone (Together lines) = ⊥
+IsAlone (Withdrawn lines) = ⊥
+
+-- Turns make progress: there is a line at least in each, and after lines that were tried in vain as many
+-- lines are answered alone, before any are tried again.
+abbrev pub MakeProgress : List Turn → Type 0
+MakeProgress [] = Unit {0}
+MakeProgress (Alone line outcome ∷ turns) = MakeProgress turns
+MakeProgress (Together lines ∷ turns) = (0 < length lines) × MakeProgress turns
+MakeProgress (Withdrawn lines ∷ turns) = (0 < length lines) × All IsAlone (take (length lines) turns) × MakeProgress turns
 
 -- Turns come one after another, by what the input has, and by what turns are taken with, before each
 -- and after it. What happens in a turn is said elsewhere.
@@ -92,7 +101,7 @@ module _ {T : Type 0} (Happens Breaks : Turn → T → T → Type 0) where
       × HasTold refusal err err2
       × (new ≡ old))
 
--- a batch was served, with this status: turns were taken one after another, until it ended
+-- a batch was served, with this status: turns were taken one after another, and made progress, until it ended
 pub record HasServedBy {T : Type 0} (Happens Breaks : Turn → T → T → Type 0) (status : ℕ) (input input2 : Supply) (old new : T)
     (err err2 : Output) : Type 0 where
   pub turns : List Turn
@@ -101,3 +110,4 @@ pub record HasServedBy {T : Type 0} (Happens Breaks : Turn → T → T → Type 
   pub taken : AreTakenBy Happens turns input rest old mid
   pub last : List Turn
   pub ended : EndsBy Happens Breaks status (length turns) last rest input2 mid new err err2
+  pub progress : MakeProgress (turns ++ last)

@@ -1,6 +1,6 @@
 //! What holds of the definitions alone.
-ghost use Rattle.std.specs.Prelude.{◌≡◌, ◌<◌, ◌⊎◌, ◌∷◌, IsTrue, List, Some, false, map, true, ℕ};
-ghost use Rattle.std.specs.List.{All, AllZip, concat};
+ghost use Rattle.std.specs.Prelude.{◌≡◌, ◌<◌, ◌≤◌, ◌+◌, ◌*◌, ◌⊎◌, ◌∷◌, IsTrue, List, Some, false, length, map, true, ℕ};
+ghost use Rattle.std.specs.List.{All, concat};
 ghost use Rattle.sqlite.specs.Held.{state};
 ghost use Rattle.sqlite.specs.State.{HasCleanDisk};
 ghost use Rattle.sqlite_trees.specs.Tree.{Trees};
@@ -11,9 +11,9 @@ ghost use Rattle.depot_actions.specs.History.{AreSteps, Call};
 ghost use Rattle.depot_actions.specs.PlainMedia.{HavePlainMedia};
 ghost use Rattle.depot_cli.specs.Printed.{entries_text};
 ghost use Rattle.depot_cli.specs.declared.entries.Detail.TheVariants.{Brief};
-ghost use Rattle.depot_batch.specs.Batch.{AreTaken, HasCome, IsCallOf, IsMadeAtOne, DepotAndOutput};
+ghost use Rattle.depot_batch.specs.Batch.{AreCallsIn, AreTaken, HasCome, IsMadeAtOne, DepotAndOutput};
 ghost use Rattle.depot_batch.specs.Closings.{has_closing};
-ghost use Rattle.depot_batch.specs.Turns.{Turn, lines_answered, lines_done};
+ghost use Rattle.depot_batch.specs.Turns.{MakeProgress, Turn, lines_answered};
 ghost use Rattle.depot_batch.specs.Words.{Writes, spaced, words_of};
 ghost use Rattle.depot_batch.specs.declared.outcome.Outcome.{Outcome};
 
@@ -29,13 +29,15 @@ pub fn lines_say_their_words()
 {}
 
 /// What an open depot holds after turns of a batch is what the commands of the lines that were answered `= 0` make of what it held before, one
-/// after another, in the order of the lines, whether they were done alone or together. Other lines make nothing.
+/// after another, in the order of the lines, whether they were done alone or together: each with the octets that were read of its file in
+/// its turn. Other lines make nothing.
 pub fn batches_are_a_fold<S: Alter>()
     ensures { (name : List ℕ) (turns : List Turn) (input rest : Supply) (old new : DepotAndOutput S)
-        (before : Entries)
-        → AreTaken S.Store name turns input rest old new → HasCleanDisk (state S.Store new.depot)
+        (before : Entries) (taken : AreTaken S.Store name turns input rest old new)
+        → HasCleanDisk (state S.Store new.depot)
         → (IsTrue (state S.Store old.depot).is_open → Stands (state S.Store old.depot).now before)
-        → (calls : List Call) × (after : Entries) × AllZip IsCallOf (lines_done turns) calls
+        → (calls : List Call) × (after : Entries)
+        × AreCallsIn S.Store name turns input rest old new taken calls
         × AreSteps calls before after
         × (IsTrue (state S.Store new.depot).is_open → Stands (state S.Store new.depot).now after) }
 {}
@@ -55,6 +57,13 @@ pub fn lines_are_taken_as_answered<S: Alter>()
     ensures { (name : List ℕ) (turns : List Turn) (input rest : Supply) (old new : DepotAndOutput S)
         → AreTaken S.Store name turns input rest old new
         → HasGiven (concat (lines_answered turns)) input rest }
+{}
+
+/// Turns of a batch are at most one more than twice as many as the lines that are answered in them, since they make progress. So a batch that
+/// ends after 2^64 - 1 turns has answered 2^63 - 1 lines at least.
+pub fn turns_are_at_most_twice_the_lines()
+    ensures { (turns : List Turn) → MakeProgress turns
+        → length turns ≤ 2 * length (lines_answered turns) + 1 }
 {}
 
 /// No line of an answer begins with `= `, so whoever reads a batch's output can tell the line that ends an answer from its own lines,

@@ -1,5 +1,5 @@
 // The lines of a batch.
-ghost use Rattle.std.specs.Prelude.{◌≡◌, ◌<◌, ◌≤◌, ◌^◌, length, true, false};
+ghost use Rattle.std.specs.Prelude.{◌≡◌, ◌<◌, ◌≤◌, ◌+◌, ◌^◌, ℕ, length, true, false};
 ghost use Rattle.std.specs.List.{All, concat};
 ghost use Rattle.refusals.specs.declared.refusal.Refusal.TheVariants.{Database};
 ghost use Rattle.encodings.specs.Supply.{Supply};
@@ -40,7 +40,8 @@ const REFUSED: u8 = 1;
 /// shut the depot's store; and where the input or `out` fails, or memory is refused while a line is
 /// read, of which the line of `Read`, `Write` or `Memory` is written to `err`. Memory that is refused
 /// for what a line asks is that line's answer. A batch ends after 2^64 - 1 turns, too, where lines that
-/// are done together are one turn.
+/// are done together, or were tried together in vain, are one turn; it has answered 2^63 - 1 lines then
+/// at least.
 pub fn batch<S: Alter, H: Host, R: BufRead + Drop, W: Write + Drop, E: Sink>(
     alloc: Global,
     name: &str,
@@ -100,8 +101,8 @@ fn take_turn<S: Alter, H: Host, R: BufRead + Drop, W: Write + Drop, E: Sink>(
     out: &mut OfWrite<W>,
     err: &mut E,
 ) -> Option<u8>
-    ensures { HasTurned S.Store name.now result (⟦<OfRead<R> as Source>⟧.supply input.old)
-        (⟦<OfRead<R> as Source>⟧.supply input.new)
+    ensures { HasTurned S.Store name.now result alone.old alone.new
+        (⟦<OfRead<R> as Source>⟧.supply input.old) (⟦<OfRead<R> as Source>⟧.supply input.new)
         (depot_and_output S.Store depot.old (H.state host.old) (⟦<OfWrite<W> as Sink>⟧.output out.old))
         (depot_and_output S.Store depot.new (H.state host.new) (⟦<OfWrite<W> as Sink>⟧.output out.new))
         (E.output err.old) (E.output err.new) }
@@ -133,6 +134,7 @@ fn take_together<S: Alter, H: Host, R: BufRead + Drop, W: Write + Drop, E: Sink>
     out: &mut OfWrite<W>,
     err: &mut E,
 ) -> Option<u8>
+    requires none { alone.old ≡ 0 }
     requires whole { All IsLine (lines_of lines.items) }
     requires some { 0 < length (lines_of lines.items) }
     requires few { length (lines_of lines.items) ≤ most_together }
@@ -141,7 +143,8 @@ fn take_together<S: Alter, H: Host, R: BufRead + Drop, W: Write + Drop, E: Sink>
         → CanTake (concat (lines_of lines.items)) before.left (R.consumable_len input.old.inner)
         → HasShown (concat (lines_of lines.items)) before
         (⟦<OfRead<R> as Source>⟧.supply input.old)
-        → HasTurned S.Store name.now result before (⟦<OfRead<R> as Source>⟧.supply input.new)
+        → HasTurned S.Store name.now result alone.old alone.new
+        before (⟦<OfRead<R> as Source>⟧.supply input.new)
         (depot_and_output S.Store depot.old (H.state host.old) (⟦<OfWrite<W> as Sink>⟧.output out.old))
         (depot_and_output S.Store depot.new (H.state host.new) (⟦<OfWrite<W> as Sink>⟧.output out.new))
         (E.output err.old) (E.output err.new) }
@@ -173,8 +176,9 @@ fn take_alone<S: Alter, H: Host, R: BufRead + Drop, W: Write + Drop, E: Sink>(
     out: &mut OfWrite<W>,
     err: &mut E,
 ) -> Option<u8>
-    ensures { HasTurned S.Store name.now result (⟦<OfRead<R> as Source>⟧.supply input.old)
-        (⟦<OfRead<R> as Source>⟧.supply input.new)
+    ensures { (alone later : ℕ) → alone ≤ later + 1
+        → HasTurned S.Store name.now result alone later
+        (⟦<OfRead<R> as Source>⟧.supply input.old) (⟦<OfRead<R> as Source>⟧.supply input.new)
         (depot_and_output S.Store depot.old (H.state host.old) (⟦<OfWrite<W> as Sink>⟧.output out.old))
         (depot_and_output S.Store depot.new (H.state host.new) (⟦<OfWrite<W> as Sink>⟧.output out.new))
         (E.output err.old) (E.output err.new) }

@@ -50,6 +50,7 @@ pub fn serve_together<S: Alter, H: Host, W: Write + Drop>(
     requires some { 0 < length (lines_of lines.old.items) }
     requires few { length (lines_of lines.old.items) ≤ most_together }
     ensures first { (later : List (Vec ℕ Global)) × (lines.old.items ≡ lines.new.items ++ later) }
+    ensures some { 0 < length (lines_of lines.new.items) }
     ensures tried { IfOk result (λ tried. HasTried S.Store tried (lines_of lines.new.items)
         (depot_and_output S.Store depot.old (H.state host.old) (⟦<OfWrite<W> as Sink>⟧.output out.old))
         (depot_and_output S.Store depot.new (H.state host.new) (⟦<OfWrite<W> as Sink>⟧.output out.new))) }

@@ -17,8 +17,8 @@ returns-in-Some g c =
     let out2 : Output = record { written = g.W.Write.contents c.take_turn.new.out.inner; faults = c.take_turn.new.out.faults } in
     let mid = depot_and_output g.S.Store c.turns.depot (g.H.Host.state c.turns.host) out in
     let new = depot_and_output g.S.Store c.take_turn.new.depot (g.H.Host.state c.take_turn.new.host) out2 in
-    ends g.S.Store c.args.name.now c.in-Some.status c.turns.counter _ rest left _ mid new _ (g.E.Sink.output c.turns.err) (g.E.Sink.output c.take_turn.new.err) c.turns.invariant
-    (subst (λ (came : Option ℕ). HasTurned g.S.Store c.args.name.now came rest left mid new (g.E.Sink.output c.turns.err) (g.E.Sink.output c.take_turn.new.err)) c.in-Some.is c.take_turn.ensures)
+    ends g.S.Store c.args.name.now c.in-Some.status c.turns.counter c.turns.alone c.take_turn.new.alone _ rest left _ mid new _ (g.E.Sink.output c.turns.err) (g.E.Sink.output c.take_turn.new.err) c.turns.invariant
+    (subst (λ (came : Option ℕ). HasTurned g.S.Store c.args.name.now came c.turns.alone c.take_turn.new.alone rest left mid new (g.E.Sink.output c.turns.err) (g.E.Sink.output c.take_turn.new.err)) c.in-Some.is c.take_turn.ensures)
 
 pub turns-preserved : goal.turns-preserved
 turns-preserved g c =
@@ -28,8 +28,8 @@ turns-preserved g c =
     let out2 : Output = record { written = g.W.Write.contents c.take_turn.new.out.inner; faults = c.take_turn.new.out.faults } in
     let mid = depot_and_output g.S.Store c.turns.depot (g.H.Host.state c.turns.host) out in
     let new = depot_and_output g.S.Store c.take_turn.new.depot (g.H.Host.state c.take_turn.new.host) out2 in
-    stands_on g.S.Store c.args.name.now c.turns.counter _ rest left _ mid new _ (g.E.Sink.output c.turns.err) (g.E.Sink.output c.take_turn.new.err) c.turns.invariant
-    (subst (λ (came : Option ℕ). HasTurned g.S.Store c.args.name.now came rest left mid new (g.E.Sink.output c.turns.err) (g.E.Sink.output c.take_turn.new.err)) c.in_default.is c.take_turn.ensures)
+    stands_on g.S.Store c.args.name.now c.turns.counter c.turns.alone c.take_turn.new.alone _ rest left _ mid new _ (g.E.Sink.output c.turns.err) (g.E.Sink.output c.take_turn.new.err) c.turns.invariant
+    (subst (λ (came : Option ℕ). HasTurned g.S.Store c.args.name.now came c.turns.alone c.take_turn.new.alone rest left mid new (g.E.Sink.output c.turns.err) (g.E.Sink.output c.take_turn.new.err)) c.in_default.is c.take_turn.ensures)
 
 pub returns : goal.returns
-returns g c = ends_counting g.S.Store c.args.name.now c.turns.counter _ _ _ _ _ _ c.turns.invariant (omega (arith, c.turns-test.false, c.turns.auto.counter-end))
+returns g c = ends_counting g.S.Store c.args.name.now c.turns.counter c.turns.alone _ _ _ _ _ _ c.turns.invariant (omega (arith, c.turns-test.false, c.turns.auto.counter-end))

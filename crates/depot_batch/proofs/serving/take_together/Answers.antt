@@ -1,5 +1,6 @@
-use Rattle.std.proofs.Common.{◌<◌, ◌^◌, length, refl, subst, sym, ℕ, List, Vec, Global}
+use Rattle.std.proofs.Common.{◌≡◌, ◌<◌, ◌^◌, arith, length, refl, rules, subst, sym, ℕ, List, Vec, Global}
 use Rattle.std.specs.List.{concat}
+use Rattle.std.proofs.lemmas.List.{length-map}
 use Rattle.encodings.specs.Device.{Output}
 use Rattle.encodings.specs.Supply.{Supply}
 use Rattle.depot_batch.specs.Batch.{depot_and_output}
@@ -40,12 +41,15 @@ returns-in-Ok-Done g c before can shown =
       subst (λ (t : Tried). HasTried g.S.Store t (lines_of cut) old new) c.in-Ok-Done.field-0-is c.in-Ok-Done.ensures.tried,
       tt,
       refl,
+      (c.requires.none, c.in-Ok-Done.ensures.some),
     )
 
 pub returns-in-Ok-Withdrawn : goal.returns-in-Ok-Withdrawn
 returns-in-Ok-Withdrawn g c before can shown =
     let cut = c.serve_together.new.lines.items in
     let first = c.in-Ok-Withdrawn.ensures.first in
+    let count : c.len.result ≡ length cut = search rules in
+    let many : length (lines_of cut) ≡ length cut = length-map cut (λ (l : Vec ℕ Global). l.items) in
     let input : Supply = record { left = g.R.Read.remaining c.args.input.now.inner; given = c.args.input.now.given; has_ended = c.args.input.now.has_ended; faults = c.args.input.now.faults } in
     let out : Output = record { written = g.W.Write.contents c.args.out.now.inner; faults = c.args.out.now.faults } in
     let out2 : Output = record { written = g.W.Write.contents c.serve_together.new.out.inner; faults = c.serve_together.new.out.faults } in
@@ -56,6 +60,7 @@ returns-in-Ok-Withdrawn g c before can shown =
       subst (λ (t : Tried). HasTried g.S.Store t (lines_of cut) old new) c.in-Ok-Withdrawn.field-0-is c.in-Ok-Withdrawn.ensures.tried,
       tt,
       refl,
+      (c.requires.none, c.in-Ok-Withdrawn.ensures.some, omega (arith, count, many)),
     )
 
 pub returns : goal.returns
@@ -68,7 +73,7 @@ returns g c before can shown =
     let out2 : Output = record { written = g.W.Write.contents c.serve_together.new.out.inner; faults = c.serve_together.new.out.faults } in
     let old = depot_and_output g.S.Store c.args.depot.now (g.H.Host.state c.args.host.now) out in
     let new = depot_and_output g.S.Store c.serve_together.new.depot (g.H.Host.state c.serve_together.new.host) out2 in
-    turned_broken g.S.Store c.args.name.now (Together (lines_of cut)) c.tell.result before rest old new _ _ (
+    turned_broken g.S.Store c.args.name.now (Together (lines_of cut)) c.tell.result c.args.alone.now c.args.alone.now before rest old new _ _ (c.requires.none, c.in-Err.ensures.some) (
       first_whole c.args.lines.items cut first.0 first.1 c.requires.whole,
       first_taken c.args.lines.items cut first.0 first.1 c.deref-in-Err.result.now before input rest (g.R.BufRead.consumable_len c.args.input.now.inner) c.deref-in-Err.ensures.value can shown (c.take_lines-in-Err.ensures before),
     )

@@ -10,7 +10,7 @@ use Rattle.depot_actions.specs.DepotState.{Listed}
 use Rattle.depot_batch.specs.Batch.{AreDeliveries, most_together, depot_and_output}
 use Rattle.depot_batch.specs.Private.{command_of, filed_by, lines_of}
 use Rattle.depot_batch.specs.declared.mails.Mail.{Mail}
-use Rattle.depot_batch.proofs.Grouping.{answered_together, cut_lines, cut_rest, withdrawn_late}
+use Rattle.depot_batch.proofs.Grouping.{answered_together, cut_lines, cut_rest, cut_some, withdrawn_late}
 use Rattle.depot_batch.proofs.Readying.{first_few}
 use Rattle.depot_batch.proofs.together.serve_together.Goals as goal
 
@@ -26,6 +26,22 @@ returns-in-Some-deliver_mails-clause-first g c =
 pub returns-clause-first : goal.returns-clause-first
 returns-clause-first g c =
     (drop c.len.result c.args.lines.now.items, cut_rest c.args.lines.now.items c.truncate.new.self.items c.len.result c.truncate.ensures.items)
+
+pub returns-in_err-put_filed-in-Some-deliver_mails-clause-some :
+    goal.returns-in_err-put_filed-in-Some-deliver_mails-clause-some
+returns-in_err-put_filed-in-Some-deliver_mails-clause-some g c =
+    let count : c.len.result ≡ length c.in-Some.mails.items = search rules in
+    cut_some c.args.lines.now.items c.truncate.new.self.items c.len.result (length c.in-Some.mails.items) c.truncate.ensures.items count c.in-Some.ensures.some c.requires.some
+
+pub returns-in-Some-deliver_mails-clause-some : goal.returns-in-Some-deliver_mails-clause-some
+returns-in-Some-deliver_mails-clause-some g c =
+    let count : c.len.result ≡ length c.in-Some.mails.items = search rules in
+    cut_some c.args.lines.now.items c.truncate.new.self.items c.len.result (length c.in-Some.mails.items) c.truncate.ensures.items count c.in-Some.ensures.some c.requires.some
+
+pub returns-clause-some : goal.returns-clause-some
+returns-clause-some g c =
+    let count : c.len.result ≡ length c.in-Some.mails.items = search rules in
+    cut_some c.args.lines.now.items c.truncate.new.self.items c.len.result (length c.in-Some.mails.items) c.truncate.ensures.items count c.in-Some.ensures.some c.requires.some
 
 pub returns-in_err-put_filed-in-Some-deliver_mails-clause-broken :
     goal.returns-in_err-put_filed-in-Some-deliver_mails-clause-broken
