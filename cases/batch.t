@@ -191,6 +191,48 @@
     0
     $ rm jump empty nothing kept
 
+## many lines
+    $ yes 'list ann' | head -n 20000 | depot batch mail.depot | sort | uniq -c | tr -s ' '
+     20000 = 0
+     20000 none
+
+## deliveries that are ready together, also more than are filed at once
+    $ : > empty
+    $ for n in 1 2 3 63 64 65 130; do rm -f mail.depot*; yes 'deliver ann empty' | head -n "$n" | depot batch mail.depot > got
+    > for i in $(seq "$n"); do printf '%s message "INBOX"\n= 0\n' "$i"; done | cmp - got; depot list mail.depot ann | wc -l; done
+    1
+    2
+    3
+    63
+    64
+    65
+    130
+    $ rm empty got
+
+## deliveries to several users that are ready together
+    $ : > empty
+    $ cat > lines <<'END'
+    > deliver ann examples/ticket.eml
+    > deliver bob empty
+    > deliver ann empty
+    > list bob
+    > deliver bob examples/ticket.eml
+    > deliver ann examples/ticket.eml
+    > END
+    $ depot batch mail.depot < lines
+    1 message "INBOX"
+    = 0
+    1 message "INBOX"
+    = 0
+    2 message "INBOX"
+    = 0
+    1 message "INBOX" "" message/rfc822 0
+    = 0
+    2 message "INBOX"
+    = 0
+    3 message "INBOX"
+    = 0
+
 ## files that can't be read, and messages that are refused
     $ printf 'deliver ann nothing\nscript ann examples/invoice.eml\ndeliver Ann examples/invoice.eml\n' > lines
     $ printf 'deliver ann %s\nlist ann\n' "$FILES/too-large" >> lines
@@ -240,9 +282,9 @@
 ## a depot that is held, and output that is full
     $ depot script mail.depot ann examples/documents.sieve
     stored
-    $ mkfifo in
+    $ mkfifo in && : > out
     $ { depot batch mail.depot < in > out; echo "$?" >> out; } &
-    > exec 3> in; echo 'list ann' >&3; until grep -q = out; do sleep 0.1; done
+    > exec 3> in; echo 'list ann' >&3; until grep -qs = out; do sleep 0.1; done
     > depot batch mail.depot < /dev/null; echo "$?"; exec 3>&-; wait; cat out
     1
     none

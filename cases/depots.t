@@ -39,6 +39,15 @@ Filters.
     1 message "INBOX" "" message/rfc822 0
     $ depot export mail.depot cat 1 raw
 
+## a script is stored as its program
+    $ depot script mail.depot ann examples/documents.sieve
+    stored
+    $ depot compile examples/documents.sieve compiled
+    wrote 129 octets
+    $ depot program mail.depot ann stored
+    wrote 129 octets
+    $ cmp compiled stored
+
 Messages that are filed.
 
 ## the examples filed
@@ -125,6 +134,23 @@ Messages that are filed.
     1 message "INBOX" "" message/rfc822 6
     $ depot deliver mail.depot ann "$FILES/most-parts"
     2 message "INBOX"
+
+## a message of 20 MB, three times
+    $ head -c 20000000 /dev/zero | tr '\0' '\n' > message
+    $ echo 'require ["fileinto", "foreverypart", "vnd.depot"]; keep; fileinto "a"; foreverypart { store "b"; }' > script
+    $ depot script mail.depot ann script
+    stored
+    $ depot deliver mail.depot ann message
+    1 message "INBOX"
+    2 message "a"
+    3 part "b"
+    $ depot list mail.depot ann
+    1 message "INBOX" "" message/rfc822 20000000
+    2 message "a" "" message/rfc822 20000000
+    3 part "b" "" text/plain 19999999
+    $ depot export mail.depot ann 2 base16 | wc -c
+    40000000
+    $ depot export mail.depot ann 2 raw | cmp - message
 
 What is listed, and for whom.
 

@@ -27,6 +27,26 @@ fn program_of(
     Ok(program)
 }
 
+// The program that a listing says.
+fn read(alloc: Global, listing: &[u8]) -> Result<Program, Fail> {
+    match assemble(alloc, listing) {
+        Ok(program) => Ok(program),
+        Err(_) => Err(Fail::from("not read")),
+    }
+}
+
+// Whether this is the listing of a program.
+fn is_listed_as(alloc: Global, program: &Program, want: &[u8]) -> Result<bool, AllocError> {
+    let listing = disassemble(alloc, program)?;
+    Ok(listing.as_slice() == want)
+}
+
+// Whether this is the listing of the program that another says.
+fn is_written_as(alloc: Global, listing: &[u8], want: &[u8]) -> Result<bool, Fail> {
+    let program = read(alloc, listing)?;
+    Ok(is_listed_as(alloc, &program, want)?)
+}
+
 fn plain(op: u8) -> Instruction {
     Instruction {
         op,
@@ -36,9 +56,8 @@ fn plain(op: u8) -> Instruction {
     }
 }
 
-#[test]
-fn small_program(rt: HostRuntime) -> Result<(), Fail> {
-    let alloc = rt.alloc();
+// The small program.
+fn small(alloc: Global) -> Result<Program, Fail> {
     let mut strings = Vec::new(alloc);
     strings.push(Octets::from_vec(b"a\0a\"b".to_vec(alloc)?))?;
     let header = Instruction {
@@ -48,14 +67,18 @@ fn small_program(rt: HostRuntime) -> Result<(), Fail> {
         c: 3,
     };
     let instructions = [plain(Operation::Literal.octet()), header, plain(0xFF)].to_vec(alloc)?;
-    let program = program_of(strings, instructions, alloc)?;
+    program_of(strings, instructions, alloc)
+}
+
+#[test]
+fn small_program(rt: HostRuntime) -> Result<(), Fail> {
+    let alloc = rt.alloc();
+    let program = small(alloc)?;
+    assert!(rt; is_listed_as(alloc, &program, SMALL)?);
     let Ok(again) = read_again(alloc, &program) else {
         return Err(Fail::from("not read"));
     };
-    for same in [&program, &again] {
-        let listing = disassemble(alloc, same)?;
-        assert!(rt; listing.as_slice() == SMALL);
-    }
+    assert!(rt; is_listed_as(alloc, &again, SMALL)?);
     Ok(())
 }
 
@@ -77,14 +100,8 @@ const OTHERWISE: &[u8] =
 
 #[test]
 fn reads_what_it_writes(rt: HostRuntime) -> Result<(), Fail> {
-    let alloc = rt.alloc();
-    for listing in [SMALL, OTHERWISE] {
-        let Ok(program) = assemble(alloc, listing) else {
-            return Err(Fail::from("not read"));
-        };
-        let again = disassemble(alloc, &program)?;
-        assert!(rt; again.as_slice() == SMALL);
-    }
+    assert!(rt; is_written_as(rt.alloc(), SMALL, SMALL)?);
+    assert!(rt; is_written_as(rt.alloc(), OTHERWISE, SMALL)?);
     Ok(())
 }
 
@@ -99,14 +116,8 @@ const WORDED_LISTED: &[u8] = b"version 1\nvariables 0\n0 HEADER a 142 b 1 c 1310
 
 #[test]
 fn words_are_numbers(rt: HostRuntime) -> Result<(), Fail> {
-    let alloc = rt.alloc();
-    for listing in [WORDED, WORDED_LISTED] {
-        let Ok(program) = assemble(alloc, listing) else {
-            return Err(Fail::from("not read"));
-        };
-        let again = disassemble(alloc, &program)?;
-        assert!(rt; again.as_slice() == WORDED_LISTED);
-    }
+    assert!(rt; is_written_as(rt.alloc(), WORDED, WORDED_LISTED)?);
+    assert!(rt; is_written_as(rt.alloc(), WORDED_LISTED, WORDED_LISTED)?);
     Ok(())
 }
 
@@ -119,30 +130,27 @@ fn fault(alloc: Global, listing: &[u8]) -> Result<usize, Fail> {
     }
 }
 
+/// Listings, with the places of their faults.
+const FAULTS: [(&[u8], usize); 12] = [
+    (b"version 3", 8),
+    (b"version 1 variables 129", 20),
+    (b"version 1 variables 0 LIT d 1", 26),
+    (b"version 1 variables 0 LIT a 256", 28),
+    (b"version 1 variables 0 LIT a 1 a 1", 30),
+    (b"version 1 variables 0 1 LIT", 22),
+    (b"version 1 variables 0 string \"a\\0g\"", 29),
+    (b"version 1 variables 0 lit", 22),
+    (b"version 1 variables 0 LIT a is", 28),
+    (b"version 1 variables 0 HEADER a part is", 36),
+    (b"version 1 variables 0 HEADER c 65536 params 1 keys", 37),
+    (b"version 1 ; variables 0", 23),
+];
+
 #[test]
 fn faults_are_placed(rt: HostRuntime) -> Result<(), Fail> {
-    let alloc = rt.alloc();
-    assert_eq!(rt; fault(alloc, b"version 3")?, 8);
-    assert_eq!(rt; fault(alloc, b"version 1 variables 129")?, 20);
-    assert_eq!(rt; fault(alloc, b"version 1 variables 0 LIT d 1")?, 26);
-    assert_eq!(rt; fault(alloc, b"version 1 variables 0 LIT a 256")?, 28);
-    assert_eq!(rt; fault(alloc, b"version 1 variables 0 LIT a 1 a 1")?, 30);
-    assert_eq!(rt; fault(alloc, b"version 1 variables 0 1 LIT")?, 22);
-    assert_eq!(rt;
-        fault(alloc, b"version 1 variables 0 string \"a\\0g\"")?,
-        29
-    );
-    assert_eq!(rt; fault(alloc, b"version 1 variables 0 lit")?, 22);
-    assert_eq!(rt; fault(alloc, b"version 1 variables 0 LIT a is")?, 28);
-    assert_eq!(rt;
-        fault(alloc, b"version 1 variables 0 HEADER a part is")?,
-        36
-    );
-    assert_eq!(rt;
-        fault(alloc, b"version 1 variables 0 HEADER c 65536 params 1 keys")?,
-        37
-    );
-    assert_eq!(rt; fault(alloc, b"version 1 ; variables 0")?, 23);
+    for (listing, place) in FAULTS {
+        assert_eq!(rt; fault(rt.alloc(), listing)?, place);
+    }
     Ok(())
 }
 
@@ -156,31 +164,23 @@ const NUMBERED: &[u8] = b"version 1\nvariables 0\n0 JT c 5\n1 LIT c 7\n2 JF c 1 
 
 #[test]
 fn labels_are_places(rt: HostRuntime) -> Result<(), Fail> {
-    let alloc = rt.alloc();
-    let Ok(program) = assemble(alloc, NAMED) else {
-        return Err(Fail::from("not read"));
-    };
-    let listing = disassemble(alloc, &program)?;
-    assert!(rt; listing.as_slice() == NUMBERED);
+    assert!(rt; is_written_as(rt.alloc(), NAMED, NUMBERED)?);
     Ok(())
 }
 
+/// Listings with faults of labels.
+const LABEL_FAULTS: [(&[u8], usize); 4] = [
+    (b"version 1 variables 0 label 1a HALT", 28),
+    (b"version 1 variables 0 JMP c x label a label a", 44),
+    (b"version 1 variables 0 JMP c x label a JT c y", 28),
+    (b"version 1 variables 0 JMP c x label a lit", 38),
+];
+
 #[test]
 fn faults_of_labels_are_placed(rt: HostRuntime) -> Result<(), Fail> {
-    let alloc = rt.alloc();
-    assert_eq!(rt; fault(alloc, b"version 1 variables 0 label 1a HALT")?, 28);
-    assert_eq!(rt;
-        fault(alloc, b"version 1 variables 0 JMP c x label a label a")?,
-        44
-    );
-    assert_eq!(rt;
-        fault(alloc, b"version 1 variables 0 JMP c x label a JT c y")?,
-        28
-    );
-    assert_eq!(rt;
-        fault(alloc, b"version 1 variables 0 JMP c x label a lit")?,
-        38
-    );
+    for (listing, place) in LABEL_FAULTS {
+        assert_eq!(rt; fault(rt.alloc(), listing)?, place);
+    }
     Ok(())
 }
 
@@ -194,12 +194,7 @@ const IN_TABLE: &[u8] = b"version 1\nvariables 0\nstring \"a\"\nstring \"b\"\nst
 
 #[test]
 fn strings_stand_in_lines(rt: HostRuntime) -> Result<(), Fail> {
-    let alloc = rt.alloc();
-    let Ok(program) = assemble(alloc, IN_LINE) else {
-        return Err(Fail::from("not read"));
-    };
-    let listing = disassemble(alloc, &program)?;
-    assert!(rt; listing.as_slice() == IN_TABLE);
+    assert!(rt; is_written_as(rt.alloc(), IN_LINE, IN_TABLE)?);
     Ok(())
 }
 
@@ -212,9 +207,8 @@ fn put_name(out: &mut Vec<u8>, number: usize) -> Result<(), AllocError> {
     Ok(())
 }
 
-#[test]
-fn as_many_labels_as_there_may_be(rt: HostRuntime) -> Result<(), Fail> {
-    let alloc = rt.alloc();
+// A listing of as many jumps as there may be, the first to the last and so on.
+fn crossing_jumps(alloc: Global) -> Result<Vec<u8>, AllocError> {
     let mut listing = b"version 1 variables 0".to_vec(alloc)?;
     for place in 0..MOST_INSTRUCTIONS {
         listing.extend_from_slice(b" label ")?;
@@ -222,9 +216,14 @@ fn as_many_labels_as_there_may_be(rt: HostRuntime) -> Result<(), Fail> {
         listing.extend_from_slice(b" JMP c ")?;
         put_name(&mut listing, MOST_INSTRUCTIONS - 1 - place)?;
     }
-    let Ok(program) = assemble(alloc, listing.as_slice()) else {
-        return Err(Fail::from("not read"));
-    };
+    Ok(listing)
+}
+
+#[test]
+fn as_many_labels_as_there_may_be(rt: HostRuntime) -> Result<(), Fail> {
+    let alloc = rt.alloc();
+    let listing = crossing_jumps(alloc)?;
+    let program = read(alloc, &listing)?;
     let instructions = program.instructions();
     assert_eq!(rt; instructions.len(), MOST_INSTRUCTIONS);
     for place in 0..instructions.len() {

@@ -45,12 +45,16 @@ fn as_field(place: usize) -> u32 {
 // Every instruction, where places are below a number, or one more.
 fn alternatives(alloc: Global, places: usize) -> Result<Vec<Instruction>, Fail> {
     let mut all = Vec::new(alloc);
-    all.push(small(BREAK, 1, 0))?;
-    all.push(small(BREAK, 2, 0))?;
-    all.push(small(KEEP, 0, 0))?;
-    all.push(small(BOOL, 0, 0))?;
-    all.push(small(BOOL, 1, 0))?;
-    all.push(small(HALT, 0, 0))?;
+    for (op, a) in [
+        (BREAK, 1),
+        (BREAK, 2),
+        (KEEP, 0),
+        (BOOL, 0),
+        (BOOL, 1),
+        (HALT, 0),
+    ] {
+        all.push(small(op, a, 0))?;
+    }
     for place in 0..as_field(places).wrapping_add(1) {
         for op in [EACH, NEXT, JUMP_IF_TRUE, JUMP] {
             all.push(small(op, 0, place))?;
@@ -153,26 +157,43 @@ fn goes_on(
     }
 }
 
+// An accepted program is one by the plain reader, too, and runs as it does there, in both versions.
+fn accepted_agrees(
+    alloc: Global,
+    code: &[Instruction],
+    verified: &Verified,
+    messages: &Messages,
+) -> Result<(), Fail> {
+    if fault(code).is_some() {
+        return Err(Fail::from("another verdict"));
+    }
+    if !runs_on_both(alloc, code, verified, messages)? {
+        return Err(Fail::from("another run"));
+    }
+    if !goes_on(alloc, code, verified, messages)? {
+        return Err(Fail::from("another run in version 2"));
+    }
+    Ok(())
+}
+
+// A refusal is the one of the plain reader.
+fn refusal_agrees(code: &[Instruction], refusal: &Refusal) -> Result<(), Fail> {
+    let wanted = broken(refusal);
+    if wanted.is_none() || wanted != fault(code) {
+        return Err(Fail::from("another refusal"));
+    }
+    Ok(())
+}
+
 // Whether the verifier and the machine do with a program what the plain ones do, in both versions; true where it is accepted.
 fn agrees(alloc: Global, code: &[Instruction], messages: &Messages) -> Result<bool, Fail> {
     match verify(alloc, program_of(alloc, 1, code)?) {
         Ok(verified) => {
-            if fault(code).is_some() {
-                return Err(Fail::from("another verdict"));
-            }
-            if !runs_on_both(alloc, code, &verified, messages)? {
-                return Err(Fail::from("another run"));
-            }
-            if !goes_on(alloc, code, &verified, messages)? {
-                return Err(Fail::from("another run in version 2"));
-            }
+            accepted_agrees(alloc, code, &verified, messages)?;
             Ok(true)
         }
         Err((_program, refusal)) => {
-            let wanted = broken(&refusal);
-            if wanted.is_none() || wanted != fault(code) {
-                return Err(Fail::from("another refusal"));
-            }
+            refusal_agrees(code, &refusal)?;
             Ok(false)
         }
     }
@@ -308,7 +329,33 @@ fn name_partners(code: &mut [Instruction], open: &mut Vec<usize>) -> Result<(), 
     Ok(())
 }
 
-// Programs of 6 to 12 instructions by chance: of every two one is written so that it is often accepted.
+// Makes the instructions of a program but the last any that there are, and answers the state after it.
+fn fill_any(code: &mut [Instruction], alternatives: &[Instruction], state: u64) -> u64 {
+    let mut state = state;
+    for place in 0..code.len().saturating_sub(1) {
+        state = next(state);
+        code[place] = any(alternatives, (state >> 33) as usize);
+    }
+    state
+}
+
+// Writes a program by chance, and answers the state after it: of every two one is written so that it is often accepted.
+fn write_by_chance(
+    alloc: Global,
+    code: &mut [Instruction],
+    number: usize,
+    state: u64,
+) -> Result<u64, Fail> {
+    if number.is_multiple_of(2) {
+        let after = fill(code, state);
+        name_partners(code, &mut Vec::new(alloc))?;
+        return Ok(after);
+    }
+    let alternatives = alternatives(alloc, code.len())?;
+    Ok(fill_any(code, &alternatives, state))
+}
+
+// Programs of 6 to 12 instructions by chance.
 #[test]
 fn longer_programs(rt: HostRuntime) -> Result<(), Fail> {
     let alloc = rt.alloc();
@@ -316,18 +363,8 @@ fn longer_programs(rt: HostRuntime) -> Result<(), Fail> {
     let mut state = 1u64;
     let mut accepted = 0usize;
     for number in 0..200_000usize {
-        let length = 6 + number % 7;
-        let mut code = vec![in alloc; small(HALT, 0, 0); length]?;
-        if number.is_multiple_of(2) {
-            state = fill(&mut code, state);
-            name_partners(&mut code, &mut Vec::new(alloc))?;
-        } else {
-            let alternatives = alternatives(alloc, length)?;
-            for place in 0..length.saturating_sub(1).min(code.len()) {
-                state = next(state);
-                code[place] = any(&alternatives, (state >> 33) as usize);
-            }
-        }
+        let mut code = vec![in alloc; small(HALT, 0, 0); 6 + number % 7]?;
+        state = write_by_chance(alloc, &mut code, number, state)?;
         if agrees(alloc, &code, &messages)? {
             accepted = accepted.wrapping_add(1);
         }

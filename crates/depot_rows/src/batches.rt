@@ -1,6 +1,6 @@
 // Batches on a depot in memory, over a shelf: what each line is answered, and what breaks off.
 use crate::devices::Calls;
-use crate::known::{DISCARD, EMPTY, MAIL, entries};
+use crate::known::{EMPTY, MAIL, entries};
 use crate::shelf::{Known, Shelf};
 use depot_actions::{Depot, Refusal};
 use depot_batch::batch;
@@ -10,17 +10,6 @@ use std::alloc::Global;
 use std::io;
 use std::io::{BufReader, Error, ErrorKind, Read, Write};
 use std::test::Fail;
-use store_rows::samples::{JUMP, KEEP};
-
-const PROGRAM: Known<'static> = Known {
-    name: "program",
-    octets: KEEP,
-};
-
-const WRONG: Known<'static> = Known {
-    name: "wrong",
-    octets: JUMP,
-};
 
 // Three deliveries, and what they are answered.
 const THREE: &[u8] = b"deliver ann mail\ndeliver ann mail\ndeliver ann mail\n";
@@ -101,65 +90,6 @@ fn served<R: Read + Drop, W: Write + Drop>(
         out: out.inner,
         err: err.inner,
     })
-}
-
-// Whether lines are answered so, with status 0.
-fn answers(
-    alloc: Global,
-    depot: &mut Result<Depot<MemStore>, Refusal>,
-    files: [Known<'static>; 2],
-    lines: &[u8],
-    answer: &[u8],
-) -> Result<bool, Fail> {
-    let seen = served(alloc, depot, files, lines, Vec::new(alloc))?;
-    let ended = seen.status == 0 && seen.faults == 0 && seen.has_ended;
-    Ok(ended && seen.out.as_slice() == answer && seen.err.is_empty())
-}
-
-#[test]
-fn lines_are_answered(rt: HostRuntime) -> Result<(), Fail> {
-    let alloc = rt.alloc();
-    let mut depot = Depot::in_memory(alloc);
-    let stored = answers(
-        alloc,
-        &mut depot,
-        [PROGRAM, WRONG],
-        b"code cat program\ncode cat wrong\ncode cat none\n",
-        b"stored\n= 0\nrefused 25 Jump at 0\n= 1\nrefused 46 Read\n= 1\n",
-    )?;
-    assert!(rt; stored, "programs");
-    let delivered = answers(
-        alloc,
-        &mut depot,
-        [EMPTY, DISCARD],
-        b"deliver cat empty\ndeliver dan empty\nlist cat\nexport cat 1 raw made\nscript eve discard\ndeliver eve empty\nlist eve\n",
-        b"1 message \"INBOX\"\n= 0\n1 message \"INBOX\"\n= 0\n1 message \"INBOX\" \"\" message/rfc822 0\n= 0\nexported 1\n= 0\nstored\n= 0\nnone\n= 0\nnone\n= 0\n",
-    )?;
-    assert!(rt; delivered, "deliveries");
-    let told = answers(
-        alloc,
-        &mut depot,
-        [EMPTY, MAIL],
-        b"\"deliver\" \"\\63at\" mail\nremove cat 1\nremove cat 1\nlist Cat\nlist  cat\nlist cat",
-        b"2 message \"INBOX\"\n= 0\nremoved 1\n= 0\nrefused 40 NoSuchEntry\n= 1\nrefused 44 UserName\n= 1\n? words have one space between them, and others stand in quotes\n= 2\n? the input ended within this line\n= 2\n",
-    )?;
-    assert!(rt; told, "refusals");
-    Ok(())
-}
-
-#[test]
-fn many_lines(rt: HostRuntime) -> Result<(), Fail> {
-    let alloc = rt.alloc();
-    let mut depot = Depot::in_memory(alloc);
-    let mut lines = Vec::new(alloc);
-    let mut answer = Vec::new(alloc);
-    for _ in 0..20_000u32 {
-        lines.extend_from_slice(b"list ann\n")?;
-        answer.extend_from_slice(b"none\n= 0\n")?;
-    }
-    let same = answers(alloc, &mut depot, [EMPTY, MAIL], &lines, &answer)?;
-    assert!(rt; same);
-    Ok(())
 }
 
 #[test]

@@ -187,54 +187,77 @@ fn what_was_done_stands(rt: HostRuntime) -> Result<(), Fail> {
     Ok(())
 }
 
+// Whether an export that broke off says so, and has written so many octets of its text.
+fn is_broken_off(status: u8, octets: &[u8], told: &[u8], written: usize) -> bool {
+    let text = b"Zm9vYmFy\r\n".as_slice();
+    status == 1
+        && octets == &text[..written.min(text.len())]
+        && told == b"refused 45 Write\n".as_slice()
+}
+
 #[test]
 fn exports_that_break_off(rt: HostRuntime) -> Result<(), Fail> {
-    let alloc = rt.alloc();
-    let whole = b"Zm9vYmFy\r\n".as_slice();
     for calls in 0..10usize {
-        let (status, writer, told) = exported(alloc, Calls::new(&rt, 1, calls))?;
-        assert_eq!(rt; status, 1, "{calls}");
-        assert!(rt; writer.octets.as_slice() == &whole[..calls], "{calls}");
+        let (status, writer, told) = exported(rt.alloc(), Calls::new(&rt, 1, calls))?;
         assert!(rt;
-            told.as_slice() == b"refused 45 Write\n".as_slice(),
+            is_broken_off(status, &writer.octets, &told, calls),
             "{calls}"
-        );
-        let full = Full {
-            octets: Vec::new(alloc),
-            room: calls,
-        };
-        let (status, writer, told) = exported(alloc, full)?;
-        assert_eq!(rt; status, 1, "full after {calls}");
-        assert!(rt;
-            writer.octets.as_slice() == &whole[..calls],
-            "full after {calls}"
-        );
-        assert!(rt;
-            told.as_slice() == b"refused 45 Write\n".as_slice(),
-            "full after {calls}"
         );
     }
     Ok(())
 }
 
 #[test]
+fn exports_to_a_writer_that_is_full(rt: HostRuntime) -> Result<(), Fail> {
+    let alloc = rt.alloc();
+    for room in 0..10usize {
+        let octets = Vec::new(alloc);
+        let (status, writer, told) = exported(alloc, Full { octets, room })?;
+        assert!(rt;
+            is_broken_off(status, &writer.octets, &told, room),
+            "{room}"
+        );
+    }
+    Ok(())
+}
+
+// Octets that look like chance.
+fn mixed(alloc: Global, length: usize) -> Result<Vec<u8>, AllocError> {
+    let mut octets = Vec::new(alloc);
+    for place in 0..length {
+        octets.push((place.wrapping_mul(7) % 251) as u8)?;
+    }
+    Ok(octets)
+}
+
+// Whether an export breaks off after so many calls of an octet each, with the beginning of the text written.
+fn breaks_off(
+    rt: &HostRuntime,
+    depot: &mut Depot<MemStore>,
+    encoding: Encoding,
+    text: &[u8],
+    calls: usize,
+) -> bool {
+    let mut out = OfWrite::new(Calls::new(rt, 1, calls));
+    let exported = depot.export(rt.alloc(), "ann", 1, encoding, &mut out);
+    let written = out.inner.octets.as_slice();
+    matches!(exported, Err(Refusal::Write)) && written.len() == calls && text.starts_with(written)
+}
+
+#[test]
 fn every_97th_call_fails(rt: HostRuntime) -> Result<(), Fail> {
     let alloc = rt.alloc();
-    let mut message = Vec::new(alloc);
-    for place in 0..10_000usize {
-        message.push((place.wrapping_mul(7) % 251) as u8)?;
-    }
+    let message = mixed(alloc, 10_000)?;
     let mut depot = Depot::in_memory(alloc)?;
     depot.deliver(alloc, "ann", &message)?;
     for encoding in ENCODINGS {
-        let whole = encode(alloc, encoding, &message)?;
-        assert!(rt; whole.len() >= 10_000);
-        for calls in (0..whole.len()).step_by(97) {
-            let mut out = OfWrite::new(Calls::new(&rt, 1, calls));
-            let broken = depot.export(alloc, "ann", 1, encoding, &mut out);
-            assert!(rt; matches!(&broken, Err(Refusal::Write)), "{calls}");
-            assert!(rt; whole.starts_with(&out.inner.octets), "{calls}");
-            assert_eq!(rt; out.inner.octets.len(), calls);
+        let text = encode(alloc, encoding, &message)?;
+        assert!(rt; text.len() >= 10_000);
+        for calls in (0..text.len()).step_by(97) {
+            assert!(rt;
+                breaks_off(&rt, &mut depot, encoding, &text, calls),
+                "{calls}"
+            );
         }
     }
     Ok(())

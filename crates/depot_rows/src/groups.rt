@@ -83,35 +83,6 @@ fn filed(alloc: Global, first: usize, count: usize) -> Result<Vec<u8>, Fail> {
 }
 
 #[test]
-fn groups_are_answered(rt: HostRuntime) -> Result<(), Fail> {
-    let alloc = rt.alloc();
-    for count in [1, 2, 3, 63, 64, 65, 130] {
-        let mut depot = Depot::in_memory(alloc);
-        let lines = deliveries(alloc, count)?;
-        let answer = filed(alloc, 1, count)?;
-        let same = answers(alloc, &mut depot, &lines, &answer, count)?;
-        assert!(rt; same, "{count}");
-        assert_eq!(rt; entries(&mut depot)?, count, "{count}");
-    }
-    Ok(())
-}
-
-#[test]
-fn groups_of_several_users(rt: HostRuntime) -> Result<(), Fail> {
-    let alloc = rt.alloc();
-    let mut depot = Depot::in_memory(alloc);
-    let same = answers(
-        alloc,
-        &mut depot,
-        b"deliver ann mail\ndeliver bob empty\ndeliver ann empty\nlist bob\ndeliver bob mail\ndeliver ann mail\n",
-        b"1 message \"INBOX\"\n= 0\n1 message \"INBOX\"\n= 0\n2 message \"INBOX\"\n= 0\n1 message \"INBOX\" \"\" message/rfc822 0\n= 0\n2 message \"INBOX\"\n= 0\n3 message \"INBOX\"\n= 0\n",
-        5,
-    )?;
-    assert!(rt; same);
-    Ok(())
-}
-
-#[test]
 fn withdrawn_groups(rt: HostRuntime) -> Result<(), Fail> {
     let alloc = rt.alloc();
     let one = b"1 message \"INBOX\"\n= 0\n";

@@ -14,15 +14,11 @@ mod exports;
 #[cfg(test)]
 mod failing_sinks;
 #[cfg(test)]
-mod forty_commands;
-#[cfg(test)]
 mod groups;
 #[cfg(test)]
 mod inspecting;
 #[cfg(test)]
 mod known;
-#[cfg(test)]
-mod laid_tables;
 #[cfg(test)]
 mod readings;
 #[cfg(test)]

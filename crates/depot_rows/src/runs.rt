@@ -5,8 +5,8 @@ use depot_actions::Depot;
 use depot_cli::{Next, PendingTask, Saving, inspect, perform, run, save};
 use depot_jobs::{Host, tell};
 use encodings::{OfWrite, Sink};
-use std::alloc::Global;
-use std::io;
+use std::alloc::{AllocError, Global};
+use std::test::Fail;
 
 const SCRIPT: Known<'static> = Known {
     name: "s",
@@ -18,6 +18,17 @@ const MESSAGE: Known<'static> = Known {
     octets: b"abcd",
 };
 
+/// Words, how many octets a file that is made takes, and what comes of them.
+#[derive(Clone, Copy)]
+struct Row {
+    words: &'static [&'static str],
+    room: usize,
+    status: u8,
+    out: &'static str,
+    err: &'static str,
+    asked: &'static str,
+}
+
 /// What came of words.
 #[derive(Drop)]
 struct Seen {
@@ -28,6 +39,207 @@ struct Seen {
     given: u64,
     faults: u64,
 }
+
+const READ_MADE_AND_PRINTED: [Row; 10] = [
+    Row {
+        words: &["depot", "eval", "s", "m"],
+        room: 0,
+        status: 0,
+        out: "none\ncharged 4 of 4\n",
+        err: "",
+        asked: "[Opened(\"s\"), Opened(\"m\")]",
+    },
+    Row {
+        words: &["depot", "eval", "m", "s"],
+        room: 0,
+        status: 1,
+        out: "",
+        err: "refused 13 Syntax at 1\n",
+        asked: "[Opened(\"m\"), Opened(\"s\")]",
+    },
+    Row {
+        words: &["depot", "eval", "x", "m"],
+        room: 0,
+        status: 1,
+        out: "",
+        err: "refused 46 Read\n",
+        asked: "[Opened(\"x\")]",
+    },
+    Row {
+        words: &["depot", "run", "m", "x"],
+        room: 0,
+        status: 1,
+        out: "",
+        err: "refused 46 Read\n",
+        asked: "[Opened(\"m\"), Opened(\"x\")]",
+    },
+    Row {
+        words: &["depot", "compile", "m", "o"],
+        room: 100,
+        status: 1,
+        out: "",
+        err: "refused 13 Syntax at 1\n",
+        asked: "[Opened(\"m\")]",
+    },
+    Row {
+        words: &["depot", "compile", "s", "s"],
+        room: 100,
+        status: 1,
+        out: "",
+        err: "refused 45 Write\n",
+        asked: "[Opened(\"s\"), Made(\"s\", \"s\")]",
+    },
+    Row {
+        words: &["depot", "compile", "s", "o"],
+        room: 54,
+        status: 1,
+        out: "",
+        err: "refused 45 Write\n",
+        asked: "[Opened(\"s\"), Made(\"o\", \"s\")]",
+    },
+    Row {
+        words: &["depot", "compile", "s", "o"],
+        room: 55,
+        status: 0,
+        out: "wrote 55 octets\n",
+        err: "",
+        asked: "[Opened(\"s\"), Made(\"o\", \"s\"), Kept([83, 86, 66, 67, 2, 0, 0, 0, 1, 0, 0, 0, 0, 0, 4, 0, 0, 0, 0, 0, 0, 0, 3, 15, 0, 0, 0, 0, 0, 0, 0, 11, 0, 0, 0, 0, 0, 0, 3, 20, 0, 0, 0, 0, 0, 0, 0, 1, 0, 0, 0, 0, 0, 0, 0])]",
+    },
+    Row {
+        words: &["depot", "decode", "base32"],
+        room: 0,
+        status: 0,
+        out: "foobar",
+        err: "",
+        asked: "[OpenedInput]",
+    },
+    Row {
+        words: &["depot"],
+        room: 0,
+        status: 0,
+        out: "keep\ncharged 2 of 2\n",
+        err: "",
+        asked: "[OpenedInput]",
+    },
+];
+
+const ON_A_DEPOT: [Row; 9] = [
+    Row {
+        words: &["depot", "script", "d", "ann", "s"],
+        room: 0,
+        status: 0,
+        out: "stored\n",
+        err: "",
+        asked: "[Opened(\"s\")]",
+    },
+    Row {
+        words: &["depot", "code", "d", "ann", "s"],
+        room: 0,
+        status: 1,
+        out: "",
+        err: "refused 20 Spelling\n",
+        asked: "[Opened(\"s\")]",
+    },
+    Row {
+        words: &["depot", "deliver", "d", "ann", "m"],
+        room: 0,
+        status: 0,
+        out: "1 message \"INBOX\"\n",
+        err: "",
+        asked: "[Opened(\"m\")]",
+    },
+    Row {
+        words: &["depot", "deliver", "d", "Ann", "x"],
+        room: 0,
+        status: 1,
+        out: "",
+        err: "refused 46 Read\n",
+        asked: "[Opened(\"x\")]",
+    },
+    Row {
+        words: &["depot", "list", "d", "ann"],
+        room: 0,
+        status: 0,
+        out: "none\n",
+        err: "",
+        asked: "[]",
+    },
+    Row {
+        words: &["depot", "list", "d", "Ann"],
+        room: 0,
+        status: 1,
+        out: "",
+        err: "refused 44 UserName\n",
+        asked: "[]",
+    },
+    Row {
+        words: &["depot", "export", "d", "ann", "1", "raw"],
+        room: 0,
+        status: 1,
+        out: "",
+        err: "refused 40 NoSuchEntry\n",
+        asked: "[]",
+    },
+    Row {
+        words: &["depot", "remove", "d", "ann", "4294967295"],
+        room: 0,
+        status: 1,
+        out: "",
+        err: "refused 40 NoSuchEntry\n",
+        asked: "[]",
+    },
+    Row {
+        words: &["depot", "migrate", "d"],
+        room: 0,
+        status: 0,
+        out: "migrated 0\n",
+        err: "",
+        asked: "[]",
+    },
+];
+
+const PROGRAM_AS_A_FILE: [Row; 5] = [
+    Row {
+        words: &["depot", "program", "d", "ann", "o"],
+        room: 55,
+        status: 0,
+        out: "wrote 55 octets\n",
+        err: "",
+        asked: "[Made(\"o\", \"d\"), Kept([83, 86, 66, 67, 2, 0, 0, 0, 1, 0, 0, 0, 0, 0, 4, 0, 0, 0, 0, 0, 0, 0, 3, 15, 0, 0, 0, 0, 0, 0, 0, 11, 0, 0, 0, 0, 0, 0, 3, 20, 0, 0, 0, 0, 0, 0, 0, 1, 0, 0, 0, 0, 0, 0, 0])]",
+    },
+    Row {
+        words: &["depot", "program", "d", "ann", "o"],
+        room: 54,
+        status: 1,
+        out: "",
+        err: "refused 45 Write\n",
+        asked: "[Made(\"o\", \"d\")]",
+    },
+    Row {
+        words: &["depot", "program", "d", "ann", "d"],
+        room: 100,
+        status: 1,
+        out: "",
+        err: "refused 45 Write\n",
+        asked: "[Made(\"d\", \"d\")]",
+    },
+    Row {
+        words: &["depot", "program", "d", "bob", "o"],
+        room: 100,
+        status: 1,
+        out: "",
+        err: "refused 40 NoSuchEntry\n",
+        asked: "[]",
+    },
+    Row {
+        words: &["depot", "program", "d", "Bob", "o"],
+        room: 100,
+        status: 1,
+        out: "",
+        err: "refused 44 UserName\n",
+        asked: "[]",
+    },
+];
 
 // Carries a task to an empty depot in memory, and gives the status.
 fn carry<O: Sink, E: Sink>(
@@ -100,227 +312,38 @@ fn come(rt: &HostRuntime, words: &[&str], room: usize) -> Seen {
     }
 }
 
+// Whether a row's words come to what it says.
+fn comes(rt: &HostRuntime, row: &Row) -> Result<bool, AllocError> {
+    let came = come(rt, row.words, row.room);
+    let asked = format!(in rt.alloc(); "{:?}", came.asked)?;
+    Ok(
+        came.status == row.status
+            && came.out.as_slice() == row.out.as_bytes()
+            && came.err.as_slice() == row.err.as_bytes()
+            && asked.as_str() == row.asked,
+    )
+}
+
 #[test]
-fn what_is_read_made_and_printed(rt: HostRuntime) -> io::Result<()> {
-    for (words, room, status, out, err, asked) in [
-        (
-            ["depot", "eval", "s", "m"].as_slice(),
-            0,
-            0,
-            "none\ncharged 4 of 4\n",
-            "",
-            "[Opened(\"s\"), Opened(\"m\")]",
-        ),
-        (
-            ["depot", "eval", "m", "s"].as_slice(),
-            0,
-            1,
-            "",
-            "refused 13 Syntax at 1\n",
-            "[Opened(\"m\"), Opened(\"s\")]",
-        ),
-        (
-            ["depot", "eval", "x", "m"].as_slice(),
-            0,
-            1,
-            "",
-            "refused 46 Read\n",
-            "[Opened(\"x\")]",
-        ),
-        (
-            ["depot", "run", "m", "x"].as_slice(),
-            0,
-            1,
-            "",
-            "refused 46 Read\n",
-            "[Opened(\"m\"), Opened(\"x\")]",
-        ),
-        (
-            ["depot", "compile", "m", "o"].as_slice(),
-            100,
-            1,
-            "",
-            "refused 13 Syntax at 1\n",
-            "[Opened(\"m\")]",
-        ),
-        (
-            ["depot", "compile", "s", "s"].as_slice(),
-            100,
-            1,
-            "",
-            "refused 45 Write\n",
-            "[Opened(\"s\"), Made(\"s\", \"s\")]",
-        ),
-        (
-            ["depot", "compile", "s", "o"].as_slice(),
-            54,
-            1,
-            "",
-            "refused 45 Write\n",
-            "[Opened(\"s\"), Made(\"o\", \"s\")]",
-        ),
-        (
-            ["depot", "compile", "s", "o"].as_slice(),
-            55,
-            0,
-            "wrote 55 octets\n",
-            "",
-            "[Opened(\"s\"), Made(\"o\", \"s\"), Kept([83, 86, 66, 67, 2, 0, 0, 0, 1, 0, 0, 0, 0, 0, 4, 0, 0, 0, 0, 0, 0, 0, 3, 15, 0, 0, 0, 0, 0, 0, 0, 11, 0, 0, 0, 0, 0, 0, 3, 20, 0, 0, 0, 0, 0, 0, 0, 1, 0, 0, 0, 0, 0, 0, 0])]",
-        ),
-        (
-            ["depot", "decode", "base32"].as_slice(),
-            0,
-            0,
-            "foobar",
-            "",
-            "[OpenedInput]",
-        ),
-        (
-            ["depot"].as_slice(),
-            0,
-            0,
-            "keep\ncharged 2 of 2\n",
-            "",
-            "[OpenedInput]",
-        ),
-    ] {
-        let came = come(&rt, words, room);
-        assert_eq!(rt; came.status, status, "{words:?}");
-        assert!(rt; came.out.as_slice() == out.as_bytes(), "{words:?}");
-        assert!(rt; came.err.as_slice() == err.as_bytes(), "{words:?}");
-        let list = format!(in rt.alloc(); "{:?}", came.asked)?;
-        assert!(rt; list.as_str() == asked, "{words:?}: {list}");
+fn what_is_read_made_and_printed(rt: HostRuntime) -> Result<(), Fail> {
+    for row in &READ_MADE_AND_PRINTED {
+        assert!(rt; comes(&rt, row)?, "{:?}", row.words);
     }
     Ok(())
 }
 
 #[test]
-fn commands_on_a_depot(rt: HostRuntime) -> io::Result<()> {
-    for (words, status, out, err, asked) in [
-        (
-            ["depot", "script", "d", "ann", "s"].as_slice(),
-            0,
-            "stored\n",
-            "",
-            "[Opened(\"s\")]",
-        ),
-        (
-            ["depot", "code", "d", "ann", "s"].as_slice(),
-            1,
-            "",
-            "refused 20 Spelling\n",
-            "[Opened(\"s\")]",
-        ),
-        (
-            ["depot", "deliver", "d", "ann", "m"].as_slice(),
-            0,
-            "1 message \"INBOX\"\n",
-            "",
-            "[Opened(\"m\")]",
-        ),
-        (
-            ["depot", "deliver", "d", "Ann", "x"].as_slice(),
-            1,
-            "",
-            "refused 46 Read\n",
-            "[Opened(\"x\")]",
-        ),
-        (
-            ["depot", "list", "d", "ann"].as_slice(),
-            0,
-            "none\n",
-            "",
-            "[]",
-        ),
-        (
-            ["depot", "list", "d", "Ann"].as_slice(),
-            1,
-            "",
-            "refused 44 UserName\n",
-            "[]",
-        ),
-        (
-            ["depot", "export", "d", "ann", "1", "raw"].as_slice(),
-            1,
-            "",
-            "refused 40 NoSuchEntry\n",
-            "[]",
-        ),
-        (
-            ["depot", "remove", "d", "ann", "4294967295"].as_slice(),
-            1,
-            "",
-            "refused 40 NoSuchEntry\n",
-            "[]",
-        ),
-        (
-            ["depot", "migrate", "d"].as_slice(),
-            0,
-            "migrated 0\n",
-            "",
-            "[]",
-        ),
-    ] {
-        let came = come(&rt, words, 0);
-        assert_eq!(rt; came.status, status, "{words:?}");
-        assert!(rt; came.out.as_slice() == out.as_bytes(), "{words:?}");
-        assert!(rt; came.err.as_slice() == err.as_bytes(), "{words:?}");
-        let list = format!(in rt.alloc(); "{:?}", came.asked)?;
-        assert!(rt; list.as_str() == asked, "{words:?}: {list}");
+fn commands_on_a_depot(rt: HostRuntime) -> Result<(), Fail> {
+    for row in &ON_A_DEPOT {
+        assert!(rt; comes(&rt, row)?, "{:?}", row.words);
     }
     Ok(())
 }
 
 #[test]
-fn a_program_as_a_file(rt: HostRuntime) -> io::Result<()> {
-    for (words, room, status, out, err, asked) in [
-        (
-            ["depot", "program", "d", "ann", "o"].as_slice(),
-            55,
-            0,
-            "wrote 55 octets\n",
-            "",
-            "[Made(\"o\", \"d\"), Kept([83, 86, 66, 67, 2, 0, 0, 0, 1, 0, 0, 0, 0, 0, 4, 0, 0, 0, 0, 0, 0, 0, 3, 15, 0, 0, 0, 0, 0, 0, 0, 11, 0, 0, 0, 0, 0, 0, 3, 20, 0, 0, 0, 0, 0, 0, 0, 1, 0, 0, 0, 0, 0, 0, 0])]",
-        ),
-        (
-            ["depot", "program", "d", "ann", "o"].as_slice(),
-            54,
-            1,
-            "",
-            "refused 45 Write\n",
-            "[Made(\"o\", \"d\")]",
-        ),
-        (
-            ["depot", "program", "d", "ann", "d"].as_slice(),
-            100,
-            1,
-            "",
-            "refused 45 Write\n",
-            "[Made(\"d\", \"d\")]",
-        ),
-        (
-            ["depot", "program", "d", "bob", "o"].as_slice(),
-            100,
-            1,
-            "",
-            "refused 40 NoSuchEntry\n",
-            "[]",
-        ),
-        (
-            ["depot", "program", "d", "Bob", "o"].as_slice(),
-            100,
-            1,
-            "",
-            "refused 44 UserName\n",
-            "[]",
-        ),
-    ] {
-        let came = come(&rt, words, room);
-        assert_eq!(rt; came.status, status, "{words:?}");
-        assert!(rt; came.out.as_slice() == out.as_bytes(), "{words:?}");
-        assert!(rt; came.err.as_slice() == err.as_bytes(), "{words:?}");
-        let list = format!(in rt.alloc(); "{:?}", came.asked)?;
-        assert!(rt; list.as_str() == asked, "{words:?}: {list}");
+fn a_program_as_a_file(rt: HostRuntime) -> Result<(), Fail> {
+    for row in &PROGRAM_AS_A_FILE {
+        assert!(rt; comes(&rt, row)?, "{:?}", row.words);
     }
     Ok(())
 }

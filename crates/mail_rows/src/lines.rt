@@ -1,5 +1,8 @@
 // The lines of texts.
+ghost use Rattle.std.specs.Prelude.{◌<◌};
+
 use std::alloc::{AllocError, Global};
+use std::test::Fail;
 use text_lines::Lines;
 
 // Whether the lines of a text are those of a table of starts, ends and stops.
@@ -16,27 +19,34 @@ fn has_lines(text: &[u8], want: &[(usize, usize, usize)]) -> bool {
     lines.next().is_none() && lines.next().is_none()
 }
 
+// Whether a line of so many octets is found before a CRLF, and then the last one.
+fn is_found_before_a_break(alloc: Global, octets: usize) -> Result<bool, AllocError>
+    requires { octets < 300 }
+{
+    let text = repeated(alloc, b"", b"x", octets, b"\r\nend")?;
+    let stop = octets + 2;
+    Ok(has_lines(&text, &[(0, octets, stop), (stop, stop + 3, stop + 3)]))
+}
+
+// Whether one is found behind an empty line, at the end of the text.
+fn is_found_at_the_end(alloc: Global, octets: usize) -> Result<bool, AllocError>
+    requires { octets < 300 }
+{
+    let text = repeated(alloc, b"\n", b"x", octets, b"")?;
+    let lines = [(0, 0, 1), (1, octets + 1, octets + 1)];
+    let count = if octets == 0 { 1 } else { 2 };
+    Ok(has_lines(&text, &lines[..count]))
+}
+
 // Breaks around the places where the search for them goes on by whole vectors.
 #[test]
-fn lines_of_every_length(rt: HostRuntime) {
+fn lines_of_every_length(rt: HostRuntime) -> Result<(), Fail> {
+    let alloc = rt.alloc();
     for octets in 0..300usize {
-        let Ok(text) = repeated(rt.alloc(), b"", b"x", octets, b"\r\nend") else {
-            assert!(rt; false, "memory ran out");
-            return;
-        };
-        let stop = octets + 2;
-        assert!(rt;
-            has_lines(&text, &[(0, octets, stop), (stop, stop + 3, stop + 3)]),
-            "{octets}"
-        );
-        let Ok(text) = repeated(rt.alloc(), b"\n", b"x", octets, b"") else {
-            assert!(rt; false, "memory ran out");
-            return;
-        };
-        let last = [(0, 0, 1), (1, octets + 1, octets + 1)];
-        let count = if octets == 0 { 1 } else { 2 };
-        assert!(rt; has_lines(&text, &last[..count]), "{octets}");
+        assert!(rt; is_found_before_a_break(alloc, octets)?, "{octets}");
+        assert!(rt; is_found_at_the_end(alloc, octets)?, "{octets}");
     }
+    Ok(())
 }
 
 // A piece, so many times one after another, between two other texts.

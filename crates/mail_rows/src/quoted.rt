@@ -1,4 +1,5 @@
 // Quoted-printable texts, read and written.
+use crate::quoted_pieces::short_text;
 use quoted_printable::{decode_qp, encode_qp};
 use std::alloc::Global;
 use std::test::Fail;
@@ -55,7 +56,6 @@ fn every_octet(rt: HostRuntime) {
 #[test]
 fn every_short_text(rt: HostRuntime) -> Result<(), Fail> {
     let alloc = rt.alloc();
-    let alphabet = b"=3Dg \r\n";
     for (length, texts) in [
         (0u32, 1u32),
         (1, 7),
@@ -65,12 +65,7 @@ fn every_short_text(rt: HostRuntime) -> Result<(), Fail> {
         (5, 16_807),
     ] {
         for number in 0..texts {
-            let mut text = Vec::new(alloc);
-            let mut left = number;
-            for _ in 0..length {
-                text.push(alphabet[(left % 7) as usize])?;
-                left /= 7;
-            }
+            let text = short_text(alloc, length, number)?;
             let want = plainly_read(alloc, &text)?;
             assert!(rt; reads(alloc, &text, &want), "{length} {number}");
         }

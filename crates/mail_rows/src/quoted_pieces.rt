@@ -14,6 +14,50 @@ fn read_pieces(alloc: Global, pieces: &[&[u8]]) -> Result<Vec<u8>, AllocError> {
     Ok(out)
 }
 
+// Whether pieces are read as these octets.
+fn are_read_as(alloc: Global, pieces: &[&[u8]], want: &[u8]) -> Result<bool, AllocError> {
+    let octets = read_pieces(alloc, pieces)?;
+    Ok(octets.as_slice() == want)
+}
+
+// Whether any two pieces of a text are.
+fn reads_in_two(alloc: Global, text: &[u8], want: &[u8]) -> Result<bool, AllocError> {
+    for place in 0..=text.len() {
+        let (first, second) = text.split_at(place);
+        if !are_read_as(alloc, &[first, second], want)? {
+            return Ok(false);
+        }
+    }
+    Ok(true)
+}
+
+// Whether a first piece and any two pieces of others are.
+fn reads_others_in_two(
+    alloc: Global,
+    first: &[u8],
+    others: &[u8],
+    want: &[u8],
+) -> Result<bool, AllocError> {
+    for place in 0..=others.len() {
+        let (second, third) = others.split_at(place);
+        if !are_read_as(alloc, &[first, second, third], want)? {
+            return Ok(false);
+        }
+    }
+    Ok(true)
+}
+
+// Whether any three pieces of a text are.
+fn reads_in_three(alloc: Global, text: &[u8], want: &[u8]) -> Result<bool, AllocError> {
+    for place in 0..=text.len() {
+        let (first, others) = text.split_at(place);
+        if !reads_others_in_two(alloc, first, others, want)? {
+            return Ok(false);
+        }
+    }
+    Ok(true)
+}
+
 // Every text up to six octets of a small alphabet, in two pieces.
 #[test]
 fn every_short_text_in_two(rt: HostRuntime) -> Result<(), Fail> {
@@ -23,14 +67,7 @@ fn every_short_text_in_two(rt: HostRuntime) -> Result<(), Fail> {
         for number in 0..texts {
             let text = short_text(alloc, length, number)?;
             let want = decode_qp(alloc, &text)?;
-            for place in 0..=text.len() {
-                let (first, second) = text.split_at(place);
-                let octets = read_pieces(alloc, &[first, second])?;
-                assert!(rt;
-                    octets.as_slice() == want.as_slice(),
-                    "{length} {number} {place}"
-                );
-            }
+            assert!(rt; reads_in_two(alloc, &text, &want)?, "{length} {number}");
         }
         texts = texts.wrapping_mul(7);
     }
@@ -46,25 +83,15 @@ fn every_short_text_in_three(rt: HostRuntime) -> Result<(), Fail> {
         for number in 0..texts {
             let text = short_text(alloc, length, number)?;
             let want = decode_qp(alloc, &text)?;
-            for place in 0..=text.len() {
-                let (first, others) = text.split_at(place);
-                for next in 0..=others.len() {
-                    let (second, third) = others.split_at(next);
-                    let octets = read_pieces(alloc, &[first, second, third])?;
-                    assert!(rt;
-                        octets.as_slice() == want.as_slice(),
-                        "{length} {number} {place} {next}"
-                    );
-                }
-            }
+            assert!(rt; reads_in_three(alloc, &text, &want)?, "{length} {number}");
         }
         texts = texts.wrapping_mul(7);
     }
     Ok(())
 }
 
-// The text whose octets are the digits of a number to the base 7.
-fn short_text(alloc: Global, length: u32, number: u32) -> Result<Vec<u8>, Fail> {
+/// The text of a small alphabet whose octets are the digits of a number to the base 7.
+pub fn short_text(alloc: Global, length: u32, number: u32) -> Result<Vec<u8>, Fail> {
     let alphabet = b"=3Dg \r\n";
     let mut text = Vec::new(alloc);
     let mut left = number;

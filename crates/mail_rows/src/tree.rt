@@ -124,25 +124,52 @@ fn add_parts<'a>(
     Ok(())
 }
 
-// Whether a message of these lines has the parts of the recursion.
-fn agrees(alloc: Global, lines: &[Piece], feed: &[u8]) -> Result<bool, MessageError> {
+// The parts that the recursion gives a message of these lines.
+fn wanted_of<'a>(alloc: Global, lines: &'a [Piece]) -> Result<Vec<Wanted<'a>>, MessageError> {
     let mut wanted = Vec::new(alloc);
     add_parts(1, lines, true, &mut wanted)?;
-    let text = joined(alloc, lines, feed, true)?;
-    let tree = Tree::read(alloc, &text)?;
+    Ok(wanted)
+}
+
+// Whether a part of a tree is the one that is wanted.
+fn is_part(
+    alloc: Global,
+    tree: &Tree<'_>,
+    part: usize,
+    want: &Wanted<'_>,
+    feed: &[u8],
+) -> Result<bool, AllocError> {
+    if part >= tree.parts() || tree.depth(part) != want.depth {
+        return Ok(false);
+    }
+    let raw = joined(alloc, want.lines, feed, want.whole)?;
+    Ok(tree.raw(part) == raw.as_slice())
+}
+
+// Whether the parts of a tree are those that are wanted.
+fn has_parts(
+    alloc: Global,
+    tree: &Tree<'_>,
+    wanted: &[Wanted<'_>],
+    feed: &[u8],
+) -> Result<bool, AllocError> {
     if tree.parts() != wanted.len() {
         return Ok(false);
     }
     for (part, want) in wanted.iter().enumerate() {
-        if part >= tree.parts() || tree.depth(part) != want.depth {
-            return Ok(false);
-        }
-        let raw = joined(alloc, want.lines, feed, want.whole)?;
-        if tree.raw(part) != raw.as_slice() {
+        if !is_part(alloc, tree, part, want, feed)? {
             return Ok(false);
         }
     }
     Ok(true)
+}
+
+// Whether a message of these lines has the parts of the recursion.
+fn agrees(alloc: Global, lines: &[Piece], feed: &[u8]) -> Result<bool, MessageError> {
+    let wanted = wanted_of(alloc, lines)?;
+    let text = joined(alloc, lines, feed, true)?;
+    let tree = Tree::read(alloc, &text)?;
+    Ok(has_parts(alloc, &tree, &wanted, feed)?)
 }
 
 // Whether each message of so many lines has the parts of the recursion.

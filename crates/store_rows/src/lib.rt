@@ -4,12 +4,8 @@
 #[cfg(test)]
 mod altered_programs;
 #[cfg(test)]
-mod depot;
-#[cfg(test)]
 mod failing_disks;
 pub mod held;
-#[cfg(test)]
-mod history;
 #[cfg(test)]
 mod migrating;
 pub mod samples;

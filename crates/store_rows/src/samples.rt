@@ -10,6 +10,3 @@ pub const SCRIPT: &[u8] =
 
 /// A program that keeps every message.
 pub const KEEP: &[u8] = b"SVBC\x01\0\0\0\0\0\0\0\0\0\x02\x13\0\0\0\0\0\0\0\x01\0\0\0\0\0\0\0";
-
-/// A program that jumps to where it stands, and so is refused.
-pub const JUMP: &[u8] = b"SVBC\x01\0\0\0\0\0\0\0\0\0\x02\x09\0\0\0\0\0\0\0\x01\0\0\0\0\0\0\0";

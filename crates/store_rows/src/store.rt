@@ -65,22 +65,37 @@ fn programs(rt: HostRuntime) -> Result<(), Fail> {
 
 #[test]
 fn numbers_are_given_once(rt: HostRuntime) -> Result<(), Fail> {
-    let alloc = rt.alloc();
-    let mut store = PartStore::in_memory(alloc)?;
+    let mut store = PartStore::in_memory(rt.alloc())?;
     assert_eq!(rt; put(&mut store, "ann", b"foobar")?, 1);
     assert_eq!(rt; put(&mut store, "ann", b"")?, 2);
-    assert_eq!(rt; put(&mut store, "bob", b"foobar")?, 1);
-    store.set_program("ann", b"two")?;
     store.remove_entry("ann", 2)?;
     assert_eq!(rt; put(&mut store, "ann", b"x\0'\xff")?, 3);
     assert!(rt; holds(&mut store, "ann", 1, b"foobar"));
     assert!(rt; holds(&mut store, "ann", 3, b"x\0'\xff"));
     assert!(rt; matches!(store.bytes_of("ann", 2), Err(StoreError::NoSuchEntry)));
+    Ok(())
+}
+
+#[test]
+fn each_user_has_numbers_of_his_own(rt: HostRuntime) -> Result<(), Fail> {
+    let mut store = PartStore::in_memory(rt.alloc())?;
+    assert_eq!(rt; put(&mut store, "ann", b"foobar")?, 1);
+    assert_eq!(rt; put(&mut store, "bob", b"foobar")?, 1);
     store.remove_entry("ann", 1)?;
     assert!(rt; holds(&mut store, "bob", 1, b"foobar"));
     store.remove_entry("bob", 1)?;
     assert!(rt; matches!(store.remove_entry("bob", 1), Err(StoreError::NoSuchEntry)));
     assert_eq!(rt; put(&mut store, "bob", b"foobar")?, 2);
+    Ok(())
+}
+
+#[test]
+fn entries_leave_the_program(rt: HostRuntime) -> Result<(), Fail> {
+    let mut store = PartStore::in_memory(rt.alloc())?;
+    assert_eq!(rt; put(&mut store, "ann", b"foobar")?, 1);
+    store.set_program("ann", b"two")?;
+    assert_eq!(rt; put(&mut store, "ann", b"")?, 2);
+    store.remove_entry("ann", 1)?;
     let program = store.program_of("ann")?;
     assert!(rt; program.is_some_and(|program| program.as_slice() == b"two".as_slice()));
     Ok(())
