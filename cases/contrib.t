@@ -16,13 +16,13 @@
     5 part "Documents"
     6 message "INBOX"
     $ "$TOP/contrib/to_maildir" mail.depot ann Mail
-    1 Mail/.Lists.De=2Ebian/new/1.depot-ann
+    1 Mail/.Lists.De=2ebian/new/1.depot-ann
     2 Mail/.R&AOQ-ume/new/2.depot-ann
-    3 Mail/.=69nbox/new/3.depot-ann
+    3 Mail/.^69nbox/new/3.depot-ann
     4 Mail/new/4.depot-ann
     5 Mail-parts/Documents/5-rechnung-2026-0417.pdf
     6 Mail/new/6.depot-ann
-    $ cmp mail Mail/new/4.depot-ann && cmp examples/invoice.eml Mail/new/6.depot-ann && cmp mail Mail/.Lists.De=2Ebian/new/1.depot-ann
+    $ cmp mail Mail/new/4.depot-ann && cmp examples/invoice.eml Mail/new/6.depot-ann && cmp mail Mail/.Lists.De=2ebian/new/1.depot-ann
     $ depot export mail.depot ann 5 raw | cmp - Mail-parts/Documents/5-rechnung-2026-0417.pdf
     $ stat -c '%a' Mail/new/4.depot-ann Mail/cur
     600
@@ -42,6 +42,27 @@ What a reader of mail did stays, and a second run adds what is new.
     
     Mail/new:
     7.depot-ann
+
+A run that was killed before its last number was on the disk writes no mail twice, also of those that were read meanwhile.
+
+    $ echo 3 > Mail/depot-ann && rm Mail-parts/*/* && "$TOP/contrib/to_maildir" mail.depot ann Mail
+    4 Mail/new/4.depot-ann
+    5 Mail-parts/Documents/5-rechnung-2026-0417.pdf
+    6 Mail/new/6.depot-ann
+    7 Mail/new/7.depot-ann
+    $ ls Mail/new Mail/cur Mail/tmp Mail-parts/Documents && cat Mail/depot-ann
+    Mail-parts/Documents:
+    5-rechnung-2026-0417.pdf
+    
+    Mail/cur:
+    4.depot-ann:2,S
+    
+    Mail/new:
+    6.depot-ann
+    7.depot-ann
+    
+    Mail/tmp:
+    7
     $ rm -r Mail Mail-parts
 
 ## a depot whose first entry is a part
@@ -61,7 +82,7 @@ What a reader of mail did stays, and a second run adds what is new.
 ## a user without entries makes no Maildir
     $ "$TOP/contrib/to_maildir" mail.depot ann Mail
     2> to_maildir: there is no file mail.depot
-    [1]
+    [66]
     $ depot list mail.depot ann
     none
     $ "$TOP/contrib/to_maildir" mail.depot ann Mail
@@ -70,12 +91,246 @@ What a reader of mail did stays, and a second run adds what is new.
 ## a depot that isn't there makes no Maildir
     $ "$TOP/contrib/to_maildir" none.depot ann Mail
     2> to_maildir: there is no file none.depot
-    [1]
+    [66]
     $ printf 'no database' > other
     $ "$TOP/contrib/to_maildir" other ann Mail
-    2> to_maildir: list other ann: refused 43 Database
-    [1]
-    $ rm -f other-wal
+    2> to_maildir: list "ann": refused 43 Database: it is no database, or it is damaged
+    [65]
+    $ cat other && ls
+    no databasedepot
+    examples
+    other
+    other.lock
+
+## a mail's file has the mail's own time
+    $ for date in 'Mon, 4 Jan 2021 10:00:00 +0100' '4 Jan 21 09:00 GMT' 'Mon, 4 Jan 2999 10:00:00 +0100' 'next week' '' "$(printf '%0300d' 0)"; do
+    >     printf 'Subject: a\nDATE:\n %s\nDate: Mon, 4 Jan 1999 10:00:00 +0100\n\nb\n' "$date" > mail && depot deliver mail.depot ann mail > said
+    > done
+    $ printf 'Subject: a\n\nDate: Mon, 4 Jan 2021 10:00:00 +0100\n' > mail && depot deliver mail.depot ann mail > said
+    $ before=$(date +%s) && "$TOP/contrib/to_maildir" mail.depot ann Mail > said && for n in 1 2 3 4 5 6 7; do
+    >     time=$(stat -c %Y Mail/new/$n.depot-ann) && [ "$time" -ge "$before" ] && [ "$time" -le "$(date +%s)" ] && echo "$n now" || echo "$n $time"
+    > done
+    1 1609750800
+    2 1609750800
+    3 now
+    4 now
+    5 now
+    6 now
+    7 now
+    $ rm -r Mail
+
+## folders whose names a Maildir can't have
+    $ printf 'require "fileinto"; fileinto "a.b"; fileinto "a=2eb"; fileinto "a^2Eb"; fileinto "~x/~y"; fileinto "INBOX/x"; fileinto "/a"; fileinto "a//b"; fileinto "*%%"; fileinto "\377\n"; fileinto ".."; fileinto "a=^"; fileinto "x/new";' > several
+    $ printf 'Subject: one\n\none\n' > mail
+    $ depot script mail.depot ann several && depot deliver mail.depot ann mail > said
+    stored
+    $ "$TOP/contrib/to_maildir" mail.depot ann Mail
+    1 Mail/.a=2eb/new/1.depot-ann
+    2 Mail/.a^3D2eb/new/2.depot-ann
+    3 Mail/.a^5E2Eb/new/3.depot-ann
+    4 Mail/.=7ex.~y/new/4.depot-ann
+    5 Mail/.^49NBOX.x/new/5.depot-ann
+    6 Mail/.^2Fa/new/6.depot-ann
+    7 Mail/.a^2F^2Fb/new/7.depot-ann
+    8 Mail/.^2A^25/new/8.depot-ann
+    9 Mail/.^FF^0A/new/9.depot-ann
+    10 Mail/.=2e=2e/new/10.depot-ann
+    11 Mail/.a=3d^/new/11.depot-ann
+    12 Mail/.x.new/new/12.depot-ann
+
+Two long names that begin alike are two folders, and each name is one that a file may have.
+
+    $ long=$(printf '\303\244%.0s' $(seq 150)) && printf 'require "fileinto"; fileinto "%sa"; fileinto "%sb";' "$long" "$long" > several
+    $ depot script mail.depot ann several && depot deliver mail.depot ann mail > said
+    stored
+    $ "$TOP/contrib/to_maildir" mail.depot ann Mail | cut -d ' ' -f 1
+    13
+    14
+    $ "$TOP/contrib/to_maildir" mail.depot ann "$(printf 'M\377')"
+    2> to_maildir: the name M\xff isn't UTF-8, which the program wants
+    [64]
+    $ ls -d Mail/.*/new/1[34].depot-ann | wc -l && ls -A Mail | awk 'length > 202'
+    2
+    $ rm -r Mail
+
+## a Maildir that is written while mail comes in, and while hold serves the mailbox
+Only if: command -v flock # there is no flock
+    $ printf 'Subject: one\n\none\n' > mail
+    $ for n in 1 2 3; do depot deliver mail.depot ann mail > said; done
+    $ printf '#!/bin/sh\n[ "$1" != batch ] || flock -s -n mail.depot.lock echo free >> locks\nexec depot "$@"\n' > look && chmod +x look
+    $ DEPOT=./look "$TOP/contrib/to_maildir" mail.depot ann Mail | wc -l && cat locks
+    3
+    free
+    $ echo 'keep;' > script && DEPOT=./look "$TOP/contrib/refilter" mail.depot ann script | tail -n 1 && cat locks
+    3 messages, and 0 parts that were stored apart
+    free
+    free
+    free
+    $ DEPOT=$PWD/depot "$TOP/contrib/hold" mail.depot 2> said & holder=$!; until "$TOP/contrib/ask" mail.depot deliver ann mail; do sleep 0.1; done
+    > until [ -S mail.depot.hold ]; do sleep 0.1; done; "$TOP/contrib/ask" mail.depot deliver ann mail; depot list mail.depot ann; "$TOP/contrib/to_maildir" mail.depot ann Mail; kill $holder; wait
+    4 message "INBOX"
+    5 message "INBOX"
+    4 Mail/new/4.depot-ann
+    5 Mail/new/5.depot-ann
+    2> refused 43 Database
+    $ rm -r Mail mail.depot.held
+
+## a Maildir whose writing is killed, and gone on with
+    $ printf 'require ["fileinto", "foreverypart", "vnd.depot"]; foreverypart { store "P"; } fileinto "A"; keep;' > script
+    $ depot script mail.depot ann script > said
+    $ for n in 1 2 3 4; do printf 'Subject: %s\n\nThe mail %s.\n' $n $n > mail && depot deliver mail.depot ann mail > said; done
+    $ "$TOP/contrib/to_maildir" mail.depot ann Whole > whole
+
+The batch ends after so many lines, and the script is killed then.
+
+    $ cat > killed <<'END'
+    > #!/bin/sh
+    > [ "$1" = batch ] || exec depot "$@"
+    > n=0
+    > while [ $n -lt "$LINES_DONE" ] && IFS= read -r line; do printf '%s\n' "$line"; n=$((n + 1)); done | depot "$@"
+    > kill -KILL $PPID
+    > END
+    $ chmod +x killed
+    $ for n in $(seq 1 12); do rm -rf Mail Mail-parts; LINES_DONE=$n DEPOT=./killed sh -c '"$TOP/contrib/to_maildir" mail.depot ann Mail' > said 2>&1; find Mail Mail-parts -type f ! -path '*/tmp/*' ! -path '*/.new/*' ! -name maildirfolder ! -name depot-ann -size -12c 2> said; "$TOP/contrib/to_maildir" mail.depot ann Mail | cut -d / -f 2- > again; cut -d / -f 2- whole | cmp - again; "$TOP/contrib/to_maildir" mail.depot ann Mail; diff -r Whole Mail; diff -r Whole-parts Mail-parts; done
+    $ rm -r Whole Whole-parts Mail Mail-parts
+
+## a Maildir of more entries than are written at a time
+    $ printf 'Subject: one\n\nThe mail.\n' > mail && for n in $(seq 450); do echo deliver ann mail; done | depot batch mail.depot | grep -c message
+    450
+    $ cat > killed <<'END'
+    > #!/bin/sh
+    > n=0
+    > while [ $n -lt 300 ] && IFS= read -r line; do printf '%s\n' "$line"; n=$((n + 1)); done | depot "$@"
+    > kill -KILL $PPID
+    > END
+    $ chmod +x killed && DEPOT=./killed sh -c '"$TOP/contrib/to_maildir" mail.depot ann Mail > said' 2> told; ls Mail/new | wc -l; cat Mail/depot-ann; tail -n 1 said
+    200
+    200
+    200 Mail/new/200.depot-ann
+    $ "$TOP/contrib/to_maildir" mail.depot ann Mail > said && sed -n '1p;$p' said && "$TOP/contrib/to_maildir" mail.depot ann Mail
+    201 Mail/new/201.depot-ann
+    450 Mail/new/450.depot-ann
+    $ ls Mail/new | wc -l; ls Mail/tmp; cat Mail/depot-ann
+    450
+    450
+    $ rm -r Mail
+
+## words that to_maildir, refilter and refile don't take
+    $ printf 'Subject: one\n\none\n' > mail && depot deliver mail.depot ann mail > said && echo 'keep;' > script && mkdir folder && ln -s nowhere led
+    $ printf 'x' > Full && mkdir Odd && printf 'many\n' > Odd/depot-ann 
+    $ cat > t <<'END'
+    > #!/bin/sh
+    > "$TOP/contrib/$@" < /dev/null
+    > echo "$?"
+    > ls -R . | grep -v '^mail.depot.lock$' > "$TMPDIR/words-after" && cmp before "$TMPDIR/words-after"
+    > END
+    $ chmod +x t && : > before && ls -R . > "$TMPDIR/words-before" && mv "$TMPDIR/words-before" before
+    $ ./t to_maildir mail.depot ann; ./t to_maildir mail.depot ann ''; ./t to_maildir -x ann Mail; ./t to_maildir mail.depot ann /; ./t to_maildir mail.depot ann ..
+    64
+    64
+    64
+    64
+    64
+    2> to_maildir: the words are to_maildir DEPOT USER FOLDER
+    2> to_maildir: the words are to_maildir DEPOT USER FOLDER
+    2> to_maildir: the words are to_maildir DEPOT USER FOLDER
+    2> to_maildir: / has no name that parts beside it could have
+    2> to_maildir: .. has no name that parts beside it could have
+    $ ./t to_maildir mail.depot ../ann Mail; odd=$(printf 'a\nb\033[1m\377'); ./t to_maildir mail.depot "$odd" Mail; ./t to_maildir "$odd" ann Mail; ./t to_maildir folder ann Mail; ./t to_maildir led ann Mail
+    67
+    67
+    66
+    66
+    66
+    2> to_maildir: ../ann is no user's name: it has 1 to 64 of a to z, 0 to 9, dot, underscore and hyphen
+    2> to_maildir: a\x0ab\x1b[1m\xff is no user's name: it has 1 to 64 of a to z, 0 to 9, dot, underscore and hyphen
+    2> to_maildir: there is no file a\x0ab\x1b[1m\xff
+    2> to_maildir: folder is no file
+    2> to_maildir: led is no file
+    $ ./t to_maildir mail.depot ann Full; ./t to_maildir mail.depot ann led; ./t to_maildir mail.depot ann Full/x
+    73
+    73
+    73
+    2> to_maildir: Full is no folder
+    2> to_maildir: led is no folder
+    2> to_maildir: the folder Full can't be made: File exists
+    $ DEPOT=./none "$TOP/contrib/to_maildir" mail.depot ann Mail; echo "$?"; mkdir Odd/tmp Odd/new Odd/cur; ls -R . | grep -v "^mail.depot.lock$" > before; ./t to_maildir mail.depot ann Odd
+    69
+    65
+    2> to_maildir: the program ./none can't be started: No such file or directory
+    2> to_maildir: Odd/depot-ann has no number of an entry
+    $ ./t refilter mail.depot ann; ./t refilter mail.depot ann script --aply new; ./t refilter mail.depot Ann script; ./t refilter none ann script; ./t refilter mail.depot ann none; ./t refilter mail.depot ann folder
+    64
+    64
+    67
+    66
+    66
+    66
+    2> refilter: the words are refilter DEPOT USER SCRIPT [--apply NEW]
+    2> refilter: the words are refilter DEPOT USER SCRIPT [--apply NEW]
+    2> refilter: Ann is no user's name: it has 1 to 64 of a to z, 0 to 9, dot, underscore and hyphen
+    2> refilter: there is no file none
+    2> refilter: there is no file none
+    2> refilter: folder is no file
+    $ ./t refilter mail.depot ann script --apply led; ./t refilter mail.depot ann script --apply folder; ./t refilter mail.depot ann script --apply no/new; ./t refilter mail.depot ann mail --apply new
+    73
+    73
+    73
+    65
+    2> refilter: led is there already
+    2> refilter: folder is there already
+    2> refilter: no/new can't be made: No such file or directory
+    2> refilter: script "ann" "mail": refused 11 Lexical at 7
+    $ ./t refile mail.depot ann script; ./t refile mail.depot Ann script journal; ./t refile mail.depot ann none journal; ./t refile mail.depot ann script folder; ./t refile folder ann script folder
+    64
+    67
+    66
+    66
+    66
+    2> refile: the words are refile DEPOT USER SCRIPT JOURNAL < LIST
+    2> refile: Ann is no user's name: it has 1 to 64 of a to z, 0 to 9, dot, underscore and hyphen
+    2> refile: there is no file none
+    2> refile: folder is no file
+    2> refile: folder is no file
+    $ rm -r Odd
+
+## a filter that is none any more, and what each script says of it
+    $ printf 'Subject: one\n\none\n' > mail && echo 'keep;' > script && depot script mail.depot ann script > said && depot deliver mail.depot ann mail
+    1 message "INBOX"
+    $ cat > shut <<'END'
+    > #!/bin/sh
+    > [ "$1" != inspect ] || { printf 'depot\nlog 41 octets\nuser "ann" last 1 entries 1 octets 17 program refused 25 Jump\ncontents 1 octets 17\n'; exit; }
+    > printf 'refused 43 Database\n= 1\n'
+    > END
+    $ chmod +x shut && DEPOT=./shut "$TOP/contrib/to_maildir" mail.depot ann Mail
+    2> to_maildir: list "ann": refused 43 Database: the filter of "ann" is refused 25 Jump
+    [65]
+    $ DEPOT=./shut "$TOP/contrib/refilter" mail.depot ann script
+    2> refilter: script "ann" "script": refused 43 Database: the filter of "ann" is refused 25 Jump
+    [65]
+
+## a program that exports something else, and one that lists nothing
+    $ printf 'Subject: one\n\none\n' > mail && echo 'keep;' > script && depot deliver mail.depot ann mail
+    1 message "INBOX"
+    $ printf '#!/bin/sh\nsed -u "s/ raw / base64 /" | depot "$@"\n' > other && printf '#!/bin/sh\necho = 0\n' > mute && chmod +x other mute
+    $ DEPOT=./other "$TOP/contrib/to_maildir" mail.depot ann Mail
+    2> to_maildir: entry 1 has 18 octets, and they weren't all exported
+    [70]
+    $ ls Mail/new Mail/cur | grep depot; DEPOT=./other "$TOP/contrib/refilter" mail.depot ann script --apply new
+    2> refilter: entry 1 has 18 octets, and they weren't all exported
+    [70]
+    $ DEPOT=./mute "$TOP/contrib/to_maildir" mail.depot ann Mail
+    2> to_maildir: the program lists what is no entry: b''
+    [70]
+    $ "$TOP/contrib/to_maildir" mail.depot ann Mail && cmp mail Mail/new/1.depot-ann && rm -r Mail
+    1 Mail/new/1.depot-ann
+
+## a mailbox file among mails is filed as one mail, and named
+    $ printf 'Subject: a\n\nb\n' > one && { echo 'From ann Mon Jan  4 10:00:00 2021'; cat one; } > mbox && echo 'keep;' > script && mkfifo pipe
+    $ printf 'one\nmbox\n' | "$TOP/contrib/refile" mail.depot ann script journal
+    2 mails: 0 filed before, 2 filed now, 0 refused
+    2> refile: mbox: it begins with a line `From `, so it may be a mailbox file of several mails; it is filed as one mail
+    $ rm pipe
 
 ## another filter on what is there
     $ printf 'Subject: one\n\none\n' > one
@@ -87,8 +342,8 @@ What a reader of mail did stays, and a second run adds what is new.
     2 message "INBOX"
     $ depot list mail.depot ann > before
     $ "$TOP/contrib/refilter" mail.depot ann script
-    1 "INBOX": keep, charged 37 of 238
-    2 "INBOX": fileinto "Two", charged 42 of 238
+    1 "INBOX": 1 message "INBOX"
+    2 "INBOX": 2 message "Two"
     2 messages, and 0 parts that were stored apart
     $ "$TOP/contrib/refilter" mail.depot ann script --apply new.depot
     1 "INBOX": 1 message "INBOX"
@@ -100,11 +355,34 @@ What a reader of mail did stays, and a second run adds what is new.
     $ depot list mail.depot ann | cmp - before
     $ "$TOP/contrib/refilter" mail.depot ann script --apply new.depot
     2> refilter: new.depot is there already
-    [1]
+    [73]
     $ echo 'vacation;' > wrong
     $ "$TOP/contrib/refilter" mail.depot ann wrong
-    2> refilter: check wrong: refused 15 UnknownCommand at 0
-    [1]
+    2> refilter: script "ann" "wrong": refused 15 UnknownCommand at 0
+    [65]
+    $ "$TOP/contrib/refilter" mail.depot ann wrong --apply newer.depot
+    2> refilter: script "ann" "wrong": refused 15 UnknownCommand at 0
+    [65]
+
+More messages than are filed at a time, each in its turn, and a script that discards some and files some twice.
+
+    $ rm new.depot* && for n in $(seq 3 140); do printf 'Subject: %s\n\n%s\n' $n $n > one && echo deliver ann one; cp one "one-$n"; done | sed 's/one$//' > said
+    $ for n in $(seq 3 140); do echo "deliver ann one-$n"; done | depot batch mail.depot | grep -c message
+    138
+    $ printf 'require "fileinto"; if header :contains "Subject" "7" { discard; } elsif header :contains "Subject" "9" { fileinto "Nine"; keep; }' > script
+    $ "$TOP/contrib/refilter" mail.depot ann script --apply new.depot > said && "$TOP/contrib/refilter" mail.depot ann script | cmp - said
+    $ sed -n '1p;7,9p;139,141p' said
+    1 "INBOX": 1 message "INBOX"
+    7 "INBOX": none
+    8 "INBOX": 7 message "INBOX"
+    9 "INBOX": 8 message "Nine", 9 message "INBOX"
+    139 "INBOX": 136 message "Nine", 137 message "INBOX"
+    140 "INBOX": 138 message "INBOX"
+    140 messages, and 0 parts that were stored apart
+    $ depot export new.depot ann 136 raw | tail -n 1 && depot export new.depot ann 138 raw | tail -n 1
+    139
+    140
+    $ rm one-*
 
 ## an archive filtered anew, and gone on with
     $ printf 'require "fileinto"; if header "Subject" "two" { fileinto "Two"; }' > script
@@ -152,7 +430,8 @@ A mail that can't be read is refused, and tried again in the next run.
 
     $ echo none | "$TOP/contrib/refile" new.depot ann script journal
     1 mails: 0 filed before, 0 filed now, 1 refused
-    [1]
+    2> refile: none: refused 46 Read
+    [65]
     $ tail -n 1 journal | tr '\t' ' '
     1 refused 46 Read 4 none
     $ cp later none
@@ -160,8 +439,8 @@ A mail that can't be read is refused, and tried again in the next run.
     1 mails: 0 filed before, 1 filed now, 0 refused
     $ echo 'vacation;' > wrong
     $ "$TOP/contrib/refile" new.depot ann wrong journal < list
-    2> refile: the script was refused: refused 15 UnknownCommand at 0
-    [1]
+    2> refile: script "ann" "wrong": refused 15 UnknownCommand at 0
+    [65]
     $ rm -r archive
 
 ## an archive for a user who has mail, with a new journal
@@ -187,6 +466,11 @@ A mail that can't be read is refused, and tried again in the next run.
     4 mails: 4 filed before, 0 filed now, 0 refused
     $ depot list -- -x.depot ann | wc -l
     4
+    $ printf 'Subject: a\n\n' > "$(printf 'g\377')" && printf -- '-f\ng\377\na "b"\n' | "$TOP/contrib/refile" new.depot ann script other
+    3 mails: 0 filed before, 2 filed now, 1 refused
+    2> refile: g\xff: the name isn't UTF-8
+    [65]
+    $ rm -- g*
     $ rm -- -f 'a "b"' c* 'f\22'
 
 ## an archive of more mails than go at a time, killed in the middle
@@ -228,7 +512,7 @@ Another's mail among them isn't taken for one of them.
     1 message "INBOX"
     $ "$TOP/contrib/refile" cut.depot ann script journal < list
     2> refile: the user has entries beyond 0 that are none of the mails which were begun
-    [1]
+    [65]
     $ rm -r archive cut.depot whole.depot
 
 ## a mail that is refused among others
@@ -239,7 +523,8 @@ Another's mail among them isn't taken for one of them.
     $ echo 'keep;' > script
     $ "$TOP/contrib/refile" mail.depot ann script journal < list
     4 mails: 0 filed before, 3 filed now, 1 refused
-    [1]
+    2> refile: archive/3: refused 2 MessageTooLarge
+    [65]
     $ tail -n 4 journal | tr '\t' ' '
     0 1 archive/1
     0 2 archive/2
@@ -261,7 +546,7 @@ Another's mail among them isn't taken for one of them.
     $ chmod +x full
     $ DEPOT=./full "$TOP/contrib/refile" mail.depot ann script journal < list
     2> refile: next: refused 43 Database; run this again once the depot works
-    [1]
+    [75]
     $ tr '\t' ' ' < journal
     begun 0 ann
     next 0 mail
@@ -277,32 +562,32 @@ Another's mail among them isn't taken for one of them.
     1 mails: 0 filed before, 1 filed now, 0 refused
     $ echo mail | "$TOP/contrib/refile" mail.depot bob script journal
     2> refile: the journal journal is one of the user ann
-    [1]
+    [65]
     $ echo mail | "$TOP/contrib/refile" other.depot ann script journal
     2> refile: the depot has given the numbers up to 0 and journal tells 1: it is another one, or an older copy
-    [1]
+    [65]
     $ printf '0\t1\tmail\n' > old
     $ echo mail | "$TOP/contrib/refile" mail.depot ann script old
     2> refile: old is no journal, or one of an earlier version, which may call mails filed that aren't: begin with a new journal, and a depot without what was filed by this one
-    [1]
+    [65]
     $ echo mail | "$TOP/contrib/refile" mail.depot ann journal script
     2> refile: script is no journal, or one of an earlier version, which may call mails filed that aren't: begin with a new journal, and a depot without what was filed by this one
-    [1]
+    [65]
     $ printf 'keep' > cut
     $ echo mail | "$TOP/contrib/refile" mail.depot ann script cut
     2> refile: cut is no journal of this program
-    [1]
+    [65]
     $ printf 'stray\n' >> journal
     $ echo mail | "$TOP/contrib/refile" mail.depot ann script journal
     2> refile: line 4 of journal is none of a journal
-    [1]
+    [65]
     $ cat script cut
     keep;
     keep
     [no line break]
     $ echo mail | "$TOP/contrib/refile" script ann script new
-    2> refile: the user's last number can't be had: no depot: it is no database, or it is damaged
-    [1]
+    2> refile: the user's last number can't be read: no depot: it is no database, or it is damaged
+    [65]
     $ depot list mail.depot ann
     1 message "INBOX" "" message/rfc822 12
 
@@ -334,10 +619,12 @@ Only if: command -v flock # there is no flock
     $ rm -r in mail.depot.lock
 
 ## the tools without words say how they are called
-    $ for tool in deliver hold test_deliver to_maildir refilter refile; do "$TOP/contrib/$tool" > /dev/null 2> said; echo "$tool $?"; grep -c . said > lines; [ -s lines ] || echo silent; done
+    $ for tool in deliver hold ask test_deliver test_hold to_maildir refilter refile; do "$TOP/contrib/$tool" > /dev/null 2> said; echo "$tool $?"; grep -c . said > lines; [ -s lines ] || echo silent; done
     deliver 64
-    hold 2
+    hold 64
+    ask 64
     test_deliver 2
-    to_maildir 2
-    refilter 2
-    refile 2
+    test_hold 2
+    to_maildir 64
+    refilter 64
+    refile 64

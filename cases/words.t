@@ -196,10 +196,10 @@ The version: one line, as help is given.
 
 ## version
     $ depot --version
-    2> depot 0.31.0, proved with Rattle, logic dac8208d650f15bf
+    2> depot 0.32.0, proved with Rattle, logic dac8208d650f15bf
     [2]
     $ depot -V
-    2> depot 0.31.0, proved with Rattle, logic dac8208d650f15bf
+    2> depot 0.32.0, proved with Rattle, logic dac8208d650f15bf
     [2]
 
 Help.
@@ -246,7 +246,7 @@ Help.
     2> A file `-` is one of this name: standard input is /dev/stdin.
     2> The help of a command has an example, and says with which refusals it may end.
     2>
-    2> depot 0.31.0, proved with Rattle, logic dac8208d650f15bf
+    2> depot 0.32.0, proved with Rattle, logic dac8208d650f15bf
     [2]
 
 ## help command
@@ -291,7 +291,7 @@ Help.
     2> A file `-` is one of this name: standard input is /dev/stdin.
     2> The help of a command has an example, and says with which refusals it may end.
     2>
-    2> depot 0.31.0, proved with Rattle, logic dac8208d650f15bf
+    2> depot 0.32.0, proved with Rattle, logic dac8208d650f15bf
     [2]
 
 ## help check

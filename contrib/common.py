@@ -1,0 +1,177 @@
+"""What refile, refilter and to_maildir share: a batch of depot, names as its lines have them, and how a script ends."""
+
+import contextlib
+import os
+import re
+import shutil
+import subprocess
+import sys
+import tempfile
+
+PROGRAM = os.environ.get("DEPOT", "depot")
+ASK = os.path.join(os.path.dirname(os.path.realpath(__file__)), "ask")
+USER = re.compile(r"[a-z0-9._-]{1,64}")
+QUOTED = rb'"(?:[^"\\]|\\[0-9a-f]{2})*"'
+# The statuses for refusals of the program, and for no answer; any other refusal is of what was given.
+STATUS = {None: os.EX_TEMPFAIL, "1": os.EX_TEMPFAIL, "44": os.EX_NOUSER, "45": os.EX_IOERR, "46": os.EX_NOINPUT}
+LISTED = re.compile(rb"([1-9]\d*) (message|part) (%s) (%s) \S+ (\d+)" % (QUOTED, QUOTED))
+
+
+class Failed(Exception):
+    """Why a script can't go on, with a status of sysexits.h."""
+
+    def __init__(self, status, why):
+        super().__init__(why)
+        self.status = status
+
+
+def run_script(name, usage, words, work):
+    """Does the work of a script by its words; gives its status. What ends it is one line on standard error."""
+    if words in (["--help"], ["-h"]):
+        print(usage.strip())
+        return 0
+    try:
+        return work(words) or 0
+    except Failed as fault:
+        status, why = fault.status, str(fault)
+    except PermissionError as fault:
+        status, why = os.EX_NOPERM, f"{fault.filename}: {fault.strerror}"
+    except OSError as fault:
+        status, why = os.EX_IOERR, f"{fault.filename}: {fault.strerror}" if fault.filename else str(fault)
+    print(f"{name}: {shown(why)}", file=sys.stderr)
+    return status
+
+
+def shown(text):
+    """A text as one line that a terminal can show, whatever names are in it."""
+    text = text.encode(errors="surrogateescape").decode(errors="backslashreplace")
+    return "".join(it if it.isprintable() else f"\\x{ord(it):02x}" for it in text)
+
+
+def want_user(user):
+    if not USER.fullmatch(user):
+        raise Failed(os.EX_NOUSER, f"{user} is no user's name: it has 1 to 64 of a to z, 0 to 9, dot, underscore and hyphen")
+
+
+def want_file(path):
+    if not os.path.lexists(path):
+        raise Failed(os.EX_NOINPUT, f"there is no file {path}")
+    if not os.path.isfile(path):
+        raise Failed(os.EX_NOINPUT, f"{path} is no file")
+
+
+def quoted(name):
+    """A name as a line of a batch has it."""
+    return b'"' + re.sub(rb"[^ !#-\[\]-~]", lambda octet: b"\\%02x" % octet[0][0], os.fsencode(name)) + b'"'
+
+
+def unquoted(text):
+    """The name that stands between quotation marks."""
+    return re.sub(rb"\\([0-9a-f]{2})", lambda found: bytes([int(found[1], 16)]), text[1:-1])
+
+
+class Batch:
+    """A batch on a depot."""
+
+    def __init__(self, depot):
+        self.depot = depot
+        try:
+            self.process = subprocess.Popen(
+                [PROGRAM, "batch", "--", depot], stdin=subprocess.PIPE, stdout=subprocess.PIPE, stderr=subprocess.PIPE)
+        except OSError as fault:
+            raise Failed(os.EX_UNAVAILABLE, f"the program {PROGRAM} can't be started: {fault.strerror}") from fault
+
+    def __enter__(self):
+        return self
+
+    def __exit__(self, *_):
+        self.end()
+
+    def say(self, *lines):
+        """Gives lines, all at once; a pipe has to have room for them."""
+        try:
+            self.process.stdin.write(b"".join(line + b"\n" for line in lines))
+            self.process.stdin.flush()
+        except BrokenPipeError:
+            # it has ended, which the answers tell
+            pass
+
+    def answer(self):
+        """The lines of the next answer, and its status; none if the batch has ended."""
+        lines = []
+        for said in self.process.stdout:
+            if re.fullmatch(rb"= \d\n", said):
+                return lines, said[2:-1]
+            lines.append(said.removesuffix(b"\n"))
+        return lines, None
+
+    def ask(self, line):
+        """The lines that a line is answered by; it has to be done."""
+        self.say(line)
+        lines, status = self.answer()
+        if status != b"0":
+            raise self.refusal(line, lines)
+        return lines
+
+    def refusal(self, line, lines):
+        """Why a line wasn't done, with what `inspect` says of the file if the program's refusal doesn't tell."""
+        why = b" ".join(lines or self.process.stderr.read().split(b"\n")).decode(errors="replace").strip() or "no answer"
+        self.end()
+        said = reason(self.depot, why)
+        number = re.match(r"refused (\d+) |", why)[1]
+        # a 43 without a reason in the file is of the disk, or of another process
+        status = os.EX_TEMPFAIL if number == "43" and not said else STATUS.get(number, os.EX_DATAERR)
+        return Failed(status, line.decode() + ": " + why + said)
+
+    def end(self):
+        """Ends the batch, and gives its status. The answers that nobody waits for any more are read, so that it can end."""
+        if not self.process.stdin.closed:
+            self.process.communicate()
+        return self.process.returncode
+
+
+def reason(depot, why):
+    """What `inspect` says of a file of which the program says 43 or 46."""
+    if not re.match("refused 4[36] ", why):
+        return ""
+    said = subprocess.run([PROGRAM, "inspect", "--", depot], stdin=subprocess.DEVNULL, capture_output=True, check=False)
+    first = said.stdout.partition(b"\n")[0].decode(errors="replace")
+    spoilt = re.findall(rb'^user ("[^"]*") .* program (refused .*)$', said.stdout, re.MULTILINE)
+    if first.startswith("no depot: "):
+        return ": " + first.removeprefix("no depot: ")
+    return "".join(f": the filter of {user.decode()} is {what.decode()}" for user, what in spoilt[:1])
+
+
+def listed(batch, user):
+    """The entries of a user: number, kind, folder, name, both as they are printed, and how many octets each has."""
+    lines = batch.ask(b"list " + quoted(user)) or [b""]
+    for line in lines if lines != [b"none"] else []:
+        found = LISTED.fullmatch(line)
+        if not found:
+            raise Failed(os.EX_SOFTWARE, f"the program lists what is no entry: {line!r}")
+        yield int(found[1]), found[2], found[3], found[4], int(found[5])
+
+
+def export(batch, user, number, length, to):
+    """Writes an entry to a file, all of it."""
+    lines = batch.ask(b"export %s %d raw %s" % (quoted(user), number, quoted(to)))
+    if lines != [b"exported %d" % number] or os.path.getsize(to) != length:
+        raise Failed(os.EX_SOFTWARE, f"entry {number} has {length} octets, and they weren't all exported")
+
+
+@contextlib.contextmanager
+def copied(depot, name):
+    """A folder, and in it a copy of a depot, whose lock is held only while that is made."""
+    want_file(depot)
+    room = tempfile.mkdtemp(prefix=name + ".")
+    try:
+        copy = os.path.join(room, "copy")
+        done = subprocess.run([ASK, "--", depot, "copy", copy], stdin=subprocess.DEVNULL, capture_output=True, check=False)
+        if done.returncode:
+            why = done.stderr.decode(errors="replace").strip().removeprefix("ask: ")
+            status = done.returncode if done.returncode in range(os.EX_USAGE, os.EX_CONFIG + 1) else os.EX_TEMPFAIL
+            raise Failed(status, f"{depot} can't be copied: {why or done.returncode}")
+        yield room, copy
+    finally:
+        # what was written counts, also if this can't be removed
+        shutil.rmtree(room, ignore_errors=True)
