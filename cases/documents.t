@@ -8,6 +8,7 @@
     $ copy/cases/documents
     $ echo 'It has no colours yet.' >> copy/docs/TOUR.md
     $ echo 'An octet is dear.' >> copy/SECURITY.md
+    $ yes 'A text stands where it may.' | head -n 12 > copy/docs/NEW.md
     $ sed -i "s/ensures large/ensures largest/" copy/README.md
     $ sed -i 's/^| octets | Ascii, /| octets | Astray, /' copy/docs/ARCHITECTURE.md
     $ sed -i '/^| `hex` |/d' copy/docs/DEPENDENCIES.md
@@ -15,6 +16,7 @@
     $ copy/cases/documents | sed 's/md:[0-9]*: it/md:N: it/'
     docs/TOUR.md:N: it says `yet`
     SECURITY.md:N: it says `octet`
+    docs/NEW.md: it has 36 words that the rules of style avoid, and 12 is the most: stands 12, where 12, may 12
     README.md: no crate has the code that begins with pub fn execute(alloc: Global, program: &[u8], message: &[u8]) -> Result<Report, Refusal>
     docs/ARCHITECTURE.md: the row of octets doesn't name Ascii
     docs/ARCHITECTURE.md: octets has no public Astray
