@@ -3,6 +3,13 @@
 ## the words, the code, the modules and the holes of the documents
     $ "$TOP/cases/documents"
 
+## the commands of the guide print what it shows
+    $ mkdir copy && (cd "$TOP" && tar c docs/GUIDE.md cases examples) | tar x -C copy
+    $ sed -i 's|^TOURS = .*|TOURS = ["docs/GUIDE.md"]|' copy/cases/run_all
+    $ copy/cases/run_all "$(command -v depot)" GUIDE.md 2> progress
+    1 passed, 0 failed
+    $ rm -r copy progress
+
 ## each kind of fault in them is found
     $ mkdir copy && (cd "$TOP" && tar c *.md crates.txt docs cases crates/*/specs crates/*/src) | tar x -C copy
     $ copy/cases/documents
