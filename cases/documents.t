@@ -31,6 +31,15 @@
     SECURITY.md: there is no row for 0.21.0, which CHANGELOG.md has a part about
     $ rm -r copy
 
+## figures of old versions are listed
+    $ mkdir copy && (cd "$TOP" && tar c *.md docs cases) | tar x -C copy
+    $ echo 'Version 0.9.0 took 3 s.' > copy/docs/NEW.md
+    $ copy/cases/documents --old-figures | grep NEW
+    docs/NEW.md:1: 0.9.0
+    $ copy/cases/documents --new-figures 2>&1 | head -n 1
+    Compares the documents with what they are about:
+    $ rm -r copy
+
 ## a page of the package links to what the package has
     $ mkdir copy && (cd "$TOP" && tar c LICENSE* *.md bench/about.md contrib/to_maildir docs cases examples release) | tar x -C copy
     $ echo '[a way out](contrib/to_maildir)' >> copy/README.md
