@@ -1,7 +1,8 @@
 -- What is known of a search behind a star, from segment to segment.
-use Rattle.std.proofs.Common.{◌≡◌, ℕ, ◌+◌, ◌*◌, ◌≤◌, List, ◌∷◌, ◌++◌, length, take, drop, ◌-◌, Option, Some, None, OnSome, MatchOption, Bor, sym, ap, subst, ◌∙◌, arith}
+use Rattle.std.proofs.Common.{◌≡◌, ℕ, ◌+◌, ◌*◌, ◌≤◌, List, ◌∷◌, ◌++◌, length, take, drop, ◌-◌, Bool, true, false, IsTrue, Option, Some, None, OnSome, MatchOption, Bor, refl, sym, ap, subst, ◌∙◌, arith}
 use Rattle.std.proofs.Math.Nat.{mul-le-mul_right}
 use Rattle.std.proofs.lemmas.List.{length-drop, take_rest}
+use Rattle.std.specs.Bool.{then_some}
 use Rattle.std.specs.Option.{option_map}
 use Rattle.glob_match.specs.declared.captures.Stretch.{Stretch}
 use Rattle.glob_match.specs.declared.comparator.Comparator.{Comparator}
@@ -23,13 +24,12 @@ pub record IsSearched (comparator : Comparator) (value key : List ℕ) (wanted :
   pub most : gone_over + (length value + 1) * (length rest + 1) ≤ (length value + 1) * (length key + 1)
   pub least : literals (tokens_of key) ≤ gone_over + literals (tokens_of rest)
 
-pub some_of : {A : Type 0} (o : Option A) (P : Type 0) → P → OnSome o P
-some_of None P p = tt
-some_of (Some x) P p = p
+some_then : {A : Type 0} (fits : Bool) (x : A) (P : Type 0) → (IsTrue fits → P) → OnSome (then_some fits x) P
+some_then true x P p = p refl
+some_then false x P p = tt
 
-pub some_more : {A : Type 0} (o : Option A) (P Q : Type 0) → (P → Q) → OnSome o P → OnSome o Q
-some_more None P Q f p = tt
-some_more (Some x) P Q f p = f p
+pub some_where : {A : Type 0} (o : Option A) (fits : Bool) (x : A) (P : Type 0) → o ≡ then_some fits x → (IsTrue fits → P) → OnSome o P
+some_where o fits x P is p = subst (λ o. OnSome o P) (sym is) (some_then fits x P p)
 
 -- what a split says where there is a star, and where there is none
 module _ (key segment : List ℕ) (o : Option (Bor (List ℕ))) where
