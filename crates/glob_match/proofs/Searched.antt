@@ -1,8 +1,7 @@
 -- What is known of a search behind a star, from segment to segment.
-use Rattle.std.proofs.Common.{◌≡◌, ℕ, ◌+◌, ◌*◌, ◌≤◌, List, ◌∷◌, ◌++◌, length, take, drop, ◌-◌, Bool, true, false, IsTrue, Option, Some, None, OnSome, MatchOption, Bor, refl, sym, ap, subst, ◌∙◌, arith}
+use Rattle.std.proofs.Common.{◌≡◌, ℕ, ◌+◌, ◌*◌, ◌≤◌, List, ◌∷◌, ◌++◌, length, take, drop, ◌-◌, Option, Some, None, MatchOption, Bor, sym, ap, subst, ◌∙◌, arith}
 use Rattle.std.proofs.Math.Nat.{mul-le-mul_right}
 use Rattle.std.proofs.lemmas.List.{length-drop, take_rest}
-use Rattle.std.specs.Bool.{then_some}
 use Rattle.std.specs.Option.{option_map}
 use Rattle.glob_match.specs.declared.captures.Stretch.{Stretch}
 use Rattle.glob_match.specs.declared.comparator.Comparator.{Comparator}
@@ -23,13 +22,6 @@ pub record IsSearched (comparator : Comparator) (value key : List ℕ) (wanted :
   pub answer : option_map (with_places captures start (Star ∷ tokens_of rest)) (least_fit comparator (Star ∷ tokens_of rest) (drop start value)) ≡ wanted
   pub most : gone_over + (length value + 1) * (length rest + 1) ≤ (length value + 1) * (length key + 1)
   pub least : literals (tokens_of key) ≤ gone_over + literals (tokens_of rest)
-
-some_then : {A : Type 0} (fits : Bool) (x : A) (P : Type 0) → (IsTrue fits → P) → OnSome (then_some fits x) P
-some_then true x P p = p refl
-some_then false x P p = tt
-
-pub some_where : {A : Type 0} (o : Option A) (fits : Bool) (x : A) (P : Type 0) → o ≡ then_some fits x → (IsTrue fits → P) → OnSome o P
-some_where o fits x P is p = subst (λ o. OnSome o P) (sym is) (some_then fits x P p)
 
 -- what a split says where there is a star, and where there is none
 module _ (key segment : List ℕ) (o : Option (Bor (List ℕ))) where

@@ -47,7 +47,10 @@ fn match_segments(value: &[u8], key: &[u8], comparator: Comparator) -> (Option<C
     match after {
         Some(rest) => {
             let (fits, more) = match_after_star(value, end, rest, comparator, &mut captures);
-            (fits.then_some(captures), gone_over + more)
+            if !fits {
+                return (None, gone_over + more);
+            }
+            (Some(captures), gone_over + more)
         }
         None if end == value.len() => (Some(captures), gone_over),
         None => (None, gone_over),
