@@ -1,12 +1,14 @@
 -- Equal texts, block by block.
-use Rattle.std.proofs.Common.{◌≡◌, ℕ, zero, suc, ◌+◌, ◌≤◌, ◌==◌, Bool, true, false, ◌&&◌, List, [], ◌∷◌, ◌++◌, length, map, take, drop, refl, sym, ap, ◌∙◌, arith}
-use Rattle.std.proofs.lemmas.Bool.{and_from, and_left, and_parts, and_right, eq-eqb}
+use Rattle.std.proofs.Common.{◌≡◌, ◌↔◌, ℕ, zero, suc, ◌+◌, ◌<◌, ◌≤◌, ◌==◌, Bool, true, false, ◌&&◌, IsTrue, List, [], ◌∷◌, ◌++◌, length, map, take, drop, refl, sym, ap, ◌∙◌, slice_index_or, arith}
+use Rattle.std.proofs.lemmas.Bool.{and_from, and_left, and_parts, and_right, false_from_ne_true, true≢false}
+use Rattle.std.proofs.lemmas.Bool.Decides.{nat_tests}
 use Rattle.std.proofs.lemmas.List.{drop-take, length-map, map-append, take-take, take_at}
-use Rattle.std.specs.Char.{to_ascii_uppercase}
+use Rattle.std.specs.Char.{to_ascii_lowercase, to_ascii_uppercase}
 use Rattle.std.specs.Cmp.Lexicographic.{pointwise}
 use Rattle.std.specs.Prelude.{nat_eq}
-use Rattle.glob_match.specs.Comparison.{is_match}
+use Rattle.glob_match.specs.Comparison.{is_match, same_octet}
 use Rattle.glob_match.specs.declared.comparator.Comparator.TheVariants.{Casemap}
+use Rattle.glob_match.proofs.Texts.{equal_from, equal_since}
 
 and_assoc : (a b c : Bool) → (a && (b && c)) ≡ ((a && b) && c)
 and_assoc true b c = refl
@@ -23,6 +25,12 @@ is_match_split (suc n) (x ∷ xs) (y ∷ ys) =
     let same = to_ascii_uppercase x == to_ascii_uppercase y in
     ap (λ b. same && b) (is_match_split n xs ys) ∙ and_assoc same (is_match Casemap (take n xs) (take n ys)) (is_match Casemap (drop n xs) (drop n ys))
 
+-- texts that differ in their first octet
+pub first_differs : (xs ys : List ℕ) → 0 < length ys → same_octet Casemap (slice_index_or xs 0 0) (slice_index_or ys 0 0) ≡ false → false ≡ is_match Casemap xs ys
+first_differs xs [] some other = absurd (omega arith)
+first_differs [] (y ∷ ys) some other = refl
+first_differs (x ∷ xs) (y ∷ ys) some other = sym (ap (λ b. b && is_match Casemap xs ys) other)
+
 -- what is equal in upper case
 pub uppers_same : (xs ys : List ℕ) → pointwise nat_eq (map to_ascii_uppercase xs) (map to_ascii_uppercase ys) ≡ is_match Casemap xs ys
 uppers_same [] [] = refl
@@ -30,16 +38,28 @@ uppers_same [] (y ∷ ys) = refl
 uppers_same (x ∷ xs) [] = refl
 uppers_same (x ∷ xs) (y ∷ ys) = ap (λ b. (to_ascii_uppercase x == to_ascii_uppercase y) && b) (uppers_same xs ys)
 
-same_itself : (xs : List ℕ) → is_match Casemap xs xs ≡ true
-same_itself [] = refl
-same_itself (x ∷ xs) = ap (λ b. b && is_match Casemap xs xs) (eq-eqb (to_ascii_uppercase x) (to_ascii_uppercase x) refl) ∙ same_itself xs
+-- texts that are alike in one way are alike in another, where their octets are
+alike : (f g : ℕ → ℕ) → ((x y : ℕ) → f x ≡ f y → g x ≡ g y) → (xs ys : List ℕ) → map f xs ≡ map f ys → map g xs ≡ map g ys
+alike f g each [] [] e = refl
+alike f g each [] (y ∷ ys) e = cc
+alike f g each (x ∷ xs) [] e = cc
+alike f g each (x ∷ xs) (y ∷ ys) e =
+    let first : g x ≡ g y = each x y cc in
+    let rest : map g xs ≡ map g ys = alike f g each xs ys cc in
+    cc
 
--- texts of one length with the same after them
-pub padded_same : (xs ys rest : List ℕ) → length xs ≡ length ys → is_match Casemap (xs ++ rest) (ys ++ rest) ≡ is_match Casemap xs ys
-padded_same [] [] rest e = same_itself rest
-padded_same [] (y ∷ ys) rest e = absurd (omega arith)
-padded_same (x ∷ xs) [] rest e = absurd (omega arith)
-padded_same (x ∷ xs) (y ∷ ys) rest e = ap (λ b. (to_ascii_uppercase x == to_ascii_uppercase y) && b) (padded_same xs ys rest (omega arith))
+upper_from_lower : (x y : ℕ) → to_ascii_lowercase x ≡ to_ascii_lowercase y → to_ascii_uppercase x ≡ to_ascii_uppercase y
+upper_from_lower x y e = grind (arith, nat_tests)
+
+lower_from_upper : (x y : ℕ) → to_ascii_uppercase x ≡ to_ascii_uppercase y → to_ascii_lowercase x ≡ to_ascii_lowercase y
+lower_from_upper x y e = grind (arith, nat_tests)
+
+-- what is equal in lower case
+pub same_folded : (same : Bool) (xs ys : List ℕ) → (IsTrue same ↔ (map to_ascii_lowercase xs ≡ map to_ascii_lowercase ys)) → same ≡ is_match Casemap xs ys
+same_folded true xs ys is = sym (equal_since Casemap xs ys (alike to_ascii_lowercase to_ascii_uppercase upper_from_lower xs ys (is.0 refl)))
+same_folded false xs ys is =
+    sym (false_from_ne_true (is_match Casemap xs ys)
+    (λ equal. true≢false (sym (is.1 (alike to_ascii_uppercase to_ascii_lowercase lower_from_upper xs ys (equal_from Casemap xs ys equal))))))
 
 -- the front of a padded text in upper case
 pub front_of_padded : (xs rest : List ℕ) → take (length xs) (map to_ascii_uppercase (xs ++ rest)) ≡ map to_ascii_uppercase xs

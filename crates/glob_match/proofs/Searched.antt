@@ -1,5 +1,5 @@
 -- What is known of a search behind a star, from segment to segment.
-use Rattle.std.proofs.Common.{◌≡◌, ℕ, ◌+◌, ◌*◌, ◌≤◌, List, ◌∷◌, ◌++◌, length, take, drop, ◌-◌, Option, Some, None, OnSome, MatchOption, Bor, sym, ap, subst, ◌∙◌, arith}
+use Rattle.std.proofs.Common.{◌≡◌, ℕ, ◌+◌, ◌*◌, ◌≤◌, List, ◌∷◌, ◌++◌, length, take, drop, ◌-◌, Option, Some, None, MatchOption, Bor, sym, ap, subst, ◌∙◌, arith}
 use Rattle.std.proofs.Math.Nat.{mul-le-mul_right}
 use Rattle.std.proofs.lemmas.List.{length-drop, take_rest}
 use Rattle.std.specs.Option.{option_map}
@@ -22,14 +22,6 @@ pub record IsSearched (comparator : Comparator) (value key : List ℕ) (wanted :
   pub answer : option_map (with_places captures start (Star ∷ tokens_of rest)) (least_fit comparator (Star ∷ tokens_of rest) (drop start value)) ≡ wanted
   pub most : gone_over + (length value + 1) * (length rest + 1) ≤ (length value + 1) * (length key + 1)
   pub least : literals (tokens_of key) ≤ gone_over + literals (tokens_of rest)
-
-pub some_of : {A : Type 0} (o : Option A) (P : Type 0) → P → OnSome o P
-some_of None P p = tt
-some_of (Some x) P p = p
-
-pub some_more : {A : Type 0} (o : Option A) (P Q : Type 0) → (P → Q) → OnSome o P → OnSome o Q
-some_more None P Q f p = tt
-some_more (Some x) P Q f p = f p
 
 -- what a split says where there is a star, and where there is none
 module _ (key segment : List ℕ) (o : Option (Bor (List ℕ))) where

@@ -4,6 +4,7 @@ ghost use Rattle.std.specs.Char.{to_ascii_uppercase};
 ghost use Rattle.glob_match.specs.Comparison.{is_match};
 ghost use Rattle.glob_match.specs.declared.comparator.Comparator.TheVariants.{Casemap};
 
+use crate::comparator::Comparator;
 use octet_lanes::ascii_upper_lanes;
 
 /// How many octets are folded at once.
@@ -29,7 +30,7 @@ pub(crate) fn equal_folded(value: &[u8], key: &[u8]) -> bool
     ensures { result ≡ is_match Casemap value.now key.now }
 {
     let Some(last) = value.last_chunk::<32>() else {
-        return fold_block(value) == fold_block(key);
+        return value.eq_ignore_ascii_case(key);
     };
     let mut place = 0;
     'lanes: while let Some(lanes) = value[place..].first_chunk::<32>() {
@@ -40,6 +41,19 @@ pub(crate) fn equal_folded(value: &[u8], key: &[u8]) -> bool
     }
     // what is left, with octets that were compared
     begins_with_block(&key[key.len() - 32..], last)
+}
+
+/// The same of texts that aren't empty, most of which differ in their first octet.
+#[inline(always)]
+pub(crate) fn equal_from_first(value: &[u8], key: &[u8]) -> bool
+    requires long { length value.now ≡ length key.now }
+    requires some { 0 < length key.now }
+    ensures { result ≡ is_match Casemap value.now key.now }
+{
+    if !Comparator::Casemap.same(value[0], key[0]) {
+        return false;
+    }
+    equal_folded(value, key)
 }
 
 #[inline(always)]
@@ -53,9 +67,9 @@ fn begins_with_block(text: &[u8], lanes: &[u8; 32]) -> bool
     }
 }
 
-/// Less than a block and zeros after it, in upper case.
+// Less than a block and zeros after it, in upper case.
 #[inline(always)]
-pub(crate) fn fold_block(text: &[u8]) -> [u8; 32]
+fn fold_block(text: &[u8]) -> [u8; 32]
     requires { length text.now < 32 }
     ensures { result ≡ map to_ascii_uppercase (text.now ++ replicate (32 - length text.now) 0) }
 {

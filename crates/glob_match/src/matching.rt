@@ -1,5 +1,6 @@
 // Matching with wildcards.
-ghost use Rattle.std.specs.Prelude.{◌≡◌, ◌+◌, ◌*◌, ◌-◌, ◌≤◌, ◌<◌, ◌^◌, ◌∷◌, OnSome, length};
+ghost use Rattle.std.specs.Prelude.{◌≡◌, ◌+◌, ◌*◌, ◌-◌, ◌≤◌, ◌<◌, ◌^◌, ◌∷◌, IsTrue, OnSome, length};
+ghost use Rattle.std.specs.Bool.{then_some};
 ghost use Rattle.std.specs.Option.{option_map};
 ghost use Rattle.glob_match.specs.Captures.{places_of_match, texts};
 ghost use Rattle.glob_match.specs.Matching.{match_of, max_captures};
@@ -45,46 +46,48 @@ fn match_segments(value: &[u8], key: &[u8], comparator: Comparator) -> (Option<C
     push_any_octets(&mut captures, segment, 0);
     match after {
         Some(rest) => {
-            let (captures, more) = match_after_star(value, end, rest, comparator, captures);
-            (captures, gone_over + more)
+            let (fits, more) = match_after_star(value, end, rest, comparator, &mut captures);
+            if !fits {
+                return (None, gone_over + more);
+            }
+            (Some(captures), gone_over + more)
         }
         None if end == value.len() => (Some(captures), gone_over),
         None => (None, gone_over),
     }
 }
 
-// The same for the value from `start` on and what follows a star of a key, with further captures after those that are
-// given.
+// Whether the value from `start` on fits a star and what follows it in a key. The captures are added to those that are given.
 fn match_after_star(
     value: &[u8],
     start: usize,
     key: &[u8],
     comparator: Comparator,
-    captures: Captures,
-) -> (Option<Captures>, u64)
+    captures: &mut Captures,
+) -> (bool, u64)
     requires within { start ≤ length value.now }
-    requires few { length captures ≤ max_captures }
+    requires few { length captures.old ≤ max_captures }
     requires room { (length value.now + 1) * (length key.now + 1) < 2 ^ 64 }
-    ensures places { result.0 ≡ captures_after_star comparator value.now start key.now captures }
+    ensures places { then_some result.0 captures.new
+        ≡ captures_after_star comparator value.now start key.now captures.old }
     ensures most { result.1 ≤ (length value.now + 1) * (length key.now + 1) }
-    ensures least { OnSome result.0 (literals (tokens_of key.now) ≤ result.1) }
+    ensures least { IsTrue result.0 → literals (tokens_of key.now) ≤ result.1 }
 {
-    let mut captures = captures;
     let mut start = start;
     let mut rest = key;
     let mut gone_over = 0;
     'segments: loop {
         let (segment, after) = split_segment(rest);
         let Some(next) = after else {
-            let captures = match_end(value, start, segment, comparator, captures);
-            return (captures, gone_over + segment.len() as u64);
+            let fits = match_end(value, start, segment, comparator, captures);
+            return (fits, gone_over + segment.len() as u64);
         };
         let (place, more) = find_segment(&value[start..], segment, comparator);
         gone_over += more;
         let Some(place) = place else {
-            return (None, gone_over);
+            return (false, gone_over);
         };
-        push_placed(&mut captures, segment, start, start + place);
+        push_placed(captures, segment, start, start + place);
         start += place + width(segment);
         rest = next;
     }
@@ -96,24 +99,24 @@ fn match_end(
     start: usize,
     segment: &[u8],
     comparator: Comparator,
-    captures: Captures,
-) -> Option<Captures>
+    captures: &mut Captures,
+) -> bool
     requires within { start ≤ length value.now }
-    requires few { length captures ≤ max_captures }
+    requires few { length captures.old ≤ max_captures }
     requires no_star { NoStar (tokens_of segment.now) }
-    ensures { result ≡ captures_after_star comparator value.now start segment.now captures }
+    ensures { then_some result captures.new
+        ≡ captures_after_star comparator value.now start segment.now captures.old }
 {
     let width = width(segment);
     if width > value.len() - start {
-        return None;
+        return false;
     }
     let place = value.len() - width;
     if !begins_with(&value[place..], segment, comparator) {
-        return None;
+        return false;
     }
-    let mut captures = captures;
-    push_placed(&mut captures, segment, start, place);
-    Some(captures)
+    push_placed(captures, segment, start, place);
+    true
 }
 
 // Adds the captures of a star from `start` on and of the segment after it, whose first octet stands at `place`.

@@ -1,5 +1,5 @@
 // Where a segment of a key stands first in a value.
-ghost use Rattle.std.specs.Prelude.{◌≡◌, ◌+◌, ◌*◌, ◌≤◌, ◌<◌, ◌^◌, ◌==◌, ◌||◌, IfSome, ℕ, true, false, drop, length, map, take};
+ghost use Rattle.std.specs.Prelude.{◌≡◌, ◌+◌, ◌*◌, ◌≤◌, ◌<◌, ◌^◌, ◌==◌, ◌||◌, IfSome, Some, ℕ, true, false, drop, length, map, take};
 ghost use Rattle.std.specs.List.{list_any};
 ghost use Rattle.glob_match.specs.Containment.{begins_with, first_place};
 ghost use Rattle.glob_match.specs.Segments.{NoStar};
@@ -7,10 +7,14 @@ ghost use Rattle.glob_match.specs.Tokens.{backslash, question_mark, tokens_of};
 ghost use Rattle.glob_match.specs.declared.token.Token.TheVariants.{Literal};
 
 use crate::comparator::Comparator;
+use crate::fold::BLOCK;
 use crate::lanes::places_before;
 use crate::search::{LONG, SHORT, find, linear_bound, product_bound};
 use crate::segment::{begins_with, width};
 use crate::token::{Token, first_token};
+
+// How many places are tried before a searcher is made.
+const NEAR: usize = 256;
 
 /// The first place from which on the value begins with the segment, and an estimate of the work.
 pub(crate) fn find_segment(
@@ -25,6 +29,9 @@ pub(crate) fn find_segment(
     ensures most { result.1 ≤ (length value.now + 1) * (length segment.now + 1) }
     ensures least { length segment.now ≤ result.1 }
 {
+    if let Some(place) = find_near(value, segment, comparator) {
+        return (Some(place), linear_bound(value, segment));
+    }
     if !has_special(segment) {
         return find(value, segment, comparator);
     }
@@ -38,6 +45,27 @@ pub(crate) fn find_segment(
     } else {
         find_by_tokens(value, segment, comparator)
     }
+}
+
+// The first place, where it is near and the segment short: most segments of a key with many wildcards stand there.
+fn find_near(value: &[u8], segment: &[u8], comparator: Comparator) -> Option<usize>
+    requires { NoStar (tokens_of segment.now) }
+    ensures { IfSome result (λ place. Some place ≡ first_place (begins_with comparator
+        (tokens_of segment.now)) value.now) }
+{
+    if segment.len() > BLOCK {
+        return None;
+    }
+    let end = value.len().saturating_sub(segment.len() + 30).min(NEAR);
+    let mut place = 0;
+    'places: while place < end {
+        let before = places_before(&value[place..], segment, comparator);
+        if before < 32 {
+            return Some(place + before);
+        }
+        place += 32;
+    }
+    None
 }
 
 // Whether an octet of the segment doesn't stand for itself.

@@ -9,7 +9,7 @@ ghost use Rattle.glob_match.specs.declared.comparator.Comparator.TheVariants.{Ca
 ghost use Rattle.glob_match.specs.declared.token.Token.TheVariants.{Literal};
 
 use crate::comparator::Comparator;
-use crate::fold::{BLOCK, equal_folded, fold, fold_block};
+use crate::fold::{BLOCK, equal_from_first, fold};
 use memchr::memmem::{self, Finder};
 
 /// Up to this length a value is searched as one window.
@@ -79,7 +79,8 @@ fn find_casemap(value: &[u8], text: &[u8]) -> (Option<usize>, u64)
     if !has_letter(text) {
         (find_octets(value, text), gone_over)
     } else if value.len() < BLOCK {
-        (find_in_block(value, text), gone_over)
+        // making a searcher would take longer than the search
+        (find_by_octets(value, text), gone_over)
     } else if value.len() <= SHORT {
         (find_folded::<SHORT, SHORT>(value, text), gone_over)
     } else if text.len() <= MEDIUM {
@@ -95,32 +96,6 @@ fn has_letter(text: &[u8]) -> bool
     ensures { result ≡ list_any is_ascii_alphabetic text.now }
 {
     text.iter().any(|octet| octet.is_ascii_alphabetic())
-}
-
-// The same in a value of less than a block, for which making a searcher would take longer than the search.
-fn find_in_block(value: &[u8], text: &[u8]) -> Option<usize>
-    requires fits { length text.now ≤ length value.now }
-    requires short { length value.now < 32 }
-    requires some { 0 < length text.now }
-    ensures { FindsNeedle (compared Casemap value.now) (compared Casemap text.now) 0 result }
-{
-    let values = fold_block(value);
-    let texts = fold_block(text);
-    find_plainly(&values[..value.len()], &texts[..text.len()])
-}
-
-// The first place where the octets stand as they are, found by trying each.
-fn find_plainly(value: &[u8], text: &[u8]) -> Option<usize>
-    requires fits { length text.now ≤ length value.now }
-    requires some { 0 < length text.now }
-    ensures { FindsNeedle value.now text.now 0 result }
-{
-    for place in 0..=value.len() - text.len() {
-        if value[place] == text[0] && &value[place..place + text.len()] == text {
-            return Some(place);
-        }
-    }
-    None
 }
 
 // The same by windows, with the text and each window in upper case.
@@ -164,11 +139,12 @@ fn find_in_windows(finder: &Finder, len: usize, value: &[u8], window: &mut [u8])
 
 // The same for a text of any length, in time of the product.
 fn find_by_octets(value: &[u8], text: &[u8]) -> Option<usize>
-    requires { length text.now ≤ length value.now }
+    requires fits { length text.now ≤ length value.now }
+    requires some { 0 < length text.now }
     ensures { FindsNeedle (compared Casemap value.now) (compared Casemap text.now) 0 result }
 {
     for place in 0..=value.len() - text.len() {
-        if equal_folded(&value[place..place + text.len()], text) {
+        if equal_from_first(&value[place..place + text.len()], text) {
             return Some(place);
         }
     }

@@ -1,23 +1,12 @@
-use Rattle.std.proofs.Common.{◌≡◌, ◌-◌, ◌≤◌, ◌∙◌, ◌++◌, ap, length, map, take, drop, replicate, nat_eq, arith}
+use Rattle.std.proofs.Common.{◌≡◌, ◌-◌, ◌≤◌, ◌∙◌, ap, length, take, drop, arith}
 use Rattle.std.proofs.lemmas.List.{length-drop, take_all, take_rest}
-use Rattle.std.specs.Char.{to_ascii_uppercase}
-use Rattle.std.specs.Cmp.Lexicographic.{pointwise}
 use Rattle.glob_match.specs.Comparison.{is_match}
 use Rattle.glob_match.specs.declared.comparator.Comparator.TheVariants.{Casemap}
-use Rattle.glob_match.proofs.Blocks.{block_differs, block_last, block_more, padded_same, uppers_same}
+use Rattle.glob_match.proofs.Blocks.{block_differs, block_last, block_more, same_folded}
 use Rattle.glob_match.proofs.fold.equal_folded.Goals as goal
 
 pub returns-in_default : goal.returns-in_default
-returns-in_default c =
-    let value = c.args.value.now in
-    let key = c.args.key.now in
-    let same_zeros : 32 - length key ≡ 32 - length value = omega (arith, c.requires) in
-    c.eq.ensures
-    ∙ ap (λ zs. pointwise nat_eq zs c.fold_block-in_default.result) c.fold_block.ensures
-    ∙ ap (pointwise nat_eq (map to_ascii_uppercase (value ++ replicate (32 - length value) 0)))
-    (c.fold_block-in_default.ensures ∙ ap (λ n. map to_ascii_uppercase (key ++ replicate n 0)) same_zeros)
-    ∙ uppers_same (value ++ replicate (32 - length value) 0) (key ++ replicate (32 - length value) 0)
-    ∙ padded_same value key (replicate (32 - length value) 0) c.requires
+returns-in_default c = same_folded c.eq_ignore_ascii_case.result c.args.value.now c.args.key.now c.eq_ignore_ascii_case.ensures.test
 
 pub returns-then-not-begins_with_block : goal.returns-then-not-begins_with_block
 returns-then-not-begins_with_block c =

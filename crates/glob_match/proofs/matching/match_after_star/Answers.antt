@@ -6,17 +6,25 @@ use Rattle.glob_match.specs.Containment.{begins_with, first_place}
 use Rattle.glob_match.specs.Matching.{least_fit}
 use Rattle.glob_match.specs.Tokens.{tokens_of}
 use Rattle.std.specs.Option.{option_map}
-use Rattle.glob_match.proofs.Searched.{ended_literals, placed, placed_within, searched_more, some_of, split_end, split_lengths, split_next}
+use Rattle.glob_match.proofs.Searched.{ended_literals, placed, placed_within, searched_more, split_end, split_lengths, split_next}
 use Rattle.glob_match.proofs.Steps.{next_fails}
 use Rattle.glob_match.proofs.matching.match_after_star.Goals as goal
 
+pub returns-in_default-clause-places : goal.returns-in_default-clause-places
+returns-in_default-clause-places c =
+    let segment = c.split_segment.result.0.now in
+    let start = c.segments.start in
+    let tokens = split_end c.segments.rest.now segment c.split_segment.result.1 c.in_default.is c.split_segment.ensures.tokens in
+    c.match_end-fits.ensures
+    ∙ ap (λ key. option_map (with_places c.segments.captures start (Star ∷ key)) (least_fit c.args.comparator (Star ∷ key) (drop start c.args.value.now))) (sym tokens)
+    ∙ c.segments.invariant.answer
+
 pub returns-in_default-clause-least : goal.returns-in_default-clause-least
-returns-in_default-clause-least c =
+returns-in_default-clause-least c = λ fits.
     let segment = c.split_segment.result.0.now in
     let tokens = split_end c.segments.rest.now segment c.split_segment.result.1 c.in_default.is c.split_segment.ensures.tokens in
-    some_of c.match_end-captures.result _
-    (ended_literals c.args.comparator c.args.value.now c.args.key.now _ c.segments.rest.now c.segments.captures c.segments.start c.segments.gone_over
-    c.segments.invariant segment c.split_segment.ensures.no_star tokens)
+    ended_literals c.args.comparator c.args.value.now c.args.key.now _ c.segments.rest.now c.segments.captures c.segments.start c.segments.gone_over
+    c.segments.invariant segment c.split_segment.ensures.no_star tokens
 
 pub returns-in_default-place-clause-places : goal.returns-in_default-place-clause-places
 returns-in_default-place-clause-places c =

@@ -1,4 +1,5 @@
 use Rattle.std.proofs.Common.{◌≡◌, ◌∙◌, ◌∷◌, [], ap, sym, drop, Some, arith}
+use Rattle.std.specs.Bool.{then_some}
 use Rattle.std.specs.Option.{option_map}
 use Rattle.glob_match.specs.declared.token.Token.TheVariants.{Star}
 use Rattle.glob_match.specs.Captures.{capture_places, cut, whole}
@@ -6,7 +7,7 @@ use Rattle.glob_match.specs.Matching.{least_fit}
 use Rattle.glob_match.specs.Segments.{any_places, with_places, with_stretches}
 use Rattle.glob_match.specs.Tokens.{literals, tokens_of}
 use Rattle.glob_match.proofs.Plain.{begins_length}
-use Rattle.glob_match.proofs.Searched.{some_more, split_end, split_next}
+use Rattle.glob_match.proofs.Searched.{split_end, split_next}
 use Rattle.glob_match.proofs.Segmented.{length-tokens_of}
 use Rattle.glob_match.proofs.Steps.{first_fails, first_found, whole_fits, whole_fails, literals-append, literals_most, split_tokens}
 use Rattle.glob_match.proofs.matching.match_segments.Goals as goal
@@ -19,34 +20,47 @@ returns-then-not-begins_with-clause-places c =
     first_fails c.args.comparator value (tokens_of segment) c.split_segment.ensures.no_star more (sym c.begins_with.ensures ∙ c.if-not-begins_with.true)
     ∙ ap (λ key. option_map (capture_places value key) (least_fit c.args.comparator key value)) (sym tokens)
 
-pub match_after_star-captures-requires-clause-within : goal.match_after_star-captures-requires-clause-within
-match_after_star-captures-requires-clause-within c =
+pub match_after_star-fits-requires-clause-within : goal.match_after_star-fits-requires-clause-within
+match_after_star-fits-requires-clause-within c =
     omega (arith, c.width-end.ensures, begins_length c.args.comparator (tokens_of c.split_segment.result.0.now) c.args.value.now (sym c.begins_with.ensures ∙ c.if-not-begins_with.false))
 
-pub returns-in-Some-clause-places : goal.returns-in-Some-clause-places
-returns-in-Some-clause-places c =
+pub returns-then-not-fits-clause-places : goal.returns-then-not-fits-clause-places
+returns-then-not-fits-clause-places c =
     let value = c.args.value.now in
     let segment = tokens_of c.split_segment.result.0.now in
     let rest = Star ∷ tokens_of c.in-Some.rest.now in
     let there = sym c.begins_with.ensures ∙ c.if-not-begins_with.false in
-    let end = begins_length c.args.comparator segment value there in
     let tokens = split_next c.args.key.now c.split_segment.result.0.now c.split_segment.result.1 c.in-Some.rest c.in-Some.is c.split_segment.ensures.tokens in
     let first : c.push_any_octets.new.captures ≡ with_stretches (cut (whole value) ∷ []) (any_places 0 segment) =
     c.push_any_octets.ensures.places ∙ ap (λ cs. with_stretches cs (any_places 0 segment)) c.of_value-captures.ensures.places in
-    c.match_after_star-captures.ensures.places
+    ap (λ fits. then_some fits c.match_after_star-fits.new.captures) (sym c.if-not-fits.true) ∙ c.match_after_star-fits.ensures.places
     ∙ ap (λ cs. option_map (with_places cs c.width-end.result rest) (least_fit c.args.comparator rest (drop c.width-end.result value))) first
     ∙ ap (λ n. option_map (with_places (with_stretches (cut (whole value) ∷ []) (any_places 0 segment)) n rest) (least_fit c.args.comparator rest (drop n value))) c.width-end.ensures
     ∙ first_found c.args.comparator value segment c.split_segment.ensures.no_star rest there
     ∙ ap (λ key. option_map (capture_places value key) (least_fit c.args.comparator key value)) (sym tokens)
 
-pub returns-in-Some-clause-least : goal.returns-in-Some-clause-least
-returns-in-Some-clause-least c =
+pub returns-else-not-fits-clause-places : goal.returns-else-not-fits-clause-places
+returns-else-not-fits-clause-places c =
+    let value = c.args.value.now in
+    let segment = tokens_of c.split_segment.result.0.now in
+    let rest = Star ∷ tokens_of c.in-Some.rest.now in
+    let there = sym c.begins_with.ensures ∙ c.if-not-begins_with.false in
+    let tokens = split_next c.args.key.now c.split_segment.result.0.now c.split_segment.result.1 c.in-Some.rest c.in-Some.is c.split_segment.ensures.tokens in
+    let first : c.push_any_octets.new.captures ≡ with_stretches (cut (whole value) ∷ []) (any_places 0 segment) =
+    c.push_any_octets.ensures.places ∙ ap (λ cs. with_stretches cs (any_places 0 segment)) c.of_value-captures.ensures.places in
+    ap (λ fits. then_some fits c.match_after_star-fits.new.captures) (sym c.if-not-fits.false) ∙ c.match_after_star-fits.ensures.places
+    ∙ ap (λ cs. option_map (with_places cs c.width-end.result rest) (least_fit c.args.comparator rest (drop c.width-end.result value))) first
+    ∙ ap (λ n. option_map (with_places (with_stretches (cut (whole value) ∷ []) (any_places 0 segment)) n rest) (least_fit c.args.comparator rest (drop n value))) c.width-end.ensures
+    ∙ first_found c.args.comparator value segment c.split_segment.ensures.no_star rest there
+    ∙ ap (λ key. option_map (capture_places value key) (least_fit c.args.comparator key value)) (sym tokens)
+
+pub returns-else-not-fits-clause-least : goal.returns-else-not-fits-clause-least
+returns-else-not-fits-clause-least c =
     let segment = c.split_segment.result.0.now in
     let rest = tokens_of c.in-Some.rest.now in
     let tokens = split_next c.args.key.now segment c.split_segment.result.1 c.in-Some.rest c.in-Some.is c.split_segment.ensures.tokens in
-    some_more c.match_after_star-captures.result.0 _ _
-    (λ least. omega (arith, least, ap literals tokens, literals-append (tokens_of segment) (Star ∷ rest), literals_most (tokens_of segment), length-tokens_of segment))
-    c.match_after_star-captures.ensures.least
+    let least = c.match_after_star-fits.ensures.least c.if-not-fits.false in
+    omega (arith, least, ap literals tokens, literals-append (tokens_of segment) (Star ∷ rest), literals_most (tokens_of segment), length-tokens_of segment)
 
 pub returns-in-None-clause-places : goal.returns-in-None-clause-places
 returns-in-None-clause-places c =

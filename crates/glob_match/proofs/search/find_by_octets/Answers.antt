@@ -8,17 +8,17 @@ use Rattle.glob_match.specs.Comparison.{compared}
 use Rattle.glob_match.proofs.Occurs.{occurs_from_equal, equal_from_occurs}
 use Rattle.glob_match.proofs.search.find_by_octets.Goals as goal
 
-pub returns-then-equal_folded : goal.returns-then-equal_folded
-returns-then-equal_folded c =
+pub returns-then-equal_from_first : goal.returns-then-equal_from_first
+returns-then-equal_from_first c =
     let value = c.args.value.now in
     let text = c.args.text.now in
-    let within : c.loop-place.place + length text ≤ length value = omega (arith, c.requires) in (
+    let within : c.loop-place.place + length text ≤ length value = omega (arith, c.requires.fits) in (
       record {
         low = omega arith;
         high = omega (arith, length-map value to_ascii_uppercase);
         before = λ k low less. c.loop-place.invariant k low less;
       },
-      occurs_from_equal value text c.loop-place.place within (sym c.equal_folded.ensures ∙ c.if-equal_folded.true),
+      occurs_from_equal value text c.loop-place.place within (sym c.equal_from_first.ensures ∙ c.if-equal_from_first.true),
     )
 
 pub loop-place-preserved : goal.loop-place-preserved
@@ -26,21 +26,21 @@ loop-place-preserved c = λ k low less occurs.
     let value = c.args.value.now in
     let text = c.args.text.now in
     let place = c.loop-place.place in
-    let within : place + length text ≤ length value = omega (arith, c.requires) in
+    let within : place + length text ≤ length value = omega (arith, c.requires.fits) in
     elim (cases_eq k place) [
-      | inl here ↦ true≢false (sym (c.equal_folded.ensures ∙ equal_from_occurs value text place within (subst (λ n. OccursAt (compared Casemap value) (compared Casemap text) n) here occurs))
-          ∙ c.if-equal_folded.false)
+      | inl here ↦ true≢false (sym (c.equal_from_first.ensures ∙ equal_from_occurs value text place within (subst (λ n. OccursAt (compared Casemap value) (compared Casemap text) n) here occurs))
+          ∙ c.if-equal_from_first.false)
       | inr other ↦ c.loop-place.invariant k low (omega arith) occurs
     ]
 
-pub returns-else-equal_folded : goal.returns-else-equal_folded
-returns-else-equal_folded c = λ k low less occurs.
+pub returns-else-equal_from_first : goal.returns-else-equal_from_first
+returns-else-equal_from_first c = λ k low less occurs.
     let value = c.args.value.now in
     let text = c.args.text.now in
     let place = c.loop-place.place in
-    let within : place + length text ≤ length value = omega (arith, c.requires) in
+    let within : place + length text ≤ length value = omega (arith, c.requires.fits) in
     elim (cases_eq k place) [
-      | inl here ↦ true≢false (sym (c.equal_folded.ensures ∙ equal_from_occurs value text place within (subst (λ n. OccursAt (compared Casemap value) (compared Casemap text) n) here occurs))
-          ∙ c.if-equal_folded.false)
+      | inl here ↦ true≢false (sym (c.equal_from_first.ensures ∙ equal_from_occurs value text place within (subst (λ n. OccursAt (compared Casemap value) (compared Casemap text) n) here occurs))
+          ∙ c.if-equal_from_first.false)
       | inr other ↦ c.loop-place.invariant k low (omega (arith, occurs.fits, length-map value to_ascii_uppercase, length-map text to_ascii_uppercase)) occurs
     ]
