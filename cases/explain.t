@@ -102,6 +102,18 @@ Tokens.
     2> refused 11 Lexical at 6
     [1]
 
+## operators of other languages
+    $ for test in 'true && true' 'true || true' 'size > 5K' 'size <= 5K' 'header "a" == "b"' 'header "a" = "b"' '!exists "a"'; do
+    >     echo "if $test { keep; }" > script; depot explain script 2> refused | head -n 1
+    > done
+    script:1:9: error: Sieve has no `&&`: write `allof (.., ..)`, which is true if all of its tests are
+    script:1:9: error: Sieve has no `||`: write `anyof (.., ..)`, which is true if one of its tests is
+    script:1:9: error: Sieve has no `>`: write `:over` before the number, as in `size :over 100K`
+    script:1:9: error: Sieve has no `<=`: write `:under` before the number, as in `size :under 100K`
+    script:1:15: error: Sieve has no `==`: write `:is` before the strings, as in `header :is "Subject" "text"`
+    script:1:15: error: Sieve has no `=`: write `:is` before the strings, as in `header :is "Subject" "text"`
+    script:1:4: error: Sieve has no `!`: write `not` before the test, as in `not exists "Subject"`
+
 ## colon alone
     $ printf 'if header : is "a" "b" { keep; }' > script
     $ depot explain script
@@ -870,6 +882,34 @@ Arguments.
          ^
     2> refused 18 BadArguments at 1
     [1]
+
+## words in the place of strings
+    $ printf 'if header :contains Subject "x" { stop; }' > script
+    $ depot explain script
+    script:1:21: error: `Subject` stands where a string has to: put it in quotation marks, "like this"
+      if header :contains Subject "x" { stop; }
+                          ^
+    2> refused 18 BadArguments at 1
+    [1]
+    $ for script in 'if exists Subject { stop; }' 'require fileinto;' 'require ["variables", fileinto];' 'require [fileinto];' 'require "variables"; set n "v";' 'require "variables"; set "n" v;' 'require "fileinto"; fileinto Spam;'; do
+    >     echo "$script" > script; depot explain script 2> refused | head -n 1
+    > done
+    script:1:11: error: `Subject` stands where a string has to: put it in quotation marks, "like this"
+    script:1:9: error: `fileinto` stands where a string has to: put it in quotation marks, "like this"
+    script:1:23: error: `fileinto` stands where a string has to: put it in quotation marks, "like this"
+    script:1:10: error: `fileinto` stands where a string has to: put it in quotation marks, "like this"
+    script:1:26: error: `n` stands where a string has to: put it in quotation marks, "like this"
+    script:1:30: error: `v` stands where a string has to: put it in quotation marks, "like this"
+    script:1:30: error: `Spam` stands where a string has to: put it in quotation marks, "like this"
+
+## words behind too few arguments that begin a command or test
+    $ for script in 'require "fileinto"; fileinto keep;' 'if anyof (header :is "a", true) { stop; }' 'if header contains "a" "b" { stop; }' 'if size :over big { stop; }'; do
+    >     echo "$script" > script; depot explain script 2> refused | head -n 1
+    > done
+    script:1:21: error: `fileinto` has too few arguments: it takes one string without brackets
+    script:1:11: error: `header` has too few arguments: it takes two, each a string or a list of strings
+    script:1:4: error: `contains` is a tag: is a colon missing before it?
+    script:1:4: error: `size` has too few arguments: it takes one number
 
 ## too many arguments
     $ printf 'require "fileinto"; fileinto "a" "b";' > script

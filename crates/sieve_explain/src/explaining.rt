@@ -1,5 +1,6 @@
 // Why a script is refused, and what is told of it.
-ghost use Rattle.std.specs.Prelude.{◌≡◌, ◌≤◌, ◌++◌, IfOk, None, OnOk, flat_map, length, map, nat_lt, take};
+ghost use Rattle.std.specs.Prelude.{◌≡◌, ◌≤◌, ◌++◌, IfOk, None, OnOk, drop, flat_map, length, map, nat_lt, take};
+ghost use Rattle.std.specs.List.{slice_get};
 ghost use Rattle.octets.specs.Limits.{max_script};
 ghost use Rattle.refusals.specs.Causes.{of_parser};
 ghost use Rattle.sieve_check.specs.ReasonView.{refused_view};
@@ -8,17 +9,18 @@ ghost use Rattle.sieve_lexer.specs.Tokens.{AreTokens};
 ghost use Rattle.sieve_parser.specs.Refusals.{parse_error};
 ghost use Rattle.sieve_parser.specs.Scripts.{IsGrammarRefusal, IsParsed};
 ghost use Rattle.sieve_parser.specs.View.{commands_tree};
-ghost use Rattle.sieve_explain.specs.Explaining.{IsExplained, IsRemarked, TellsFault, depth_told, end_told, foreign, foreign_told, listing_told, look_told, marked_token, more_told, opened, reason_told, syntax_told};
+ghost use Rattle.sieve_explain.specs.Explaining.{IsExplained, IsRemarked, TellsFault, depth_told, end_told, foreign, bare_word, foreign_told, listing_told, look_told, marked_by, marked_token, more_told, opened, reason_told, syntax_told};
 ghost use Rattle.sieve_explain.specs.Private.{IsFaultTold, Stands};
 ghost use Rattle.sieve_explain.specs.Faults.{look_text};
+ghost use Rattle.sieve_explain.specs.Marks.{string_among};
 
 use crate::explanation::Explanation;
 use crate::faults::{
-    foreign_sentence, lexical_sentence, listing_sentence, look_text, more_sentence, token_sentence,
-    too_deep_sentence, too_long_sentence, unclosed_sentence,
+    foreign_sentence, lexical_sentence, listing_sentence, look_text, misplaced_sentence,
+    more_sentence, too_deep_sentence, too_long_sentence, unclosed_sentence,
 };
 use crate::marks::{foreign_among, start_of, string_behind, token_numbered, unclosed};
-use crate::reasons::fault_sentence;
+use crate::reasons::{bare_word, fault_sentence};
 use crate::remarks::{Source, push_note, push_remark, told};
 use crate::sentence::plain;
 use bytecode_listing::FaultKind;
@@ -168,7 +170,14 @@ fn syntax_told(source: &Source<'_>, tokens: &[Token], number: usize) -> Result<V
         text.items ≡ syntax_told source.now.name.now source.now.octets.now number tokens.now) }
 {
     match token_numbered(source.octets, tokens, number) {
-        Some(token) => told(source, token.start, &token_sentence(source.octets, token)),
+        Some(token) => {
+            let before = token_numbered(source.octets, tokens, number.saturating_sub(1));
+            told(
+                source,
+                token.start,
+                &misplaced_sentence(source.octets, before, token),
+            )
+        }
         None => end_told(source, tokens),
     }
 }
@@ -295,6 +304,15 @@ fn push_reason(
     )
 }
 
+// The word in the place of a string that is missing, if there is one.
+fn word_marked(source: &Source<'_>, tokens: &[Token], found: Refused<'_>) -> Option<Token>
+    requires { AreTokens source.now.octets.now tokens.now }
+    ensures token { result ≡ bare_word source.now.octets.now tokens.now (refused_view found.entry) }
+    ensures within { Stands source.now.octets.now result }
+{
+    bare_word(source.octets, tokens, found)
+}
+
 // The token under which the mark stands.
 #[tactic(auto, unfolding(crate::specs::Explaining::marked_token))]
 fn marked_token(
@@ -305,6 +323,24 @@ fn marked_token(
     requires { AreTokens source.now.octets.now tokens.now }
     ensures token { IfOk result (λ token.
         token ≡ marked_token source.now.octets.now tokens.now (refused_view found.entry)) }
+    ensures within { IfOk result (λ token. Stands source.now.octets.now token) }
+{
+    match word_marked(source, tokens, found) {
+        Some(word) => Ok(Some(word)),
+        None => marked_by(source, tokens, found),
+    }
+}
+
+// The same by the kind of the reason.
+fn marked_by(
+    source: &Source<'_>,
+    tokens: &[Token],
+    found: Refused<'_>,
+) -> Result<Option<Token>, AllocError>
+    requires { AreTokens source.now.octets.now tokens.now }
+    ensures token { IfOk result (λ token. token ≡ marked_by found.entry.reason.kind
+        (string_among source.now.octets.now found.entry.reason.subject.now
+        (drop found.entry.token tokens.now)) (slice_get tokens.now found.entry.token)) }
     ensures within { IfOk result (λ token. Stands source.now.octets.now token) }
 {
     match found.reason.kind {
