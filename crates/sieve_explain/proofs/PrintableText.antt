@@ -7,20 +7,22 @@ use Rattle.octets.specs.Limits.{max_script}
 use Rattle.refusals.specs.declared.refusal.Refusal.{Refusal}
 use Rattle.refusals.specs.declared.refusal.Refusal.TheVariants as refused
 use Rattle.bytecode_listing.specs.declared.error.FaultKind.{FaultKind}
-use Rattle.sieve_explain.specs.Explaining.{Explains, IsRemarked, TellsFault, TellsReasons, argument_blanks, bare_word, depth_told, end_told, fault_blanks, foreign, heading, is_argument_fault, label_blanks, look_told, may_lack_label, marked_token, misplaced_blanks, more_told, note, opened, reason_told, remark, start_of, syntax_told, token_told, told, tokens_behind, listing_told, numbered, word_or}
-use Rattle.sieve_explain.specs.Faults.{colon_blanks, end_blanks, foreign_blanks, lexical_blanks, listing_blanks, look_text, more_blanks, token_blanks, too_deep_blanks, too_long_blanks, unclosed_blanks, unit_blanks, word_blanks}
-use Rattle.sieve_explain.specs.Marks.{is_word_in_list, text_of, foreign_among, has_unit, label_behind, unclosed}
+use Rattle.sieve_explain.specs.Explaining.{Explains, IsRemarked, TellsFault, TellsReasons, argument_blanks, bare_word, depth_told, end_told, fault_blanks, heading, is_argument_fault, label_blanks, look_told, may_lack_label, marked_token, misplaced_blanks, more_notes_told, more_told, note, note_told, opened, reason_told, remark, start_of, syntax_told, token_told, told, tokens_behind, listing_told, numbered, word_or}
+use Rattle.sieve_explain.specs.Faults.{colon_blanks, end_blanks, lexical_blanks, listing_blanks, look_text, more_blanks, token_blanks, too_deep_blanks, too_long_blanks, unclosed_blanks, unit_blanks, word_blanks}
+use Rattle.sieve_explain.specs.Marks.{is_word_in_list, text_of, has_unit, label_behind, unclosed}
 use Rattle.sieve_lexer.specs.declared.token.Token.{Token}
 use Rattle.sieve_check.specs.Causes.{Reason, Refused, fault_of_kind}
 use Rattle.sieve_check.specs.Rules.{max_reasons, reasons_of}
 use Rattle.readable_text.specs.Places.{column, line_at, line_number, octets_before}
+use Rattle.sieve_explain.specs.Notes.{max_notes, more_notes_blanks, note_blanks, notes_of}
+use Rattle.sieve_explain.specs.declared.notes.Noted.{Noted}
 use Rattle.sieve_explain.specs.Printable.{are_ascii, have_no_controls, is_no_control, is_printable}
 use Rattle.sieve_explain.specs.Reasons.{reason_blanks}
 use Rattle.sieve_explain.specs.Sentences.{Blanks, filled, plain}
 use Rattle.sieve_explain.specs.Shown.{excerpt, line, margin, marked, shown, shown_end, shown_start}
 use Rattle.sieve_explain.specs.declared.shown.Style.TheVariants.{Line, Name}
 use Rattle.sieve_explain.proofs.Printing.{Admits, Fine, FineBlanks, Passes, admits_no_control, admits_printable, fine_append, fine_decimal, fine_end, fine_filled, fine_spaces, fine_start, line_plain, name_printable, name_without_controls, pass_append, pass_printable}
-use Rattle.sieve_explain.proofs.PrintingTables.{blanks_if, fine_lexical, fine_listing, fine_look, fine_misplaced_token, fine_reason}
+use Rattle.sieve_explain.proofs.PrintingTables.{blanks_if, fine_lexical, fine_listing, fine_look, fine_misplaced_token, fine_note, fine_reason}
 
 fine_line : (text : List ℕ) → Fine text → Fine (line text)
 fine_line text e = fine_append text (10 ∷ []) e refl
@@ -153,13 +155,24 @@ module _ (test : ℕ → Bool) (admits : Admits test) where
   pass_listing name listing place kind p =
       let at = min place (length listing) in pass_told name listing at (listing_blanks kind (drop at listing)) p (fine_listing kind (drop at listing))
 
-  pass_foreign : (name script : List ℕ) (string : Option Token) → Passes test (shown Name name) → Passes test (foreign name script string)
-  unfolding foreign
-  pass_foreign name script None p = refl
-  pass_foreign name script (Some string) p = pass_remark (codes ": note: ") name script string.start foreign_blanks refl p (refl, refl, refl)
+  pass_notes : (name script : List ℕ) (notes : List Noted) → Passes test (shown Name name) → Passes test (flat_map (note_told name script) notes)
+  unfolding note_told
+  pass_notes name script [] p = refl
+  pass_notes name script (noted ∷ notes) p =
+      pass_append test (note_told name script noted) (flat_map (note_told name script) notes)
+      (pass_remark (codes ": note: ") name script (min noted.place (length script)) (note_blanks noted.kind) refl p (fine_note noted.kind))
+      (pass_notes name script notes p)
+
+  pass_more_notes : (name : List ℕ) (more : Bool) → Passes test (shown Name name) → Passes test (more_notes_told name more)
+  pass_more_notes name true p = pass_note name more_notes_blanks p (refl, refl, refl)
+  pass_more_notes name false p = refl
 
   pass_remarked : (name script text : List ℕ) → Passes test (shown Name name) → IsRemarked name script text → Passes test text
-  pass_remarked name script text p (tokens, are, e) = ap (list_all test) e ∙ pass_foreign name script (foreign_among script tokens) p
+  pass_remarked name script text p (tokens, are, e) =
+      let all = notes_of script tokens in
+      let more = nat_lt max_notes (length all) in
+      ap (list_all test) e
+      ∙ pass_append test (flat_map (note_told name script) (take max_notes all)) (more_notes_told name more) (pass_notes name script (take max_notes all) p) (pass_more_notes name more p)
 
 pub without_controls : (name script : List ℕ) (refusal : Refusal) (text : List ℕ) → Explains name script refusal text → have_no_controls text ≡ true
 without_controls name script refusal text e = pass_text is_no_control admits_no_control name script refusal text (name_without_controls name) e

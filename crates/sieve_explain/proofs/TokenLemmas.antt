@@ -7,7 +7,7 @@ use Rattle.std.specs.declared.alloc.AllocError.{AllocError}
 use Rattle.sieve_lexer.specs.Tokens.{AreTokens, IsToken}
 use Rattle.sieve_lexer.specs.declared.token.Token.{Token}
 use Rattle.sieve_parser.proofs.Here.{token_here}
-use Rattle.sieve_explain.specs.Marks.{bare_behind, foreign_among, foreign_from, has_value, if_bare, if_unclosed, in_header, is_bare, is_foreign, is_name, is_of_arguments, is_opening, is_separator, string_among, text_of, unclosed, unopened}
+use Rattle.sieve_explain.specs.Marks.{bare_behind, has_value, if_bare, if_unclosed, is_bare, is_name, is_of_arguments, is_opening, is_separator, string_among, text_of, unclosed, unopened}
 use Rattle.sieve_explain.specs.Explaining.{bare_word, lacks_strings, tokens_behind, word_behind}
 use Rattle.sieve_check.specs.Causes.{Refused}
 use Rattle.sieve_explain.specs.Private.{Stands}
@@ -100,13 +100,3 @@ word_stands script tokens found has o e =
     stands_one script tokens has o (subst (IsOne tokens) (sym e)
     (or_none tokens (lacks_strings found.reason.kind) word
     (one_dropped found.token tokens word (one_dropped 1 (drop found.token tokens) word (one_behind script found.reason.name behind)))))
-
-one_foreign : (script : List ℕ) (inside : Bool) (tokens : List Token) → IsOne tokens (foreign_from script inside tokens)
-one_foreign script inside [] = tt
-one_foreign script inside (token ∷ tokens) =
-    let next = in_header script inside token in
-    one_found token tokens (inside && is_foreign script token) (foreign_from script next tokens) (one_foreign script next tokens)
-
--- a string of `header`
-pub foreign_stands : (script : List ℕ) (tokens : List Token) → AreTokens script tokens → (o : Option Token) → o ≡ foreign_among script tokens → Stands script o
-foreign_stands script tokens has o e = stands_one script tokens has o (subst (IsOne tokens) (sym e) (one_foreign script false tokens))

@@ -22,8 +22,10 @@ use Rattle.sieve_check.specs.declared.signature.Tests.TheVariants as tests
 use Rattle.sieve_check.specs.Causes.{Reason, Refused, fault_of_kind}
 use Rattle.sieve_check.specs.Rules.{fault_of, max_reasons, reasons_of}
 use Rattle.sieve_explain.specs.declared.explanation.Explanation.{Explanation}
-use Rattle.sieve_explain.specs.Faults.{colon_blanks, end_blanks, foreign_blanks, lexical_blanks, listing_blanks, look_text, more_blanks, token_blanks, too_deep_blanks, too_long_blanks, unclosed_blanks, unit_blanks, word_blanks}
-use Rattle.sieve_explain.specs.Marks.{arguments_behind, bare_behind, foreign_among, has_unit, is_name, is_of_arguments, is_string, is_word_in_list, label_behind, string_among, text_of, unclosed}
+use Rattle.sieve_explain.specs.Faults.{colon_blanks, end_blanks, lexical_blanks, listing_blanks, look_text, more_blanks, token_blanks, too_deep_blanks, too_long_blanks, unclosed_blanks, unit_blanks, word_blanks}
+use Rattle.sieve_explain.specs.Marks.{arguments_behind, bare_behind, has_unit, is_name, is_of_arguments, is_string, is_word_in_list, label_behind, string_among, text_of, unclosed}
+use Rattle.sieve_explain.specs.Notes.{max_notes, more_notes_blanks, note_blanks, notes_of}
+use Rattle.sieve_explain.specs.declared.notes.Noted.{Noted}
 use Rattle.readable_text.specs.Places.{column, line_number}
 use Rattle.sieve_explain.specs.Reasons.{reason_blanks}
 use Rattle.sieve_explain.specs.Sentences.{Blanks, filled, plain}
@@ -223,17 +225,25 @@ pub record Explains (name script : List ℕ) (refusal : Refusal) (text : List �
   pub tells : TellsFault name script refusal fault
   pub whole : text ≡ fault ++ look_told name (look_text script)
 
--- the string of `header` that mail writes otherwise, where there is one
-unfoldable pub foreign : List ℕ → List ℕ → Option Token → List ℕ
-foreign name script None = []
-foreign name script (Some string) = remark (codes ": note: ") name script string.start foreign_blanks
+-- a note about a script with which nothing is wrong
+unfoldable pub note_told : List ℕ → List ℕ → Noted → List ℕ
+note_told name script noted = remark (codes ": note: ") name script (min noted.place (length script)) (note_blanks noted.kind)
+
+-- that more is noted than is told, where that is so
+abbrev pub more_notes_told : List ℕ → Bool → List ℕ
+more_notes_told name more = if more then note name more_notes_blanks else []
+
+-- notes, in order, up to `max_notes` of them, and whether there are more; those of the script
+abbrev pub listed_told : List ℕ → List ℕ → List Noted → List ℕ
+listed_told name script notes =
+    flat_map (note_told name script) (take max_notes notes) ++ more_notes_told name (nat_lt max_notes (length notes))
+
+abbrev pub notes_told : List ℕ → List ℕ → List Token → List ℕ
+notes_told name script tokens = listed_told name script (notes_of script tokens)
 
 -- what is remarked of a script with which nothing is wrong
-abbrev pub foreign_told : List ℕ → List ℕ → List Token → List ℕ
-foreign_told name script tokens = foreign name script (foreign_among script tokens)
-
 abbrev pub IsRemarked : List ℕ → List ℕ → List ℕ → Type 0
-IsRemarked name script text = Tells script (foreign_told name script) text
+IsRemarked name script text = Tells script (notes_told name script) text
 
 -- nothing is wrong with the script; or this is its refusal, and this is told of it
 abbrev pub IsExplained : List ℕ → List ℕ → Option Explanation → Type 0

@@ -113,10 +113,6 @@ too_deep_blanks = record (plain (codes "braces and tests are nested more than % 
 abbrev pub unclosed_blanks : Blanks
 unclosed_blanks = plain (codes "this brace is never closed")
 
--- of a string of `header` that isn't ASCII
-abbrev pub foreign_blanks : Blanks
-foreign_blanks = plain (codes "header fields are compared as they are written, and mail mostly writes such letters encoded, as =?UTF-8?..?=: this may never match")
-
 -- 18, where a unit has more letters, or stands apart from its number
 abbrev pub unit_blanks : Blanks
 unit_blanks = plain (codes "the units of a number are K, M and G, with no blank before the letter and nothing behind it, as in 5M")

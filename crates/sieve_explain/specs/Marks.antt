@@ -1,5 +1,5 @@
 -- What an explanation looks for among the tokens of a script.
-use Rattle.std.specs.Prelude.{ℕ, ◌-◌, ◌+◌, Bool, true, false, not, ◌&&◌, ◌||◌, ◌==◌, if◌then◌else◌, List, [], ◌∷◌, length, drop, nat_lt, take_while, Option, Some, None, is_some, bytes_eq, codes, slice_range}
+use Rattle.std.specs.Prelude.{ℕ, ◌-◌, ◌+◌, Bool, true, false, not, ◌&&◌, ◌||◌, ◌==◌, if◌then◌else◌, List, [], ◌∷◌, length, drop, take_while, Option, Some, None, is_some, bytes_eq, codes, slice_range}
 use Rattle.std.specs.List.{find, list_any, slice_get}
 use Rattle.std.specs.Option.{option_or}
 use Rattle.octets.specs.Ascii.{is_word}
@@ -129,31 +129,6 @@ abbrev pub bare_behind : List ℕ → List ℕ → List Token → Option Token
 bare_behind script name tokens =
     let place = length (take_while is_of_arguments tokens) in
     if is_separator (slice_get tokens (place - 1)) then None else if_bare script name (slice_get tokens place)
-
--- ---- a string of `header` that mail writes otherwise
-
--- it isn't ASCII
-abbrev pub is_beyond : ℕ → Bool
-is_beyond octet = nat_lt 127 octet
-
--- the token is a string with an octet that isn't ASCII
-abbrev pub is_foreign : List ℕ → Token → Bool
-is_foreign script token = is_string token.kind && list_any is_beyond (text_of script token)
-
--- whether the arguments behind a token are those of `header`: the last identifier says it
-abbrev pub in_header : List ℕ → Bool → Token → Bool
-in_header script inside token =
-    if is_name token.kind then is_word (text_of script token) (codes "header") else inside
-
--- the first such string among the arguments of `header`, if there is one
-abbrev pub foreign_from : List ℕ → Bool → List Token → Option Token
-foreign_from script inside [] = None
-foreign_from script inside (token ∷ tokens) =
-    if inside && is_foreign script token then Some token
-    else foreign_from script (in_header script inside token) tokens
-
-abbrev pub foreign_among : List ℕ → List Token → Option Token
-foreign_among script tokens = foreign_from script false tokens
 
 -- ---- a brace without its partner
 

@@ -1,6 +1,6 @@
 // What is said of a script that isn't parsed.
 ghost use Rattle.std.specs.Prelude.{◌≡◌, ◌≤◌, Some, bytes_eq, length, map, take, take_while};
-ghost use Rattle.sieve_explain.specs.Faults.{beginnings, begins_as_mail, dark_at, foreign_blanks, is_dark, is_field_octet, is_symbol, lexical_blanks, listing_blanks, listing_text, look_text, misplaced_text, more_blanks, misplaced_token, other_text, symbol_at, text_at, token_blanks, too_deep_blanks, too_long_blanks, unclosed_blanks, word_blanks};
+ghost use Rattle.sieve_explain.specs.Faults.{beginnings, begins_as_mail, dark_at, is_dark, is_field_octet, is_symbol, lexical_blanks, listing_blanks, listing_text, look_text, misplaced_text, more_blanks, misplaced_token, other_text, symbol_at, text_at, token_blanks, too_deep_blanks, too_long_blanks, unclosed_blanks, word_blanks};
 ghost use Rattle.sieve_explain.specs.Explaining.{misplaced_blanks};
 ghost use Rattle.sieve_explain.specs.Private.{beginning_of, Stands, blanks_of};
 
@@ -363,13 +363,4 @@ pub fn unclosed_sentence() -> Sentence<'static>
     ensures { blanks_of result ≡ unclosed_blanks }
 {
     plain("this brace is never closed")
-}
-
-// The sentence for a string of `header` that isn't ASCII.
-pub fn foreign_sentence() -> Sentence<'static>
-    ensures { blanks_of result ≡ foreign_blanks }
-{
-    plain(
-        "header fields are compared as they are written, and mail mostly writes such letters encoded, as =?UTF-8?..?=: this may never match",
-    )
 }
