@@ -193,6 +193,30 @@ Notes on tests and commands that can't mean what they say, one of each test or c
       if size :over 64M { discard; }
                     ^
 
+## captures that nothing gives a value
+    $ cat > script << 'END'
+    > require ["variables", "fileinto"];
+    > if header :contains "Subject" "[desk]" { fileinto "Desk ${1}"; }
+    > if header "Subject" ["${x}", "a${0}b", "${9}"] { set "a" "${2}"; }
+    > END
+    $ depot explain script
+    ok
+    script:2:51: note: a number in this string is always empty: only a test with `:matches` gives it text, and the script has none
+      if header :contains "Subject" "[desk]" { fileinto "Desk ${1}"; }
+                                                        ^
+    script:3:40: note: a number in this string is always empty: only a test with `:matches` gives it text, and the script has none
+      if header "Subject" ["${x}", "a${0}b", "${9}"] { set "a" "${2}"; }
+                                             ^
+    script:3:58: note: a number in this string is always empty: only a test with `:matches` gives it text, and the script has none
+      if header "Subject" ["${x}", "a${0}b", "${9}"] { set "a" "${2}"; }
+                                                               ^
+    $ echo 'if header :matches "From" "*" { stop; }' >> script
+    $ depot explain script
+    ok
+    $ echo 'require "fileinto"; fileinto "${1}";' > script
+    $ depot explain script
+    ok
+
 ## more notes than are told
     $ for line in $(seq 21); do echo 'if exists "a:" { stop; }'; done > script
     $ depot explain script | grep -c 'leave the colon out'

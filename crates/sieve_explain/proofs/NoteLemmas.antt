@@ -5,7 +5,8 @@ use Rattle.std.proofs.lemmas.List.{append-nil, append_assoc, length-take, take-t
 use Rattle.std.proofs.Math.Seq.{take-append_seam}
 use Rattle.std.specs.Prelude.{Option, Some, None, flat_map}
 use Rattle.sieve_explain.specs.Explaining.{listed_told, more_notes_told, note_told}
-use Rattle.sieve_explain.specs.Notes.{max_noted, max_notes, onto}
+use Rattle.sieve_explain.specs.Notes.{max_notes, onto}
+use Rattle.sieve_explain.specs.Private.{max_noted}
 use Rattle.sieve_explain.specs.declared.notes.Noted.{Noted}
 
 pub first_notes : (found all : List Noted) → found ≡ take max_noted all → take max_notes found ≡ take max_notes all

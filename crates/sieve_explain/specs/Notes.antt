@@ -13,15 +13,12 @@ use Rattle.sieve_lexer.specs.declared.token.TokenKind.TheVariants.{ClosingBrace,
 use Rattle.sieve_explain.specs.Marks.{is_amount, is_name, is_of_arguments, is_separator, is_string, text_of}
 use Rattle.sieve_explain.specs.Sentences.{Blanks, plain}
 use Rattle.sieve_explain.specs.declared.notes.NoteKind.{NoteKind}
-use Rattle.sieve_explain.specs.declared.notes.NoteKind.TheVariants.{Foreign, Colon, Space, StarInContains, StarInIs, NoWildcard, NoDigest, LargeSize, AfterTrue, AfterStop, AfterBreak}
+use Rattle.sieve_explain.specs.declared.notes.NoteKind.TheVariants.{Foreign, Colon, Space, StarInContains, StarInIs, NoWildcard, NoDigest, LargeSize, NoCapture, AfterTrue, AfterStop, AfterBreak}
 use Rattle.sieve_explain.specs.declared.notes.Noted.{Noted}
 
--- how many notes are told of a script, and how many are looked for: one more says that there are more
+-- how many notes are told of a script
 abbrev pub max_notes : ℕ
 max_notes = 20
-
-abbrev pub max_noted : ℕ
-max_noted = 21
 
 -- ---- the table of notes
 
@@ -35,6 +32,7 @@ note_text StarInIs = codes "a star stands for itself here: write `:matches` if i
 note_text NoWildcard = codes "this `:matches` has no `*` and no `?`, so it compares whole values as `:is` does: put `*` where any text may stand, or write `:is`"
 note_text NoDigest = codes "no part has this digest: write 64 hexadecimal digits, with letters in lower case"
 note_text LargeSize = codes "no message is so large: the largest one has % bytes, so write a smaller number"
+note_text NoCapture = codes "a number in this string is always empty: only a test with `:matches` gives it text, and the script has none"
 note_text AfterTrue = codes "this branch never runs: the test before it is always true"
 note_text AfterStop = codes "this never runs: put it before the `stop`, which ends the script"
 note_text AfterBreak = codes "this never runs: put it before the `break`, which leaves the loop"
@@ -83,6 +81,20 @@ is_digit octet = is_ascii_hexdigit octet && not (is_ascii_uppercase octet)
 abbrev pub is_digest : List ℕ → Bool
 is_digest text = length text == 64 && list_all is_digit text
 
+-- a reference to what a wildcard matched comes first: a number from 1 to 9
+abbrev pub is_capture_digit : ℕ → Bool
+is_capture_digit octet = nat_le 49 octet && nat_le octet 57
+
+abbrev pub begins_capture : List ℕ → Bool
+begins_capture text =
+    (bytes_eq (take 2 text) (codes "${") && list_any is_capture_digit (take 1 (drop 2 text)))
+    && bytes_eq (take 1 (drop 3 text)) (codes "}")
+
+-- there is one anywhere
+abbrev pub has_capture : List ℕ → Bool
+has_capture [] = false
+has_capture (c ∷ text) = begins_capture (c ∷ text) || has_capture text
+
 -- the text between a string's quotes is noted so, where one of its kind stands
 abbrev pub is_noted_text : NoteKind → List ℕ → Bool
 is_noted_text Foreign text = list_any is_beyond text
@@ -92,6 +104,7 @@ is_noted_text StarInContains text = begins_with_star text
 is_noted_text StarInIs text = begins_with_star text || ends_with_star text
 is_noted_text NoWildcard text = true
 is_noted_text NoDigest text = not (is_digest text || list_any is_dollar text)
+is_noted_text NoCapture text = has_capture text
 is_noted_text _ text = false
 
 -- a number that no message's size is over
@@ -243,13 +256,28 @@ command_note script name rest =
     if is_word name (codes "break") then next_note AfterBreak rest else
     None
 
+-- ---- captures
+
+-- the string is the capability for references
+abbrev pub is_variables : List ℕ → Token → Bool
+is_variables script token = is_string token.kind && bytes_eq (inner (text_of script token)) (codes "variables")
+
+-- no test of the script gives captures a value, and references are expanded
+abbrev pub lacks_captures : List ℕ → List Token → Bool
+lacks_captures script tokens = list_any (is_variables script) tokens && not (has_tag script (codes ":matches") tokens)
+
+-- of the arguments of a command or test in such a script
+abbrev pub capture_note : List ℕ → Bool → List Token → Option Noted
+capture_note script lacks arguments = if lacks then note_in script NoCapture arguments else None
+
 -- ---- the notes of a script
 
 -- of the command or test that begins with the token
-unfoldable pub note_at : List ℕ → Token → List Token → Option Noted
-note_at script token rest =
+unfoldable pub note_at : List ℕ → Bool → Token → List Token → Option Noted
+note_at script lacks token rest =
     if is_name token.kind
-    then option_or (test_note script (text_of script token) (arguments_of rest)) (command_note script (text_of script token) rest)
+    then option_or (option_or (test_note script (text_of script token) (arguments_of rest))
+    (command_note script (text_of script token) rest)) (capture_note script lacks (arguments_of rest))
     else None
 
 abbrev pub onto : Option Noted → List Noted → List Noted
@@ -257,6 +285,9 @@ onto None notes = notes
 onto (Some noted) notes = noted ∷ notes
 
 -- all of them, in the order of these commands and tests
+abbrev pub notes_from : List ℕ → Bool → List Token → List Noted
+notes_from script lacks [] = []
+notes_from script lacks (token ∷ rest) = onto (note_at script lacks token rest) (notes_from script lacks rest)
+
 abbrev pub notes_of : List ℕ → List Token → List Noted
-notes_of script [] = []
-notes_of script (token ∷ rest) = onto (note_at script token rest) (notes_of script rest)
+notes_of script tokens = notes_from script (lacks_captures script tokens) tokens

@@ -2,9 +2,9 @@
 ghost use Rattle.std.specs.Prelude.{◌≡◌, ◌<◌, ◌≤◌, ◌+◌, ◌++◌, ◌-◌, ◌^◌, IfOk, OnOk, [], codes, length, take, take_while};
 ghost use Rattle.std.specs.List.{find, list_all, list_any};
 ghost use Rattle.sieve_lexer.specs.Values.{inner};
-ghost use Rattle.sieve_explain.specs.Notes.{arguments_of, before_last, begins_last, begins_with_star, block_length, branch_note, command_at, command_note, earlier_of, ends_with_colon, ends_with_star, has_tag, has_wildcard, header_note, if_note, is_beyond, is_blank, is_digest, is_digit, is_dollar, is_inside, is_large, is_noted, is_noted_text, is_star, is_tagged, is_wildcard, is_word_at, keys_note, last_of, max_noted, more_notes_blanks, names_note, next_note, note_at, note_blanks, note_in, note_text, noted_as, notes_of, onto, open_behind, opens_list, patterns_note, size_note, test_note};
+ghost use Rattle.sieve_explain.specs.Notes.{arguments_of, before_last, begins_capture, begins_last, begins_with_star, block_length, branch_note, capture_note, command_at, command_note, earlier_of, ends_with_colon, ends_with_star, has_capture, has_tag, has_wildcard, header_note, if_note, is_beyond, is_blank, is_capture_digit, is_digest, is_digit, is_dollar, is_inside, is_large, is_noted, is_noted_text, is_star, is_tagged, is_variables, is_wildcard, is_word_at, keys_note, lacks_captures, last_of, more_notes_blanks, names_note, next_note, note_at, note_blanks, note_in, note_text, noted_as, notes_from, notes_of, onto, open_behind, opens_list, patterns_note, size_note, test_note};
 ghost use Rattle.sieve_explain.specs.Marks.{is_amount};
-ghost use Rattle.sieve_explain.specs.Private.{blanks_of};
+ghost use Rattle.sieve_explain.specs.Private.{blanks_of, max_noted};
 
 use crate::marks::{
     arguments_length, is_name, is_separator, is_string, text_of, token_at, tokens_from,
@@ -47,6 +47,8 @@ pub enum NoteKind {
     NoDigest,
     /// A message is never over that size.
     LargeSize,
+    /// A capture is referred to where no `:matches` stands.
+    NoCapture,
     /// A branch stands behind `true`.
     AfterTrue,
     /// A command stands behind `stop`.
@@ -87,6 +89,9 @@ fn note_text(kind: NoteKind) -> &'static str
         }
         NoteKind::LargeSize => {
             "no message is so large: the largest one has % bytes, so write a smaller number"
+        }
+        NoteKind::NoCapture => {
+            "a number in this string is always empty: only a test with `:matches` gives it text, and the script has none"
         }
         NoteKind::AfterTrue => "this branch never runs: the test before it is always true",
         NoteKind::AfterStop => "this never runs: put it before the `stop`, which ends the script",
@@ -191,6 +196,38 @@ fn is_digest(text: &[u8]) -> bool
     text.len() == 64 && are_digits(text)
 }
 
+// Whether the text has a number from 1 to 9.
+fn has_capture_digit(text: &[u8]) -> bool
+    ensures { result ≡ list_any is_capture_digit text.now }
+{
+    text.iter().any(|octet| *octet >= b'1' && *octet <= b'9')
+}
+
+// Whether a reference to what a wildcard matched comes first.
+fn begins_capture(text: &[u8]) -> bool
+    ensures { result ≡ begins_capture text.now }
+{
+    let (start, behind) = around(text, 2);
+    let (digit, _) = around(behind, 1);
+    let (_, from_end) = around(text, 3);
+    let (end, _) = around(from_end, 1);
+    start == b"${".as_slice() && has_capture_digit(digit) && end == b"}".as_slice()
+}
+
+// Whether there is one anywhere.
+fn has_capture(text: &[u8]) -> bool
+    ensures { result ≡ has_capture text.now }
+{
+    for place in 0..text.len() {
+        let _octet = text[place];
+        let (_, rest) = around(text, place);
+        if begins_capture(rest) {
+            return true;
+        }
+    }
+    false
+}
+
 // Whether the text between a string's quotes is noted so.
 fn is_noted_text(kind: NoteKind, text: &[u8]) -> bool
     ensures { result ≡ is_noted_text kind text.now }
@@ -203,6 +240,7 @@ fn is_noted_text(kind: NoteKind, text: &[u8]) -> bool
         NoteKind::StarInIs => begins_with_star(text) || ends_with_star(text),
         NoteKind::NoWildcard => true,
         NoteKind::NoDigest => !(is_digest(text) || has_dollar(text)),
+        NoteKind::NoCapture => has_capture(text),
         NoteKind::LargeSize | NoteKind::AfterTrue | NoteKind::AfterStop | NoteKind::AfterBreak =>
             false,
     }
@@ -560,16 +598,56 @@ fn command_note(script: &[u8], name: &[u8], rest: &[Token]) -> Option<Noted>
     }
 }
 
+// Whether the token is the capability for references.
+fn is_variables(script: &[u8], token: &Token) -> bool
+    ensures { result ≡ is_variables script.now token.now }
+{
+    is_string(token.kind) && inner(text_of(script, token)) == b"variables".as_slice()
+}
+
+// Whether it is among the tokens.
+fn has_variables(script: &[u8], tokens: &[Token]) -> bool
+    ensures { result ≡ list_any (is_variables script.now) tokens.now }
+{
+    for token in tokens {
+        if is_variables(script, token) {
+            return true;
+        }
+    }
+    false
+}
+
+// Whether no test of the script gives captures a value, and references are expanded.
+fn lacks_captures(script: &[u8], tokens: &[Token]) -> bool
+    ensures { result ≡ lacks_captures script.now tokens.now }
+{
+    has_variables(script, tokens) && !has_tag(script, b":matches", tokens)
+}
+
+// Of the arguments of a command or test, in a script that lacks captures or doesn't.
+fn capture_note(script: &[u8], lacks: bool, arguments: &[Token]) -> Option<Noted>
+    ensures { result ≡ capture_note script.now lacks arguments.now }
+{
+    if lacks {
+        note_in(script, NoteKind::NoCapture, arguments)
+    } else {
+        None
+    }
+}
+
 // Of the command or test that begins with the token.
 #[tactic(auto, unfolding(crate::specs::Notes::note_at))]
-fn note_at(script: &[u8], token: Token, rest: &[Token]) -> Option<Noted>
-    ensures { result ≡ note_at script.now token rest.now }
+fn note_at(script: &[u8], lacks: bool, token: Token, rest: &[Token]) -> Option<Noted>
+    ensures { result ≡ note_at script.now lacks token rest.now }
 {
     if !is_name(token.kind) {
         return None;
     }
     let name = text_of(script, &token);
-    test_note(script, name, arguments_of(rest)).or(command_note(script, name, rest))
+    let arguments = arguments_of(rest);
+    test_note(script, name, arguments)
+        .or(command_note(script, name, rest))
+        .or(capture_note(script, lacks, arguments))
 }
 
 // Appends the note, if there is one.
@@ -586,15 +664,11 @@ fn push_noted(out: &mut Vec<Noted>, noted: Option<Noted>) -> Result<(), AllocErr
     }
 }
 
-/// The notes of a script with these tokens, in order, the first ones up to [`MAX_NOTES`] and one more.
-///
-/// # Errors
-///
-/// An allocation was refused.
+// The notes of a script with these tokens, in order, the first ones up to one more than are told.
 #[tactic(auto, using(crate::proofs::NoteLemmas::found_enough, crate::proofs::NoteLemmas::found_all, crate::proofs::NoteLemmas::onto_next))]
-pub fn notes_of(source: &Source<'_>, tokens: &[Token]) -> Result<Vec<Noted>, AllocError>
+fn notes_from(source: &Source<'_>, lacks: bool, tokens: &[Token]) -> Result<Vec<Noted>, AllocError>
     ensures { IfOk result (λ found.
-        found.items ≡ take max_noted (notes_of source.now.octets.now tokens.now)) }
+        found.items ≡ take max_noted (notes_from source.now.octets.now lacks tokens.now)) }
 {
     let mut found = Vec::new(source.alloc);
     for place in 0..tokens.len() {
@@ -602,7 +676,22 @@ pub fn notes_of(source: &Source<'_>, tokens: &[Token]) -> Result<Vec<Noted>, All
             return Ok(found);
         }
         let rest = tokens_from(tokens, place + 1);
-        push_noted(&mut found, note_at(source.octets, tokens[place], rest))?;
+        push_noted(
+            &mut found,
+            note_at(source.octets, lacks, tokens[place], rest),
+        )?;
     }
     Ok(found)
+}
+
+/// The notes of a script with these tokens, in order, the first ones up to [`MAX_NOTES`] and one more.
+///
+/// # Errors
+///
+/// An allocation was refused.
+pub fn notes_of(source: &Source<'_>, tokens: &[Token]) -> Result<Vec<Noted>, AllocError>
+    ensures { IfOk result (λ found.
+        found.items ≡ take max_noted (notes_of source.now.octets.now tokens.now)) }
+{
+    notes_from(source, lacks_captures(source.octets, tokens), tokens)
 }
