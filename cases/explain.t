@@ -36,6 +36,9 @@ Letters outside of ASCII in a test of the header, which mail writes encoded.
     script:2:47: note: header fields are compared as they are written, and mail mostly writes such letters encoded, as =?UTF-8?..?=: this may never match
       if anyof (header :contains "Subject" ["bill", "Gr\c3\bc\c3\9fe"], header "From" "\c3\bc") {
                                                     ^
+    script:2:73: note: header fields are compared as they are written, and mail mostly writes such letters encoded, as =?UTF-8?..?=: this may never match
+      ...ader :contains "Subject" ["bill", "Gr\c3\bc\c3\9fe"], header "From" "\c3\bc") {
+                                                                             ^
     $ depot check script
     ok
 
@@ -54,6 +57,176 @@ Letters outside of ASCII in a test of the header, which mail writes encoded.
     $ printf 'foreverypart { if partbody :contains "\303\274" { store "\303\274"; } }\n' >> script
     $ depot explain script
     ok
+
+Notes on tests and commands that can't mean what they say, one of each test or command.
+
+## names of fields with a colon or a blank
+    $ cat > script << 'END'
+    > if header :contains "Subject:" "x" { stop; }
+    > if header :is ["From", "X Spam"] "x" { stop; }
+    > if exists ["To", "Cc:"] { stop; }
+    > END
+    $ depot explain script
+    ok
+    script:1:21: note: no field has a name that ends in a colon: leave the colon out
+      if header :contains "Subject:" "x" { stop; }
+                          ^
+    script:2:24: note: no field has a name with a blank in it: leave the blank out
+      if header :is ["From", "X Spam"] "x" { stop; }
+                             ^
+    script:3:18: note: no field has a name that ends in a colon: leave the colon out
+      if exists ["To", "Cc:"] { stop; }
+                       ^
+    $ echo 'if allof (header "Subject" ["x:", "a b"], exists ["To", "Cc"], header ["a"] "b:") { stop; }' > script
+    $ depot explain script
+    ok
+
+## stars that stand for themselves
+    $ cat > script << 'END'
+    > if header :contains "Subject" ["a", "*ticket*"] { stop; }
+    > if header :is "Subject" "*y*" { stop; }
+    > if header "From" ["a", "boss*"] { stop; }
+    > END
+    $ depot explain script
+    ok
+    script:1:37: note: a star stands for itself here: leave it out, or write `:matches` if it is to stand for any text
+      if header :contains "Subject" ["a", "*ticket*"] { stop; }
+                                          ^
+    script:2:25: note: a star stands for itself here: write `:matches` if it is to stand for any text
+      if header :is "Subject" "*y*" { stop; }
+                              ^
+    script:3:24: note: a star stands for itself here: write `:matches` if it is to stand for any text
+      if header "From" ["a", "boss*"] { stop; }
+                             ^
+    $ cat > script << 'END'
+    > if header :contains ["Subject", "*x"] ["***SPAM***", "filename*", "*", "a*b", "really?"] { stop; }
+    > if header :is "Subject" ["**", "", "*", "five**", "really?"] { stop; }
+    > if header :matches "Subject" ["*ticket*"] { stop; }
+    > END
+    $ depot explain script
+    ok
+
+## matches without a wildcard
+    $ cat > script << 'END'
+    > require ["variables", "foreverypart", "vnd.depot"];
+    > if header :matches ["From", "*"] ["boss", "chief"] { stop; }
+    > if string :matches "${a}" "b" { stop; }
+    > foreverypart { if partbody :matches "b" { stop; } }
+    > END
+    $ depot explain script
+    ok
+    script:2:35: note: this `:matches` has no `*` and no `?`, so it compares whole values as `:is` does: put `*` where any text may stand, or write `:is`
+      if header :matches ["From", "*"] ["boss", "chief"] { stop; }
+                                        ^
+    script:3:27: note: this `:matches` has no `*` and no `?`, so it compares whole values as `:is` does: put `*` where any text may stand, or write `:is`
+      if string :matches "${a}" "b" { stop; }
+                                ^
+    script:4:37: note: this `:matches` has no `*` and no `?`, so it compares whole values as `:is` does: put `*` where any text may stand, or write `:is`
+      foreverypart { if partbody :matches "b" { stop; } }
+                                          ^
+    $ cat > script << 'END'
+    > require "variables";
+    > if header :matches "From" ["boss", "*<boss>"] { stop; }
+    > if header :matches "From" "bos?" { stop; }
+    > if string :matches "a" "${a}" { stop; }
+    > END
+    $ depot explain script
+    ok
+
+## digests that no part has
+    $ cat > script << 'END'
+    > require ["foreverypart", "vnd.depot"];
+    > foreverypart {
+    >     if partdigest ["0123456789abcdef0123456789abcdef0123456789abcdef0123456789abcdef", "0123"] { stop; }
+    >     if partdigest "0123456789ABCDEF0123456789ABCDEF0123456789ABCDEF0123456789ABCDEF" { stop; }
+    >     if partdigest "0123456789abcdef0123456789abcdef0123456789abcdef0123456789abcdef" { stop; }
+    > }
+    > END
+    $ depot explain script
+    ok
+    script:3:88: note: no part has this digest: write 64 hexadecimal digits, with letters in lower case
+      ...789abcdef0123456789abcdef0123456789abcdef0123456789abcdef", "0123"] { stop; }
+                                                                     ^
+    script:4:19: note: no part has this digest: write 64 hexadecimal digits, with letters in lower case
+          if partdigest "0123456789ABCDEF0123456789ABCDEF0123456789ABCDEF0123456789A...
+                        ^
+
+## commands that never run
+    $ cat > script << 'END'
+    > require "foreverypart";
+    > foreverypart {
+    >     break;
+    >     keep;
+    > }
+    > if true { if exists "a" { stop; } } elsif true { keep; } else { discard; }
+    > stop;
+    > discard;
+    > END
+    $ depot explain script
+    ok
+    script:4:5: note: this never runs: put it before the `break`, which leaves the loop
+          keep;
+          ^
+    script:6:37: note: this branch never runs: the test before it is always true
+      if true { if exists "a" { stop; } } elsif true { keep; } else { discard; }
+                                          ^
+    script:6:58: note: this branch never runs: the test before it is always true
+      if true { if exists "a" { stop; } } elsif true { keep; } else { discard; }
+                                                               ^
+    script:8:1: note: this never runs: put it before the `stop`, which ends the script
+      discard;
+      ^
+    $ cat > script << 'END'
+    > require "foreverypart";
+    > foreverypart { if exists "a" { break; } keep; }
+    > if true { keep; } if not true { stop; } else { discard; }
+    > stop;
+    > END
+    $ depot explain script
+    ok
+
+## sizes that no message has
+    $ printf 'if size :over 64M { discard; }\nif size :over 67108863 { discard; }\nif size :under 64M { keep; }\n' > script
+    $ depot explain script
+    ok
+    script:1:15: note: no message is so large: the largest one has 67108864 bytes, so write a smaller number
+      if size :over 64M { discard; }
+                    ^
+
+## captures that nothing gives a value
+    $ cat > script << 'END'
+    > require ["variables", "fileinto"];
+    > if header :contains "Subject" "[desk]" { fileinto "Desk ${1}"; }
+    > if header "Subject" ["${x}", "a${0}b", "${9}"] { set "a" "${2}"; }
+    > END
+    $ depot explain script
+    ok
+    script:2:51: note: a number in this string is always empty: only a test with `:matches` gives it text, and the script has none
+      if header :contains "Subject" "[desk]" { fileinto "Desk ${1}"; }
+                                                        ^
+    script:3:40: note: a number in this string is always empty: only a test with `:matches` gives it text, and the script has none
+      if header "Subject" ["${x}", "a${0}b", "${9}"] { set "a" "${2}"; }
+                                             ^
+    script:3:58: note: a number in this string is always empty: only a test with `:matches` gives it text, and the script has none
+      if header "Subject" ["${x}", "a${0}b", "${9}"] { set "a" "${2}"; }
+                                                               ^
+    $ echo 'if header :matches "From" "*" { stop; }' >> script
+    $ depot explain script
+    ok
+    $ echo 'require "fileinto"; fileinto "${1}";' > script
+    $ depot explain script
+    ok
+
+## more notes than are told
+    $ for line in $(seq 21); do echo 'if exists "a:" { stop; }'; done > script
+    $ depot explain script | grep -c 'leave the colon out'
+    20
+    $ depot explain script | tail -n 1
+    script: note: more is noted than this: the first 20 are told
+    $ head -n 20 script > twenty
+    $ depot explain twenty | tail -n 2
+      if exists "a:" { stop; }
+                ^
 
 Tokens.
 
@@ -101,6 +274,18 @@ Tokens.
             ^
     2> refused 11 Lexical at 6
     [1]
+
+## operators of other languages
+    $ for test in 'true && true' 'true || true' 'size > 5K' 'size <= 5K' 'header "a" == "b"' 'header "a" = "b"' '!exists "a"'; do
+    >     echo "if $test { keep; }" > script; depot explain script 2> refused | head -n 1
+    > done
+    script:1:9: error: Sieve has no `&&`: write `allof (.., ..)`, which is true if all of its tests are
+    script:1:9: error: Sieve has no `||`: write `anyof (.., ..)`, which is true if one of its tests is
+    script:1:9: error: Sieve has no `>`: write `:over` before the number, as in `size :over 100K`
+    script:1:9: error: Sieve has no `<=`: write `:under` before the number, as in `size :under 100K`
+    script:1:15: error: Sieve has no `==`: write `:is` before the strings, as in `header :is "Subject" "text"`
+    script:1:15: error: Sieve has no `=`: write `:is` before the strings, as in `header :is "Subject" "text"`
+    script:1:4: error: Sieve has no `!`: write `not` before the test, as in `not exists "Subject"`
 
 ## colon alone
     $ printf 'if header : is "a" "b" { keep; }' > script
@@ -870,6 +1055,34 @@ Arguments.
          ^
     2> refused 18 BadArguments at 1
     [1]
+
+## words in the place of strings
+    $ printf 'if header :contains Subject "x" { stop; }' > script
+    $ depot explain script
+    script:1:21: error: `Subject` stands where a string has to: put it in quotation marks, "like this"
+      if header :contains Subject "x" { stop; }
+                          ^
+    2> refused 18 BadArguments at 1
+    [1]
+    $ for script in 'if exists Subject { stop; }' 'require fileinto;' 'require ["variables", fileinto];' 'require [fileinto];' 'require "variables"; set n "v";' 'require "variables"; set "n" v;' 'require "fileinto"; fileinto Spam;'; do
+    >     echo "$script" > script; depot explain script 2> refused | head -n 1
+    > done
+    script:1:11: error: `Subject` stands where a string has to: put it in quotation marks, "like this"
+    script:1:9: error: `fileinto` stands where a string has to: put it in quotation marks, "like this"
+    script:1:23: error: `fileinto` stands where a string has to: put it in quotation marks, "like this"
+    script:1:10: error: `fileinto` stands where a string has to: put it in quotation marks, "like this"
+    script:1:26: error: `n` stands where a string has to: put it in quotation marks, "like this"
+    script:1:30: error: `v` stands where a string has to: put it in quotation marks, "like this"
+    script:1:30: error: `Spam` stands where a string has to: put it in quotation marks, "like this"
+
+## words behind too few arguments that begin a command or test
+    $ for script in 'require "fileinto"; fileinto keep;' 'if anyof (header :is "a", true) { stop; }' 'if header contains "a" "b" { stop; }' 'if size :over big { stop; }'; do
+    >     echo "$script" > script; depot explain script 2> refused | head -n 1
+    > done
+    script:1:21: error: `fileinto` has too few arguments: it takes one string without brackets
+    script:1:11: error: `header` has too few arguments: it takes two, each a string or a list of strings
+    script:1:4: error: `contains` is a tag: is a colon missing before it?
+    script:1:4: error: `size` has too few arguments: it takes one number
 
 ## too many arguments
     $ printf 'require "fileinto"; fileinto "a" "b";' > script

@@ -20,7 +20,7 @@ use Rattle.sieve_explain.specs.Faults.{beginnings, end_blanks, lexical_blanks, l
 use Rattle.sieve_explain.specs.Hints.{known_capabilities, known_commands, known_tags, known_tests, lacking, meant, meant_too, unknown_capability, unknown_command, unknown_tag, unknown_test}
 use Rattle.sieve_explain.specs.Words.{begin_off, differ_at, is_near, nearest}
 use Rattle.sieve_explain.specs.Marks.{has_unit, has_value, is_unit, label_behind, string_among, unclosed}
-use Rattle.readable_text.specs.Places.{column, line_at, line_number, octets_after, octets_before, without_return}
+use Rattle.readable_text.specs.Places.{line_number, octets_after, octets_before, without_return}
 use Rattle.sieve_explain.specs.Reasons.{capability_words, no_argument_words, no_test_words, other_blanks, place_text, reason_blanks}
 use Rattle.sieve_explain.specs.Sentences.{filled, filled_octet}
 use Rattle.sieve_explain.specs.Shown.{excerpt, line, marked, named, quoted, shown, shown_end, shown_octet, shown_start}
@@ -52,12 +52,14 @@ faults_said :
     × (filled (lexical_blanks (codes "18446744073709551616")) ≡ codes "a number is above 18446744073709551615")
     × (filled (lexical_blanks (codes "*;")) ≡ codes "`*` begins nothing that a script may have here")
     × (filled (lexical_blanks (239 ∷ 187 ∷ 191 ∷ codes "keep;")) ≡ codes "a byte order mark stands here: save the script as UTF-8 without one")
+    × (filled (lexical_blanks (codes ">= 5")) ≡ codes "Sieve has no `>=`: write `:over` before the number, as in `size :over 100K`")
+    × (filled (lexical_blanks (codes "&& x")) ≡ codes "Sieve has no `&&`: write `allof (.., ..)`, which is true if all of its tests are")
     × (filled (lexical_blanks (codes "// bills")) ≡ codes "no comment begins so: one begins with `#`, or stands between `/*` and `*/`")
     × (filled (lexical_blanks (codes "/* bills")) ≡ codes "a comment is never closed")
     × (filled (end_blanks) ≡ codes "the script ends before its last command does")
     × (filled (token_blanks (codes "stop }") (record { kind = ClosingBrace; start = 5; end = 6 })) ≡ codes "`}` can't stand here: is a semicolon missing before it, or its opening brace?")
 unfolding digits lexical_blanks misplaced_token filled_octet shown_octet shown_start beginnings
-faults_said = (refl, refl, refl, refl, refl, refl, refl, refl)
+faults_said = (refl, refl, refl, refl, refl, refl, refl, refl, refl, refl)
 
 abbrev said : ReasonKind → List ℕ → List ℕ → List ℕ
 said kind name subject = filled (reason_blanks (record { kind = kind; name = name; subject = subject }))

@@ -7,4 +7,5 @@ pub mod Marking
 pub mod Printing
 pub mod PrintingTables
 pub mod PrintableText
+pub mod NoteLemmas
 mod Examples

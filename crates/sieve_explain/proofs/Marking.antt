@@ -1,6 +1,7 @@
 -- The marks stand under what is at fault.
 use Rattle.std.proofs.Common.{◌≡◌, ◌∙◌, ℕ, zero, suc, ◌+◌, Bool, true, false, List, [], ◌∷◌, ◌++◌, All, ap, sym, subst, refl, arith, drop}
-use Rattle.std.specs.Prelude.{Some, ◌&&◌, bytes_eq}
+use Rattle.std.specs.Prelude.{Option, Some, None, ◌&&◌, ◌-◌, if◌then◌else◌, bytes_eq, length, take_while}
+use Rattle.std.specs.Option.{option_or}
 use Rattle.std.specs.List.{find, slice_get}
 use Rattle.std.proofs.lemmas.List.{map-append}
 use Rattle.std.proofs.lemmas.List.Elements.{All-weaker}
@@ -18,8 +19,8 @@ use Rattle.sieve_check.specs.Causes.{Refused}
 use Rattle.sieve_check.specs.Rules.{reasons_of}
 use Rattle.sieve_check.specs.declared.causes.ReasonKind.{ReasonKind}
 use Rattle.sieve_check.specs.declared.causes.ReasonKind.TheVariants as reasons
-use Rattle.sieve_explain.specs.Explaining.{IsMarked, MarksFault, marked_by, marked_token}
-use Rattle.sieve_explain.specs.Marks.{has_value, is_string, string_among, text_of}
+use Rattle.sieve_explain.specs.Explaining.{IsMarked, MarksEither, MarksFault, MarksWord, bare_word, lacks_strings, marked_by, marked_token, tokens_behind, word_behind}
+use Rattle.sieve_explain.specs.Marks.{bare_behind, has_value, if_bare, is_bare, is_name, is_of_arguments, is_separator, is_string, string_among, text_of}
 use Rattle.sieve_explain.proofs.OneText.{OneList}
 use Rattle.sieve_explain.proofs.OwnStrings.{Comes, IsName, comes, found, name_at, valued_kind}
 use Rattle.sieve_explain.proofs.Subjects.{IsTold, reasons_told, marks_string}
@@ -61,27 +62,71 @@ read : (script : List ℕ) (tokens : List Token) (all before after : List Placed
     → lexemes script tokens ≡ lexemes_placed before ++ x.lexeme ∷ lexemes_placed (xs ++ after)
 read script tokens all before after x xs is e = is ∙ ap lexemes_placed e ∙ map-append (λ (p : Placed). p.lexeme) before (x ∷ (xs ++ after))
 
-marks : (script : List ℕ) (tokens : List Token) (found_reason : Refused) (kind : ReasonKind) → found_reason.reason.kind ≡ kind → (rest : _)
+-- the word in the place of a string
+if_is : (b c : Bool) (token word : Token) → (if b && c then Some token else None) ≡ Some word → (b ≡ true) × (token ≡ word)
+if_is true true token word e = (refl, cc)
+if_is true false token word e = absurd (cc)
+if_is false c token word e = absurd (cc)
+
+bare_is : (script name : List ℕ) (o : Option Token) (word : Token) → if_bare script name o ≡ Some word → (is_name word.kind ≡ true) × (o ≡ Some word)
+bare_is script name None word e = absurd (cc)
+bare_is script name (Some token) word e =
+    let (named, same) = if_is (is_name token.kind) (is_bare name (text_of script token)) token word e in
+    (subst (λ (t : Token). is_name t.kind ≡ true) same named, ap Some same)
+
+else_some : (b : Bool) (o : Option Token) (word : Token) → (if b then None else o) ≡ Some word → o ≡ Some word
+else_some true o word e = absurd (cc)
+else_some false o word e = e
+
+then_some : (b : Bool) (o : Option Token) (word : Token) → (if b then o else None) ≡ Some word → o ≡ Some word
+then_some true o word e = e
+then_some false o word e = absurd (cc)
+
+marks_word : (script : List ℕ) (tokens : List Token) (it : Refused) (word : Token) → bare_word script tokens it ≡ Some word → MarksWord script tokens it word
+unfolding marked_token word_behind
+marks_word script tokens it word e =
+    let behind = tokens_behind tokens it.token in
+    let place = length (take_while is_of_arguments behind) in
+    let there = slice_get behind place in
+    let own = then_some (lacks_strings it.reason.kind) (bare_behind script it.reason.name behind) word e in
+    let other = else_some (is_separator (slice_get behind (place - 1))) (if_bare script it.reason.name there) word own in
+    let (named, is) = bare_is script it.reason.name there word other in
+    let marks = marked_by it.reason.kind (string_among script it.reason.subject (drop it.token tokens)) (slice_get tokens it.token) in
+    (ap (λ (o : Option Token). option_or o marks) e, named, is)
+
+marks : (script : List ℕ) (tokens : List Token) (found_reason : Refused) → bare_word script tokens found_reason ≡ None → (kind : ReasonKind) → found_reason.reason.kind ≡ kind → (rest : _)
     → IsName script tokens found_reason.token found_reason.reason.name rest → (marks_string kind ≡ true → Comes found_reason.reason.subject rest) → MarksFault kind script tokens found_reason
 unfolding marked_token
-marks script tokens it reasons.UnknownCapability same rest (name, here, kind, spelled, behind) string =
+marks script tokens it none reasons.UnknownCapability same rest (name, here, kind, spelled, behind) string =
     let subject = it.reason.subject in
     let (token, first, among, value) = found script subject (it.token + 1) (drop (it.token + 1) tokens) (subst (Comes subject) (sym behind) (string refl)) in (
       token,
-      ap (λ (k : ReasonKind). marked_by k (string_among script subject (drop it.token tokens)) (slice_get tokens it.token)) same
+      ap (λ (o : Option Token). option_or o (marked_by it.reason.kind (string_among script subject (drop it.token tokens)) (slice_get tokens it.token))) none
+          ∙ ap (λ (k : ReasonKind). marked_by k (string_among script subject (drop it.token tokens)) (slice_get tokens it.token)) same
           ∙ string_behind script subject tokens it.token name here kind ∙ first,
       among,
       valued_kind script subject token value,
       value_of script subject token value,
     )
-marks script tokens it kind same rest (name, here, _, spelled, behind) string =
-    (name, ap (λ (k : ReasonKind). marked_by k (string_among script it.reason.subject (drop it.token tokens)) (slice_get tokens it.token)) same ∙ here, here, spelled)
+marks script tokens it none kind same rest (name, here, _, spelled, behind) string = (
+  name,
+  ap (λ (o : Option Token). option_or o (marked_by it.reason.kind (string_among script it.reason.subject (drop it.token tokens)) (slice_get tokens it.token))) none
+      ∙ ap (λ (k : ReasonKind). marked_by k (string_among script it.reason.subject (drop it.token tokens)) (slice_get tokens it.token)) same ∙ here,
+  here,
+  spelled,
+)
+
+either : (script : List ℕ) (tokens : List Token) (it : Refused) (o : Option Token) → bare_word script tokens it ≡ o
+    → (bare_word script tokens it ≡ None → MarksFault it.reason.kind script tokens it) → MarksEither o script tokens it
+either script tokens it None e other = other e
+either script tokens it (Some word) e other = marks_word script tokens it word e
 
 marked : (script : List ℕ) (tokens : List Token) (script_tree : CommandsTree) → lexemes script tokens ≡ lexemes_placed (commands_spelled 0 script_tree) → (it : Refused)
     → IsTold (commands_spelled 0 script_tree) it → IsMarked script tokens it
 marked script tokens tree is it (d, (args, ((before, (after, e)), string))) =
     let named = name_at script tokens (lexemes_placed before) it.token it.reason.name (lexemes_placed (arguments_spelled d args ++ after)) (read script tokens (commands_spelled 0 tree) before after _ (arguments_spelled d args) is e) in
-    marks script tokens it it.reason.kind refl (lexemes_placed (arguments_spelled d args ++ after)) named (λ h. comes it.reason.subject d args after (string h))
+    either script tokens it (bare_word script tokens it) refl
+    (λ none. marks script tokens it none it.reason.kind refl (lexemes_placed (arguments_spelled d args ++ after)) named (λ h. comes it.reason.subject d args after (string h)))
 
 pub all_marked : OneList → (script : List ℕ) (tokens : List Token) (commands : CommandsTree) → AreTokens script tokens → IsParsed script commands → All (IsMarked script tokens) (reasons_of commands)
 all_marked law script tokens commands are (short, (others, (theirs, is, depth))) =

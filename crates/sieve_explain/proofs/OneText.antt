@@ -16,7 +16,7 @@ use Rattle.sieve_parser.specs.Tree.{CommandsTree}
 use Rattle.sieve_parser.specs.declared.error.ParseError.{ParseError}
 use Rattle.sieve_parser.specs.declared.error.ParseError.TheVariants as parser
 use Rattle.sieve_explain.specs.declared.explanation.Explanation.{Explanation}
-use Rattle.sieve_explain.specs.Explaining.{Explains, IsExplained, IsRemarked, Tells, TellsFault, TellsReasons, answer_of, depth_told, foreign_told, look_told, reasons_told, syntax_told}
+use Rattle.sieve_explain.specs.Explaining.{Explains, IsExplained, IsRemarked, Tells, TellsFault, TellsReasons, answer_of, depth_told, look_told, notes_told, reasons_told, syntax_told}
 use Rattle.sieve_explain.specs.Faults.{look_text}
 
 -- the laws that a script has one list of tokens, and one tree
@@ -51,7 +51,7 @@ one_text law same name script refusal text other p q =
     p.whole ∙ ap (λ (t : List ℕ). t ++ look_told name (look_text script)) (one_fault law same name script refusal p.fault q.fault p.tells q.tells) ∙ sym q.whole
 
 pub one_remark : OneList → (name script text other : List ℕ) → IsRemarked name script text → IsRemarked name script other → text ≡ other
-one_remark law name script text other p q = one_telling law script (foreign_told name script) text other p q
+one_remark law name script text other p q = one_telling law script (notes_told name script) text other p q
 
 -- the laws that a script has one refusal of the parser, and none where it has a tree
 abbrev pub OneRefusal : Type 0

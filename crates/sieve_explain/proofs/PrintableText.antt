@@ -1,26 +1,28 @@
 -- What is told of a refusal has no control characters, and is printable where the name of the script is in ASCII.
 use Rattle.std.proofs.Common.{◌≡◌, ◌∙◌, ℕ, Bool, true, false, List, [], ◌∷◌, ◌++◌, length, replicate, ap, refl}
-use Rattle.std.specs.Prelude.{Option, Some, None, ◌&&◌, codes, flat_map, min, nat_lt, take, drop}
+use Rattle.std.specs.Prelude.{◌-◌, Option, Some, None, ◌&&◌, codes, flat_map, min, nat_lt, take, drop}
 use Rattle.std.specs.List.{list_all, slice_get}
 use Rattle.std.specs.Fmt.{decimal}
 use Rattle.octets.specs.Limits.{max_script}
 use Rattle.refusals.specs.declared.refusal.Refusal.{Refusal}
 use Rattle.refusals.specs.declared.refusal.Refusal.TheVariants as refused
 use Rattle.bytecode_listing.specs.declared.error.FaultKind.{FaultKind}
-use Rattle.sieve_explain.specs.Explaining.{Explains, IsRemarked, TellsFault, TellsReasons, depth_told, end_told, fault_blanks, foreign, heading, is_argument_fault, label_blanks, look_told, may_lack_label, marked_token, more_told, note, opened, reason_told, remark, start_of, syntax_told, token_told, told, listing_told, numbered}
-use Rattle.sieve_explain.specs.Faults.{colon_blanks, end_blanks, foreign_blanks, lexical_blanks, listing_blanks, look_text, more_blanks, token_blanks, too_deep_blanks, too_long_blanks, unclosed_blanks, unit_blanks}
-use Rattle.sieve_explain.specs.Marks.{foreign_among, has_unit, label_behind, unclosed}
+use Rattle.sieve_explain.specs.Explaining.{Explains, IsRemarked, TellsFault, TellsReasons, argument_blanks, bare_word, depth_told, end_told, fault_blanks, heading, is_argument_fault, label_blanks, look_told, may_lack_label, marked_token, misplaced_blanks, more_notes_told, more_told, note, note_told, opened, reason_told, remark, start_of, syntax_told, token_told, told, tokens_behind, listing_told, numbered, word_or}
+use Rattle.sieve_explain.specs.Faults.{colon_blanks, end_blanks, lexical_blanks, listing_blanks, look_text, more_blanks, token_blanks, too_deep_blanks, too_long_blanks, unclosed_blanks, unit_blanks, word_blanks}
+use Rattle.sieve_explain.specs.Marks.{is_word_in_list, text_of, has_unit, label_behind, unclosed}
 use Rattle.sieve_lexer.specs.declared.token.Token.{Token}
 use Rattle.sieve_check.specs.Causes.{Reason, Refused, fault_of_kind}
 use Rattle.sieve_check.specs.Rules.{max_reasons, reasons_of}
 use Rattle.readable_text.specs.Places.{column, line_at, line_number, octets_before}
+use Rattle.sieve_explain.specs.Notes.{max_notes, more_notes_blanks, note_blanks, notes_of}
+use Rattle.sieve_explain.specs.declared.notes.Noted.{Noted}
 use Rattle.sieve_explain.specs.Printable.{are_ascii, have_no_controls, is_no_control, is_printable}
 use Rattle.sieve_explain.specs.Reasons.{reason_blanks}
 use Rattle.sieve_explain.specs.Sentences.{Blanks, filled, plain}
 use Rattle.sieve_explain.specs.Shown.{excerpt, line, margin, marked, shown, shown_end, shown_start}
 use Rattle.sieve_explain.specs.declared.shown.Style.TheVariants.{Line, Name}
 use Rattle.sieve_explain.proofs.Printing.{Admits, Fine, FineBlanks, Passes, admits_no_control, admits_printable, fine_append, fine_decimal, fine_end, fine_filled, fine_spaces, fine_start, line_plain, name_printable, name_without_controls, pass_append, pass_printable}
-use Rattle.sieve_explain.proofs.PrintingTables.{blanks_if, fine_lexical, fine_listing, fine_look, fine_misplaced_token, fine_reason}
+use Rattle.sieve_explain.proofs.PrintingTables.{blanks_if, fine_lexical, fine_listing, fine_look, fine_misplaced_token, fine_note, fine_reason}
 
 fine_line : (text : List ℕ) → Fine text → Fine (line text)
 fine_line text e = fine_append text (10 ∷ []) e refl
@@ -43,11 +45,19 @@ fine_label : (label : List ℕ) (reason : Reason) → FineBlanks (label_blanks l
 fine_label [] reason = fine_reason reason
 fine_label (c ∷ cs) reason = blanks_if (may_lack_label reason.kind) (colon_blanks (c ∷ cs)) (reason_blanks reason) (refl, refl, refl) (fine_reason reason)
 
+fine_argument : (script : List ℕ) (behind : List Token) (found : Refused) → FineBlanks (argument_blanks script behind found)
+fine_argument script behind found =
+    blanks_if (is_argument_fault (fault_of_kind found.reason.kind) && has_unit script behind) unit_blanks _ (refl, refl, refl) (fine_label (label_behind script behind) found.reason)
+
+fine_word : (script : List ℕ) (o : Option Token) (blanks : Blanks) → FineBlanks blanks → FineBlanks (word_or script o blanks)
+fine_word script None blanks p = p
+fine_word script (Some word) blanks p = (refl, refl, refl)
+
 fine_fault : (script : List ℕ) (tokens : List Token) (found : Refused) → FineBlanks (fault_blanks script tokens found)
 unfolding fault_blanks
 fine_fault script tokens found =
-    let behind = drop 1 (drop found.token tokens) in
-    blanks_if (is_argument_fault (fault_of_kind found.reason.kind) && has_unit script behind) unit_blanks _ (refl, refl, refl) (fine_label (label_behind script behind) found.reason)
+    let behind = tokens_behind tokens found.token in
+    fine_word script (bare_word script tokens found) (argument_blanks script behind found) (fine_argument script behind found)
 
 -- what is told passes a test that each printable octet passes, where the name does as it is printed
 module _ (test : ℕ → Bool) (admits : Admits test) where
@@ -81,12 +91,14 @@ module _ (test : ℕ → Bool) (admits : Admits test) where
   pass_opened name script None p = refl
   pass_opened name script (Some brace) p = pass_remark (codes ": note: ") name script brace.start unclosed_blanks refl p (refl, refl, refl)
 
-  pass_token_told : (name script : List ℕ) (token : Option Token) (tokens : List Token) → Passes test (shown Name name) → Passes test (token_told name script token tokens)
+  pass_token_told : (name script : List ℕ) (before token : Option Token) (tokens : List Token) → Passes test (shown Name name) → Passes test (token_told name script before token tokens)
   unfolding end_told
-  pass_token_told name script None tokens p =
+  pass_token_told name script before None tokens p =
       pass_append test (told name script (length script) end_blanks) (opened name script (unclosed tokens))
       (pass_told name script (length script) end_blanks p (refl, refl, refl)) (pass_opened name script (unclosed tokens) p)
-  pass_token_told name script (Some token) tokens p = pass_told name script token.start (token_blanks script token) p (fine_misplaced_token script token)
+  pass_token_told name script before (Some token) tokens p =
+      pass_told name script token.start (misplaced_blanks script before token) p
+      (blanks_if (is_word_in_list before token) (word_blanks (text_of script token)) (token_blanks script token) (refl, refl, refl) (fine_misplaced_token script token))
 
   pass_reasons : (name script : List ℕ) (tokens : List Token) (reasons : List Refused) → Passes test (shown Name name) → Passes test (flat_map (reason_told name script tokens) reasons)
   unfolding reason_told
@@ -124,7 +136,7 @@ module _ (test : ℕ → Bool) (admits : Admits test) where
   pass_fault name script (refused.Lexical place) text p e =
       let at = min place (length script) in ap (list_all test) e ∙ pass_told name script at (lexical_blanks (drop at script)) p (fine_lexical (drop at script))
   pass_fault name script refused.ScriptTooLong text p e = ap (list_all test) e ∙ pass_told name script (min max_script (length script)) too_long_blanks p (refl, refl, refl)
-  pass_fault name script (refused.Syntax number) text p (tokens, are, e) = ap (list_all test) e ∙ pass_token_told name script (slice_get tokens number) tokens p
+  pass_fault name script (refused.Syntax number) text p (tokens, are, e) = ap (list_all test) e ∙ pass_token_told name script (slice_get tokens (number - 1)) (slice_get tokens number) tokens p
   pass_fault name script (refused.TooDeep number) text p (tokens, are, e) =
       ap (list_all test) e ∙ pass_told name script (start_of script (slice_get tokens number)) too_deep_blanks p (refl, refl, refl)
   pass_fault name script (refused.UnknownCommand number) text p e = pass_reasoned name script text p e
@@ -143,13 +155,24 @@ module _ (test : ℕ → Bool) (admits : Admits test) where
   pass_listing name listing place kind p =
       let at = min place (length listing) in pass_told name listing at (listing_blanks kind (drop at listing)) p (fine_listing kind (drop at listing))
 
-  pass_foreign : (name script : List ℕ) (string : Option Token) → Passes test (shown Name name) → Passes test (foreign name script string)
-  unfolding foreign
-  pass_foreign name script None p = refl
-  pass_foreign name script (Some string) p = pass_remark (codes ": note: ") name script string.start foreign_blanks refl p (refl, refl, refl)
+  pass_notes : (name script : List ℕ) (notes : List Noted) → Passes test (shown Name name) → Passes test (flat_map (note_told name script) notes)
+  unfolding note_told
+  pass_notes name script [] p = refl
+  pass_notes name script (noted ∷ notes) p =
+      pass_append test (note_told name script noted) (flat_map (note_told name script) notes)
+      (pass_remark (codes ": note: ") name script (min noted.place (length script)) (note_blanks noted.kind) refl p (fine_note noted.kind))
+      (pass_notes name script notes p)
+
+  pass_more_notes : (name : List ℕ) (more : Bool) → Passes test (shown Name name) → Passes test (more_notes_told name more)
+  pass_more_notes name true p = pass_note name more_notes_blanks p (refl, refl, refl)
+  pass_more_notes name false p = refl
 
   pass_remarked : (name script text : List ℕ) → Passes test (shown Name name) → IsRemarked name script text → Passes test text
-  pass_remarked name script text p (tokens, are, e) = ap (list_all test) e ∙ pass_foreign name script (foreign_among script tokens) p
+  pass_remarked name script text p (tokens, are, e) =
+      let all = notes_of script tokens in
+      let more = nat_lt max_notes (length all) in
+      ap (list_all test) e
+      ∙ pass_append test (flat_map (note_told name script) (take max_notes all)) (more_notes_told name more) (pass_notes name script (take max_notes all) p) (pass_more_notes name more p)
 
 pub without_controls : (name script : List ℕ) (refusal : Refusal) (text : List ℕ) → Explains name script refusal text → have_no_controls text ≡ true
 without_controls name script refusal text e = pass_text is_no_control admits_no_control name script refusal text (name_without_controls name) e

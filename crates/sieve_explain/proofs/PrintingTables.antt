@@ -22,6 +22,8 @@ use Rattle.bytecode_listing.specs.declared.error.FaultKind.{FaultKind}
 use Rattle.bytecode_listing.specs.declared.error.FaultKind.TheVariants.{Misplaced}
 use Rattle.sieve_explain.specs.Faults.{Beginning, beginnings, begins_as_mail, lexical_blanks, listing_blanks, listing_text, look_text, misplaced_text, misplaced_token, other_text, text_at, token_blanks}
 use Rattle.sieve_explain.specs.Hints.{Vocabulary, known_capabilities, known_commands, known_tags, known_tests, lacking, lacking_rows, meant, meant_too, unknown, unknown_capability, unknown_command, unknown_tag, unknown_test, unknown_text, unknown_words}
+use Rattle.sieve_explain.specs.Notes.{note_blanks, note_text}
+use Rattle.sieve_explain.specs.declared.notes.NoteKind.{NoteKind}
 use Rattle.sieve_explain.specs.Printable.{are_printable}
 use Rattle.sieve_explain.specs.Reasons.{capability_words, ending_words, extra_words, kind_blanks, no_argument_words, no_test_words, other_blanks, place_text, positional_words, reason_blanks, reason_text, reason_words, tag_words, tests_words}
 use Rattle.sieve_explain.specs.Sentences.{Blanks}
@@ -155,6 +157,13 @@ fine_token kind = grind arith
 
 pub fine_misplaced_token : (script : List ℕ) (token : Token) → FineBlanks (token_blanks script token)
 fine_misplaced_token script token = (fine_token token.kind, refl, refl)
+
+fine_note_text : (kind : NoteKind) → Fine (note_text kind)
+unfolding note_text
+fine_note_text kind = grind arith
+
+pub fine_note : (kind : NoteKind) → FineBlanks (note_blanks kind)
+fine_note kind = (fine_note_text kind, refl, refl)
 
 fine_other : (rest : List ℕ) → Fine (other_text rest)
 fine_other rest =

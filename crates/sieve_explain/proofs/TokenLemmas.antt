@@ -1,13 +1,15 @@
 -- The token of a script with a number, or none.
 use Rattle.std.proofs.Common.{◌≡◌, ℕ, zero, suc, Bool, true, false, List, [], ◌∷◌, drop, sym, subst, refl, arith}
-use Rattle.std.specs.Prelude.{◌&&◌, ◌==◌, if◌then◌else◌, Option, Some, None, IfOk, IfSome, Result, Ok, Err}
+use Rattle.std.specs.Prelude.{◌&&◌, ◌==◌, if◌then◌else◌, Option, Some, None, ◌-◌, IfOk, IfSome, Result, Ok, Err, length, take_while}
 use Rattle.std.specs.List.{slice_get}
 use Rattle.std.specs.Option.{option_or}
 use Rattle.std.specs.declared.alloc.AllocError.{AllocError}
 use Rattle.sieve_lexer.specs.Tokens.{AreTokens, IsToken}
 use Rattle.sieve_lexer.specs.declared.token.Token.{Token}
 use Rattle.sieve_parser.proofs.Here.{token_here}
-use Rattle.sieve_explain.specs.Marks.{foreign_among, foreign_from, has_value, if_unclosed, in_header, is_foreign, is_opening, string_among, unclosed, unopened}
+use Rattle.sieve_explain.specs.Marks.{bare_behind, has_value, if_bare, if_unclosed, is_bare, is_name, is_of_arguments, is_opening, is_separator, string_among, text_of, unclosed, unopened}
+use Rattle.sieve_explain.specs.Explaining.{bare_word, lacks_strings, tokens_behind, word_behind}
+use Rattle.sieve_check.specs.Causes.{Refused}
 use Rattle.sieve_explain.specs.Private.{Stands}
 
 -- a token among those of a script stands in it
@@ -67,12 +69,34 @@ one_unclosed (token ∷ tokens) = one_or token tokens (unclosed tokens) (if_uncl
 pub brace_stands : (script : List ℕ) (tokens : List Token) → AreTokens script tokens → (o : Option Token) → o ≡ unclosed tokens → Stands script o
 brace_stands script tokens has o e = stands_one script tokens has o (subst (IsOne tokens) (sym e) (one_unclosed tokens))
 
-one_foreign : (script : List ℕ) (inside : Bool) (tokens : List Token) → IsOne tokens (foreign_from script inside tokens)
-one_foreign script inside [] = tt
-one_foreign script inside (token ∷ tokens) =
-    let next = in_header script inside token in
-    one_found token tokens (inside && is_foreign script token) (foreign_from script next tokens) (one_foreign script next tokens)
+one_at : (tokens : List Token) (n : ℕ) (o : Option Token) → o ≡ slice_get tokens n → IsOne tokens o
+one_at tokens n None e = tt
+one_at tokens n (Some token) e = (n, e)
 
--- a string of `header`
-pub foreign_stands : (script : List ℕ) (tokens : List Token) → AreTokens script tokens → (o : Option Token) → o ≡ foreign_among script tokens → Stands script o
-foreign_stands script tokens has o e = stands_one script tokens has o (subst (IsOne tokens) (sym e) (one_foreign script false tokens))
+one_bare : (script name : List ℕ) (tokens : List Token) (o : Option Token) → IsOne tokens o → IsOne tokens (if_bare script name o)
+one_bare script name tokens None one = tt
+one_bare script name tokens (Some token) one = one_if tokens (is_name token.kind && is_bare name (text_of script token)) token one
+
+none_or : (tokens : List Token) (b : Bool) (o : Option Token) → IsOne tokens o → IsOne tokens (if b then None else o)
+none_or tokens true o one = tt
+none_or tokens false o one = one
+
+one_behind : (script name : List ℕ) (tokens : List Token) → IsOne tokens (bare_behind script name tokens)
+one_behind script name tokens =
+    let place = length (take_while is_of_arguments tokens) in
+    let word = slice_get tokens place in
+    none_or tokens (is_separator (slice_get tokens (place - 1))) (if_bare script name word) (one_bare script name tokens word (one_at tokens place word refl))
+
+or_none : (tokens : List Token) (b : Bool) (o : Option Token) → IsOne tokens o → IsOne tokens (if b then o else None)
+or_none tokens true o one = one
+or_none tokens false o one = tt
+
+-- a word in the place of a string
+pub word_stands : (script : List ℕ) (tokens : List Token) (found : Refused) → AreTokens script tokens → (o : Option Token) → o ≡ bare_word script tokens found → Stands script o
+unfolding word_behind
+word_stands script tokens found has o e =
+    let behind = tokens_behind tokens found.token in
+    let word = bare_behind script found.reason.name behind in
+    stands_one script tokens has o (subst (IsOne tokens) (sym e)
+    (or_none tokens (lacks_strings found.reason.kind) word
+    (one_dropped found.token tokens word (one_dropped 1 (drop found.token tokens) word (one_behind script found.reason.name behind)))))

@@ -1,7 +1,8 @@
 -- What is told of a refused script.
-use Rattle.std.specs.Prelude.{◌≡◌, ◌≢◌, ℕ, Bool, true, false, ◌&&◌, IsTrue, List, [], ◌∷◌, ◌++◌, if◌then◌else◌, flat_map, length, nat_lt, take, drop, min, Option, Some, None, option_map, codes}
+use Rattle.std.specs.Prelude.{◌≡◌, ◌≢◌, ℕ, ◌-◌, Bool, true, false, ◌&&◌, IsTrue, List, [], ◌∷◌, ◌++◌, if◌then◌else◌, flat_map, length, nat_lt, take, take_while, drop, min, Option, Some, None, option_map, codes}
 use Rattle.std.specs.Fmt.{decimal}
 use Rattle.std.specs.List.{Contains, slice_get}
+use Rattle.std.specs.Option.{option_or}
 use Rattle.octets.specs.Limits.{max_script}
 use Rattle.bytecode_listing.specs.declared.error.FaultKind.{FaultKind}
 use Rattle.refusals.specs.Scripts.{IsScriptRefusal}
@@ -16,12 +17,15 @@ use Rattle.sieve_parser.specs.Scripts.{IsParsed}
 use Rattle.sieve_parser.specs.Tree.{CommandsTree}
 use Rattle.sieve_check.specs.declared.causes.ReasonKind.{ReasonKind}
 use Rattle.sieve_check.specs.declared.causes.ReasonKind.TheVariants as kind
+use Rattle.sieve_check.specs.declared.signature.Positional.TheVariants as positional
 use Rattle.sieve_check.specs.declared.signature.Tests.TheVariants as tests
 use Rattle.sieve_check.specs.Causes.{Reason, Refused, fault_of_kind}
 use Rattle.sieve_check.specs.Rules.{fault_of, max_reasons, reasons_of}
 use Rattle.sieve_explain.specs.declared.explanation.Explanation.{Explanation}
-use Rattle.sieve_explain.specs.Faults.{colon_blanks, end_blanks, foreign_blanks, lexical_blanks, listing_blanks, look_text, more_blanks, token_blanks, too_deep_blanks, too_long_blanks, unclosed_blanks, unit_blanks}
-use Rattle.sieve_explain.specs.Marks.{arguments_behind, foreign_among, has_unit, is_string, label_behind, string_among, text_of, unclosed}
+use Rattle.sieve_explain.specs.Faults.{colon_blanks, end_blanks, lexical_blanks, listing_blanks, look_text, more_blanks, token_blanks, too_deep_blanks, too_long_blanks, unclosed_blanks, unit_blanks, word_blanks}
+use Rattle.sieve_explain.specs.Marks.{arguments_behind, bare_behind, has_unit, is_name, is_of_arguments, is_string, is_word_in_list, label_behind, string_among, text_of, unclosed}
+use Rattle.sieve_explain.specs.Notes.{max_notes, more_notes_blanks, note_blanks, notes_of}
+use Rattle.sieve_explain.specs.declared.notes.Noted.{Noted}
 use Rattle.readable_text.specs.Places.{column, line_number}
 use Rattle.sieve_explain.specs.Reasons.{reason_blanks}
 use Rattle.sieve_explain.specs.Sentences.{Blanks, filled, plain}
@@ -63,14 +67,19 @@ opened name script (Some brace) = remark (codes ": note: ") name script brace.st
 unfoldable pub end_told : List ℕ → List ℕ → List Token → List ℕ
 end_told name script tokens = told name script (length script) end_blanks ++ opened name script (unclosed tokens)
 
+-- of the token at fault, by the token before it
+abbrev pub misplaced_blanks : List ℕ → Option Token → Token → Blanks
+misplaced_blanks script before token =
+    if is_word_in_list before token then word_blanks (text_of script token) else token_blanks script token
+
 -- of the token at fault, or of the end
-abbrev pub token_told : List ℕ → List ℕ → Option Token → List Token → List ℕ
-token_told name script None tokens = end_told name script tokens
-token_told name script (Some token) tokens = told name script token.start (token_blanks script token)
+abbrev pub token_told : List ℕ → List ℕ → Option Token → Option Token → List Token → List ℕ
+token_told name script before None tokens = end_told name script tokens
+token_told name script before (Some token) tokens = told name script token.start (misplaced_blanks script before token)
 
 -- 13, at the token with that number, the first being 0
 unfoldable pub syntax_told : List ℕ → List ℕ → ℕ → List Token → List ℕ
-syntax_told name script number tokens = token_told name script (slice_get tokens number) tokens
+syntax_told name script number tokens = token_told name script (slice_get tokens (number - 1)) (slice_get tokens number) tokens
 
 -- 14
 unfoldable pub depth_told : List ℕ → List ℕ → ℕ → List Token → List ℕ
@@ -81,10 +90,37 @@ abbrev pub marked_by : ReasonKind → Option Token → Option Token → Option T
 marked_by kind.UnknownCapability string command = string
 marked_by _ string command = command
 
--- the token under which the mark stands
+-- strings are missing
+abbrev pub lacks_strings : ReasonKind → Bool
+lacks_strings (kind.MissingArgument positional.Text) = true
+lacks_strings (kind.MissingArgument positional.TwoTexts) = true
+lacks_strings (kind.MissingArgument positional.OneList) = true
+lacks_strings (kind.MissingArgument positional.TwoLists) = true
+lacks_strings _ = false
+
+-- the tokens behind the one with that number
+abbrev pub tokens_behind : List Token → ℕ → List Token
+tokens_behind tokens number = drop 1 (drop number tokens)
+
+-- the word that stands in the place of a string that is missing, behind a name with the number of its token, if there is one
+unfoldable pub word_behind : List ℕ → List Token → ℕ → ReasonKind → List ℕ → Option Token
+word_behind script tokens number kind name =
+    if lacks_strings kind then bare_behind script name (tokens_behind tokens number) else None
+
+abbrev pub bare_word : List ℕ → List Token → Refused → Option Token
+bare_word script tokens found = word_behind script tokens found.token found.reason.kind found.reason.name
+
+-- the token under which the mark stands: such a word, else by the kind of the reason
 unfoldable pub marked_token : List ℕ → List Token → Refused → Option Token
-marked_token script tokens found = marked_by found.reason.kind
-    (string_among script found.reason.subject (drop found.token tokens)) (slice_get tokens found.token)
+marked_token script tokens found = option_or (bare_word script tokens found) (marked_by found.reason.kind
+    (string_among script found.reason.subject (drop found.token tokens)) (slice_get tokens found.token))
+
+-- the mark stands under a word, no string, behind its own arguments
+abbrev pub MarksWord : List ℕ → List Token → Refused → Token → Type 0
+MarksWord script tokens found word =
+    let behind = tokens_behind tokens found.token in
+    (marked_token script tokens found ≡ Some word) × IsTrue (is_name word.kind)
+    × (slice_get behind (length (take_while is_of_arguments behind)) ≡ Some word)
 
 -- the mark stands under the name of the command or test that is refused
 abbrev pub MarksName : List ℕ → List Token → Refused → Type 0
@@ -101,9 +137,13 @@ abbrev pub MarksFault : ReasonKind → List ℕ → List Token → Refused → T
 MarksFault kind.UnknownCapability script tokens found = MarksString script tokens found
 MarksFault _ script tokens found = MarksName script tokens found
 
+abbrev pub MarksEither : Option Token → List ℕ → List Token → Refused → Type 0
+MarksEither (Some word) script tokens found = MarksWord script tokens found word
+MarksEither None script tokens found = MarksFault found.reason.kind script tokens found
+
 -- the mark stands under what is at fault
 abbrev pub IsMarked : List ℕ → List Token → Refused → Type 0
-IsMarked script tokens found = MarksFault found.reason.kind script tokens found
+IsMarked script tokens found = MarksEither (bare_word script tokens found) script tokens found
 
 -- something is wrong with arguments
 abbrev pub is_argument_fault : Fault → Bool
@@ -122,11 +162,20 @@ label_blanks [] reason = reason_blanks reason
 label_blanks (c ∷ label) reason = if may_lack_label reason.kind then colon_blanks (c ∷ label) else reason_blanks reason
 
 -- arguments with a wrong unit, a tag without its colon behind them, or another reason
-unfoldable pub fault_blanks : List ℕ → List Token → Refused → Blanks
-fault_blanks script tokens found =
-    let behind = drop 1 (drop found.token tokens) in
+abbrev pub argument_blanks : List ℕ → List Token → Refused → Blanks
+argument_blanks script behind found =
     if is_argument_fault (fault_of_kind found.reason.kind) && has_unit script behind then unit_blanks
     else label_blanks (label_behind script behind) found.reason
+
+-- of a word in a string's place, if there is one
+abbrev pub word_or : List ℕ → Option Token → Blanks → Blanks
+word_or script None other = other
+word_or script (Some word) other = word_blanks (text_of script word)
+
+-- a word in a string's place, or what else is wrong with the arguments, or another reason
+unfoldable pub fault_blanks : List ℕ → List Token → Refused → Blanks
+fault_blanks script tokens found =
+    word_or script (bare_word script tokens found) (argument_blanks script (tokens_behind tokens found.token) found)
 
 -- why a command or test is refused
 unfoldable pub reason_told : List ℕ → List ℕ → List Token → Refused → List ℕ
@@ -176,17 +225,25 @@ pub record Explains (name script : List ℕ) (refusal : Refusal) (text : List �
   pub tells : TellsFault name script refusal fault
   pub whole : text ≡ fault ++ look_told name (look_text script)
 
--- the string of `header` that mail writes otherwise, where there is one
-unfoldable pub foreign : List ℕ → List ℕ → Option Token → List ℕ
-foreign name script None = []
-foreign name script (Some string) = remark (codes ": note: ") name script string.start foreign_blanks
+-- a note about a script with which nothing is wrong
+unfoldable pub note_told : List ℕ → List ℕ → Noted → List ℕ
+note_told name script noted = remark (codes ": note: ") name script (min noted.place (length script)) (note_blanks noted.kind)
+
+-- that more is noted than is told, where that is so
+abbrev pub more_notes_told : List ℕ → Bool → List ℕ
+more_notes_told name more = if more then note name more_notes_blanks else []
+
+-- notes, in order, up to `max_notes` of them, and whether there are more; those of the script
+abbrev pub listed_told : List ℕ → List ℕ → List Noted → List ℕ
+listed_told name script notes =
+    flat_map (note_told name script) (take max_notes notes) ++ more_notes_told name (nat_lt max_notes (length notes))
+
+abbrev pub notes_told : List ℕ → List ℕ → List Token → List ℕ
+notes_told name script tokens = listed_told name script (notes_of script tokens)
 
 -- what is remarked of a script with which nothing is wrong
-abbrev pub foreign_told : List ℕ → List ℕ → List Token → List ℕ
-foreign_told name script tokens = foreign name script (foreign_among script tokens)
-
 abbrev pub IsRemarked : List ℕ → List ℕ → List ℕ → Type 0
-IsRemarked name script text = Tells script (foreign_told name script) text
+IsRemarked name script text = Tells script (notes_told name script) text
 
 -- nothing is wrong with the script; or this is its refusal, and this is told of it
 abbrev pub IsExplained : List ℕ → List ℕ → Option Explanation → Type 0

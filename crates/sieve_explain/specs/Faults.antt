@@ -23,7 +23,8 @@ beginning octets text = record { octets = octets; text = text }
 abbrev pub typographic : List ℕ
 typographic = codes "a typographic quote stands here: strings stand between straight double quotes, \"like this\""
 
--- a byte order mark, the four typographic quotes, a single quote, and two slashes; then what is never closed, and a colon alone
+-- a byte order mark, the four typographic quotes, a single quote, and two slashes; then what is never closed, a colon alone, and
+-- what other languages have for operators
 unfoldable pub beginnings : List Beginning
 beginnings =
     beginning (239 ∷ 187 ∷ 191 ∷ []) (codes "a byte order mark stands here: save the script as UTF-8 without one")
@@ -36,6 +37,12 @@ beginnings =
     ∷ beginning (codes "\"") (codes "a string is never closed: this quote, or one before it, has no partner")
     ∷ beginning (codes "/*") (codes "a comment is never closed")
     ∷ beginning (codes ":") (codes "a colon stands here without the name of a tag behind it")
+    ∷ beginning (codes "&") (codes "Sieve has no @: write `allof (.., ..)`, which is true if all of its tests are")
+    ∷ beginning (codes "|") (codes "Sieve has no @: write `anyof (.., ..)`, which is true if one of its tests is")
+    ∷ beginning (codes ">") (codes "Sieve has no @: write `:over` before the number, as in `size :over 100K`")
+    ∷ beginning (codes "<") (codes "Sieve has no @: write `:under` before the number, as in `size :under 100K`")
+    ∷ beginning (codes "=") (codes "Sieve has no @: write `:is` before the strings, as in `header :is \"Subject\" \"text\"`")
+    ∷ beginning (codes "!") (codes "Sieve has no @: write `not` before the test, as in `not exists \"Subject\"`")
     ∷ []
 
 -- the text for the first of the rows with which the octets begin, or nothing
@@ -51,11 +58,19 @@ other_text rest =
     if begins_identifier octet then codes "a multi-line string is never closed: it needs a line that is a dot alone, with its line break" else
     codes "@ begins nothing that a script may have here"
 
+-- operators of other languages are written with it
+abbrev pub is_symbol : ℕ → Bool
+is_symbol octet = (octet == 38 || octet == 124) || (octet == 60 || octet == 62) || (octet == 61 || octet == 33)
+
+-- all of the operator with which the octets begin, or the first octet
+abbrev pub symbol_at : List ℕ → List ℕ
+symbol_at rest = let size = length (take_while is_symbol rest) in take (if nat_lt 0 size then size else 1) rest
+
 -- 11, by the octets from the place on
 unfoldable pub lexical_blanks : List ℕ → Blanks
 lexical_blanks rest = let text = text_at rest beginnings in record {
   text = with_words text text (other_text rest);
-  name = take 1 rest;
+  name = symbol_at rest;
   subject = [];
   words = codes "#";
   others = [];
@@ -98,10 +113,6 @@ too_deep_blanks = record (plain (codes "braces and tests are nested more than % 
 abbrev pub unclosed_blanks : Blanks
 unclosed_blanks = plain (codes "this brace is never closed")
 
--- of a string of `header` that isn't ASCII
-abbrev pub foreign_blanks : Blanks
-foreign_blanks = plain (codes "header fields are compared as they are written, and mail mostly writes such letters encoded, as =?UTF-8?..?=: this may never match")
-
 -- 18, where a unit has more letters, or stands apart from its number
 abbrev pub unit_blanks : Blanks
 unit_blanks = plain (codes "the units of a number are K, M and G, with no blank before the letter and nothing behind it, as in 5M")
@@ -109,6 +120,10 @@ unit_blanks = plain (codes "the units of a number are K, M and G, with no blank 
 -- 18, of a test that has the name of a tag, behind what takes none
 abbrev pub colon_blanks : List ℕ → Blanks
 colon_blanks label = record (plain (codes "@ is a tag: is a colon missing before it?")) { name = label }
+
+-- 18, of a word that stands in the place of a string
+abbrev pub word_blanks : List ℕ → Blanks
+word_blanks word = record (plain (codes "@ stands where a string has to: put it in quotation marks, \"like this\"")) { name = word }
 
 -- behind the last of the reasons that are told
 abbrev pub more_blanks : Blanks

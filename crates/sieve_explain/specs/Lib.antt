@@ -5,6 +5,7 @@ pub mod Hints
 pub mod Marks
 pub mod Faults
 pub mod Reasons
+pub mod Notes
 pub mod Explaining
 pub mod Printable
 -- private: how the code goes; no public contract names these

@@ -1,9 +1,10 @@
 -- What an explanation looks for among the tokens of a script.
-use Rattle.std.specs.Prelude.{ℕ, ◌-◌, ◌+◌, Bool, true, false, not, ◌&&◌, ◌==◌, if◌then◌else◌, List, [], ◌∷◌, length, drop, nat_lt, take_while, Option, Some, None, bytes_eq, codes, slice_range}
+use Rattle.std.specs.Prelude.{ℕ, ◌-◌, ◌+◌, Bool, true, false, not, ◌&&◌, ◌||◌, ◌==◌, if◌then◌else◌, List, [], ◌∷◌, length, drop, take_while, Option, Some, None, is_some, bytes_eq, codes, slice_range}
 use Rattle.std.specs.List.{find, list_any, slice_get}
 use Rattle.std.specs.Option.{option_or}
 use Rattle.octets.specs.Ascii.{is_word}
 use Rattle.sieve_lexer.specs.Values.{string_value}
+use Rattle.sieve_check.specs.Names.{command_named, test_named}
 use Rattle.sieve_explain.specs.Hints.{known_tags}
 use Rattle.sieve_lexer.specs.declared.token.Token.{Token}
 use Rattle.sieve_lexer.specs.declared.token.TokenKind.{TokenKind}
@@ -38,6 +39,10 @@ writes_arguments Comma = true
 writes_arguments OpeningBracket = true
 writes_arguments ClosingBracket = true
 writes_arguments _ = false
+
+abbrev pub is_comma : TokenKind → Bool
+is_comma Comma = true
+is_comma _ = false
 
 abbrev pub is_of_arguments : Token → Bool
 is_of_arguments token = writes_arguments token.kind
@@ -92,30 +97,38 @@ label_at script (Some token) =
 unfoldable pub label_behind : List ℕ → List Token → List ℕ
 label_behind script tokens = label_at script (slice_get tokens (length (take_while is_of_arguments tokens)))
 
--- ---- a string of `header` that mail writes otherwise
+-- ---- a word in a string's place
 
--- it isn't ASCII
-abbrev pub is_beyond : ℕ → Bool
-is_beyond octet = nat_lt 127 octet
+-- strings of a list stand behind it
+abbrev pub precedes_string : TokenKind → Bool
+precedes_string Comma = true
+precedes_string OpeningBracket = true
+precedes_string _ = false
 
--- the token is a string with an octet that isn't ASCII
-abbrev pub is_foreign : List ℕ → Token → Bool
-is_foreign script token = is_string token.kind && list_any is_beyond (text_of script token)
+-- a word where a string of a list has to stand, by the token before it
+abbrev pub is_word_in_list : Option Token → Token → Bool
+is_word_in_list None token = false
+is_word_in_list (Some before) token = precedes_string before.kind && is_name token.kind
 
--- whether the arguments behind a token are those of `header`: the last identifier says it
-abbrev pub in_header : List ℕ → Bool → Token → Bool
-in_header script inside token =
-    if is_name token.kind then is_word (text_of script token) (codes "header") else inside
+abbrev pub is_separator : Option Token → Bool
+is_separator None = false
+is_separator (Some token) = is_comma token.kind
 
--- the first such string among the arguments of `header`, if there is one
-abbrev pub foreign_from : List ℕ → Bool → List Token → Option Token
-foreign_from script inside [] = None
-foreign_from script inside (token ∷ tokens) =
-    if inside && is_foreign script token then Some token
-    else foreign_from script (in_header script inside token) tokens
+-- a word that begins no command and no test, and that no tag has; behind `require` any word
+abbrev pub is_bare : List ℕ → List ℕ → Bool
+is_bare name word = is_word name (codes "require")
+    || not (list_any (is_word word) known_tags.names || is_some (command_named word) || is_some (test_named word))
 
-abbrev pub foreign_among : List ℕ → List Token → Option Token
-foreign_among script tokens = foreign_from script false tokens
+-- the token, if it is such a word behind that name
+abbrev pub if_bare : List ℕ → List ℕ → Option Token → Option Token
+if_bare script name None = None
+if_bare script name (Some token) = if is_name token.kind && is_bare name (text_of script token) then Some token else None
+
+-- the same of what stands behind the arguments with which the tokens begin, if no comma stands before it
+abbrev pub bare_behind : List ℕ → List ℕ → List Token → Option Token
+bare_behind script name tokens =
+    let place = length (take_while is_of_arguments tokens) in
+    if is_separator (slice_get tokens (place - 1)) then None else if_bare script name (slice_get tokens place)
 
 -- ---- a brace without its partner
 

@@ -55,3 +55,7 @@ Stands script token = IfSome token (λ t. (t.start ≤ t.end) × (t.end ≤ leng
 
 abbrev pub blanks_of : Sentence → Blanks
 blanks_of s = record { text = s.text.now; name = s.name.now; subject = s.subject.now; words = s.words.now; others = s.others.now; number = s.number }
+
+-- how many notes are looked for: one more than are told says that there are more
+abbrev pub max_noted : ℕ
+max_noted = 21

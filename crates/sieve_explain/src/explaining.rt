@@ -1,5 +1,6 @@
 // Why a script is refused, and what is told of it.
-ghost use Rattle.std.specs.Prelude.{◌≡◌, ◌≤◌, ◌++◌, IfOk, None, OnOk, flat_map, length, map, nat_lt, take};
+ghost use Rattle.std.specs.Prelude.{◌≡◌, ◌≤◌, ◌++◌, IfOk, None, OnOk, drop, flat_map, length, map, nat_lt, take};
+ghost use Rattle.std.specs.List.{slice_get};
 ghost use Rattle.octets.specs.Limits.{max_script};
 ghost use Rattle.refusals.specs.Causes.{of_parser};
 ghost use Rattle.sieve_check.specs.ReasonView.{refused_view};
@@ -8,17 +9,20 @@ ghost use Rattle.sieve_lexer.specs.Tokens.{AreTokens};
 ghost use Rattle.sieve_parser.specs.Refusals.{parse_error};
 ghost use Rattle.sieve_parser.specs.Scripts.{IsGrammarRefusal, IsParsed};
 ghost use Rattle.sieve_parser.specs.View.{commands_tree};
-ghost use Rattle.sieve_explain.specs.Explaining.{IsExplained, IsRemarked, TellsFault, depth_told, end_told, foreign, foreign_told, listing_told, look_told, marked_token, more_told, opened, reason_told, syntax_told};
+ghost use Rattle.sieve_explain.specs.Explaining.{IsExplained, IsRemarked, TellsFault, depth_told, end_told, bare_word, listed_told, listing_told, look_told, marked_by, marked_token, more_notes_told, more_told, note_told, notes_told, opened, reason_told, syntax_told};
 ghost use Rattle.sieve_explain.specs.Private.{IsFaultTold, Stands};
 ghost use Rattle.sieve_explain.specs.Faults.{look_text};
+ghost use Rattle.sieve_explain.specs.Marks.{string_among};
+ghost use Rattle.sieve_explain.specs.Notes.{max_notes};
 
 use crate::explanation::Explanation;
 use crate::faults::{
-    foreign_sentence, lexical_sentence, listing_sentence, look_text, more_sentence, token_sentence,
+    lexical_sentence, listing_sentence, look_text, misplaced_sentence, more_sentence,
     too_deep_sentence, too_long_sentence, unclosed_sentence,
 };
-use crate::marks::{foreign_among, start_of, string_behind, token_numbered, unclosed};
-use crate::reasons::fault_sentence;
+use crate::marks::{start_of, string_behind, token_numbered, unclosed};
+use crate::notes::{MAX_NOTES, Noted, more_notes_sentence, note_sentence, notes_of};
+use crate::reasons::{bare_word, fault_sentence};
 use crate::remarks::{Source, push_note, push_remark, told};
 use crate::sentence::plain;
 use bytecode_listing::FaultKind;
@@ -168,7 +172,14 @@ fn syntax_told(source: &Source<'_>, tokens: &[Token], number: usize) -> Result<V
         text.items ≡ syntax_told source.now.name.now source.now.octets.now number tokens.now) }
 {
     match token_numbered(source.octets, tokens, number) {
-        Some(token) => told(source, token.start, &token_sentence(source.octets, token)),
+        Some(token) => {
+            let before = token_numbered(source.octets, tokens, number.saturating_sub(1));
+            told(
+                source,
+                token.start,
+                &misplaced_sentence(source.octets, before, token),
+            )
+        }
         None => end_told(source, tokens),
     }
 }
@@ -295,6 +306,15 @@ fn push_reason(
     )
 }
 
+// The word in the place of a string that is missing, if there is one.
+fn word_marked(source: &Source<'_>, tokens: &[Token], found: Refused<'_>) -> Option<Token>
+    requires { AreTokens source.now.octets.now tokens.now }
+    ensures token { result ≡ bare_word source.now.octets.now tokens.now (refused_view found.entry) }
+    ensures within { Stands source.now.octets.now result }
+{
+    bare_word(source.octets, tokens, found)
+}
+
 // The token under which the mark stands.
 #[tactic(auto, unfolding(crate::specs::Explaining::marked_token))]
 fn marked_token(
@@ -307,6 +327,24 @@ fn marked_token(
         token ≡ marked_token source.now.octets.now tokens.now (refused_view found.entry)) }
     ensures within { IfOk result (λ token. Stands source.now.octets.now token) }
 {
+    match word_marked(source, tokens, found) {
+        Some(word) => Ok(Some(word)),
+        None => marked_by(source, tokens, found),
+    }
+}
+
+// The same by the kind of the reason.
+fn marked_by(
+    source: &Source<'_>,
+    tokens: &[Token],
+    found: Refused<'_>,
+) -> Result<Option<Token>, AllocError>
+    requires { AreTokens source.now.octets.now tokens.now }
+    ensures token { IfOk result (λ token. token ≡ marked_by found.entry.reason.kind
+        (string_among source.now.octets.now found.entry.reason.subject.now
+        (drop found.entry.token tokens.now)) (slice_get tokens.now found.entry.token)) }
+    ensures within { IfOk result (λ token. Stands source.now.octets.now token) }
+{
     match found.reason.kind {
         ReasonKind::UnknownCapability => {
             string_behind(source, tokens, found.token, found.reason.subject)
@@ -315,8 +353,8 @@ fn marked_token(
     }
 }
 
-/// What is remarked of a script with which nothing is wrong: the first string of a test `header` that
-/// isn't ASCII, since header fields are compared as they are written. Nothing where there is none.
+/// What is noted of a script with which nothing is wrong: tests and commands that can't mean what they say, in order, up to
+/// [`MAX_NOTES`] of them, and then whether there are more. Nothing where there are none.
 ///
 /// # Errors
 ///
@@ -332,7 +370,7 @@ pub fn remarks_on(alloc: Global, name: &str, script: &[u8]) -> Result<Vec<u8>, A
     };
     tokens_have_no_fault();
     match tokens(alloc, script) {
-        Ok(tokens) => foreign_told(&source, &tokens),
+        Ok(tokens) => notes_told(&source, &tokens),
         Err(LexicalError::Memory) => Err(AllocError),
         Err(LexicalError::ScriptTooLong) => unreachable!(),
         Err(LexicalError::Lexical { .. }) => unreachable!(),
@@ -340,31 +378,65 @@ pub fn remarks_on(alloc: Global, name: &str, script: &[u8]) -> Result<Vec<u8>, A
 }
 
 // The same of a script with these tokens.
-fn foreign_told(source: &Source<'_>, tokens: &[Token]) -> Result<Vec<u8>, AllocError>
-    requires { AreTokens source.now.octets.now tokens.now }
+#[tactic(auto, using(crate::proofs::NoteLemmas::listed_first))]
+fn notes_told(source: &Source<'_>, tokens: &[Token]) -> Result<Vec<u8>, AllocError>
     ensures { IfOk result (λ text.
-        text.items ≡ foreign_told source.now.name.now source.now.octets.now tokens.now) }
+        text.items ≡ notes_told source.now.name.now source.now.octets.now tokens.now) }
 {
-    let mut text = Vec::new(source.alloc);
-    push_foreign(&mut text, source, foreign_among(source.octets, tokens))?;
+    let found = notes_of(source, tokens)?;
+    listed_told(source, &found)
+}
+
+// The first of these notes, and whether there are more.
+fn listed_told(source: &Source<'_>, notes: &[Noted]) -> Result<Vec<u8>, AllocError>
+    ensures { IfOk result (λ text.
+        text.items ≡ listed_told source.now.name.now source.now.octets.now notes.now) }
+{
+    let mut text = first_noted(source, first_notes(notes))?;
+    push_more_notes(&mut text, source, notes.len() > MAX_NOTES)?;
     Ok(text)
 }
 
-// Appends that a string of `header` may never match, where there is one that isn't ASCII.
-#[tactic(auto, unfolding(crate::specs::Explaining::foreign))]
-fn push_foreign(
-    out: &mut Vec<u8>,
-    source: &Source<'_>,
-    string: Option<Token>,
-) -> Result<(), AllocError>
-    requires { Stands source.now.octets.now string }
-    ensures { OnOk result (out.new.items ≡ out.old.items
-        ++ foreign source.now.name.now source.now.octets.now string) }
+// The notes that are told.
+#[tactic(auto, using(std::proofs::lemmas::List::take_min))]
+fn first_notes(notes: &[Noted]) -> &[Noted]
+    ensures { result.now ≡ take max_notes notes.now }
 {
-    match string {
-        Some(string) => push_remark(out, ": note: ", source, string.start, &foreign_sentence()),
-        None => Ok(()),
+    let (told, _) = notes.split_at(MAX_NOTES.min(notes.len()));
+    told
+}
+
+// Each of the notes.
+fn first_noted(source: &Source<'_>, notes: &[Noted]) -> Result<Vec<u8>, AllocError>
+    ensures { IfOk result (λ text. text.items
+        ≡ flat_map (note_told source.now.name.now source.now.octets.now) notes.now) }
+{
+    let mut text = Vec::new(source.alloc);
+    for noted in notes {
+        push_noted(&mut text, source, *noted)?;
     }
+    Ok(text)
+}
+
+// Appends a note.
+#[tactic(auto, unfolding(crate::specs::Explaining::note_told))]
+fn push_noted(out: &mut Vec<u8>, source: &Source<'_>, noted: Noted) -> Result<(), AllocError>
+    ensures { OnOk result (out.new.items ≡ out.old.items
+        ++ note_told source.now.name.now source.now.octets.now noted) }
+{
+    let place = noted.place.min(source.octets.len());
+    push_remark(out, ": note: ", source, place, &note_sentence(noted.kind))
+}
+
+// Appends that more is noted, where that is so.
+fn push_more_notes(out: &mut Vec<u8>, source: &Source<'_>, more: bool) -> Result<(), AllocError>
+    ensures { OnOk result (out.new.items ≡ out.old.items
+        ++ more_notes_told source.now.name.now more) }
+{
+    if !more {
+        return Ok(());
+    }
+    push_note(out, source, &more_notes_sentence())
 }
 
 /// Why a listing of a program is refused, for whoever wrote it: where, a sentence for a fault of

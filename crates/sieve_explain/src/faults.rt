@@ -1,8 +1,10 @@
 // What is said of a script that isn't parsed.
 ghost use Rattle.std.specs.Prelude.{◌≡◌, ◌≤◌, Some, bytes_eq, length, map, take, take_while};
-ghost use Rattle.sieve_explain.specs.Faults.{beginnings, begins_as_mail, dark_at, foreign_blanks, is_dark, is_field_octet, lexical_blanks, listing_blanks, listing_text, look_text, misplaced_text, more_blanks, misplaced_token, other_text, text_at, token_blanks, too_deep_blanks, too_long_blanks, unclosed_blanks};
+ghost use Rattle.sieve_explain.specs.Faults.{beginnings, begins_as_mail, dark_at, is_dark, is_field_octet, is_symbol, lexical_blanks, listing_blanks, listing_text, look_text, misplaced_text, more_blanks, misplaced_token, other_text, symbol_at, text_at, token_blanks, too_deep_blanks, too_long_blanks, unclosed_blanks, word_blanks};
+ghost use Rattle.sieve_explain.specs.Explaining.{misplaced_blanks};
 ghost use Rattle.sieve_explain.specs.Private.{beginning_of, Stands, blanks_of};
 
+use crate::marks::{is_word_in_list, text_of};
 use crate::sentence::{Sentence, plain};
 use crate::words::with_words;
 use bytecode_listing::FaultKind;
@@ -17,7 +19,8 @@ type Beginning = (&'static [u8], &'static str);
 const TYPOGRAPHIC: &str =
     "a typographic quote stands here: strings stand between straight double quotes, \"like this\"";
 
-// A byte order mark, the four typographic quotes, a single quote, and two slashes; then what is never closed, and a colon alone.
+// A byte order mark, the four typographic quotes, a single quote, and two slashes; then what is never closed, a colon alone, and what
+// other languages have for operators.
 const BEGINNINGS: &[Beginning] = &[
     (
         &[0xef, 0xbb, 0xbf],
@@ -43,6 +46,30 @@ const BEGINNINGS: &[Beginning] = &[
     (
         b":",
         "a colon stands here without the name of a tag behind it",
+    ),
+    (
+        b"&",
+        "Sieve has no @: write `allof (.., ..)`, which is true if all of its tests are",
+    ),
+    (
+        b"|",
+        "Sieve has no @: write `anyof (.., ..)`, which is true if one of its tests is",
+    ),
+    (
+        b">",
+        "Sieve has no @: write `:over` before the number, as in `size :over 100K`",
+    ),
+    (
+        b"<",
+        "Sieve has no @: write `:under` before the number, as in `size :under 100K`",
+    ),
+    (
+        b"=",
+        "Sieve has no @: write `:is` before the strings, as in `header :is \"Subject\" \"text\"`",
+    ),
+    (
+        b"!",
+        "Sieve has no @: write `not` before the test, as in `not exists \"Subject\"`",
     ),
 ];
 
@@ -87,16 +114,38 @@ fn other_text(rest: &[u8]) -> &'static str
     }
 }
 
+// Whether operators of other languages are written with the octet.
+fn is_symbol(octet: &&u8) -> bool
+    ensures { result ≡ is_symbol octet.now.now }
+{
+    matches!(**octet, b'&' | b'|' | b'<' | b'>' | b'=' | b'!')
+}
+
+// How many such octets come first.
+fn symbol_length(rest: &[u8]) -> usize
+    ensures { result ≡ length (take_while is_symbol rest.now) }
+{
+    rest.iter().take_while(is_symbol).count()
+}
+
+// All of the operator with which the octets begin, or the first octet.
+fn symbol_at(rest: &[u8]) -> &[u8]
+    ensures { result.now ≡ symbol_at rest.now }
+{
+    let size = symbol_length(rest);
+    let (symbol, _) = around(rest, if size > 0 { size } else { 1 });
+    symbol
+}
+
 // The sentence for octets at which neither a token nor a separator begins.
 #[tactic(auto, unfolding(crate::specs::Faults::lexical_blanks))]
 pub fn lexical_sentence(rest: &[u8]) -> Sentence<'_>
     ensures { blanks_of result ≡ lexical_blanks rest.now }
 {
     let text = beginning_text(rest);
-    let (first, _) = around(rest, 1);
     Sentence {
         text: with_words(text, text, other_text(rest)),
-        name: first,
+        name: symbol_at(rest),
         subject: &[],
         words: "#",
         others: "",
@@ -266,8 +315,30 @@ fn misplaced_token(kind: TokenKind) -> &'static str
     }
 }
 
+// The sentence for a word that stands in the place of a string.
+pub fn word_sentence(word: &[u8]) -> Sentence<'_>
+    ensures { blanks_of result ≡ word_blanks word.now }
+{
+    Sentence {
+        name: word,
+        ..plain("@ stands where a string has to: put it in quotation marks, \"like this\"")
+    }
+}
+
+// The sentence for a token that can't stand where it does, by the token before it.
+pub fn misplaced_sentence(script: &[u8], before: Option<Token>, token: Token) -> Sentence<'_>
+    requires { Stands script.now (Some token) }
+    ensures { blanks_of result ≡ misplaced_blanks script.now before token }
+{
+    if is_word_in_list(before, token) {
+        word_sentence(text_of(script, &token))
+    } else {
+        token_sentence(script, token)
+    }
+}
+
 // The sentence for a token that can't stand where it does.
-pub fn token_sentence(script: &[u8], token: Token) -> Sentence<'_>
+fn token_sentence(script: &[u8], token: Token) -> Sentence<'_>
     requires { Stands script.now (Some token) }
     ensures { blanks_of result ≡ token_blanks script.now token }
 {
@@ -292,13 +363,4 @@ pub fn unclosed_sentence() -> Sentence<'static>
     ensures { blanks_of result ≡ unclosed_blanks }
 {
     plain("this brace is never closed")
-}
-
-// The sentence for a string of `header` that isn't ASCII.
-pub fn foreign_sentence() -> Sentence<'static>
-    ensures { blanks_of result ≡ foreign_blanks }
-{
-    plain(
-        "header fields are compared as they are written, and mail mostly writes such letters encoded, as =?UTF-8?..?=: this may never match",
-    )
 }

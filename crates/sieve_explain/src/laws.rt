@@ -35,8 +35,8 @@ pub fn explanations_are_unique()
     parsed_scripts_have_no_fault();
 }
 
-/// Each mark of what a script is refused for stands under the name of the command or test, or under that string of its own arguments
-/// which is no capability.
+/// Each mark of what a script is refused for stands under the name of the command or test, under that string of its own arguments
+/// which is no capability, or under a word behind these arguments where a string is missing.
 pub fn marks_stand_under_faults()
     ensures { (script : List ℕ) (tokens : List Token) (commands : CommandsTree)
         → AreTokens script tokens → IsParsed script commands

@@ -5,12 +5,12 @@
 //! sentence what is wrong there, then the line of the script, and a mark under the place. Where the
 //! checker refuses a script, each command and test that it refuses is told so, up to
 //! [`MAX_REASONS`](sieve_check::MAX_REASONS) reasons, and a note says where there are more. Another
-//! says where the file begins as a program or a mail does. [`remarks_on`] tells of a script with which
-//! nothing is wrong where a string of `header` may match nothing.
+//! says where the file begins as a program or a mail does. [`remarks_on`] notes of a script with which
+//! nothing is wrong which tests and commands can't mean what they say.
 //!
 //! `specs/Explaining` says the text of each refusal, `specs/Faults`, `specs/Reasons` and `specs/Hints`
 //! are its sentences, `specs/Words` is which words are one letter off, and `specs/Marks` what is looked
-//! for among the tokens. What lines and columns are stands in `specs/Places` of readable_text. Octets
+//! for among the tokens. `specs/Notes` has the notes: a table of their sentences, and when each is told. What lines and columns are stands in `specs/Places` of readable_text. Octets
 //! of the script are escaped and cut by `specs/Shown`. `laws` says that a refusal has one text, which
 //! can be printed anywhere, whoever wrote the script.
 #![tactic(auto)]
@@ -22,6 +22,7 @@ mod faults;
 mod hints;
 pub mod laws;
 mod marks;
+mod notes;
 mod reasons;
 mod remarks;
 mod sentence;

@@ -1,9 +1,10 @@
 // What an explanation looks for among the tokens of a script.
-ghost use Rattle.std.specs.Prelude.{◌≡◌, ◌<◌, ◌≤◌, ◌+◌, ◌-◌, ◌^◌, IfOk, drop, length, take_while};
+ghost use Rattle.std.specs.Prelude.{◌≡◌, ◌<◌, ◌≤◌, ◌+◌, ◌-◌, ◌^◌, IfOk, drop, is_some, length, take_while};
 ghost use Rattle.std.specs.List.{list_any, slice_get};
+ghost use Rattle.sieve_check.specs.Names.{command_named, test_named};
 ghost use Rattle.sieve_lexer.specs.Tokens.{AreTokens};
 ghost use Rattle.sieve_explain.specs.Explaining.{start_of};
-ghost use Rattle.sieve_explain.specs.Marks.{foreign_among, has_unit, has_value, if_unclosed, in_header, is_beyond, is_foreign, is_name, is_no_name, is_number_at, is_of_arguments, is_string, is_unit, is_unit_at, label_at, label_behind, string_among, text_of, unclosed, unopened, unopened_over};
+ghost use Rattle.sieve_explain.specs.Marks.{bare_behind, has_unit, has_value, if_bare, if_unclosed, is_bare, is_name, is_no_name, is_number_at, is_of_arguments, is_separator, is_string, is_unit, is_unit_at, is_word_in_list, label_at, label_behind, precedes_string, string_among, text_of, unclosed, unopened, unopened_over};
 ghost use Rattle.sieve_explain.specs.Private.{Stands};
 
 use crate::hints::is_tag;
@@ -11,11 +12,9 @@ use crate::remarks::Source;
 use crate::words::is_any;
 use octets::is_word;
 use readable_text::places::around;
+use sieve_check::{command_named, test_named};
 use sieve_lexer::{Token, TokenKind, string_of};
 use std::alloc::AllocError;
-
-// The last octet of ASCII.
-const LAST_ASCII: u8 = 0x7f;
 
 // The tokens from that number on.
 #[tactic(auto, using(std::proofs::lemmas::List::drop_min))]
@@ -26,8 +25,8 @@ pub fn tokens_from(tokens: &[Token], number: usize) -> &[Token]
     rest
 }
 
-// The token with that number, if there is one.
-fn token_at(tokens: &[Token], number: usize) -> Option<Token>
+/// The token with that number, if there is one.
+pub fn token_at(tokens: &[Token], number: usize) -> Option<Token>
     ensures { result ≡ slice_get tokens.now number }
 {
     tokens.get(number).copied()
@@ -54,8 +53,8 @@ pub fn start_of(script: &[u8], token: Option<Token>) -> usize
     }
 }
 
-// The token's octets.
-fn text_of<'a>(script: &'a [u8], token: &Token) -> &'a [u8]
+/// The token's octets.
+pub fn text_of<'a>(script: &'a [u8], token: &Token) -> &'a [u8]
     ensures { result.now ≡ text_of script.now token.now }
 {
     let (_, rest) = around(script, token.start);
@@ -63,8 +62,8 @@ fn text_of<'a>(script: &'a [u8], token: &Token) -> &'a [u8]
     text
 }
 
-// Whether the token is a string.
-fn is_string(kind: TokenKind) -> bool
+/// Whether the token is a string.
+pub fn is_string(kind: TokenKind) -> bool
     ensures { result ≡ is_string kind }
 {
     matches!(kind, TokenKind::QuotedString | TokenKind::MultiLineString)
@@ -187,9 +186,10 @@ fn is_of_arguments(token: &&Token) -> bool
     )
 }
 
-// How many tokens of arguments stand first.
-fn arguments_length(tokens: &[Token]) -> usize
-    ensures { result ≡ length (take_while is_of_arguments tokens.now) }
+/// How many tokens of arguments stand first.
+pub fn arguments_length(tokens: &[Token]) -> usize
+    ensures value { result ≡ length (take_while is_of_arguments tokens.now) }
+    ensures bound { result ≤ length tokens.now }
 {
     tokens.iter().take_while(is_of_arguments).count()
 }
@@ -214,8 +214,77 @@ pub fn label_behind<'a>(script: &'a [u8], tokens: &[Token]) -> &'a [u8]
     label_at(script, token_at(tokens, arguments_length(tokens)))
 }
 
-// Whether the token is an identifier.
-fn is_name(kind: TokenKind) -> bool
+/// Whether a comma stands there.
+pub fn is_separator(token: Option<Token>) -> bool
+    ensures { result ≡ is_separator token }
+{
+    match token {
+        Some(token) => matches!(token.kind, TokenKind::Comma),
+        None => false,
+    }
+}
+
+// Whether strings of a list stand behind the token.
+fn precedes_string(kind: TokenKind) -> bool
+    ensures { result ≡ precedes_string kind }
+{
+    matches!(kind, TokenKind::Comma | TokenKind::OpeningBracket)
+}
+
+/// Whether the token is a word where a string of a list has to stand, by the token before it.
+pub fn is_word_in_list(before: Option<Token>, token: Token) -> bool
+    ensures { result ≡ is_word_in_list before token }
+{
+    match before {
+        Some(before) => precedes_string(before.kind) && is_name(token.kind),
+        None => false,
+    }
+}
+
+// Whether the word begins no command and no test, and no tag has it; behind `require` any word will do.
+fn is_bare(name: &[u8], word: &[u8]) -> bool
+    ensures { result ≡ is_bare name.now word.now }
+{
+    is_word(name, b"require") || !(is_tag(word) || is_command(word) || is_test(word))
+}
+
+// Whether a command has that name.
+fn is_command(word: &[u8]) -> bool
+    ensures { result ≡ is_some (command_named word.now) }
+{
+    command_named(word).is_some()
+}
+
+// Whether a test has that name.
+fn is_test(word: &[u8]) -> bool
+    ensures { result ≡ is_some (test_named word.now) }
+{
+    test_named(word).is_some()
+}
+
+// The token, if it is such a word behind that name.
+fn if_bare(script: &[u8], name: &[u8], token: Option<Token>) -> Option<Token>
+    ensures { result ≡ if_bare script.now name.now token }
+{
+    match token {
+        Some(token) if is_name(token.kind) && is_bare(name, text_of(script, &token)) => Some(token),
+        _ => None,
+    }
+}
+
+/// The word that stands behind the arguments with which the tokens begin, if it is in the place of a string.
+pub fn bare_behind(script: &[u8], name: &[u8], tokens: &[Token]) -> Option<Token>
+    ensures { result ≡ bare_behind script.now name.now tokens.now }
+{
+    let place = arguments_length(tokens);
+    if is_separator(token_at(tokens, place.saturating_sub(1))) {
+        return None;
+    }
+    if_bare(script, name, token_at(tokens, place))
+}
+
+/// Whether the token is an identifier.
+pub fn is_name(kind: TokenKind) -> bool
     ensures { result ≡ is_name kind }
 {
     matches!(kind, TokenKind::Identifier)
@@ -258,52 +327,4 @@ pub fn unclosed(script: &[u8], tokens: &[Token]) -> Option<Token>
         waiting = unopened_over(token.kind, waiting);
     }
     found
-}
-
-// Whether a text has an octet that isn't ASCII.
-fn has_beyond(text: &[u8]) -> bool
-    ensures { result ≡ list_any is_beyond text.now }
-{
-    text.iter().any(|octet| *octet > LAST_ASCII)
-}
-
-// Whether the token is a string with an octet that isn't ASCII.
-fn is_foreign(script: &[u8], token: &Token) -> bool
-    ensures { result ≡ is_foreign script.now token.now }
-{
-    is_string(token.kind) && has_beyond(text_of(script, token))
-}
-
-// Whether the arguments behind a token are those of `header`, where those before it are or aren't.
-fn in_header(script: &[u8], inside: bool, token: &Token) -> bool
-    ensures { result ≡ in_header script.now inside token.now }
-{
-    if is_name(token.kind) {
-        is_word(text_of(script, token), b"header")
-    } else {
-        inside
-    }
-}
-
-// The first such string among the arguments of `header`, if there is one.
-fn foreign_in(script: &[u8], tokens: &[Token]) -> Option<Token>
-    ensures { result ≡ foreign_among script.now tokens.now }
-{
-    let mut inside = false;
-    for token in tokens {
-        if inside && is_foreign(script, token) {
-            return Some(*token);
-        }
-        inside = in_header(script, inside, token);
-    }
-    None
-}
-
-// The same of the tokens of the script.
-pub fn foreign_among(script: &[u8], tokens: &[Token]) -> Option<Token>
-    requires { AreTokens script.now tokens.now }
-    ensures token { result ≡ foreign_among script.now tokens.now }
-    ensures within { Stands script.now result }
-{
-    foreign_in(script, tokens)
 }

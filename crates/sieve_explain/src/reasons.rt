@@ -1,12 +1,14 @@
 // What is said of a command or test that isn't accepted.
 ghost use Rattle.std.specs.Prelude.{◌≡◌};
+ghost use Rattle.sieve_check.specs.declared.causes.ReasonKind.TheVariants.{MissingArgument};
 ghost use Rattle.sieve_check.specs.ReasonView.{reason_view, refused_view};
-ghost use Rattle.sieve_explain.specs.Explaining.{fault_blanks, is_argument_fault, label_blanks, may_lack_label};
+ghost use Rattle.sieve_explain.specs.Explaining.{argument_blanks, bare_word, fault_blanks, is_argument_fault, label_blanks, lacks_strings, may_lack_label, tokens_behind, word_behind, word_or};
 ghost use Rattle.sieve_explain.specs.Reasons.{capability_words, ending_words, extra_words, no_argument_words, no_test_words, other_blanks, place_text, positional_words, reason_blanks, reason_limit, reason_text, reason_words, tag_words, tests_words};
 ghost use Rattle.sieve_explain.specs.Private.{blanks_of};
 
+use crate::faults::word_sentence;
 use crate::hints::{unknown_capability, unknown_command, unknown_tag, unknown_test};
-use crate::marks::{has_unit, label_behind, tokens_from};
+use crate::marks::{bare_behind, has_unit, label_behind, text_of, tokens_from};
 use crate::sentence::{Sentence, plain};
 use crate::words::is_any;
 use octets::{MAX_STRING, is_word};
@@ -237,12 +239,86 @@ fn other_sentence(reason: Reason<'_>) -> Sentence<'_>
     }
 }
 
-// The sentence for arguments with a wrong unit, for a tag without its colon behind them, or for another reason.
-#[tactic(auto, unfolding(crate::specs::Explaining::fault_blanks))]
+// Whether strings are missing.
+fn lacks_strings(kind: ReasonKind) -> bool
+    ensures { result ≡ lacks_strings kind }
+{
+    match kind {
+        ReasonKind::MissingArgument(taken) => takes_strings(taken),
+        _ => false,
+    }
+}
+
+// Whether these are strings.
+fn takes_strings(taken: Positional) -> bool
+    ensures { result ≡ lacks_strings (MissingArgument taken) }
+{
+    match taken {
+        Positional::Text | Positional::TwoTexts | Positional::OneList | Positional::TwoLists =>
+            true,
+        Positional::Nothing | Positional::Number => false,
+    }
+}
+
+// The tokens behind the one with that number.
+fn tokens_behind(tokens: &[Token], number: usize) -> &[Token]
+    ensures { result.now ≡ tokens_behind tokens.now number }
+{
+    tokens_from(tokens_from(tokens, number), 1)
+}
+
+// The word that stands in the place of a string that is missing, behind a name with the number of its token, if there is one.
+#[tactic(auto, unfolding(crate::specs::Explaining::word_behind))]
+fn word_behind(
+    script: &[u8],
+    tokens: &[Token],
+    number: usize,
+    kind: ReasonKind,
+    name: &[u8],
+) -> Option<Token>
+    ensures { result ≡ word_behind script.now tokens.now number kind name.now }
+{
+    if !lacks_strings(kind) {
+        return None;
+    }
+    bare_behind(script, name, tokens_behind(tokens, number))
+}
+
+/// The word that stands in the place of a string that is missing, if there is one.
+pub fn bare_word(script: &[u8], tokens: &[Token], found: Refused<'_>) -> Option<Token>
+    ensures { result ≡ bare_word script.now tokens.now (refused_view found.entry) }
+{
+    word_behind(
+        script,
+        tokens,
+        found.token,
+        found.reason.kind,
+        found.reason.name,
+    )
+}
+
+// The sentence for a word in a string's place, for what else is wrong with the arguments, or for another reason.
 pub fn fault_sentence<'a>(script: &'a [u8], tokens: &[Token], found: Refused<'a>) -> Sentence<'a>
     ensures { blanks_of result ≡ fault_blanks script.now tokens.now (refused_view found.entry) }
 {
-    let behind = tokens_from(tokens_from(tokens, found.token), 1);
+    let other = argument_sentence(script, tokens_behind(tokens, found.token), found);
+    word_or(script, bare_word(script, tokens, found), other)
+}
+
+// The sentence for a word in a string's place, if there is one, or the other sentence.
+fn word_or<'a>(script: &'a [u8], word: Option<Token>, other: Sentence<'a>) -> Sentence<'a>
+    ensures { blanks_of result ≡ word_or script.now word (blanks_of other.entry) }
+{
+    match word {
+        Some(word) => word_sentence(text_of(script, &word)),
+        None => other,
+    }
+}
+
+// The sentence for arguments with a wrong unit, for a tag without its colon behind them, or for another reason.
+fn argument_sentence<'a>(script: &'a [u8], behind: &[Token], found: Refused<'a>) -> Sentence<'a>
+    ensures { blanks_of result ≡ argument_blanks script.now behind.now (refused_view found.entry) }
+{
     if is_argument_fault(found.reason.kind.fault()) && has_unit(script, behind) {
         return plain(
             "the units of a number are K, M and G, with no blank before the letter and nothing behind it, as in 5M",

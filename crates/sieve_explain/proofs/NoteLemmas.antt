@@ -1,0 +1,43 @@
+-- The notes that are found have those first that are told, and say whether there are more.
+use Rattle.std.proofs.Common.{◌≡◌, ◌∙◌, ◌<◌, ℕ, Bool, ◌≤◌, List, [], ◌∷◌, ◌++◌, length, nat_lt, take, ap, sym, arith, inl, inr}
+use Rattle.std.proofs.lemmas.Bool.{cases_lt, lt-ltb}
+use Rattle.std.proofs.lemmas.List.{append-nil, append_assoc, length-take, take-take, take_all}
+use Rattle.std.proofs.Math.Seq.{take-append_seam}
+use Rattle.std.specs.Prelude.{Option, Some, None, flat_map}
+use Rattle.sieve_explain.specs.Explaining.{listed_told, more_notes_told, note_told}
+use Rattle.sieve_explain.specs.Notes.{max_notes, onto}
+use Rattle.sieve_explain.specs.Private.{max_noted}
+use Rattle.sieve_explain.specs.declared.notes.Noted.{Noted}
+
+pub first_notes : (found all : List Noted) → found ≡ take max_noted all → take max_notes found ≡ take max_notes all
+first_notes found all is = ap (take max_notes) is ∙ take-take max_notes max_noted all (omega arith)
+
+pub more_notes : (found all : List Noted) → found ≡ take max_noted all → nat_lt max_notes (length found) ≡ nat_lt max_notes (length all)
+more_notes found all is =
+    ap (λ (l : List Noted). nat_lt max_notes (length l)) is ∙
+    elim (cases_lt max_notes (length all)) [
+      | inl many ↦
+          let some : max_notes < length (take max_noted all) = omega (arith, many, length-take max_noted all) in
+          lt-ltb max_notes (length (take max_noted all)) some ∙ sym (lt-ltb max_notes (length all) many)
+      | inr few ↦ ap (λ (l : List Noted). nat_lt max_notes (length l)) (take_all max_noted all (omega (arith, few)))
+    ]
+
+-- one more note, or none
+pub onto_next : (found : List Noted) (o : Option Noted) (left : List Noted) → (found ++ onto o []) ++ left ≡ found ++ onto o left
+onto_next found None left = ap (λ (l : List Noted). l ++ left) (append-nil found)
+onto_next found (Some noted) left = append_assoc found (noted ∷ []) left
+
+-- as many were found as are looked for; or all were looked at
+pub found_enough : (found left all : List Noted) → found ++ left ≡ all → length found ≡ max_noted → found ≡ take max_noted all
+found_enough found left all is full = sym (take-append_seam found left) ∙ ap (take (length found)) is ∙ ap (λ n. take n all) full
+
+pub found_all : (found left all : List Noted) → found ++ left ≡ all → left ≡ [] → length found ≤ max_noted → found ≡ take max_noted all
+found_all found left all is none few =
+    let whole : found ≡ all = sym (append-nil found) ∙ sym (ap (λ (l : List Noted). found ++ l) none) ∙ is in
+    sym (take_all max_noted found few) ∙ ap (take max_noted) whole
+
+-- so what is told of those that are found is what is told of all
+pub listed_first : (name script : List ℕ) (found all : List Noted) → found ≡ take max_noted all → listed_told name script found ≡ listed_told name script all
+listed_first name script found all is =
+    ap (λ (l : List Noted). flat_map (note_told name script) l ++ more_notes_told name (nat_lt max_notes (length found))) (first_notes found all is)
+    ∙ ap (λ (b : Bool). flat_map (note_told name script) (take max_notes all) ++ more_notes_told name b) (more_notes found all is)
