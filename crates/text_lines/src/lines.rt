@@ -1,5 +1,6 @@
 // The lines of a text, one after the other.
 ghost use Rattle.std.specs.Prelude.{◌≡◌, ◌<◌, length};
+ghost use Rattle.memchr.specs.Find.{IsFirstByte, is_byte};
 ghost use Rattle.text_lines.specs.Lines.{IsLineAt};
 
 use crate::line::Line;
@@ -57,13 +58,16 @@ impl<'a> Iterator for Lines<'a> {
 
 impl<'a> FusedIterator for Lines<'a> {}
 
+// How many octets are looked at one by one before a search is called: lines with fewer cost less so, and others hardly more.
+const NEAR: usize = 4;
+
 // The line that starts at this place.
 #[inline]
 fn line_at(text: &[u8], start: usize) -> Line
     requires { start < length text.now }
     ensures { IsLineAt text.now start result }
 {
-    let Some(feed) = memchr(b'\n', &text[start..]) else {
+    let Some(feed) = first_feed(&text[start..]) else {
         return Line {
             start,
             end: text.len(),
@@ -81,4 +85,17 @@ fn line_at(text: &[u8], start: usize) -> Line
         end,
         stop: feed + 1,
     }
+}
+
+// The place of the first LF.
+#[inline]
+fn first_feed(text: &[u8]) -> Option<usize>
+    ensures { IsFirstByte (is_byte 10) text.now result }
+{
+    for place in 0..text.len().min(NEAR) {
+        if text[place] == b'\n' {
+            return Some(place);
+        }
+    }
+    memchr(b'\n', text)
 }
