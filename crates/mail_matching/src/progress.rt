@@ -1,5 +1,5 @@
 // The values that a test selects, compared one after the other.
-ghost use Rattle.std.specs.Prelude.{◌≡◌, ◌+◌, ◌<◌, ◌≤◌, ◌^◌, ◌∷◌, [], ℕ, List, false, All, IfSome, IsOk, OnOk, length};
+ghost use Rattle.std.specs.Prelude.{◌≡◌, ◌+◌, ◌<◌, ◌≤◌, ◌^◌, ◌∷◌, [], ℕ, List, false, true, All, IfSome, IsOk, OnOk, length};
 ghost use Rattle.std.specs.Cow.{IsBorrowedSlice, cow_slice_items};
 ghost use Rattle.octets.specs.Limits.{max_message};
 ghost use Rattle.header_fields.specs.Extent.{fields_extent};
@@ -214,6 +214,7 @@ impl<'m, T: Telling> Progress<'m, T> {
         ensures goes { OnOk result (GoesOn T.knows how (field.now.value ∷ []) (K.texts keys.now) self.old
             self.new) }
         ensures no_memory { T.is_free → field.now.folded ≡ false → IsOk result }
+        ensures after { holds self.old.outcome ≡ true → IsOk result }
     {
         if self.outcome.holds() {
             self.extent += unfolded_length(field) as u64 + 1;
