@@ -13,7 +13,7 @@ use Rattle.sqlite.specs.declared.FileStore.{FileStore}
 use Rattle.sqlite.specs.Effect.{Database, IsDatabase}
 use Rattle.sqlite.specs.State.{State, HasCleanDisk, IsLive, Opens, Survives}
 use Rattle.sqlite.specs.Held.{Held}
-use Rattle.sqlite.specs.Files.{file_state, image_of, AreFoundIn, FailsToOpenFiles, HoldsDatabase, IsCleanLeft, IsEmpty, IsNothing, LeavesFiles}
+use Rattle.sqlite.specs.Files.{file_state, image_of, AreFoundIn, FailsToOpenFiles, HoldsDatabase, IsCleanLeft, IsEmpty, IsNothing, IsOpened, LeavesFiles}
 use Rattle.sqlite.specs.Recovery.{Image}
 use Rattle.sqlite.specs.Closing.{HoldsAlone, IsCopied}
 use Rattle.sqlite.specs.Start.{FindsIn}
@@ -150,22 +150,23 @@ left_alone mixes start history key is c may =
 
 -- Of a store on what the database's open found, made or refused: it is ready, shows what the files
 -- held, and is refused where they had no tables.
-pub ready_from : {D : Type 0} {g : Ghosts D} (image : Image) (found : Held (FileStore D g)) (result : Result (Held (FileStore D g)) StoreError) → IsFoundIn image found
+pub ready_from : {D : Type 0} {g : Ghosts D} {E : Type 0} (image : Image) (found : Held (FileStore D g)) (result : Result (Held (FileStore D g)) E) → IsFoundIn image found
     → IfOk result (λ s. HasCleanDisk (file_state s) → IsBare (file_state found) → IsEmptied (file_state s)) → IfOk result (λ s. (IsBare (file_state found) → ⊥) → s ≡ found)
     → IfOk result (λ s. (file_state s).in_transaction ≡ false) → IfOk result (λ s. Survives (file_state found) (file_state s) (MakesEmpty (file_state found))) → IfOk result (IsReadyFrom image)
 ready_from image found (Ok s) finds made same settled survives =
     record { ready = record { found = found; opened = finds.opened; made = made; same = same; settled = settled; survives = survives }; finds = finds.finds }
 ready_from image found (Err e) finds made same settled survives = tt
 
-pub shows : {D : Type 0} {g : Ghosts D} (image : Image) (result : Result (Held (FileStore D g)) StoreError) → IfOk result (IsReadyFrom image)
-    → IfOk result (λ s. HasCleanDisk (file_state s) → (e : Entries) → HoldsStore image e → IsAt e (file_state s))
-shows image (Ok s) from = λ clean e held. opens_held image s from clean e held
-shows image (Err e) from = tt
+-- of what an open found, as it is: that is what the files held
+pub was_opened : {D : Type 0} {g : Ghosts D} {E : Type 0} (image : Image) (result : Result (Held (FileStore D g)) E) → IfOk result (IsFoundIn image)
+    → IfOk result (λ s. HasCleanDisk (file_state s) → IsOpened s)
+was_opened image (Ok s) finds = finds.opened
+was_opened image (Err e) finds = tt
 
-pub shows_none : {D : Type 0} {g : Ghosts D} (image : Image) (result : Result (Held (FileStore D g)) StoreError) → IfOk result (IsReadyFrom image)
-    → IfOk result (λ s. HasCleanDisk (file_state s) → HoldsNoTables image → IsAt no_entries (file_state s))
-shows_none image (Ok s) from = λ clean none. opens_none image s from clean none
-shows_none image (Err e) from = tt
+pub shows_found : {D : Type 0} {g : Ghosts D} {E : Type 0} (image : Image) (result : Result (Held (FileStore D g)) E) → IfOk result (IsFoundIn image)
+    → IfOk result (λ s. HasCleanDisk (file_state s) → (e : Entries) → HoldsStore image e → IsAt e (file_state s))
+shows_found image (Ok s) finds = λ clean. let opened = finds.opened clean in shows_held image (file_state s) opened.0 opened.1 (finds.finds clean)
+shows_found image (Err e) finds = tt
 
 -- the database's errors are never told as other tables
 not_others : (error : Error) → OtherTables ≡ unopened_of error → ⊥
@@ -207,7 +208,7 @@ same_ok (Ok s) x P same holds = subst P (sym same) holds
 same_ok (Err e) x P same holds = tt
 
 -- a store that was made on what the open found has the limit of that, which is none
-pub unlimited : {D : Type 0} {g : Ghosts D} (found : Held (FileStore D g)) (result : Result (Held (FileStore D g)) StoreError) → (file_state found).step_limit ≡ None
+pub unlimited : {D : Type 0} {g : Ghosts D} {E : Type 0} (found : Held (FileStore D g)) (result : Result (Held (FileStore D g)) E) → (file_state found).step_limit ≡ None
     → IfOk result (λ s. Survives (file_state found) (file_state s) (MakesEmpty (file_state found))) → IfOk result (λ s. (file_state s).step_limit ≡ None)
 unlimited found (Ok s) none survives = survives.limit ∙ none
 unlimited found (Err e) none survives = tt

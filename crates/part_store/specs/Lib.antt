@@ -9,6 +9,7 @@ pub mod Inside
 pub mod Access
 pub mod Looking
 pub mod Opening
+pub mod Unmade
 pub mod Crashes
 pub mod Totals
 pub mod UserLines

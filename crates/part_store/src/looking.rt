@@ -1,7 +1,9 @@
 //! How a database is taken as it is.
 ghost use Rattle.std.specs.Prelude.{◌≡◌};
 ghost use Rattle.part_store.specs.Looking.{are_tables, is_table, three_tables, unopened_of};
+ghost use Rattle.part_store.specs.Unmade.{refusal_to_open, unmade_of};
 
+use crate::error::StoreError;
 use sqlite::ErrorCode;
 use sqlite_schema::schema::{Schema, Table};
 use thiserror::Error;
@@ -41,6 +43,29 @@ impl From<sqlite::Error> for Unopened {
             }
             sqlite::Error::SqliteFailure(ErrorCode::CannotOpen) => Unopened::Closed,
             _ => Unopened::Disk,
+        }
+    }
+}
+
+// Why the tables of an empty store aren't made.
+impl From<StoreError> for Unopened {
+    ghost from_gives = { λ error e. e ≡ unmade_of error };
+
+    fn from(error: StoreError) -> Unopened {
+        match error {
+            StoreError::Memory => Unopened::Memory,
+            _others => Unopened::Disk,
+        }
+    }
+}
+
+impl From<Unopened> for StoreError {
+    ghost from_gives = { λ why e. e ≡ refusal_to_open why };
+
+    fn from(why: Unopened) -> StoreError {
+        match why {
+            Unopened::Memory => StoreError::Memory,
+            _ => StoreError::Database,
         }
     }
 }

@@ -38,7 +38,7 @@ use crate::totals::{ContentTotal, count_contents};
 use crate::user_row::UserRow;
 use crate::within::{add_within, begin};
 use crate::{contents, entries, tables};
-use connections::{found_store, known_connection, made_store};
+use connections::{known_connection, store_on};
 use sqlite::{
     Alter, Connection, Error, File, FileFrom, FileStore, Files, MemStore, Start, Transaction,
     Unknown,
@@ -510,6 +510,25 @@ fn connect<B: Start>(
     }
 }
 
+/// The store in the file at a path: with its tables made where it had none, or as it is.
+fn reach<B: Start>(
+    rt: &HostRuntime,
+    path: &str,
+    start: B,
+    makes: bool,
+) -> Result<PartStore<FileStore<FileFrom<B>>>, Unopened>
+    ensures ready { makes ≡ true → IfOk result (IsReadyFrom (image_at B.Start)) }
+    ensures finds { makes ≡ false → IfOk result (IsFoundIn (image_at B.Start)) }
+    ensures tables { makes ≡ false → IfOk result
+        (λ s. are_tables (file_state s).now.schema.tables ≡ true) }
+    ensures settled { IfOk result (λ s. (file_state s).in_transaction ≡ false) }
+    ensures unlimited { IfOk result (λ s. (file_state s).step_limit ≡ None) }
+    ensures cause { makes ≡ false → TellsWhy (image_at B.Start) result }
+{
+    let conn = connect(rt, path, start)?;
+    store_on(conn, makes)
+}
+
 impl<B: Start> PartStore<FileStore<FileFrom<B>>> {
     /// The store in the file at a path, where `B` stands for what the file and its log held. A file that isn't there, is empty or
     /// has no tables becomes the empty store. Its statements may take any number of steps. Refuses `Memory`, and `Database` where the
@@ -531,8 +550,7 @@ impl<B: Start> PartStore<FileStore<FileFrom<B>>> {
         ensures unlimited { IfOk result (λ s. (file_state s).step_limit ≡ None) }
         ensures refused { IfErr result (λ e. (e ≡ Memory) ⊎ (e ≡ Database)) }
     {
-        let conn = connect(rt, path, start)?;
-        made_store(conn)
+        Ok(reach(rt, path, start, true)?)
     }
 
     /// The same as `look`, where `B` stands for what the file and its log held, and what was found is
@@ -553,8 +571,7 @@ impl<B: Start> PartStore<FileStore<FileFrom<B>>> {
         ensures unlimited { IfOk result (λ s. (file_state s).step_limit ≡ None) }
         ensures cause { TellsWhy (image_at B.Start) result }
     {
-        let found = connect(rt, path, start)?;
-        found_store(found)
+        reach(rt, path, start, false)
     }
 }
 

@@ -2,31 +2,51 @@
 //!
 //! A function over one kind of database proves anew, at each call that takes any kind, all that holds
 //! of its own. That is dear. So here is in one call what it asks, and these functions take any kind.
-ghost use Rattle.std.specs.Prelude.{◌≡◌, ◌⊎◌, false, true, IsTrue, IfOk, IfErr, OnErr};
+ghost use Rattle.std.specs.Prelude.{◌≡◌, false, true, IsTrue, IfOk, IfErr, OnErr};
 ghost use Rattle.sqlite.specs.Held.{state};
 ghost use Rattle.sqlite.specs.State.{IsLive};
 ghost use Rattle.part_store.specs.Calls.{Always, MayCommit};
 ghost use Rattle.part_store.specs.Looking.{are_tables};
 ghost use Rattle.part_store.specs.Opening.{HasOtherTables, IsBare, IsEmptied, MakesEmpty};
-ghost use Rattle.part_store.specs.declared.error.StoreError.TheVariants.{Memory, Database};
 ghost use Rattle.part_store.specs.declared.looking.Unopened.TheVariants.{OtherTables};
 
-use crate::error::StoreError;
 use crate::looking::Unopened;
 use crate::store::{PartStore, ready_tables};
 use crate::within::know_connection;
 use sqlite::{Alter, Connection};
 
-/// The store on a connection, with its tables made where it had none. A connection that gets no
-/// tables is let go.
-pub(crate) fn made_store<S: Alter + Drop>(conn: Connection<S>) -> Result<PartStore<S>, StoreError>
+/// The store on a connection: with its tables made where it had none, or as it is. A connection that
+/// becomes no store is let go.
+pub(crate) fn store_on<S: Alter + Drop>(
+    conn: Connection<S>,
+    makes: bool,
+) -> Result<PartStore<S>, Unopened>
+    ensures made { makes ≡ true → IfOk result
+        (λ s. Always S.Store conn s (λ old new. IsBare old → IsEmptied new)) }
+    ensures kept { makes ≡ true → IfOk result
+        (λ s. (IsBare (state S.Store conn) → ⊥) → s ≡ conn) }
+    ensures survives { makes ≡ true → IfOk result (λ s. MayCommit S.Store conn s MakesEmpty) }
+    ensures same { makes ≡ false → IfOk result (λ s. s ≡ conn) }
+    ensures tables { makes ≡ false → IfOk result
+        (λ s. are_tables (state S.Store s).now.schema.tables ≡ true) }
+    ensures settled { IfOk result (λ s. (state S.Store s).in_transaction ≡ false) }
+    ensures others { makes ≡ false → IfErr result (λ e. e ≡ OtherTables) }
+    ensures apart { makes ≡ false → OnErr result ((state S.Store conn).in_transaction ≡ false
+        → HasOtherTables (state S.Store conn)) }
+{
+    if makes {
+        made_store(conn)
+    } else {
+        found_store(conn)
+    }
+}
+
+/// With its tables made.
+fn made_store<S: Alter + Drop>(conn: Connection<S>) -> Result<PartStore<S>, Unopened>
     ensures made { IfOk result
         (λ s. Always S.Store conn s (λ old new. IsBare old → IsEmptied new)) }
     ensures same { IfOk result (λ s. (IsBare (state S.Store conn) → ⊥) → s ≡ conn) }
     ensures settled { IfOk result (λ s. (state S.Store s).in_transaction ≡ false) }
-    ensures bare { OnErr result ((state S.Store conn).in_transaction ≡ false
-        → IsBare (state S.Store conn)) }
-    ensures refused { IfErr result (λ e. (e ≡ Memory) ⊎ (e ≡ Database)) }
     ensures survives { IfOk result (λ s. MayCommit S.Store conn s MakesEmpty) }
 {
     let mut conn = conn;
@@ -34,8 +54,8 @@ pub(crate) fn made_store<S: Alter + Drop>(conn: Connection<S>) -> Result<PartSto
     Ok(PartStore { conn })
 }
 
-/// The store on a connection as it is (`adopt_as_is`). A connection with other tables is let go.
-pub(crate) fn found_store<S: Alter + Drop>(conn: Connection<S>) -> Result<PartStore<S>, Unopened>
+/// As it is (`adopt_as_is`).
+fn found_store<S: Alter + Drop>(conn: Connection<S>) -> Result<PartStore<S>, Unopened>
     ensures same { IfOk result (λ s. s ≡ conn) }
     ensures tables { IfOk result (λ s. are_tables (state S.Store s).now.schema.tables ≡ true) }
     ensures settled { IfOk result (λ s. (state S.Store s).in_transaction ≡ false) }
