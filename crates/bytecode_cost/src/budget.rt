@@ -1,4 +1,8 @@
 // The eight sums of a program.
+//
+// The budgets and the potentials of the two versions differ in one definition, `turns_left`, so the laws on runs are
+// the same words for both. `Budget::at` asks less than it could: the number of parts can be 0. `Display` of a budget
+// is its line in every formatter that takes all of it.
 ghost use Rattle.std.specs.Prelude.{◌≡◌, ◌+◌, ◌*◌, ◌^◌, ◌<◌, ◌≤◌, slice_index, Some};
 ghost use Rattle.octets.specs.Limits.{max_message, max_parts};
 ghost use Rattle.bytecode_cost.specs.Sums.{no_sums, with_cap, budget_at, chains, turns};

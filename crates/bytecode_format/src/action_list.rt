@@ -1,4 +1,8 @@
 // The actions of a run, each once.
+//
+// Actions are kept as a run lists them, each different one once, in a tree next to the list. A run that lists the
+// same action a million times holds it once. An action takes time in the logarithm of their number; a Keep, and the
+// action that was listed last, take no search.
 ghost use Rattle.std.specs.Prelude.{◌≡◌, [], IfOk, IsTrue, OnOk, OnErr};
 
 use crate::action::Action;

@@ -1,4 +1,7 @@
 // Programs from their parts.
+//
+// `Program::build` takes no memory, so its one refusal is Spelling. A proof knows the ranges of an instruction's
+// fields only once the fields are read, so `build` goes over its instructions in a loop that leaves no code.
 ghost use Rattle.std.specs.Prelude.{◌≡◌, ◌+◌, ◌*◌, ◌<◌, ◌≤◌, ◌^◌, length, All, IfOk, IfErr, IsTrue, ◌↔◌};
 ghost use Rattle.std.specs.List.{flat_map};
 ghost use Rattle.octets.specs.Limits.{max_string};

@@ -1,4 +1,8 @@
 // What the fields of an instruction say of a test.
+//
+// The numbers of tests have two functions each: the compiler asks for the number of a match, a scope or a selector,
+// the verifier and the machine for the meaning of a number. A law says that the two fit, which the proof that code
+// means its script needs.
 ghost use Rattle.std.specs.Prelude.{◌≡◌, ◌≤◌, ◌<◌};
 ghost use Rattle.bytecode_format.specs.Selection.{comparator_number, comparator_numbered, counts_number, counts_numbered, field_test_number, field_test_numbered, kind_number, kind_numbered, match_number, match_numbered, scope_number, scope_numbered, selector_number, selector_numbered};
 

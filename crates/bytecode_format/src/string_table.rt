@@ -1,4 +1,7 @@
 // Tables of strings.
+//
+// An ordered map next to the list finds the strings of a script, so a string takes time in the logarithm of their
+// number. The table lends from the script while code is made; each string is copied once, when the table is done.
 ghost use Rattle.std.specs.Prelude.{◌≡◌, ◌≤◌, [], ◌∷◌, ◌++◌, length, map, OnOk, OnErr, IfOk};
 
 use octets::Octets;

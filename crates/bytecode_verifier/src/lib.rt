@@ -3,6 +3,10 @@
 //! A program is accepted where no rule of `specs/Rules` is broken; else [`verify`] answers the first
 //! broken rule, at the least place, and hands the program back. [`Verified`] is a program that is
 //! accepted, with its budget (`specs/Budget`): only `verify` makes one.
+//!
+//! The verifier goes over the instructions four times. One loop marks the targets of jumps, two find the loops, the
+//! last checks all rules. All are linear. A single loop would have to carry the marks of jumps that lead backward,
+//! for a refusal that never names them.
 #![tactic(auto)]
 
 mod cap;

@@ -1,4 +1,11 @@
 // What is known of the loops at each place.
+//
+// The loops of a program are pairs of matched brackets, defined by counting: the partner of an EACH is the first
+// place up to which there are as many NEXT as EACH. The verifier finds them with a stack, in a pass from the end and
+// one from the start, and keeps 12 bytes for each instruction: what it opens, the innermost loop, and the depth. So
+// two places have the same open loops exactly if their innermost loops are the same, which is one comparison. An
+// EACH without a NEXT opens no loop, also for what comes after it. This isn't observable: it breaks the rule Loop
+// itself, at an earlier place.
 ghost use Rattle.std.specs.Prelude.{◌≡◌, ◌≤◌, IfOk, OnOk, length};
 ghost use Rattle.octets.specs.Limits.{max_instructions};
 ghost use Rattle.bytecode_verifier.specs.Nests.{AreNests, leads, nexts_from, next_over, waiting_over, open_over};

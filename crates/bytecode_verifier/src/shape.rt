@@ -1,4 +1,7 @@
 // Which entries stand on the stack.
+//
+// LIT of a missing string fails the shape, too. This isn't observable, because such a program is refused Index
+// before.
 ghost use Rattle.std.specs.Prelude.{◌≡◌, ◌+◌, ◌*◌, ◌≤◌, [], ◌∷◌, Some, None, IfOk, IfSome, OnSome, MatchOption, if◌then◌else◌, slice_get};
 ghost use Rattle.std.specs.Option.{option_and_then, option_map, option_map_or};
 ghost use Rattle.octets.specs.Limits.{max_stack, max_string};

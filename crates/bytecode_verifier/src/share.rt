@@ -1,4 +1,7 @@
 // What each instruction adds to a budget.
+//
+// What each instruction adds to the budget is found by a pass of its own (`Verified::shares`), so that `verify`
+// keeps no list of it. Only `disassemble` asks for it.
 ghost use Rattle.std.specs.Prelude.{◌≡◌, ◌+◌, ◌<◌, ℕ, IfOk, OnOk, Some, length, slice_get};
 ghost use Rattle.bytecode_verifier.specs.Acceptance.{IsAccepted};
 ghost use Rattle.bytecode_verifier.specs.Budget.{share_at};

@@ -1,4 +1,7 @@
 // The places that jumps lead to.
+//
+// Every jump's field is a target, also that of a refused jump. This isn't observable, because Jump comes before
+// Stack.
 ghost use Rattle.std.specs.Prelude.{◌≡◌, ℕ, ◌<◌, length, Some, IfOk, slice_get, slice_set, true};
 ghost use Rattle.bytecode_verifier.specs.Shape.{is_target};
 

@@ -1,4 +1,8 @@
 // A stored program that was checked.
+//
+// The program that was checked last is kept, with its bytes. If the stored bytes are equal, it runs at once, so a
+// batch doesn't read and verify the same filter for each mail. The bytes are compared, so nothing has to be believed
+// of the store between two deliveries.
 ghost use Rattle.std.specs.Prelude.{◌≡◌, ◌⊎◌, All, IfErr, IfOk, IsTrue, Some};
 ghost use Rattle.sieve_vm.specs.Stores.{NamesPart};
 ghost use Rattle.refusals.specs.declared.refusal.Refusal.TheVariants.{Memory, Database};

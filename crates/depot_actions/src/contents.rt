@@ -1,4 +1,9 @@
 // Which actions file the same content.
+//
+// A delivery knows which of its entries have the same content (`add_sharing_entries`), so a content is hashed,
+// looked up and compared once, and a filter of a thousand `fileinto` isn't a thousand times as expensive as one.
+// Which content an entry has is known from the action, by the number of its part: this language can't compare two
+// slices by their addresses, and comparing 64 MiB takes milliseconds each time.
 ghost use Rattle.std.specs.Prelude.{◌≡◌, ◌+◌, ◌<◌, All, IfOk, List, ℕ, length, map, slice_index_or};
 ghost use Rattle.sieve_vm.specs.Stores.{NamesPart};
 ghost use Rattle.part_store.specs.Sharing.{SharesContents, first_of};

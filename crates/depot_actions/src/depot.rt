@@ -1,4 +1,7 @@
 //! The depot and its calls.
+//!
+//! `program` of a user without a program is refused `40 NoSuchEntry`, also if the user has entries: what is asked
+//! for isn't there. An empty file would be no program, and nobody stored the program that keeps every message.
 ghost use Rattle.std.specs.Prelude.{◌≡◌, ◌≢◌, ◌⊎◌, IsTrue, List, ℕ, map, option_map, IfOk, IfErr, None, OnOk, true, false};
 ghost use Rattle.sqlite.specs.Held.{state};
 ghost use Rattle.sqlite.specs.State.{HasCleanDisk};

@@ -1,4 +1,9 @@
 //! What holds of the definitions alone.
+//!
+//! What a crash leaves is said of sessions, not of disks. The type of a real file names what it held when it was
+//! opened, so each run has a type of its own, and a list of runs over one type would describe no two real runs. A
+//! session leads from what the files held to what they hold (`Leads`), whatever the type, so sessions follow one
+//! another.
 ghost use Rattle.std.specs.Prelude.{◌≡◌, ◌≤◌, ◌+◌, ◌*◌, ℕ, List, IsTrue, Some, length};
 ghost use Rattle.octets.specs.Limits.{max_depth};
 ghost use Rattle.bytecode_format.specs.declared.action.Action.{Action};

@@ -1,4 +1,7 @@
 // How stored programs get the latest version.
+//
+// `migrate` judges every stored program, also one that has the latest version, and changes nothing if one is no
+// accepted program any more. So after it each stored filter is known to run.
 ghost use Rattle.std.specs.Prelude.{◌≡◌, ◌⊎◌, ◌++◌, [], IfErr, IfOk, OnOk, Some, map, option_map};
 ghost use Rattle.bytecode_format.specs.Code.{Code};
 ghost use Rattle.part_store.specs.Standing.{pair_of};

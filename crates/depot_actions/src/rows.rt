@@ -1,4 +1,7 @@
 // The rows of entries that are made.
+//
+// The rows of a delivery are made before anything is written, so that nothing has to be taken back for lack of
+// memory. They get their numbers afterwards.
 ghost use Rattle.std.specs.Prelude.{◌≡◌, ◌+◌, ◌≤◌, ℕ, List, IfOk, length, map};
 ghost use Rattle.octets.specs.Limits.{max_entry_number};
 ghost use Rattle.part_store.specs.Entries.{Draft, listing_of, numbered};

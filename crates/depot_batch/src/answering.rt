@@ -1,4 +1,7 @@
 // What comes of what a line asks for.
+//
+// A refusal of a line goes to standard output, instead of the answer: with two streams nobody can tell which line of
+// one belongs to which of the other. Standard error is for what ends the batch.
 ghost use Rattle.std.specs.Prelude.{◌≡◌, List, IfErr, IfOk, OnErr, OnOk};
 ghost use Rattle.sqlite.specs.Held.{state};
 ghost use Rattle.sqlite.specs.State.{Survives};

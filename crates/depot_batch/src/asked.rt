@@ -1,4 +1,7 @@
 // What a line asks for.
+//
+// An export in a batch makes a file: the bytes of an entry can look like answers, and only their number would show
+// where they end. The file is made like that of a compiled program, whole or not at all, and never over the depot.
 ghost use Rattle.std.specs.Prelude.{◌≡◌, ◌∷◌, [], ℕ, MatchOption, IfErr, IfOk, map};
 ghost use Rattle.depot_batch.specs.Asked.{Asks, AskNothing, IsEntryNumber, name_of};
 ghost use Rattle.depot_batch.specs.declared.fault.Form.{Form};

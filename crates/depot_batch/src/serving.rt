@@ -1,4 +1,11 @@
 // The lines of a batch.
+//
+// The lines of a batch are defined over whatever they are answered with (`HasServedBy`): over an open depot, as
+// `batch` sees it, and over the state that the files represent, as `serve_from` does. How a line is answered is
+// written for each of the two. Answers are held back, and flushed once a line, or once a group: standard output
+// isn't buffered, so each piece of a line would be a system call. The flush comes after the line with the status,
+// and before the next line is read, so a caller that waits for the answer has it whole. An answer of more than
+// 65,536 bytes is several writes.
 ghost use Rattle.std.specs.Prelude.{◌≡◌, ◌<◌, ◌≤◌, ◌+◌, ◌^◌, ℕ, length, true, false};
 ghost use Rattle.std.specs.List.{All, concat};
 ghost use Rattle.refusals.specs.declared.refusal.Refusal.TheVariants.{Database};

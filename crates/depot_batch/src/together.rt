@@ -1,4 +1,9 @@
 // Lines that are done together.
+//
+// A group's files are read before its first delivery, so a file that can't be read ends the trial before the depot
+// is asked for anything. The lines are then done one by one, and read again. A file that changes in between is filed
+// as it is then, and the trial uses up a pipe. To keep what was read would avoid that, but the contract would have
+// to say, for a batch that ends at a line refused `Database`, which files of later lines it had read.
 ghost use Rattle.std.specs.Prelude.{◌<◌, ◌≡◌, ◌≤◌, ◌++◌, IfOk, IfSome, List, OnErr, IfNone, OnOk, Vec, length, map, ℕ};
 ghost use Rattle.std.specs.List.{flat_map};
 ghost use Rattle.std.specs.declared.alloc.Global.{Global};

@@ -1,4 +1,8 @@
 // The words of a line.
+//
+// A line of a batch has a grammar of its own. The command line's is built again each time that it reads words, which
+// each line would pay for. Options and help make no sense there, and no shell removes quotation marks. So a line has
+// its words with one space between them, and texts in quotation marks are written as `depot` prints them.
 ghost use Rattle.std.specs.Prelude.{◌≡◌, IfOk, length, ◌≤◌, map, option_map};
 ghost use Rattle.std.specs.List.{list_any};
 ghost use Rattle.depot_batch.specs.Words.{Plain, is_gap, is_quoted_after, is_quote, said_from, texts_of, word_in, words_of};

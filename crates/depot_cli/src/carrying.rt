@@ -1,4 +1,10 @@
 // Tasks and inspections, by what opening the file gave.
+//
+// `carry` takes what opening gave, a depot or the refusal, so that printing the refusal, performing the task once
+// and giving its status are one contract. The way from the open to the close is `carry_from` of the program, over
+// any type that represents what the files held; `main` passes the one of which nothing is known. `serve_from`,
+// `save_from` and `inspect_from` are the same for a batch, `program` and `inspect`. What is left of the files is
+// said once for the four (`EndsSo`), by how the request is answered and which state a failed close can keep.
 ghost use Rattle.sqlite.specs.Held.{state};
 ghost use Rattle.depot_cli.specs.Carrying.{HasCarried, HasReported, OutlastsCarrying, OutlastsReporting};
 ghost use Rattle.depot_cli.specs.Requests.{command_of};

@@ -1,4 +1,8 @@
 // Why a file is no depot.
+//
+// `inspect` reports that there is no file, also in a folder in which this user can't make one: it makes nothing, so
+// it can't know what another command would be allowed. If a file is there and the rights are the problem, or a
+// folder on the way can't be searched, it says that.
 ghost use Rattle.std.specs.Prelude.{◌≡◌};
 ghost use Rattle.depot_cli.specs.Inspecting.{HasSaidWhy};
 ghost use Rattle.depot_cli.specs.NoDepots.{no_depot_of};

@@ -1,4 +1,7 @@
 // The filter program of a user, saved as a file.
+//
+// `program` is no task on a depot: it makes a file, as `compile` does, so it gets the host; a task gets standard
+// output alone.
 ghost use Rattle.std.specs.Prelude.{◌≡◌, IfErr, IfOk, List, length, ℕ, OnErr, OnOk};
 ghost use Rattle.sqlite.specs.Held.{state};
 ghost use Rattle.sqlite.specs.State.{Survives};

@@ -1,4 +1,7 @@
 // Tasks on a depot, and their replies.
+//
+// The tasks on a depot are a call of their own, `perform`, apart from `answer` with the jobs that need none: a depot
+// is generic in its store, and a job isn't.
 ghost use Rattle.std.specs.Prelude.{◌≡◌, IfErr, IfOk, OnErr, OnOk};
 ghost use Rattle.sqlite.specs.Held.{state};
 ghost use Rattle.sqlite.specs.State.{Survives};

@@ -1,4 +1,7 @@
 // What is read: by work and by requests, of files and of standard input.
+//
+// A listing can have as many bytes as any file that is read, 67,108,864, and is refused `2 MessageTooLarge` above
+// that.
 ghost use Rattle.std.specs.Prelude.{◌≡◌, List, ℕ, IfErr, IfOk};
 ghost use Rattle.depot_jobs.specs.Host.{origin_of};
 ghost use Rattle.depot_jobs.specs.Inputs.{HasNotRead, HasNotReadFile, HasRead, HasReadFile, HaveNotRead, HaveRead, file_of, input, origins_of};

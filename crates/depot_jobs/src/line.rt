@@ -1,4 +1,7 @@
 // What the words of the command line say.
+//
+// The names that clap checks are borrowed texts, and its rule has the place where they are kept. So `line_of` is
+// about a command line whose encodings are these names, wherever they are kept (`IsDepot`).
 ghost use Rattle.std.specs.Prelude.{◌≡◌, IfOk, IfErr, MatchOption, Some, map, true};
 ghost use Rattle.clap.specs.Words.{App, FailsBy, fault_of, found_of, kind_of, rows_of, subcommand_rows_of, takes};
 ghost use Rattle.clap.specs.declared.error.kind.ErrorKind.TheVariants.{OutOfMemory};

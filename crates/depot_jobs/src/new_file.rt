@@ -1,4 +1,10 @@
 // A file that is being made, beside the one whose name it is to have.
+//
+// A compiled program is made whole or not at all: it is written next to the file whose name it is to have, and gets
+// the name at the end. If that fails, the old file stays. A device or a pipe can't be replaced, so it is written as
+// it is. The program's bytes are made before the file is, so a refused script never makes one. The script's own file
+// is never written over, also under another name or by a link; nor is a listing's by `assemble`, nor a depot's by
+// `program`.
 ghost use Rattle.std.specs.Prelude.{◌≡◌, false, IfOk, IfSome, OnOk};
 ghost use Rattle.std.specs.Path.{path_buf_bytes, path_with_file_name};
 ghost use Rattle.depot_jobs.specs.Files.{IsReached};

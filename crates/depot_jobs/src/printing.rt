@@ -1,4 +1,7 @@
 // Printing into a sink, without memory: each line in one call, unless it is a long one.
+//
+// The text of a budget is made inside the job, with memory, and printed afterwards: `Display` promises nothing of a
+// writer that fails. Printing itself takes no memory.
 ghost use Rattle.std.specs.Prelude.{◌≡◌, ◌++◌, OnErr, OnOk};
 ghost use Rattle.std.specs.List.{list_all};
 ghost use Rattle.encodings.specs.Device.{HasBroken, HasTaken};

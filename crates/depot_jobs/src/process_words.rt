@@ -1,4 +1,6 @@
 // The words of a process.
+//
+// A word that isn't UTF-8 is a fault of the command line, status 2.
 ghost use Rattle.std.specs.Prelude.{◌≡◌, ◌≢◌, IfOk, codes, map, string_bytes};
 ghost use Rattle.std.specs.IoError.{error_kind};
 ghost use Rattle.std.specs.Vec.Iter.{into_iter_items};

@@ -1,4 +1,7 @@
 // From work to its status.
+//
+// `disassemble` answers 0 also for a program that isn't accepted, because its listing is what was asked for. The
+// line of the verifier is the last one, a comment.
 ghost use Rattle.std.specs.Prelude.{◌≡◌, ◌⊎◌, List, ℕ};
 ghost use Rattle.bytecode_format.specs.Spelling.{spelling};
 ghost use Rattle.depot_jobs.specs.Jobs.{host_and_outputs};

@@ -1,4 +1,8 @@
 // The arguments of the commands.
+//
+// A number of an entry is read as clap reads it: also with a plus sign and leading zeros. If clap's rules exclude a
+// case, the code still has an arm: a missing required argument reads as the empty text, an unknown name of an
+// encoding as raw, an unknown command as no words. Cases show that clap lets none through (`cases/words.t`).
 ghost use Rattle.std.specs.Prelude.{◌≡◌, codes, false};
 ghost use Rattle.clap.specs.Words.{rule_of};
 ghost use Rattle.depot_words.specs.Commands.{encoding_rule, number_rule, required_rule};

@@ -1,4 +1,8 @@
 // Texts that words ask for which are no command.
+//
+// Help on a refusal, and the version, are texts of the command line, on standard error with status 2, as help is.
+// clap has no such command and no `--version`; for words that it refuses `asked_text` has the text instead of
+// clap's. So what is proved of the words is as it was.
 
 use crate::help;
 use crate::meanings::meaning_of;

@@ -1,4 +1,7 @@
 // Octets as texts, and texts as octets.
+//
+// Base16 is read and written by `hex`, base64 by `base64`. The depot's own codecs are those without a library in the
+// kit.
 ghost use Rattle.std.specs.Prelude.{◌≡◌, IfOk, IfErr};
 ghost use Rattle.octet_lanes.specs.Encoding.{IsOctets};
 ghost use Rattle.encodings.specs.Texts.{IsUnread, Reads, text_of};

@@ -1,4 +1,8 @@
 // Writing octets and their texts to a sink.
+//
+// An export is encoded and written in pieces of 4,560 bytes, a multiple of 3, 5 and 57, so that the texts of the
+// pieces, one after another, are the text of the whole. In quoted-printable a piece is a line, and because standard
+// output isn't buffered, each line is a system call. So a `1 Memory` can come after some of the text was written.
 ghost use Rattle.std.specs.Prelude.{◌≡◌, ◌≢◌, ◌<◌, ◌++◌, length, IfErr, IfOk, OnErr, OnOk};
 ghost use Rattle.encodings.specs.Device.{HasBroken, HasStopped, HasTaken};
 ghost use Rattle.encodings.specs.Texts.{text_of};

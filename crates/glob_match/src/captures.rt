@@ -1,4 +1,9 @@
 // What the wildcards of a key stand for.
+//
+// `stretches` gives the places of any captures. That those of `matches` are the stretches of the wildcards, and are
+// within the value, is its clause and a law. That captures are lent isn't stated: contracts see ten texts. That no
+// memory is taken is stated as success, so a body that copies if there is memory, and lends if there is none, would
+// be proved.
 ghost use Rattle.std.specs.Prelude.{◌≡◌, ◌≤◌, ◌<◌, ◌+◌, ◌++◌, [], IfOk, OnOk, length, slice_index_or, ◌∷◌};
 ghost use Rattle.std.specs.List.{concat};
 ghost use Rattle.glob_match.specs.Captures.{LieWithin, cut, texts, whole};

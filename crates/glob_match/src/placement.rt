@@ -1,4 +1,7 @@
 // Where a segment of a key stands first in a value.
+//
+// Wildcards are placed as early as possible, segment by segment, and the last segment is compared with the value's
+// end. There is no backtracking. That this gives the least lengths is proved.
 ghost use Rattle.std.specs.Prelude.{◌≡◌, ◌+◌, ◌*◌, ◌≤◌, ◌<◌, ◌^◌, ◌==◌, ◌||◌, IfSome, Some, ℕ, true, false, drop, length, map, take};
 ghost use Rattle.std.specs.List.{list_any};
 ghost use Rattle.glob_match.specs.Containment.{begins_with, first_place};

@@ -1,4 +1,9 @@
 // The first place of a literal text in a value.
+//
+// Keys are searched by `memmem`, without case in windows whose letters are made upper case; windows overlap by the
+// key's length less one. Segments with `?` are tried at 32 places at a time; place by place was 20 to 40 times
+// slower on long values. A key of more than 16,384 bytes with letters costs the product of the lengths without case;
+// a string has at most 16,384 bytes.
 ghost use Rattle.std.specs.Prelude.{◌≡◌, ◌+◌, ◌*◌, ◌≤◌, ◌<◌, ◌^◌, length, map};
 ghost use Rattle.std.specs.Char.{is_ascii_alphabetic};
 ghost use Rattle.std.specs.List.{list_any};

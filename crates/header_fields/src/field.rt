@@ -1,4 +1,7 @@
 // A field of a header.
+//
+// Contracts see whether a field is folded, so that they can say when a value is lent. The code keeps two slices of
+// the text, and `unfold` looks for the first break again.
 ghost use Rattle.std.specs.Prelude.{◌≡◌, ◌↔◌, ◌≤◌, false, IsTrue, IfOk, IsOk, length};
 ghost use Rattle.std.specs.Cow.{cow_slice_items, IsBorrowedSlice};
 ghost use Rattle.octets.specs.Ascii.{EqualIgnoringCase};

@@ -1,3 +1,6 @@
+// Strict base32 reads a block with more after it at once, and refuses it if it has a stray character. The last
+// block, of at most 32 characters, is read, written again and compared, without memory. So strictness is defined by
+// what the encoder writes, and costs nothing a block.
 ghost use Rattle.std.specs.Prelude.{◌≡◌, ℕ, ◌+◌, ◌*◌, ◌++◌, ◌<◌, ◌≤◌, List, IfErr, IfOk, MatchOption, OnOk, drop, length, take};
 ghost use Rattle.octet_lanes.specs.Encoding.{IsOctets, Spells, width};
 ghost use Rattle.octet_lanes.specs.declared.alphabet.Alphabet.TheVariants.{Base32, Base32Hex};

@@ -1,3 +1,13 @@
+// Reading keeps no values from block to block. Whole quanta are given out, and the next block starts where the first
+// value is left. A block without stray characters goes as a whole. One whose first stray character is between two
+// quanta goes up to it, and on after it. One in which it interrupts a quantum, or with more than three, has its
+// values closed up. A quantum that the text's end interrupts goes byte by byte, each looked up in a table of 256
+// classes, which the proof computes. Pieces are read by one body: `Held` of octet_lanes keeps the values of an open
+// quantum and whether a `=` came, and `Decoder` shows it as the bits left over, less than a byte; `decode_mime` is
+// one piece. Every byte that the text up to there determines is given at once, and a refused piece leaves decoder
+// and output as they were. `decode_mime` can't know its length beforehand, so its output has room for the whole
+// text's bits. Not taken: writing all lanes of a block and cutting the output back (a fifth slower); a quantum byte
+// by byte wherever stray characters are many (a sixth of the speed of closing up).
 ghost use Rattle.std.specs.Prelude.{◌≡◌, ◌+◌, ◌%◌, ◌<◌, ◌≤◌, ◌++◌, IfOk, OnErr, OnOk, length};
 ghost use Rattle.octet_lanes.specs.Encoding.{octets_of};
 ghost use Rattle.lanes_base64_mime.specs.MimeBase64.{mime_decoding_of};

@@ -1,3 +1,5 @@
+// Writing takes the 57 bytes of a line as three blocks if 80 bytes are left to read. The last line, and a line
+// before it if fewer are left, go by pieces.
 ghost use Rattle.std.specs.Prelude.{◌≡◌, ◌+◌, ◌*◌, ◌++◌, ◌<◌, ◌≤◌, IfOk, OnOk, drop, length, min, take};
 ghost use Rattle.octet_lanes.specs.Encoding.{encoding_of};
 ghost use Rattle.octet_lanes.specs.declared.alphabet.Alphabet.TheVariants.{Base64};

@@ -1,4 +1,8 @@
 // The parameters that a test asks for, found in one pass over those of a value.
+//
+// What a question asks of a message is a list of values, or a truth value. Whether it is true, what it finds and
+// what comparing costs follow from that for every question, so the meaning, its trace and the machine have no case
+// by question.
 ghost use Rattle.std.specs.Prelude.{◌≡◌, IfOk, MatchOption, None, Some};
 ghost use Rattle.mime_params.specs.MediaValue.{value_named};
 ghost use Rattle.octets.specs.Ascii.{is_word};

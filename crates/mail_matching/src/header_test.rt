@@ -1,4 +1,9 @@
 // The test `header`.
+//
+// The parameters of one test are found together: one pass over the field keeps the first of each name, over the
+// bytes that it is written in; then they are compared in the order of the names. The first match is defined on lists
+// of values and keys, and the code goes field by field. Each name goes over all fields of the header, so a test
+// takes time in the product of names and fields; that is what E charges.
 ghost use Rattle.std.specs.Prelude.{◌≡◌, ◌<◌, ◌^◌, All, IfOk, IfSome, IsOk, OnOk, length};
 ghost use Rattle.mail_matching.specs.Headers.{selected_in_all};
 ghost use Rattle.mail_matching.specs.Costs.{extent_of as extent_of_texts, names_cost};

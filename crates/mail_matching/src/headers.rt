@@ -1,4 +1,7 @@
 // The headers of the parts in scope.
+//
+// Values after the first match are measured without being unfolded, because the charge counts them. So a value is
+// unfolded at most once for each name that selects it, and only to be compared.
 ghost use Rattle.std.specs.Prelude.{◌≡◌, ◌+◌, ◌<◌, ◌≤◌, [], IfSome, length, slice_index_or, sum_by, take, drop};
 ghost use Rattle.octets.specs.Limits.{max_message};
 ghost use Rattle.header_fields.specs.Extent.{fields_extent};

@@ -7,6 +7,10 @@
 //! lent by any [`Texts`], and the current part's content by who asks, as far as the question [`Need`]s it. A field's value is copied
 //! only where it is folded, or where its type or a parameter is asked for, and of any other value that isn't lent by the message only
 //! what it captures is.
+//!
+//! Which parts a test compares, and what it selects there, is one definition for all scopes and selectors
+//! (`specs/Selection`), over the types of the bytecode. The parts that a loop visits are `specs/Visited` of
+//! mime_decode.
 #![tactic(auto)]
 
 mod asked;

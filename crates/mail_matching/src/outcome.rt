@@ -1,4 +1,7 @@
 // What a test comes to.
+//
+// The result of a test is one of three: it fails, it holds, or it holds with captures. So captures of a failed test
+// can't be written down.
 ghost use Rattle.std.specs.Prelude.{◌≡◌, [], IfOk, IsOk, slice_index_or};
 
 use glob_match::Captures;

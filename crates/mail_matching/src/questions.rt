@@ -1,4 +1,8 @@
 // Questions, asked.
+//
+// A question gets from its caller what it needs of the current part (`Need` and `Shown`): nothing, the length of its
+// content, the content, or its digest. The machine keeps the content with its loop, the meaning decodes it each
+// time, and neither knows why it is needed.
 ghost use Rattle.std.specs.Prelude.{◌≡◌, ◌<◌, ℕ, List, Option, IfOk, IfSome, IsOk, is_some, length, not, option_map};
 ghost use Rattle.bytecode_format.specs.Questions.{row_of};
 ghost use Rattle.mail_matching.specs.Findings.{shortened};

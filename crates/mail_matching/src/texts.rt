@@ -1,4 +1,7 @@
 // The names and keys of a test.
+//
+// Names and keys are lent by a trait of two calls, because the machine has them on its stack and the evaluator in a
+// list.
 use octets::Octets;
 
 /// Texts that a test is made of: header names or keys, wherever they stand.

@@ -1,4 +1,8 @@
 // What the body of a part stands for, and its digest.
+//
+// A body in base64 is decoded line by line, each line with its break. Longer pieces would be faster, and give the
+// same by a law of the decoder. A body in quoted-printable is one text, which `decode_qp` reads by its lines, so it
+// needs no memory for a run of blanks, as `QpDecoder` does between two pieces.
 ghost use Rattle.std.specs.Prelude.{◌≡◌, false, IfOk, IsOk};
 ghost use Rattle.std.specs.Cow.{cow_slice_items, IsBorrowedSlice};
 ghost use Rattle.lanes_base64_mime.specs.MimeBase64.{mime_decoding_of};

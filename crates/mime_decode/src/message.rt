@@ -1,4 +1,7 @@
 // A message that was read.
+//
+// A message is its bytes and its parts, in the order in which they begin. Its tree is read at once; contents are
+// decoded when they are asked for.
 ghost use Rattle.std.specs.Prelude.{◌≡◌, ◌<◌, ◌≤◌, ◌-◌, length, false, IfSome, IfOk, IfErr, IsErrAnd, IsOk};
 ghost use Rattle.std.specs.List.{HoldsAt};
 ghost use Rattle.std.specs.Cow.{cow_slice_items, IsBorrowedSlice};

@@ -1,4 +1,10 @@
 // Values of which only the beginning is at hand.
+//
+// A type is read from the first 128 bytes of a value if these settle it, that is, if the reading ends before they
+// do: a token at their end can go on, and an open comment can be closed. If they don't settle it, everything is read
+// once, with the message, and the part keeps a short text of the same type (`TypeTexts` of mime_tree), so no number
+// of tests and turns reads it again. There is at most one such text for each 128 bytes of a header, and together
+// they are no longer than those fields. That a text is kept is no promise; that it has the field's type is.
 ghost use Rattle.std.specs.Prelude.{◌≡◌, IsTrue, MatchOption, None, Some};
 ghost use Rattle.mime_params.specs.MediaValue.{after_octet, SettlesDisposition, SettlesType};
 ghost use Rattle.mime_params.specs.Reading.{GapEnds, TokenEnds};

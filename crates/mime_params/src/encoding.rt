@@ -1,4 +1,7 @@
 // How a body is encoded for transfer.
+//
+// Transfer encodings are read here, with the other values of MIME's fields, because both the tree of parts and the
+// contents of parts need them.
 ghost use Rattle.std.specs.Prelude.{◌≡◌, ◌||◌, ◌==◌, not, length};
 ghost use Rattle.std.specs.List.{take_while};
 ghost use Rattle.mime_params.specs.Encodings.{encoding_named, encoding_of};

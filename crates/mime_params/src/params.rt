@@ -1,4 +1,6 @@
 // Parameters.
+//
+// Names of parameters stay as they are written, also if two are equal. The look-up takes the first.
 ghost use Rattle.std.specs.Prelude.{◌≡◌, length, not, ◌==◌, IfOk, MatchOption, None, Some};
 ghost use Rattle.std.specs.List.{take_while};
 ghost use Rattle.mime_params.specs.Reading.{is_empty_param};

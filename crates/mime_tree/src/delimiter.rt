@@ -1,4 +1,7 @@
 // The lines that stand between the parts of a multipart.
+//
+// A line is compared with a boundary only if its length is right: that of the boundary, or two more for the dashes
+// of a closing line. With many open boundaries the length rules out most of them.
 ghost use Rattle.std.specs.Prelude.{◌≡◌, ◌≢◌, ◌∷◌, MatchOption, List, ℕ};
 ghost use Rattle.std.specs.Option.{option_copied};
 ghost use Rattle.mime_tree.specs.Reading.{NamesOctets, mark_of};

@@ -1,4 +1,6 @@
 // Why octets can't be read as a message.
+//
+// A message and the tree of its parts are refused by one type, `MessageError`.
 ghost use Rattle.std.specs.Prelude.{◌≡◌};
 ghost use Rattle.mime_tree.specs.declared.error.MessageError.TheVariants.{Memory};
 

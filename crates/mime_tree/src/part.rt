@@ -1,4 +1,8 @@
 // A part of a message.
+//
+// A part keeps the type and the subtype of its Content-Type, and no parameter, because a stranger can write sixteen
+// million of them. Parameters are read when they are asked for: one by its name (`type_param`, `disposition_param`),
+// or one after the other (`LentParameters`). A kept one is owned, because an unfolded value doesn't live as long.
 ghost use Rattle.std.specs.Prelude.{◌≡◌, ◌-◌, ◌≤◌, length, take, IfOk, IfErr};
 ghost use Rattle.std.specs.Option.{option_map};
 ghost use Rattle.mime_params.specs.MediaValue.{value_named};

@@ -1,4 +1,8 @@
 // The parts of a message, by its lines from the first to the last.
+//
+// The tree is read in one pass over the lines, with a stack of the open parts. The definition goes from the outside
+// in, over stretches of the message. A law over the definition alone says that the two agree: a part goes up to the
+// first line that ends a part of any multipart around it.
 ghost use Rattle.std.specs.Prelude.{◌≡◌, ◌+◌, ◌-◌, ◌<◌, ◌≤◌, [], ◌∷◌, ◌++◌, true, length, take, drop, vec_len, IfOk, IfErr, OnOk};
 ghost use Rattle.octets.specs.Limits.{max_depth, max_message, max_parts};
 ghost use Rattle.header_fields.specs.Header.{header_length};

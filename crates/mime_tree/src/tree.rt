@@ -1,4 +1,10 @@
 // The tree of a message's parts.
+//
+// `Tree::media` takes memory, because the tree has no parameters: each call reads the type again, with all of them.
+// `Tree::media_param` reads one by its name; `Tree::media_without_params` lends what the tree keeps, and can't fail.
+// To lend a whole media type the tree would have to keep the parameters. A mail of 64 MiB can have 16,777,211 of
+// four bytes (`;a=b`): by calculation 4.5 times the mail in one buffer with four places of 32 bits each, and 28
+// times as an owned answer; the mail and its tree are 1.04 times the mail, measured.
 ghost use Rattle.std.specs.Prelude.{◌≡◌, ◌<◌, length, IfOk, IfErr, IsErrAnd};
 ghost use Rattle.std.specs.List.{HoldsAt};
 ghost use Rattle.octets.specs.Limits.{max_message};

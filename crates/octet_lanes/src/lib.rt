@@ -2,6 +2,10 @@
 //!
 //! Each call is its definition in `specs/`: a class or a symbol is that of the alphabet's table, lane by lane; a split
 //! or a join keeps the bits; and a text is the encoding of its octets, at every length.
+//!
+//! The general encoder and reader are here, next to the four kernels, for all three alphabets. `lanes_base32` and
+//! `lanes_base64_mime` add strictness and lines. `Spells` is the bare equation. That a text's members are bytes is a
+//! premise of the laws.
 #![tactic(auto)]
 
 mod alphabet;

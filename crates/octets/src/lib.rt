@@ -4,6 +4,10 @@
 //! Everything above stands on these definitions: `specs/Ascii` says what "without ASCII case" means,
 //! `specs/Blank` what SP and TAB at the ends of a text are, and `specs/Escapes` which octet two
 //! hexadecimal digits write.
+//!
+//! That each element is listed once, by its first place, is one definition (`specs/Once`), for a program's numbers
+//! and strings and for a run's actions. They share its lemmas, not their code: the list of actions only needs to
+//! know whether an action is listed, and the table needs a number's place.
 #![tactic(auto)]
 
 mod ascii;

@@ -1,4 +1,6 @@
 // The owned octet string.
+//
+// Strings are `Octets`, which a contract sees as a list. A plain `Vec<u8>` would show its capacity.
 ghost use Rattle.std.specs.Prelude.{◌≡◌, ◌==◌, ℕ, List, length, nat_eq, refl, Some};
 ghost use Rattle.std.specs.Ordering.{nat_cmp};
 ghost use Rattle.std.specs.Cmp.Lexicographic.{pointwise, slice_cmp, nat_list_eq_equiv, nat_list_cmp_total, texts_ties, texts_po};

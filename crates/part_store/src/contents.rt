@@ -1,4 +1,8 @@
 //! The table of contents: the octets of each digest.
+//!
+//! A removal lets the database find whether another entry has the content: it deletes the content's row at once, and
+//! if the foreign key refuses that, an entry still names it, and everything stays as it was. A search of our own
+//! would read every entry a second time.
 ghost use Rattle.std.specs.Prelude.{◌≡◌, ◌≢◌, [], ◌∷◌, IfErr, OnOk};
 ghost use Rattle.sqlite_value.specs.declared.value.Value.TheVariants.{Blob};
 ghost use Rattle.sqlite.specs.Effect.{IsDatabase};

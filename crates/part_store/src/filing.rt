@@ -1,4 +1,8 @@
 //! How entries are filed.
+//!
+//! Other bytes under a digest are found while the entries are filed, each compared in its row, and the transaction
+//! is given up, so nothing of the delivery is left. So each digest is made once. If the tables have no room for an
+//! earlier row, the answer is `Database`.
 ghost use Rattle.std.specs.Prelude.{◌≡◌, ◌≢◌, ◌⊎◌, ◌<◌, ℕ, List, length, true, false, IsTrue, IfOk, IfErr};
 ghost use Rattle.sqlite_value.specs.declared.value.Value.TheVariants.{Blob};
 ghost use Rattle.sqlite_value.specs.Order.{column};

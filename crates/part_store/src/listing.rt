@@ -1,4 +1,7 @@
 //! How a user's entries are listed.
+//!
+//! `list` asks for each entry's length by a statement of its own. A join of both tables would be one statement; what
+//! is proved of statements here is about one table.
 ghost use Rattle.std.specs.Prelude.{◌≡◌, ◌⊎◌, ◌≤◌, ℕ, pos, List, length, map, IfOk, IfErr};
 ghost use Rattle.sqlite_value.specs.declared.value.Value.TheVariants.{Int};
 ghost use Rattle.sqlite_value.specs.Order.{column};

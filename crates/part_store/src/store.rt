@@ -1,4 +1,13 @@
 //! The store and its calls.
+//!
+//! `adopt` hands a connection with an open transaction back, instead of a condition on the caller. No call leaves
+//! one open, so none has to ask. The cache of 2,000 pages and the syncs of an open are the database's own: its call
+//! that opens a path has no option for either. A batch pays them once. What the files held is a parameter of
+//! opening: `open_from` is generic in a `Start`, the kit's word for what a file and its log held, and promises to
+//! find that. `open` is `open_from` at `Unknown`, of which no clause says anything, because no contract can say what
+//! a file of the system holds; no clause ties the `Start` to the path either. A file that an interrupted first open
+//! left half made counts as one without tables (`HoldsNoTables`), which follows from what the kit's `open_from` says
+//! of the trees that it found.
 ghost use Rattle.std.specs.Prelude.{◌≡◌, ◌≢◌, ◌⊎◌, ◌↔◌, ◌+◌, ◌^◌, ◌<◌, ◌≤◌, length, map, true, false, IsTrue, option_map, MatchOption, Err, IfOk, IfErr, IsErrAnd, None, OnOk, OnErr};
 ghost use Rattle.sqlite.specs.Held.{state};
 ghost use Rattle.sqlite.specs.State.{HasCleanDisk, KeepsCommit};

@@ -1,4 +1,9 @@
 //! The three tables and how they are made.
+//!
+//! There is no index on the digests of entries, so a removal goes over the entries once. A second index would need
+//! each statement's meaning under two schemas, because existing depots have none. A name is a column of each row, as
+//! it was sent: a content that several entries have is kept once, and a part's file name isn't, because the tables
+//! have no place for it.
 ghost use Rattle.std.specs.Prelude.{◌≡◌, []};
 ghost use Rattle.sqlite.specs.State.{KeepsCommit};
 ghost use Rattle.part_store.specs.Tables.{users_tree, contents_tree, entries_tree, no_schema, with_users, with_contents, store_schema};

@@ -1,4 +1,7 @@
 //! Users as callers see them.
+//!
+//! A delivery changes its user's last number alone, by an UPDATE, or an INSERT if there is no row. It neither reads
+//! the user's program for that nor binds it to the statement.
 /// A user that the store knows.
 #[derive(Drop)]
 pub struct UserRow {

@@ -1,4 +1,9 @@
 //! Calls within a transaction, which are committed together.
+//!
+//! Several deliveries are one call with a list, and no transaction is handed out. `PartStore` has an invariant, that
+//! none is open; a value that lends its connection would have to keep that for whatever is done with it. So the
+//! connection is a public field, which a crate above can borrow and has to leave as it was, and `begin`,
+//! `program_within` and `add_within` work on what it lends.
 ghost use Rattle.std.specs.Prelude.{◌≡◌, ◌<◌, true, false, length, map, IsTrue, option_map};
 ghost use Rattle.sqlite.specs.Held.{state};
 ghost use Rattle.sqlite.specs.State.{IsLive};

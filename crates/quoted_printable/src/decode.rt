@@ -1,4 +1,8 @@
 // Texts read.
+//
+// Escapes that are close together are decoded together, up to 32 bytes that are then appended at once. A text with
+// few escapes pays about a tenth for it, and one of nothing else takes a third of the time. There is no error except
+// memory: any text has a reading. Lines are those of text_lines, so a lone CR ends none.
 ghost use Rattle.std.specs.Prelude.{◌≡◌, ◌∷◌, ◌++◌, ◌<◌, ◌≤◌, IfOk, IfSome, OnOk, IsTrue, length, slice_index, take};
 ghost use Rattle.text_lines.specs.Lines.{text_line};
 ghost use Rattle.quoted_printable.specs.Private.{AreFor, Extends, Decodes};

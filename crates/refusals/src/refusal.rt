@@ -1,4 +1,7 @@
 // Why an answer is refused.
+//
+// A fault of a listing is `28 Listing`, with the byte: the first number after those of programs. The numbers of the
+// other refusals stay.
 ghost use Rattle.std.specs.Prelude.{◌≡◌, None, Some};
 ghost use Rattle.refusals.specs.declared.refusal.Refusal.TheVariants.{Memory};
 

@@ -1,4 +1,6 @@
 // Scripts that were checked.
+//
+// The typed form has copies of the strings, and `Checked` keeps the script next to it.
 ghost use Rattle.std.specs.Prelude.{◌≡◌, None};
 ghost use Rattle.sieve_parser.specs.Scripts.{IsTree};
 ghost use Rattle.sieve_parser.specs.View.{commands_tree};

@@ -1,4 +1,7 @@
 // Scripts, checked.
+//
+// A script is read twice. The first pass finds what is refused and takes no memory; the second makes the typed form.
+// So each of them has one equation for a contract, and a law joins them: a script without a fault has a form.
 ghost use Rattle.std.specs.Prelude.{◌≡◌, IfErr, IfOk, IsErrAnd, OnOk, None, Some, map, take};
 ghost use Rattle.sieve_parser.specs.View.{commands_tree};
 ghost use Rattle.sieve_check.specs.CheckedScript.{IsCheckRefusal};

@@ -1,4 +1,15 @@
 // What the rules find out about a script.
+//
+// The rules go on after the first fault, so that a script is corrected in one go. Each command and test is judged by
+// what is written before it, refused or not: a `require` counts for the capabilities that it names, an `if` for its
+// `else`. One fault should not cause others, so an unknown word changes nothing for what follows: an `else` can come
+// after a misspelled `elsif`. A missing capability is reported once in a script. Tests where none is taken aren't
+// checked: in `keep discard;` the semicolon is missing. Nor is the block of a fourth loop. A misspelled
+// `foreverypart` still makes a `store` in its block count as outside of all loops, and a loop whose arguments can't
+// be read can have any name, so a `break` in it isn't reported for its name. A visit that is wrong by itself brings
+// no variables; of the names of one that brings the 129th, those up to the 128th count. At most twenty are reported,
+// and one more is looked for, which shows that there are more. They are in an array of that size, so finding them
+// takes no memory.
 ghost use Rattle.std.specs.Prelude.{◌≡◌, ◌≤◌, length};
 ghost use Rattle.sieve_check.specs.ReasonView.{refused_view};
 ghost use Rattle.sieve_check.specs.Rules.{are_unknown, max_found, same_lack, same_reason, same_string};

@@ -1,4 +1,8 @@
 // Why commands and tests get no typed form.
+//
+// What makes the typed form answers it, or why there is none: memory was refused, or something isn't written as it
+// has to be. `check` has found before that everything is. So the code has one way out besides its answer, where the
+// definition has nothing.
 ghost use Rattle.std.specs.Prelude.{◌≡◌};
 ghost use Rattle.sieve_check.specs.declared.form_error.FormError.TheVariants.{Memory};
 

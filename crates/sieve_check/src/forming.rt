@@ -1,4 +1,10 @@
 // The typed form of scripts.
+//
+// The typed form is a function of the tree and of what surrounds each command; it answers nothing if the tree isn't
+// written as it has to be. What was required says whether strings are expanded, which is all that the form of a test
+// needs; the open loops say how many of them a `break` leaves. The definition puts each command before the form of
+// those after it, so that an `elsif` or `else` is with its `if`. The code goes over the commands in order, and keeps
+// the choice that can still go on.
 ghost use Rattle.std.specs.Prelude.{◌≡◌, map};
 ghost use Rattle.sieve_parser.specs.View.{argument_tree, command_tree, commands_tree, invocation_tree};
 ghost use Rattle.sieve_check.specs.FormOf.{none, one, act_of, block_part, form_of, leaving_in, most_of, part_of, setting_in, simple_part, taking_in, with_text};

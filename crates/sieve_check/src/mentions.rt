@@ -1,4 +1,7 @@
 // Which strings of a command or test variables have to do with.
+//
+// The order of names within one command is that of its code, the value of a `set` before its name. No refusal shows
+// it, because its place is the command's.
 ghost use Rattle.std.specs.Prelude.{◌≡◌, map, option_map};
 ghost use Rattle.sieve_parser.specs.View.{argument_tree};
 ghost use Rattle.sieve_references.specs.References.{segments};

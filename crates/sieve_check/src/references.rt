@@ -1,4 +1,7 @@
 // What is wrong with the references in a string that is expanded (RFC 5229, section 3).
+//
+// By the definition, scripts with a reference that isn't allowed have a typed form, too, without that reference.
+// Such a script is refused, so the form is never asked for.
 ghost use Rattle.std.specs.Prelude.{◌≡◌, ◌||◌, length, nat_lt};
 ghost use Rattle.std.specs.List.{list_any};
 ghost use Rattle.octets.specs.Limits.{max_segments};

@@ -1,4 +1,7 @@
 // The static rules: what is wrong with commands and tests (RFC 5228, section 8.2, and each command's own section).
+//
+// Strings are counted for all lists of a test together, without the comparator's, because they are on the machine's
+// stack together. A `require` is no test.
 ghost use Rattle.std.specs.Prelude.{◌≡◌, [], ◌∷◌, map, option_map, take, None};
 ghost use Rattle.sieve_parser.specs.View.{argument_tree, command_tree, commands_tree, invocation_tree, more_tests_of};
 ghost use Rattle.sieve_check.specs.Reading.{read_of};

@@ -1,5 +1,9 @@
 // What commands and tests take, and how their arguments are read (RFC 5228, section 2.6; RFC 5229, section 4; RFC 5703, sections 3
 // and 4).
+//
+// A tag that takes an argument is read in the same pass as the others: the reading knows which tag waits for its
+// argument, and takes the next one for it. So what is wrong with the arguments and what they mean are one definition
+// (`specs/Signatures`).
 ghost use Rattle.std.specs.Prelude.{◌≡◌};
 ghost use Rattle.sieve_parser.specs.View.{argument_tree};
 ghost use Rattle.sieve_check.specs.Signatures.{is_list};

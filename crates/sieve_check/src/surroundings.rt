@@ -1,4 +1,7 @@
 // What surrounds a command or test.
+//
+// Whether a string is expanded depends on what was required before it. A `require` comes before all other commands,
+// so in a script without faults that is the same everywhere.
 ghost use Rattle.std.specs.Prelude.{◌≡◌, map, option_map};
 ghost use Rattle.sieve_parser.specs.Tree.{TestsTree};
 ghost use Rattle.sieve_parser.specs.View.{argument_tree, command_tree, head_tree, invocation_tree};

@@ -1,4 +1,9 @@
 // Scripts that were checked, in typed form: what they mean, without how they are written.
+//
+// The typed form of an `if` is its branches in order with their blocks, up to that of the `else`, so the meaning is
+// a plain recursion. A form is measured in bytes, from below: a name, number, tag or sign counts one byte, a string
+// its value and two. So the measure of a script's form is at most the script's length, and the form's code has at
+// most as many instructions.
 use crate::table::CommandName;
 use bytecode_format::{Modifiers, Question};
 use octets::Octets;

@@ -1,4 +1,8 @@
 // The names of variables, as they are met.
+//
+// The limit of variables is a fold over the visits, each of which brings the names in its strings and the one that
+// it sets. So the 129th name is found at the visit that brings it, and `check` names no later fault. Names are in
+// lower case from the typed form on, so the meaning and the compiler compare them byte by byte.
 ghost use Rattle.std.specs.Prelude.{◌≤◌, length};
 ghost use Rattle.octets.specs.Limits.{max_variables};
 

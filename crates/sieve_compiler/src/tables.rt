@@ -1,4 +1,7 @@
 // The tables of a script's program.
+//
+// The tables of a script are collected in a pass of their own, so each index is known when its instruction is
+// written.
 ghost use Rattle.std.specs.Prelude.{◌≡◌, ◌<◌, ◌≤◌, ◌^◌, length, All, IfOk};
 
 use crate::numbers::Numbers;

@@ -12,6 +12,9 @@
 //!
 //! In version 2 the budget counts chains of parts, and can't be lowered for programs that only store and file: on a
 //! message of parts in each other they charge all of it (`plain_programs_charge_their_budget_on_chains` of sieve_vm).
+//!
+//! `evaluate` verifies an accepted program again. That costs a pass and keeps one way to run: the budget comes from
+//! there.
 #![tactic(auto)]
 
 mod evaluation;

@@ -1,4 +1,8 @@
 // What is said of a name that isn't known where it stands.
+//
+// What depot lacks is a short fixed table of commands, tests, tags and capabilities of other Sieve programs, with
+// the reason or with what to write instead. Any other name is unknown; if it is one letter off from a known one,
+// that one is named.
 ghost use Rattle.std.specs.Prelude.{◌≡◌};
 ghost use Rattle.std.specs.List.{list_any};
 ghost use Rattle.octets.specs.Ascii.{is_word};

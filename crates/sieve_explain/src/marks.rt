@@ -1,4 +1,8 @@
 // What an explanation looks for among the tokens of a script.
+//
+// The mark is under the name of the command or test, the place that `check` names, also if an argument is at fault;
+// the sentence names that. A second place would be a second rule of what is at fault. Only a string that is no
+// capability is marked itself.
 ghost use Rattle.std.specs.Prelude.{◌≡◌, ◌<◌, ◌≤◌, ◌+◌, ◌-◌, ◌^◌, IfOk, drop, is_some, length, take_while};
 ghost use Rattle.std.specs.List.{list_any, slice_get};
 ghost use Rattle.sieve_check.specs.Names.{command_named, test_named};

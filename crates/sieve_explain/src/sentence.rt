@@ -1,4 +1,6 @@
 // Sentences with blanks.
+//
+// Sentences are templates with gaps, one for each reason, so that the definition is a table that a person can read.
 ghost use Rattle.std.specs.Prelude.{◌≡◌, ◌++◌, OnOk};
 ghost use Rattle.sieve_explain.specs.Sentences.{filled, filled_octet, plain};
 ghost use Rattle.sieve_explain.specs.Private.{blanks_of};

@@ -1,4 +1,7 @@
 // What a token is.
+//
+// A token that is too large, or an opened `text:` without its end, is a fault and not a shorter token: the longest
+// match is kept.
 ghost use Rattle.std.specs.Prelude.{◌≡◌, ◌≤◌, length, slice_range};
 
 /// The kinds of token, by RFC 5228, section 8.1.

@@ -1,4 +1,7 @@
 // Scripts evaluated.
+//
+// The evaluator copies freely. Only `trace` of a script runs it; deliveries, `eval` and `run` execute the compiled
+// code.
 ghost use Rattle.std.specs.Prelude.{◌≡◌, ◌-◌, nat_lt, if◌then◌else◌, IfOk};
 ghost use Rattle.sieve_meaning.specs.declared.evaluator.Flow.TheVariants.{GoesOn, Leaves};
 

@@ -1,4 +1,7 @@
 // The strings of a list, expanded.
+//
+// A test's strings are lent to the evaluator: a list without references as the script has it, a single reference as
+// its value. Only a string of several segments is made.
 ghost use Rattle.std.specs.Prelude.{◌≡◌, ◌<◌, [], length, map, slice_index_or, take};
 ghost use Rattle.std.specs.Global.{Vec};
 ghost use Rattle.std.specs.List.{list_all};

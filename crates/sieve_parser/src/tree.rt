@@ -1,4 +1,8 @@
 // The syntax tree of a script.
+//
+// Lists of strings and of tests hold their first element apart, so an empty list can't be written. A test, and a
+// command up to its end, are one type: both are an identifier with arguments. An identifier keeps its case and its
+// token's number. A tag's value is without its colon.
 use octets::Octets;
 use std::marker::Model;
 

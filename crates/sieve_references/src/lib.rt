@@ -2,6 +2,9 @@
 //!
 //! [`first_segment`] cuts a string into its references and the stretches between them, one after the other, without memory.
 //! What a reference is, and which segments a string has, stands in `specs/References`; the laws say how long they are.
+//!
+//! What a string consists of is asked by the rules, for faults and names, and by the typed form, for its pieces.
+//! Both go over the string by one call, without memory.
 #![tactic(auto)]
 
 mod identifier;

@@ -1,4 +1,7 @@
 // The line of an event.
+//
+// Lines are made in one buffer, which is kept from line to line. The script's name is escaped once, and the words of
+// a part are made once a turn. Without that half of the instructions for a line were the growth of a new buffer.
 ghost use Rattle.std.specs.Prelude.{◌≡◌, ◌<◌, ◌++◌, IfOk, IfSome, OnOk, codes, length};
 ghost use Rattle.std.specs.Prelude.{option_map, slice_get};
 ghost use Rattle.std.specs.Borrow.{Bor};

@@ -1,4 +1,7 @@
 // The trace of a script.
+//
+// A trace is written as it is made: three loops over 4,096 parts have more lines than memory. So it is the one
+// answer that can break off for lack of memory after some of it was written.
 ghost use Rattle.std.specs.Prelude.{◌≡◌, IfErr, IfOk};
 ghost use Rattle.encodings.specs.Device.{HasTaken};
 ghost use Rattle.sieve_check.specs.Bounded.{AreBoundedCommands};

@@ -1,4 +1,7 @@
 // An open loop.
+//
+// The parts that a loop has left are two numbers, the current part and the last one, because what is below a part
+// comes right after it.
 ghost use Rattle.sieve_vm.specs.Visits.{GoesOn, frame_of};
 
 use std::borrow::CowSlice;

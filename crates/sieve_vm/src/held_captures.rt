@@ -1,4 +1,10 @@
 // The captures that a run has.
+//
+// Captures are the value with its stretches if it is lent, here and in the evaluator of the meaning: a slice of the
+// message. Of any other value the stretches alone are copied, so that a decoded content isn't kept for them. Before
+// the first match there are none. Contracts see ten texts in each case, so an edit that loses them is refused. A
+// capture that is pushed is copied once, at most 4,096 bytes, and shared from then on: an entry that held the whole
+// value would keep a copy of up to the message's size, and a program can have 500 of them on its stack.
 ghost use Rattle.std.specs.Prelude.{◌≡◌, [], None, IfOk, IfSome, IsNone, IsSomeAnd, slice_index_or};
 ghost use Rattle.mail_matching.specs.FirstMatch.{no_captures};
 ghost use Rattle.sieve_vm.specs.SharedTexts.{items_of};

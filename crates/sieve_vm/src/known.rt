@@ -1,4 +1,7 @@
 // What is known of parts, once it was found.
+//
+// TAKE keeps the first 4,096 bytes of each part that had to be decoded for the whole run, because three loops can
+// visit one part 465 times and its cap has no bytes of the message in it.
 ghost use Rattle.std.specs.Prelude.{◌≡◌, ◌<◌, ◌≤◌, ◌==◌, ℕ, Some, None, IfSome, IsNone, OnErr, OnOk, length, slice_index_or, if◌then◌else◌};
 
 use octets::Octets;

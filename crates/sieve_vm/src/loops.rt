@@ -1,4 +1,9 @@
 // The open loops, and what is known of the parts that they visit.
+//
+// A part's content is decoded when it is asked for, and kept as long as a loop is at the part. Its length and its
+// digest are kept for the whole run. So a part that comes up 465 times in three nested loops is decoded at most once
+// for each stay of a loop. A content that a loop has left is decoded again if it is asked for again: keeping all
+// would take as much memory as the message.
 ghost use Rattle.std.specs.Prelude.{◌≡◌, ◌<◌, ◌≤◌, ◌+◌, ◌-◌, ℕ, suc, false, true, List, [], ◌∷◌, None, Some, IfOk, OnErr, OnOk, IfSome, IsOk, IsSome, length, drop, take};
 ghost use Rattle.std.specs.Cow.{cow_slice_items};
 ghost use Rattle.octets.specs.Limits.{max_loops, max_parts, max_value};

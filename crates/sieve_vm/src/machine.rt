@@ -1,4 +1,14 @@
 // The machine as it runs.
+//
+// A charge depends on what an instruction asks, so `charge_of` has the program's strings and numbers before it, as
+// `effect` has; only whether a number is there counts in it. A jump that isn't sound traps whether it is taken or
+// not, and so does a field out of its range. So the definition traps in more states than it has to, which makes the
+// law that accepted programs never trap the stronger one. An instruction refers to its program by four things
+// (`Referred`): the strings, the numbers, which places have the same open loops, and which are an EACH and a NEXT of
+// each other. So it is easy to see that the version changes no effect. The position of a run is apart from the
+// machine (`Position`), so that the loop keeps place and charge in registers. A call that isn't inlined answers what
+// fits into registers, mostly the number of bytes that it is charged for: the compiler also clears the room of a
+// larger answer when another instruction runs.
 ghost use Rattle.std.specs.Prelude.{◌≡◌};
 ghost use Rattle.sieve_vm.specs.Standing.{charged_for, once};
 

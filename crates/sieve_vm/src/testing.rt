@@ -1,4 +1,10 @@
 // The machine's tests.
+//
+// A question without strings is decided within the run, and one with strings in a call of its own that is never
+// inlined (`ask` and `ask_with_lists`). Two rare steps aren't inlined either: finding what isn't known of a part,
+// and putting a truth value among the entries. The compiler clears the room of an inlined call's values in the run
+// itself: with version 0.30.0 each test cleared some 450 bytes. What a question needs of a part's content is found
+// first, and then lent, so a digest isn't copied.
 ghost use Rattle.std.specs.Prelude.{◌≡◌, ◌<◌, ◌∷◌, IfOk, IfSome, IsSome, OnOk, Some, is_some, length, if◌then◌else◌};
 ghost use Rattle.std.specs.Option.{unwrap_or};
 ghost use Rattle.bytecode_format.specs.declared.question.Question.{Question};

@@ -1,4 +1,7 @@
 // The lines of a text, one after the other.
+//
+// Contracts see a text and a place, because a caller needs the bytes of a line. The list of the remaining lines is
+// `lines_left`.
 ghost use Rattle.std.specs.Prelude.{◌≡◌, ◌<◌, length};
 ghost use Rattle.memchr.specs.Find.{IsFirstByte, is_byte};
 ghost use Rattle.text_lines.specs.Lines.{IsLineAt};
