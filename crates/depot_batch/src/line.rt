@@ -1,6 +1,5 @@
 // One line of a batch.
-ghost use Rattle.std.specs.Prelude.{◌≡◌, ◌++◌, List, ℕ, [], IfErr, IfOk, OnErr, OnOk, map};
-ghost use Rattle.std.specs.List.{All};
+ghost use Rattle.std.specs.Prelude.{◌≡◌, List, ℕ, [], IfErr, IfOk, OnErr, OnOk, map};
 ghost use Rattle.sqlite.specs.Held.{state};
 ghost use Rattle.sqlite.specs.State.{Survives};
 ghost use Rattle.encodings.specs.Device.{HasBroken, HasFailed, HasTaken};
