@@ -3,8 +3,7 @@
 // A line that the input ends within isn't done: its writer can have died within it, and `remove ann 1` can be the
 // beginning of `remove ann 12`. It is reported as no command. Nothing is read after it, because on a growing file
 // the rest of the line would be taken for a command of its own.
-ghost use Rattle.std.specs.Prelude.{◌≡◌, ◌++◌, List, ℕ, [], IfErr, IfOk, OnErr, OnOk, map};
-ghost use Rattle.std.specs.List.{All};
+ghost use Rattle.std.specs.Prelude.{◌≡◌, List, ℕ, [], IfErr, IfOk, OnErr, OnOk, map};
 ghost use Rattle.sqlite.specs.Held.{state};
 ghost use Rattle.sqlite.specs.State.{Survives};
 ghost use Rattle.encodings.specs.Device.{HasBroken, HasFailed, HasTaken};

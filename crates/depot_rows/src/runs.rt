@@ -40,161 +40,146 @@ struct Seen {
     faults: u64,
 }
 
+// What comes of words that do nothing.
+const ROW: Row = Row {
+    words: &["depot"],
+    room: 0,
+    status: 0,
+    out: "",
+    err: "",
+    asked: "[]",
+};
+
 const READ_MADE_AND_PRINTED: [Row; 10] = [
     Row {
         words: &["depot", "eval", "s", "m"],
-        room: 0,
-        status: 0,
         out: "none\ncharged 4 of 4\n",
-        err: "",
         asked: "[Opened(\"s\"), Opened(\"m\")]",
+        ..ROW
     },
     Row {
         words: &["depot", "eval", "m", "s"],
-        room: 0,
         status: 1,
-        out: "",
         err: "refused 13 Syntax at 1\n",
         asked: "[Opened(\"m\"), Opened(\"s\")]",
+        ..ROW
     },
     Row {
         words: &["depot", "eval", "x", "m"],
-        room: 0,
         status: 1,
-        out: "",
         err: "refused 46 Read\n",
         asked: "[Opened(\"x\")]",
+        ..ROW
     },
     Row {
         words: &["depot", "run", "m", "x"],
-        room: 0,
         status: 1,
-        out: "",
         err: "refused 46 Read\n",
         asked: "[Opened(\"m\"), Opened(\"x\")]",
+        ..ROW
     },
     Row {
         words: &["depot", "compile", "m", "o"],
         room: 100,
         status: 1,
-        out: "",
         err: "refused 13 Syntax at 1\n",
         asked: "[Opened(\"m\")]",
+        ..ROW
     },
     Row {
         words: &["depot", "compile", "s", "s"],
         room: 100,
         status: 1,
-        out: "",
         err: "refused 45 Write\n",
         asked: "[Opened(\"s\"), Made(\"s\", \"s\")]",
+        ..ROW
     },
     Row {
         words: &["depot", "compile", "s", "o"],
         room: 54,
         status: 1,
-        out: "",
         err: "refused 45 Write\n",
         asked: "[Opened(\"s\"), Made(\"o\", \"s\")]",
+        ..ROW
     },
     Row {
         words: &["depot", "compile", "s", "o"],
         room: 55,
-        status: 0,
         out: "wrote 55 octets\n",
-        err: "",
-        asked: "[Opened(\"s\"), Made(\"o\", \"s\"), Kept([83, 86, 66, 67, 2, 0, 0, 0, 1, 0, 0, 0, 0, 0, 4, 0, 0, 0, 0, 0, 0, 0, 3, 15, 0, 0, 0, 0, 0, 0, 0, 11, 0, 0, 0, 0, 0, 0, 3, 20, 0, 0, 0, 0, 0, 0, 0, 1, 0, 0, 0, 0, 0, 0, 0])]",
+        asked: "[Opened(\"s\"), Made(\"o\", \"s\"), Kept([\
+            83, 86, 66, 67, 2, 0, 0, 0, 1, 0, 0, 0, 0, 0, 4, 0, 0, 0, 0, 0, 0, 0, 3, 15, 0, 0, \
+            0, 0, 0, 0, 0, 11, 0, 0, 0, 0, 0, 0, 3, 20, 0, 0, 0, 0, 0, 0, 0, 1, 0, 0, 0, 0, 0, \
+            0, 0])]",
+        ..ROW
     },
     Row {
         words: &["depot", "decode", "base32"],
-        room: 0,
-        status: 0,
         out: "foobar",
-        err: "",
         asked: "[OpenedInput]",
+        ..ROW
     },
     Row {
         words: &["depot"],
-        room: 0,
-        status: 0,
         out: "keep\ncharged 2 of 2\n",
-        err: "",
         asked: "[OpenedInput]",
+        ..ROW
     },
 ];
 
 const ON_A_DEPOT: [Row; 9] = [
     Row {
         words: &["depot", "script", "d", "ann", "s"],
-        room: 0,
-        status: 0,
         out: "stored\n",
-        err: "",
         asked: "[Opened(\"s\")]",
+        ..ROW
     },
     Row {
         words: &["depot", "code", "d", "ann", "s"],
-        room: 0,
         status: 1,
-        out: "",
         err: "refused 20 Spelling\n",
         asked: "[Opened(\"s\")]",
+        ..ROW
     },
     Row {
         words: &["depot", "deliver", "d", "ann", "m"],
-        room: 0,
-        status: 0,
         out: "1 message \"INBOX\"\n",
-        err: "",
         asked: "[Opened(\"m\")]",
+        ..ROW
     },
     Row {
         words: &["depot", "deliver", "d", "Ann", "x"],
-        room: 0,
         status: 1,
-        out: "",
         err: "refused 46 Read\n",
         asked: "[Opened(\"x\")]",
+        ..ROW
     },
     Row {
         words: &["depot", "list", "d", "ann"],
-        room: 0,
-        status: 0,
         out: "none\n",
-        err: "",
-        asked: "[]",
+        ..ROW
     },
     Row {
         words: &["depot", "list", "d", "Ann"],
-        room: 0,
         status: 1,
-        out: "",
         err: "refused 44 UserName\n",
-        asked: "[]",
+        ..ROW
     },
     Row {
         words: &["depot", "export", "d", "ann", "1", "raw"],
-        room: 0,
         status: 1,
-        out: "",
         err: "refused 40 NoSuchEntry\n",
-        asked: "[]",
+        ..ROW
     },
     Row {
         words: &["depot", "remove", "d", "ann", "4294967295"],
-        room: 0,
         status: 1,
-        out: "",
         err: "refused 40 NoSuchEntry\n",
-        asked: "[]",
+        ..ROW
     },
     Row {
         words: &["depot", "migrate", "d"],
-        room: 0,
-        status: 0,
         out: "migrated 0\n",
-        err: "",
-        asked: "[]",
+        ..ROW
     },
 ];
 
@@ -202,42 +187,42 @@ const PROGRAM_AS_A_FILE: [Row; 5] = [
     Row {
         words: &["depot", "program", "d", "ann", "o"],
         room: 55,
-        status: 0,
         out: "wrote 55 octets\n",
-        err: "",
-        asked: "[Made(\"o\", \"d\"), Kept([83, 86, 66, 67, 2, 0, 0, 0, 1, 0, 0, 0, 0, 0, 4, 0, 0, 0, 0, 0, 0, 0, 3, 15, 0, 0, 0, 0, 0, 0, 0, 11, 0, 0, 0, 0, 0, 0, 3, 20, 0, 0, 0, 0, 0, 0, 0, 1, 0, 0, 0, 0, 0, 0, 0])]",
+        asked: "[Made(\"o\", \"d\"), Kept([\
+            83, 86, 66, 67, 2, 0, 0, 0, 1, 0, 0, 0, 0, 0, 4, 0, 0, 0, 0, 0, 0, 0, 3, 15, 0, 0, \
+            0, 0, 0, 0, 0, 11, 0, 0, 0, 0, 0, 0, 3, 20, 0, 0, 0, 0, 0, 0, 0, 1, 0, 0, 0, 0, 0, \
+            0, 0])]",
+        ..ROW
     },
     Row {
         words: &["depot", "program", "d", "ann", "o"],
         room: 54,
         status: 1,
-        out: "",
         err: "refused 45 Write\n",
         asked: "[Made(\"o\", \"d\")]",
+        ..ROW
     },
     Row {
         words: &["depot", "program", "d", "ann", "d"],
         room: 100,
         status: 1,
-        out: "",
         err: "refused 45 Write\n",
         asked: "[Made(\"d\", \"d\")]",
+        ..ROW
     },
     Row {
         words: &["depot", "program", "d", "bob", "o"],
         room: 100,
         status: 1,
-        out: "",
         err: "refused 40 NoSuchEntry\n",
-        asked: "[]",
+        ..ROW
     },
     Row {
         words: &["depot", "program", "d", "Bob", "o"],
         room: 100,
         status: 1,
-        out: "",
         err: "refused 44 UserName\n",
-        asked: "[]",
+        ..ROW
     },
 ];
 

@@ -5,7 +5,7 @@ use depot_actions::{Depot, Refusal};
 use encodings::{Encoding, OfWrite};
 use part_store::{EntryRow, Kind, NewEntry, PartStore, StoreError};
 use sieve_engine::execute;
-use sqlite::{MemStore, params};
+use sqlite::{Alter, params};
 use std::alloc::{AllocError, Global};
 use std::test::Fail;
 
@@ -40,7 +40,7 @@ fn with_octet(
 }
 
 // Puts octets in the place of ann's program, whatever they are, and adds an entry of hers.
-fn altered(depot: Depot<MemStore>, program: &[u8]) -> Result<Depot<MemStore>, StoreError> {
+fn altered<S: Alter + Drop>(depot: Depot<S>, program: &[u8]) -> Result<Depot<S>, StoreError> {
     let mut conn = depot.release().release();
     conn.execute(
         "UPDATE users SET program = ?1 WHERE user = 'ann'",
@@ -76,42 +76,64 @@ fn show_all(rows: &[EntryRow], actions: &[Action]) -> bool {
             .all(|(row, action)| shows(row, action))
 }
 
-// Delivers the empty message, says whether the program's actions were filed or it was refused, and removes what was filed.
-fn delivers(
-    alloc: Global,
-    depot: &mut Depot<MemStore>,
-    program: &[u8],
-    counts: &mut Counts,
+// Whether a delivery filed what the actions say; what it filed is removed.
+fn is_filed<S: Alter>(
+    depot: &mut Depot<S>,
+    delivered: Result<Vec<EntryRow>, Refusal>,
+    actions: &[Action],
 ) -> Result<bool, Refusal> {
-    let delivered = depot.deliver(alloc, "ann", b"");
-    let Ok(report) = execute(alloc, program, b"") else {
-        counts.refused = counts.refused.saturating_add(1);
-        return Ok(matches!(&delivered, Err(Refusal::Database)));
-    };
-    counts.accepted = counts.accepted.saturating_add(1);
     let rows = delivered?;
     for row in &rows {
         depot.remove("ann", row.number)?;
     }
-    Ok(show_all(&rows, &report.outcome.actions))
+    Ok(show_all(&rows, actions))
 }
 
-// Whether ann's entries are the old one alone, which is exported.
-fn has_old(alloc: Global, depot: &mut Depot<MemStore>) -> Result<Option<u32>, Refusal> {
+// Delivers the empty message, says whether the program's actions were filed or it was refused, and removes what was filed.
+fn delivers<S: Alter>(
+    alloc: Global,
+    depot: &mut Depot<S>,
+    program: &[u8],
+    counts: &mut Counts,
+) -> Result<bool, Refusal> {
+    let delivered = depot.deliver(alloc, "ann", b"");
+    match execute(alloc, program, b"") {
+        Ok(report) => {
+            counts.accepted = counts.accepted.saturating_add(1);
+            is_filed(depot, delivered, &report.outcome.actions)
+        }
+        Err(_) => {
+            counts.refused = counts.refused.saturating_add(1);
+            Ok(matches!(&delivered, Err(Refusal::Database)))
+        }
+    }
+}
+
+// Whether an entry of ann has the octets of the old one.
+fn exports_old<S: Alter>(
+    alloc: Global,
+    depot: &mut Depot<S>,
+    number: u32,
+) -> Result<bool, Refusal> {
+    let mut out = OfWrite::new(Vec::new(alloc));
+    depot.export(alloc, "ann", number, Encoding::Raw, &mut out)?;
+    Ok(out.inner.as_slice() == OLD.octets)
+}
+
+// The number of the old entry, if ann has that one alone and it is exported.
+fn has_old<S: Alter>(alloc: Global, depot: &mut Depot<S>) -> Result<Option<u32>, Refusal> {
     let rows = depot.list("ann")?;
     let [row] = rows.as_slice() else {
         return Ok(None);
     };
-    let mut out = OfWrite::new(Vec::new(alloc));
-    depot.export(alloc, "ann", row.number, Encoding::Raw, &mut out)?;
-    let is_old = row.folder.as_slice() == OLD.folder && out.inner.as_slice() == OLD.octets;
+    let is_old = row.folder.as_slice() == OLD.folder && exports_old(alloc, depot, row.number)?;
     Ok(is_old.then_some(row.number))
 }
 
 // Whether a depot does as it should while ann has this program: lists, exports, delivers and removes.
-fn does(
+fn does<S: Alter>(
     alloc: Global,
-    depot: &mut Depot<MemStore>,
+    depot: &mut Depot<S>,
     program: &[u8],
     counts: &mut Counts,
 ) -> Result<bool, Refusal> {
@@ -124,12 +146,12 @@ fn does(
 }
 
 // Tries each of the octets at a place of the program that keeps.
-fn tried_at(
+fn tried_at<S: Alter + Drop>(
     alloc: Global,
-    laid: Depot<MemStore>,
+    laid: Depot<S>,
     place: usize,
     counts: &mut Counts,
-) -> Result<Depot<MemStore>, Fail> {
+) -> Result<Depot<S>, Fail> {
     let mut depot = laid;
     for octet in 0..=255u8 {
         let program = with_octet(alloc, KEEP, place, octet)?;

@@ -3,7 +3,7 @@ use crate::held::{Held, held_in};
 use crate::samples::{KEEP, MESSAGE, SCRIPT};
 use depot_actions::{Delivery, Depot, Refusal};
 use part_store::PartStore;
-use sqlite::{Connection, FileStore, Files, Options};
+use sqlite::{Alter, Connection, FileStore, Files, Options};
 use sqlite_disk::{Crash, Disk, Fuse, Memory};
 use std::alloc::Global;
 use std::test::Fail;
@@ -28,6 +28,8 @@ const MOST: u64 = 1_000;
 /// What is done while the files may stop.
 #[derive(Clone, Copy)]
 enum Command {
+    /// The filters and the entry that the others work on are laid in an empty database.
+    Lay,
     /// The tables are made in an empty database.
     Adopt,
     /// A script in place of another.
@@ -106,6 +108,15 @@ enum Stops {
     Both,
 }
 
+/// What files are opened for.
+#[derive(Clone, Copy)]
+enum Aim {
+    /// To carry a command out.
+    Carry(Command),
+    /// To read what the depot holds, and to see that a delivery to a new user works.
+    Look,
+}
+
 /// What a command came to.
 #[derive(Clone, Copy)]
 enum Came {
@@ -114,6 +125,13 @@ enum Came {
     Failed,
     /// It was refused for what isn't so.
     Wrong,
+}
+
+/// What was done with files, and what was seen in them if they were opened to look and the delivery worked.
+#[derive(Drop)]
+struct Outcome {
+    came: Came,
+    held: Option<Held>,
 }
 
 /// What a depot was before a command, and what the command makes of it.
@@ -177,9 +195,7 @@ fn closed(conn: Connection<FileStore<Fused>>) -> Files<Fused> {
 }
 
 // The depot of a connection, which is given back where it is refused.
-fn adopted(
-    conn: Connection<FileStore<Fused>>,
-) -> Result<Depot<FileStore<Fused>>, Connection<FileStore<Fused>>> {
+fn adopted<S: Alter>(conn: Connection<S>) -> Result<Depot<S>, Connection<S>> {
     match PartStore::adopt(conn) {
         Ok(store) => Ok(Depot::adopt(store)),
         Err((_, conn)) => Err(conn),
@@ -187,17 +203,22 @@ fn adopted(
 }
 
 // Lays the filters and the entry that commands work on.
-fn lay(alloc: Global, depot: &mut Depot<FileStore<Fused>>) -> Result<(), Refusal> {
+fn lay<S: Alter>(alloc: Global, depot: &mut Depot<S>) -> Result<(), Refusal> {
     depot.set_script(alloc, "ann", SCRIPT)?;
     depot.set_script(alloc, "bob", SCRIPT)?;
     depot.set_code(alloc, "cat", KEEP)?;
     depot.set_script(alloc, "tom", THREE)?;
-    depot.deliver(alloc, "bob", MESSAGE)?;
+    deliver(alloc, depot, "bob")
+}
+
+// Delivers the message to a user.
+fn deliver<S: Alter>(alloc: Global, depot: &mut Depot<S>, user: &str) -> Result<(), Refusal> {
+    depot.deliver(alloc, user, MESSAGE)?;
     Ok(())
 }
 
 // Delivers three messages for two users at once.
-fn together(alloc: Global, depot: &mut Depot<FileStore<Fused>>) -> Result<(), Refusal> {
+fn together<S: Alter>(alloc: Global, depot: &mut Depot<S>) -> Result<(), Refusal> {
     let deliveries = [
         Delivery {
             user: "tom",
@@ -218,30 +239,24 @@ fn together(alloc: Global, depot: &mut Depot<FileStore<Fused>>) -> Result<(), Re
     }
 }
 
+// Gives programs of version 1 version 2.
+fn migrate<S: Alter>(alloc: Global, depot: &mut Depot<S>) -> Result<(), Refusal> {
+    depot.migrate(alloc)?;
+    Ok(())
+}
+
 // Carries a command out on a depot.
-fn carry(
-    alloc: Global,
-    depot: &mut Depot<FileStore<Fused>>,
-    command: Command,
-) -> Result<(), Refusal> {
+fn carry<S: Alter>(alloc: Global, depot: &mut Depot<S>, command: Command) -> Result<(), Refusal> {
     match command {
+        Command::Lay => lay(alloc, depot),
         Command::Adopt => Ok(()),
         Command::SetScript => depot.set_script(alloc, "ann", THREE),
         Command::SetCode => depot.set_code(alloc, "ann", KEEP),
-        Command::DeliverThree => {
-            depot.deliver(alloc, "tom", MESSAGE)?;
-            Ok(())
-        }
-        Command::DeliverPart => {
-            depot.deliver(alloc, "ann", MESSAGE)?;
-            Ok(())
-        }
+        Command::DeliverThree => deliver(alloc, depot, "tom"),
+        Command::DeliverPart => deliver(alloc, depot, "ann"),
         Command::DeliverAll => together(alloc, depot),
         Command::Remove => depot.remove("bob", 1),
-        Command::Migrate => {
-            depot.migrate(alloc)?;
-            Ok(())
-        }
+        Command::Migrate => migrate(alloc, depot),
     }
 }
 
@@ -255,11 +270,11 @@ fn came_of(answer: Result<(), Refusal>) -> Came {
 }
 
 // Adopts a connection, carries a command out, and releases the connection.
-fn carried(
+fn carried<S: Alter>(
     alloc: Global,
-    conn: Connection<FileStore<Fused>>,
+    conn: Connection<S>,
     command: Command,
-) -> (Came, Connection<FileStore<Fused>>) {
+) -> (Came, Connection<S>) {
     match adopted(conn) {
         Ok(opened) => {
             let mut depot = opened;
@@ -270,15 +285,78 @@ fn carried(
     }
 }
 
-// The same from files to files.
-fn run(alloc: Global, files: Files<Fused>, command: Command) -> (Came, Files<Fused>) {
+// What the depot of a connection holds, if it can be adopted and read.
+fn seen<S: Alter>(alloc: Global, conn: Connection<S>) -> (Option<Held>, Connection<S>) {
+    match adopted(conn) {
+        Ok(depot) => {
+            let mut conn = depot.release().release();
+            (held_in(alloc, &mut conn).ok(), conn)
+        }
+        Err(conn) => (None, conn),
+    }
+}
+
+// Whether a delivery to a new user works.
+fn goes_on<S: Alter>(alloc: Global, conn: Connection<S>) -> (bool, Connection<S>) {
+    match adopted(conn) {
+        Ok(opened) => {
+            let mut depot = opened;
+            let rows = depot.deliver(alloc, "zoe", b"");
+            let works = matches!(&rows, Ok(rows) if rows.len() == 1);
+            (works, depot.release().release())
+        }
+        Err(conn) => (false, conn),
+    }
+}
+
+// What the depot of a connection holds, if it can be read and the next command works.
+fn found<S: Alter>(alloc: Global, conn: Connection<S>) -> (Option<Held>, Connection<S>) {
+    let (held, conn) = seen(alloc, conn);
+    let (works, conn) = goes_on(alloc, conn);
+    (if works { held } else { None }, conn)
+}
+
+// Does what a connection was opened for.
+fn done<S: Alter>(alloc: Global, conn: Connection<S>, aim: Aim) -> (Outcome, Connection<S>) {
+    match aim {
+        Aim::Carry(command) => {
+            let (came, conn) = carried(alloc, conn, command);
+            (Outcome { came, held: None }, conn)
+        }
+        Aim::Look => {
+            let (held, conn) = found(alloc, conn);
+            let came = if held.is_some() {
+                Came::Done
+            } else {
+                Came::Failed
+            };
+            (Outcome { came, held }, conn)
+        }
+    }
+}
+
+// The same from files to files. Only this function has a database over files: what is proved once more for each call over
+// them is dear, so all else is for any store.
+fn run(alloc: Global, files: Files<Fused>, aim: Aim) -> (Outcome, Files<Fused>) {
     match connected(alloc, files) {
         Ok(conn) => {
-            let (came, conn) = carried(alloc, conn, command);
-            (came, closed(conn))
+            let (outcome, conn) = done(alloc, conn, aim);
+            (outcome, closed(conn))
         }
-        Err(files) => (Came::Failed, files),
+        Err(files) => (
+            Outcome {
+                came: Came::Failed,
+                held: None,
+            },
+            files,
+        ),
     }
+}
+
+// What files hold, if they can be opened and the next command works.
+fn look(alloc: Global, files: Files<Fused>) -> Option<Held> {
+    let (outcome, _files) = run(alloc, files, Aim::Look);
+    outcome.held
 }
 
 // Whether a file answers no call any more.
@@ -296,80 +374,50 @@ fn restarted(files: Files<Fused>) -> (bool, Files<Fused>) {
     (log_stopped || db_stopped, Files { log, db })
 }
 
-// What the depot of a connection holds, if it can be adopted and read.
-fn seen(
-    alloc: Global,
-    conn: Connection<FileStore<Fused>>,
-) -> (Option<Held>, Connection<FileStore<Fused>>) {
-    match adopted(conn) {
-        Ok(depot) => {
-            let mut conn = depot.release().release();
-            (held_in(alloc, &mut conn).ok(), conn)
-        }
-        Err(conn) => (None, conn),
-    }
-}
-
-// Whether a delivery to a new user works.
-fn goes_on(
-    alloc: Global,
-    conn: Connection<FileStore<Fused>>,
-) -> (bool, Connection<FileStore<Fused>>) {
-    match adopted(conn) {
-        Ok(opened) => {
-            let mut depot = opened;
-            let rows = depot.deliver(alloc, "zoe", b"");
-            let works = matches!(&rows, Ok(rows) if rows.len() == 1);
-            (works, depot.release().release())
-        }
-        Err(conn) => (false, conn),
-    }
-}
-
-// What files hold, if they can be opened and the next command works.
-fn found(alloc: Global, files: Files<Fused>) -> Option<Held> {
-    match connected(alloc, files) {
-        Ok(conn) => {
-            let (held, conn) = seen(alloc, conn);
-            let (works, conn) = goes_on(alloc, conn);
-            let _files = closed(conn);
-            if works { held } else { None }
-        }
-        Err(_files) => None,
-    }
-}
-
 // The octets of a closed database that commands work on.
 fn laid(alloc: Global) -> Result<Vec<u8>, Fail> {
     let files = files_of(alloc, b"", Stops::Both, u64::MAX)?;
-    let Ok(conn) = connected(alloc, files) else {
-        return Err(Fail::new("the files can't be opened"));
-    };
-    let Ok(opened) = adopted(conn) else {
-        return Err(Fail::new("the connection can't be adopted"));
-    };
-    let mut depot = opened;
-    lay(alloc, &mut depot)?;
-    let files = closed(depot.release().release());
+    let (outcome, files) = run(alloc, files, Aim::Carry(Command::Lay));
+    if !matches!(outcome.came, Came::Done) {
+        return Err(Fail::new("the filters and the entry can't be laid"));
+    }
     Ok(Vec::from_slice(alloc, files.db.inner().bytes())?)
+}
+
+// The octets of the database that a command works on.
+fn octets_before(alloc: Global, command: Command) -> Result<Vec<u8>, Fail> {
+    if matches!(command, Command::Adopt) {
+        return Ok(Vec::new(alloc));
+    }
+    laid(alloc)
+}
+
+// What the depot of files holds, or an error for the test.
+fn held_of(alloc: Global, files: Files<Fused>) -> Result<Held, Fail> {
+    match look(alloc, files) {
+        Some(held) => Ok(held),
+        None => Err(Fail::new("nothing is found before or after the command")),
+    }
+}
+
+// What a database of these octets holds.
+fn held_before(alloc: Global, octets: &[u8]) -> Result<Held, Fail> {
+    let files = files_of(alloc, octets, Stops::Both, u64::MAX)?;
+    held_of(alloc, files)
+}
+
+// What it holds after a command that nothing stops.
+fn held_after(alloc: Global, octets: &[u8], command: Command) -> Result<Held, Fail> {
+    let files = files_of(alloc, octets, Stops::Both, u64::MAX)?;
+    let (_, files) = run(alloc, files, Aim::Carry(command));
+    held_of(alloc, files)
 }
 
 // What the depot is before and after a command that nothing stops.
 fn states_around(alloc: Global, command: Command) -> Result<States, Fail> {
-    let octets = if matches!(command, Command::Adopt) {
-        Vec::new(alloc)
-    } else {
-        laid(alloc)?
-    };
-    let files = files_of(alloc, &octets, Stops::Both, u64::MAX)?;
-    let Some(before) = found(alloc, files) else {
-        return Err(Fail::new("nothing is found before the command"));
-    };
-    let files = files_of(alloc, &octets, Stops::Both, u64::MAX)?;
-    let (_, files) = run(alloc, files, command);
-    let Some(after) = found(alloc, files) else {
-        return Err(Fail::new("nothing is found after the command"));
-    };
+    let octets = octets_before(alloc, command)?;
+    let before = held_before(alloc, &octets)?;
+    let after = held_after(alloc, &octets, command)?;
     Ok(States {
         octets,
         before,
@@ -392,6 +440,20 @@ fn count(counts: &mut Counts, states: &States, came: Came, held: Option<Held>) {
     }
 }
 
+// Stops a command at a call, counts what it left, and says whether a file had stopped and the command was done.
+fn stopped_at(
+    alloc: Global,
+    states: &States,
+    command: Command,
+    files: Files<Fused>,
+    counts: &mut Counts,
+) -> (bool, bool) {
+    let (outcome, files) = run(alloc, files, Aim::Carry(command));
+    let (has_stopped, files) = restarted(files);
+    count(counts, states, outcome.came, look(alloc, files));
+    (has_stopped, matches!(outcome.came, Came::Done))
+}
+
 // Stops a command at each call in turn, until it isn't stopped.
 fn swept(alloc: Global, states: &States, command: Command, stops: Stops) -> Result<Counts, Fail> {
     let mut counts = Counts {
@@ -402,12 +464,9 @@ fn swept(alloc: Global, states: &States, command: Command, stops: Stops) -> Resu
     };
     for calls in 0..MOST {
         let files = files_of(alloc, &states.octets, stops, calls)?;
-        let (came, files) = run(alloc, files, command);
-        let (has_stopped, files) = restarted(files);
-        let held = found(alloc, files);
-        count(&mut counts, states, came, held);
+        let (has_stopped, is_done) = stopped_at(alloc, states, command, files, &mut counts);
         if !has_stopped {
-            counts.has_ended = matches!(came, Came::Done);
+            counts.has_ended = is_done;
             break;
         }
     }

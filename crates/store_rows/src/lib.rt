@@ -6,8 +6,6 @@ mod altered_programs;
 #[cfg(test)]
 mod failing_disks;
 pub mod held;
-#[cfg(test)]
-mod migrating;
 pub mod samples;
 #[cfg(test)]
 mod store;

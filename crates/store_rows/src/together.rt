@@ -1,9 +1,9 @@
 // Deliveries that are committed together, beside the same one by one.
-use crate::held::held_in;
+use crate::held::{Held, held_in};
 use crate::samples::{MESSAGE, SCRIPT};
 use depot_actions::{Delivery, Depot, Refusal};
 use part_store::EntryRow;
-use sqlite::MemStore;
+use sqlite::{Alter, Error, MemStore};
 use std::alloc::Global;
 use std::test::Fail;
 
@@ -56,26 +56,90 @@ fn is_same(one: &EntryRow, other: &EntryRow) -> bool {
         && one.name.as_slice() == other.name.as_slice()
 }
 
+// Makes deliveries one by one, and says whether each shows what it showed in the group.
+fn show_alike<S: Alter>(
+    alloc: Global,
+    depot: &mut Depot<S>,
+    deliveries: &[Delivery<'_>],
+    replies: &[Vec<EntryRow>],
+) -> Result<bool, Refusal> {
+    for (delivery, shown) in deliveries.iter().zip(replies.iter()) {
+        let rows = depot.deliver(alloc, delivery.user, delivery.message)?;
+        if !are_same(&rows, shown) {
+            return Ok(false);
+        }
+    }
+    Ok(replies.len() == deliveries.len())
+}
+
+// Makes deliveries to one depot one by one and to another together, and says whether they show the same.
+fn answer_alike<S: Alter>(
+    alloc: Global,
+    alone: &mut Depot<S>,
+    together: &mut Depot<S>,
+    deliveries: &[Delivery<'_>],
+) -> Result<bool, Refusal> {
+    match together.deliver_all(alloc, deliveries) {
+        Ok(replies) => show_alike(alloc, alone, deliveries, &replies),
+        Err(refused) => Err(refused.refusal),
+    }
+}
+
+// What a depot holds.
+fn held_by<S: Alter + Drop>(alloc: Global, depot: Depot<S>) -> Result<Held, Error> {
+    let mut conn = depot.release().release();
+    held_in(alloc, &mut conn)
+}
+
+// Whether deliveries do the same to two depots.
+fn are_alike<S: Alter + Drop>(
+    alloc: Global,
+    alone: Depot<S>,
+    together: Depot<S>,
+    deliveries: &[Delivery<'_>],
+) -> Result<bool, Fail> {
+    let mut alone = alone;
+    let mut together = together;
+    let alike = answer_alike(alloc, &mut alone, &mut together, deliveries)?;
+    let one = held_by(alloc, alone)?;
+    let other = held_by(alloc, together)?;
+    Ok(alike && one == other)
+}
+
 #[test]
 fn groups_are_as_one_by_one(rt: HostRuntime) -> Result<(), Fail> {
     let alloc = rt.alloc();
     for count in [0, 1, 3, 64] {
         let deliveries = deliveries_of(alloc, count, count)?;
-        let mut alone = depot_of(alloc)?;
-        let mut together = depot_of(alloc)?;
-        let Ok(replies) = together.deliver_all(alloc, &deliveries) else {
-            return Err(Fail::new("the group is refused"));
-        };
-        assert_eq!(rt; replies.len(), count);
-        for (delivery, shown) in deliveries.iter().zip(replies.iter()) {
-            let rows = alone.deliver(alloc, delivery.user, delivery.message)?;
-            assert!(rt; are_same(&rows, shown));
-        }
-        let mut one = alone.release().release();
-        let mut other = together.release().release();
-        assert!(rt; held_in(alloc, &mut one)? == held_in(alloc, &mut other)?);
+        let alone = depot_of(alloc)?;
+        let together = depot_of(alloc)?;
+        assert!(rt; are_alike(alloc, alone, together, &deliveries)?, "{count}");
     }
     Ok(())
+}
+
+// Whether a group is refused for the user of the delivery at this place.
+fn is_refused_at<S: Alter>(
+    alloc: Global,
+    depot: &mut Depot<S>,
+    deliveries: &[Delivery<'_>],
+    place: usize,
+) -> bool {
+    match depot.deliver_all(alloc, deliveries) {
+        Ok(_) => false,
+        Err(refused) => refused.place == place && matches!(refused.refusal, Refusal::UserName),
+    }
+}
+
+// Whether ann has one entry, and bob has none.
+fn holds_one<S: Alter>(depot: &mut Depot<S>) -> Result<bool, Refusal> {
+    Ok(depot.list("ann")?.len() == 1 && depot.list("bob")?.is_empty())
+}
+
+// Delivers the message to ann, and says whether this makes one entry of this number.
+fn makes<S: Alter>(alloc: Global, depot: &mut Depot<S>, number: u32) -> Result<bool, Refusal> {
+    let rows = depot.deliver(alloc, "ann", MESSAGE)?;
+    Ok(rows.len() == 1 && rows[0].number == number)
 }
 
 #[test]
@@ -84,19 +148,13 @@ fn a_refused_one_leaves_all_as_it_was(rt: HostRuntime) -> Result<(), Fail> {
     for place in [0, 1, 2] {
         let deliveries = deliveries_of(alloc, 3, place)?;
         let mut depot = depot_of(alloc)?;
-        let _before = depot.deliver(alloc, "ann", MESSAGE)?;
-        match depot.deliver_all(alloc, &deliveries) {
-            Ok(_) => return Err(Fail::new("the group is accepted")),
-            Err(refused) => {
-                assert_eq!(rt; refused.place, place);
-                assert!(rt; matches!(refused.refusal, Refusal::UserName));
-            }
-        }
-        assert_eq!(rt; depot.list("ann")?.len(), 1);
-        assert!(rt; depot.list("bob")?.is_empty());
-        let rows = depot.deliver(alloc, "ann", MESSAGE)?;
-        assert_eq!(rt; rows.len(), 1);
-        assert_eq!(rt; rows[0].number, 2);
+        assert!(rt; makes(alloc, &mut depot, 1)?, "{place}");
+        assert!(rt;
+            is_refused_at(alloc, &mut depot, &deliveries, place),
+            "{place}"
+        );
+        assert!(rt; holds_one(&mut depot)?, "{place}");
+        assert!(rt; makes(alloc, &mut depot, 2)?, "{place}");
     }
     Ok(())
 }
