@@ -2,7 +2,7 @@
 //
 // The number that comes with an answer is a bound made of lengths, not a count. For `is` it is the key's length, or
 // 0 if the lengths differ. For a stretch that is searched it is the lengths of value and key; if each place has to
-// be tried (a `?`, or more than 16,384 bytes) it is their product.
+// be tried (a `?`, or more than 16,384 bytes, that doesn't stand near) it is their product.
 ghost use Rattle.std.specs.Prelude.{◌≡◌, ◌+◌, ◌*◌, ◌-◌, ◌≤◌, ◌<◌, ◌^◌, ◌∷◌, IsTrue, OnSome, length};
 ghost use Rattle.std.specs.Bool.{then_some};
 ghost use Rattle.std.specs.Option.{option_map};

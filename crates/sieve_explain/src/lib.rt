@@ -10,9 +10,10 @@
 //!
 //! `specs/Explaining` says the text of each refusal, `specs/Faults`, `specs/Reasons` and `specs/Hints`
 //! are its sentences, `specs/Words` is which words are one letter off, and `specs/Marks` what is looked
-//! for among the tokens. `specs/Notes` has the notes: a table of their sentences, and when each is told. What lines and columns are stands in `specs/Places` of readable_text. Octets
-//! of the script are escaped and cut by `specs/Shown`. `laws` says that a refusal has one text, which
-//! can be printed anywhere, whoever wrote the script.
+//! for among the tokens. `specs/Notes` has the notes: a table of their sentences, and when each is
+//! told. What lines and columns are stands in `specs/Places` of readable_text. Octets of the script are
+//! escaped and cut by `specs/Shown`. `laws` says that a refusal has one text, which can be printed
+//! anywhere, whoever wrote the script.
 #![tactic(auto)]
 
 mod excerpt;

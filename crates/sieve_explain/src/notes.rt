@@ -1,4 +1,13 @@
 // What is noted of a script with which nothing is wrong.
+//
+// Such a filter is right by the rules and matches nothing, or something else than was meant, without a word. The notes
+// come after `ok`, with status 0, so the first line is still the answer; `check` prints none of them: what programs
+// read stays one line. They are found among the tokens of an accepted script, where each identifier begins a command
+// or test and its arguments stand directly behind it. Each kind is as narrow as real filters need: `filename*` and
+// `***SPAM***` are sensible keys of `:contains`, `ready?` is one of `:is`, and `:matches ["boss@a", "*<boss@a>*"]` is a
+// common way to match an address with and without a name. So a `?` is never noted, several stars in a row aren't, and
+// a `:matches` is noted only if none of its keys has a wildcard. A key with a reference to a variable may hold
+// anything, and isn't noted.
 ghost use Rattle.std.specs.Prelude.{◌≡◌, ◌<◌, ◌≤◌, ◌+◌, ◌++◌, ◌-◌, ◌^◌, IfOk, OnOk, [], codes, length, take, take_while};
 ghost use Rattle.std.specs.List.{find, list_all, list_any};
 ghost use Rattle.sieve_lexer.specs.Values.{inner};

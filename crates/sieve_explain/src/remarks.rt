@@ -1,10 +1,4 @@
 // Remarks about a place of a script.
-//
-// `explain` prints a note on an accepted script in one case: a string of `header` with a byte above 127. Such a
-// filter is right by the rules and matches almost nothing, because encoded words aren't decoded. The note comes
-// after `ok`, with status 0, so the first line is still the answer. There is one, at the first such string, found
-// among the tokens: the string whose last identifier before it is `header`. There is none for `string` and
-// `partbody`, which compare no fields. `check` prints none: what programs read stays one line.
 ghost use Rattle.std.specs.Prelude.{◌≡◌, ◌≤◌, ◌++◌, IfOk, OnOk, length};
 ghost use Rattle.sieve_explain.specs.Explaining.{heading, note, numbered, remark, told};
 ghost use Rattle.sieve_explain.specs.Private.{blanks_of};
