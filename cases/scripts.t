@@ -10,7 +10,7 @@
     $ "$TOP/cases/starts"
     30 tried, 0 wrong
 
-## the edits and docs/EDITS.md
+## the edits and docs/generated/EDITS.md
     $ "$TOP/cases/edits_stand"
 
 ## the pages of laws and of edits, and docs/PROMISES.md
