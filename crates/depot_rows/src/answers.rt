@@ -44,64 +44,83 @@ fn each_line_is_one_call(rt: HostRuntime) {
     assert!(rt; is_answered_by(&rt, Job::Eval { script, message }, &[5, 15]));
 }
 
+// Whether a job is refused with this line alone, in one call.
+fn is_refused_by(rt: &HostRuntime, job: Job<'_>, line: &[u8]) -> bool {
+    let (status, _, err) = answered(rt, job, whole(rt), whole(rt));
+    let Calls {
+        octets,
+        lengths,
+        ..
+    } = &err.inner;
+    status == 1 && octets.as_slice() == line && lengths.as_slice() == [line.len()].as_slice()
+}
+
 #[test]
 fn a_refusal_is_one_call(rt: HostRuntime) {
     let script = b"vacation;";
-    let (status, _, err) = answered(&rt, Job::Check { script }, whole(&rt), whole(&rt));
-    assert_eq!(rt; status, 1);
-    assert!(rt; err.inner.octets.as_slice() == b"refused 15 UnknownCommand at 0\n".as_slice());
-    assert!(rt; err.inner.lengths.as_slice() == [31].as_slice());
+    let line = b"refused 15 UnknownCommand at 0\n";
+    assert_eq!(rt; line.len(), 31);
+    assert!(rt; is_refused_by(&rt, Job::Check { script }, line));
+}
+
+/// What foobar is encoded as, in lines.
+const FOOBAR: &[u8] = b"Zm9vYmFy\r\n";
+
+// Encodes foobar to a writer that takes an octet in each of so many calls.
+fn encoded(rt: &HostRuntime, calls: usize) -> (u8, OfWrite<Calls>, OfWrite<Calls>) {
+    let job = Job::Encode {
+        encoding: Encoding::Base64Mime,
+        octets: b"foobar",
+    };
+    answered(rt, job, Calls::new(rt, 1, calls), whole(rt))
+}
+
+// Whether it breaks off after so many calls, and says so.
+fn breaks_off(rt: &HostRuntime, calls: usize) -> bool {
+    let (status, out, err) = encoded(rt, calls);
+    status == 1
+        && out.faults == 1
+        && out.inner.octets.as_slice() == &FOOBAR[..calls.min(FOOBAR.len())]
+        && err.inner.octets.as_slice() == b"refused 45 Write\n".as_slice()
+}
+
+// Whether it is written whole, and nothing is told.
+fn is_written(rt: &HostRuntime, calls: usize) -> bool {
+    let (status, out, err) = encoded(rt, calls);
+    status == 0 && out.inner.octets.as_slice() == FOOBAR && err.inner.octets.is_empty()
 }
 
 #[test]
 fn an_answer_that_breaks_off(rt: HostRuntime) {
-    let text = b"Zm9vYmFy\r\n".as_slice();
-    for calls in 0..text.len() {
-        let job = Job::Encode {
-            encoding: Encoding::Base64Mime,
-            octets: b"foobar",
-        };
-        let (status, out, err) = answered(&rt, job, Calls::new(&rt, 1, calls), whole(&rt));
-        assert_eq!(rt; status, 1, "{calls}");
-        assert_eq!(rt; out.faults, 1, "{calls}");
-        assert!(rt; out.inner.octets.as_slice() == &text[..calls], "{calls}");
-        assert!(rt;
-            err.inner.octets.as_slice() == b"refused 45 Write\n".as_slice(),
-            "{calls}"
-        );
+    for calls in 0..FOOBAR.len() {
+        assert!(rt; breaks_off(&rt, calls), "{calls}");
     }
 }
 
 #[test]
 fn an_answer_that_just_fits(rt: HostRuntime) {
-    let text = b"Zm9vYmFy\r\n".as_slice();
-    for calls in [text.len(), 11] {
-        let job = Job::Encode {
-            encoding: Encoding::Base64Mime,
-            octets: b"foobar",
-        };
-        let (status, out, err) = answered(&rt, job, Calls::new(&rt, 1, calls), whole(&rt));
-        assert_eq!(rt; status, 0, "{calls}");
-        assert!(rt; out.inner.octets.as_slice() == text, "{calls}");
-        assert!(rt; err.inner.octets.is_empty(), "{calls}");
+    for calls in [FOOBAR.len(), 11] {
+        assert!(rt; is_written(&rt, calls), "{calls}");
     }
+}
+
+// Whether a refusal whose line is written in so many calls of an octet each is written up to there, and nothing is answered.
+fn is_told_up_to(rt: &HostRuntime, calls: usize) -> bool {
+    let told = b"refused 10 NotCanonical\n".as_slice();
+    let job = Job::Decode {
+        encoding: Encoding::Base32,
+        text: b"MZ======",
+    };
+    let (status, out, err) = answered(rt, job, whole(rt), Calls::new(rt, 1, calls));
+    status == 1
+        && err.inner.octets.as_slice() == &told[..calls.min(24)]
+        && out.inner.octets.is_empty()
 }
 
 #[test]
 fn refusals_that_break_off(rt: HostRuntime) {
-    let told = b"refused 10 NotCanonical\n".as_slice();
     for calls in 0..25usize {
-        let job = Job::Decode {
-            encoding: Encoding::Base32,
-            text: b"MZ======",
-        };
-        let (status, out, err) = answered(&rt, job, whole(&rt), Calls::new(&rt, 1, calls));
-        assert_eq!(rt; status, 1, "{calls}");
-        assert!(rt;
-            err.inner.octets.as_slice() == &told[..calls.min(24)],
-            "{calls}"
-        );
-        assert!(rt; out.inner.octets.is_empty(), "{calls}");
+        assert!(rt; is_told_up_to(&rt, calls), "{calls}");
     }
 }
 
@@ -114,21 +133,23 @@ fn written(rt: &HostRuntime, job: Job<'_>) -> Option<Vec<u8>> {
     (status == 0 && err.inner.is_empty()).then_some(out.inner)
 }
 
-#[test]
-fn large_octets(rt: HostRuntime) -> io::Result<()> {
+// Whether a million octets are encoded to a text of two million, which is decoded to them.
+fn come_back(rt: &HostRuntime, octets: &[u8]) -> bool {
     let encoding = Encoding::Base16;
-    let octets = vec![in rt.alloc(); b'f'; 1_000_000]?;
-    let encode = Job::Encode {
-        encoding,
-        octets: &octets,
+    let Some(text) = written(rt, Job::Encode { encoding, octets }) else {
+        return false;
     };
-    let text = written(&rt, encode).unwrap_or(Vec::new(rt.alloc()));
-    assert_eq!(rt; text.len(), 2_000_000);
-    let decode = Job::Decode {
+    let job = Job::Decode {
         encoding,
         text: &text,
     };
-    let read = written(&rt, decode).unwrap_or(Vec::new(rt.alloc()));
-    assert!(rt; read.as_slice() == octets.as_slice());
+    let read = written(rt, job);
+    text.len() == 2_000_000 && matches!(&read, Some(read) if read.as_slice() == octets)
+}
+
+#[test]
+fn large_octets(rt: HostRuntime) -> io::Result<()> {
+    let octets = vec![in rt.alloc(); b'f'; 1_000_000]?;
+    assert!(rt; come_back(&rt, &octets));
     Ok(())
 }

@@ -1,31 +1,12 @@
 // Batches on a depot in memory, over a shelf: what each line is answered, and what breaks off.
 use crate::devices::Calls;
-use crate::known::{EMPTY, MAIL, entries};
-use crate::shelf::{Known, Shelf};
+use crate::known::{ANSWERS, EMPTY, MAIL, THREE, entries, served};
 use depot_actions::{Depot, Refusal};
-use depot_batch::batch;
-use encodings::{OfRead, OfWrite};
-use sqlite::MemStore;
+use sqlite::{Alter, MemStore};
 use std::alloc::Global;
 use std::io;
-use std::io::{BufReader, Error, ErrorKind, Read, Write};
+use std::io::{Error, ErrorKind, Read};
 use std::test::Fail;
-
-// Three deliveries, and what they are answered.
-const THREE: &[u8] = b"deliver ann mail\ndeliver ann mail\ndeliver ann mail\n";
-
-const ANSWERS: &[u8] =
-    b"1 message \"INBOX\"\n= 0\n2 message \"INBOX\"\n= 0\n3 message \"INBOX\"\n= 0\n";
-
-/// What came of a batch.
-#[derive(Drop)]
-struct Seen<W> {
-    status: u8,
-    faults: u64,
-    has_ended: bool,
-    out: W,
-    err: Vec<u8>,
-}
 
 /// Gives its octets, and fails after the last.
 #[derive(Drop)]
@@ -69,51 +50,41 @@ impl Read for Pausing<'_> {
     }
 }
 
-// Serves the lines of a reader to a depot, with two files, and answers them to a writer.
-fn served<R: Read + Drop, W: Write + Drop>(
-    alloc: Global,
-    depot: &mut Result<Depot<MemStore>, Refusal>,
-    files: [Known<'static>; 2],
-    lines: R,
-    out: W,
-) -> Result<Seen<W>, Fail> {
-    let [first, second] = files;
-    let mut host = Shelf::new(alloc, first, second, b"", 1_000);
-    let mut input = OfRead::new(BufReader::with_capacity(alloc, 64, lines)?);
-    let mut out = OfWrite::new(out);
-    let mut err = OfWrite::new(Vec::new(alloc));
-    let status = batch(alloc, "d", depot, &mut host, &mut input, &mut out, &mut err);
-    Ok(Seen {
-        status,
-        faults: input.faults,
-        has_ended: input.has_ended,
-        out: out.inner,
-        err: err.inner,
-    })
+// Whether three deliveries, whose answers are written in so many calls of an octet each, are answered up to there.
+fn is_answered_up_to<S: Alter>(
+    rt: &HostRuntime,
+    depot: &mut Result<Depot<S>, Refusal>,
+    calls: usize,
+) -> Result<bool, Fail> {
+    let out = Calls::new(rt, 1, calls);
+    let seen = served(rt.alloc(), depot, [EMPTY, MAIL], 64, THREE, out)?;
+    Ok(
+        seen.ends(1, b"refused 45 Write\n")
+            && seen.out.octets.as_slice() == &ANSWERS[..calls.min(ANSWERS.len())],
+    )
 }
 
 #[test]
 fn answers_that_break_off(rt: HostRuntime) -> Result<(), Fail> {
-    let alloc = rt.alloc();
     for calls in 0..ANSWERS.len() {
-        let mut depot = Depot::in_memory(alloc);
-        let seen = served(
-            alloc,
-            &mut depot,
-            [EMPTY, MAIL],
-            THREE,
-            Calls::new(&rt, 1, calls),
-        )?;
-        assert_eq!(rt; seen.status, 1, "{calls}");
-        assert!(rt; seen.out.octets.as_slice() == &ANSWERS[..calls], "{calls}");
-        assert!(rt;
-            seen.err.as_slice() == b"refused 45 Write\n".as_slice(),
-            "{calls}"
-        );
+        let mut depot = Depot::in_memory(rt.alloc());
+        assert!(rt; is_answered_up_to(&rt, &mut depot, calls)?, "{calls}");
         // the three lines are ready together
         assert_eq!(rt; entries(&mut depot)?, 3, "{calls}");
     }
     Ok(())
+}
+
+// Whether lines whose reader fails after the last octet are answered up to there.
+fn is_read_up_to<S: Alter>(
+    alloc: Global,
+    depot: &mut Result<Depot<S>, Refusal>,
+    octets: &[u8],
+    answers: &[u8],
+) -> Result<bool, Fail> {
+    let out = Vec::new(alloc);
+    let seen = served(alloc, depot, [EMPTY, MAIL], 64, Failing { octets }, out)?;
+    Ok(seen.ends(1, b"refused 46 Read\n") && seen.faults == 1 && seen.out.as_slice() == answers)
 }
 
 #[test]
@@ -122,53 +93,50 @@ fn lines_that_break_off(rt: HostRuntime) -> Result<(), Fail> {
     let line = THREE.len() / 3;
     let one = ANSWERS.len() / 3;
     for len in 0..THREE.len() + 1 {
-        let mut depot = Depot::in_memory(alloc);
-        let octets = &THREE[..len];
-        let seen = served(
-            alloc,
-            &mut depot,
-            [EMPTY, MAIL],
-            Failing { octets },
-            Vec::new(alloc),
-        )?;
         let whole = len / line;
-        assert_eq!(rt; seen.status, 1, "{len}");
-        assert!(rt; seen.out.as_slice() == &ANSWERS[..whole * one], "{len}");
+        let mut depot = Depot::in_memory(alloc);
         assert!(rt;
-            seen.err.as_slice() == b"refused 46 Read\n".as_slice(),
+            is_read_up_to(alloc, &mut depot, &THREE[..len], &ANSWERS[..whole * one])?,
             "{len}"
         );
-        assert_eq!(rt; seen.faults, 1, "{len}");
         assert_eq!(rt; entries(&mut depot)?, whole, "{len}");
     }
     Ok(())
 }
 
-#[test]
-fn an_input_that_goes_on_after_its_end(rt: HostRuntime) -> Result<(), Fail> {
-    let alloc = rt.alloc();
-    let mut depot = Depot::in_memory(alloc);
+// Whether a batch answers no line after the end of its input.
+fn ends_with_its_input<S: Alter>(
+    alloc: Global,
+    depot: &mut Result<Depot<S>, Refusal>,
+) -> Result<bool, Fail> {
     let lines = Pausing {
         first: b"deliver ann mail\nlist ",
         others: b"deliver ann mail\n",
         pauses: true,
     };
-    let seen = served(alloc, &mut depot, [EMPTY, MAIL], lines, Vec::new(alloc))?;
     let answer = b"1 message \"INBOX\"\n= 0\n? the input ended within this line\n= 2\n".as_slice();
-    assert_eq!(rt; seen.status, 0);
-    assert!(rt; seen.has_ended && seen.faults == 0);
-    assert!(rt; seen.out.as_slice() == answer);
+    let seen = served(alloc, depot, [EMPTY, MAIL], 64, lines, Vec::new(alloc))?;
+    let ended = seen.status == 0 && seen.has_ended && seen.faults == 0;
+    Ok(ended && seen.out.as_slice() == answer)
+}
+
+#[test]
+fn an_input_that_goes_on_after_its_end(rt: HostRuntime) -> Result<(), Fail> {
+    let mut depot = Depot::in_memory(rt.alloc());
+    assert!(rt; ends_with_its_input(rt.alloc(), &mut depot)?);
     assert_eq!(rt; entries(&mut depot)?, 1);
     Ok(())
 }
 
+// Whether a batch on a depot that can't be opened tells why, and answers nothing.
+fn tells_why<S: Alter>(alloc: Global, depot: &mut Result<Depot<S>, Refusal>) -> Result<bool, Fail> {
+    let seen = served(alloc, depot, [EMPTY, MAIL], 64, THREE, Vec::new(alloc))?;
+    Ok(seen.ends(1, b"refused 43 Database\n") && seen.out.is_empty())
+}
+
 #[test]
 fn a_depot_that_was_not_opened(rt: HostRuntime) -> Result<(), Fail> {
-    let alloc = rt.alloc();
-    let mut depot = Err(Refusal::Database);
-    let seen = served(alloc, &mut depot, [EMPTY, MAIL], THREE, Vec::new(alloc))?;
-    assert_eq!(rt; seen.status, 1);
-    assert!(rt; seen.out.is_empty());
-    assert!(rt; seen.err.as_slice() == b"refused 43 Database\n".as_slice());
+    let mut depot: Result<Depot<MemStore>, Refusal> = Err(Refusal::Database);
+    assert!(rt; tells_why(rt.alloc(), &mut depot)?);
     Ok(())
 }

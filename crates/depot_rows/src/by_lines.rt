@@ -2,23 +2,13 @@
 ghost use Rattle.std.specs.Prelude.{◌≤◌, length};
 
 use crate::devices::Calls;
-use crate::known::{DISCARD, MAIL, entries};
-use crate::shelf::Shelf;
+use crate::known::{ANSWERS, DISCARD, MAIL, THREE, entries, served};
 use depot_actions::{Depot, Refusal};
-use depot_batch::batch;
-use encodings::{OfRead, OfWrite};
-use sqlite::MemStore;
+use sqlite::Alter;
 use std::alloc::Global;
 use std::io;
-use std::io::{BufReader, Read, Write};
+use std::io::Read;
 use std::test::Fail;
-use store_rows::samples::MESSAGE;
-
-// Three deliveries, and what they are answered.
-const THREE: &[u8] = b"deliver ann mail\ndeliver ann mail\ndeliver ann mail\n";
-
-const ANSWERS: &[u8] =
-    b"1 message \"INBOX\"\n= 0\n2 message \"INBOX\"\n= 0\n3 message \"INBOX\"\n= 0\n";
 
 /// Gives a line at a time.
 #[derive(Drop)]
@@ -46,47 +36,24 @@ fn first_line(octets: &[u8]) -> &[u8]
     }
 }
 
-/// What came of a batch, and how often a file was opened.
-#[derive(Drop)]
-struct Seen<W> {
-    status: u8,
-    opened: usize,
-    out: W,
-    err: Vec<u8>,
-}
-
-// Serves lines to a depot, one at a time, and answers them to a writer.
-fn served<W: Write + Drop>(
-    alloc: Global,
-    depot: &mut Result<Depot<MemStore>, Refusal>,
-    octets: &[u8],
-    out: W,
-) -> Result<Seen<W>, Fail> {
-    let mut host = Shelf::new(alloc, MAIL, DISCARD, b"", 1_000);
-    let lines = BufReader::with_capacity(alloc, 1 << 16, ByLines { octets })?;
-    let mut input = OfRead::new(lines);
-    let mut out = OfWrite::new(out);
-    let mut err = OfWrite::new(Vec::new(alloc));
-    let status = batch(alloc, "d", depot, &mut host, &mut input, &mut out, &mut err);
-    Ok(Seen {
-        status,
-        opened: host.asked.len(),
-        out: out.inner,
-        err: err.inner,
-    })
-}
-
 // Whether lines are answered so, with status 0, and each file is opened for one line alone.
-fn answers(
+fn answers<S: Alter>(
     alloc: Global,
-    depot: &mut Result<Depot<MemStore>, Refusal>,
-    lines: &[u8],
+    depot: &mut Result<Depot<S>, Refusal>,
+    octets: &[u8],
     answer: &[u8],
     opened: usize,
 ) -> Result<bool, Fail> {
-    let seen = served(alloc, depot, lines, Vec::new(alloc))?;
-    let ended = seen.status == 0 && seen.err.is_empty() && seen.opened == opened;
-    Ok(ended && seen.out.as_slice() == answer)
+    let lines = ByLines { octets };
+    let seen = served(
+        alloc,
+        depot,
+        [MAIL, DISCARD],
+        1 << 16,
+        lines,
+        Vec::new(alloc),
+    )?;
+    Ok(seen.ends(0, b"") && seen.asked.len() == opened && seen.out.as_slice() == answer)
 }
 
 #[test]
@@ -105,21 +72,33 @@ fn no_line_is_read_twice(rt: HostRuntime) -> Result<(), Fail> {
     Ok(())
 }
 
+// Whether three deliveries, whose answers are written in so many calls of an octet each, end with status 1, are answered up
+// to there, and open a file for each line until then.
+fn is_answered_up_to<S: Alter>(
+    rt: &HostRuntime,
+    depot: &mut Result<Depot<S>, Refusal>,
+    calls: usize,
+    opened: usize,
+) -> Result<bool, Fail> {
+    let lines = ByLines { octets: THREE };
+    let out = Calls::new(rt, 1, calls);
+    let seen = served(rt.alloc(), depot, [MAIL, DISCARD], 1 << 16, lines, out)?;
+    let answers = &ANSWERS[..calls.min(ANSWERS.len())];
+    Ok(seen.status == 1 && seen.asked.len() == opened && seen.out.octets.as_slice() == answers)
+}
+
 #[test]
 fn answers_that_break_off(rt: HostRuntime) -> Result<(), Fail> {
-    let alloc = rt.alloc();
     let one = ANSWERS.len() / 3;
-    for octets in 0..ANSWERS.len() {
-        let mut depot = Depot::in_memory(alloc);
-        let seen = served(alloc, &mut depot, THREE, Calls::new(&rt, 1, octets))?;
-        assert_eq!(rt; seen.status, 1, "{octets}");
-        assert!(rt;
-            seen.out.octets.as_slice() == &ANSWERS[..octets],
-            "{octets}"
-        );
+    for calls in 0..ANSWERS.len() {
         // what was asked until then is done, and nothing more
-        assert_eq!(rt; seen.opened, octets / one + 1, "{octets}");
-        assert_eq!(rt; entries(&mut depot)?, octets / one + 1, "{octets}");
+        let begun = calls / one + 1;
+        let mut depot = Depot::in_memory(rt.alloc());
+        assert!(rt;
+            is_answered_up_to(&rt, &mut depot, calls, begun)?,
+            "{calls}"
+        );
+        assert_eq!(rt; entries(&mut depot)?, begun, "{calls}");
     }
     Ok(())
 }

@@ -1,6 +1,7 @@
 // Devices that do little at a time, and fail.
 
 use encodings::{DeviceFailed, OfRead, OfWrite, Sink, Source};
+use std::alloc::Global;
 use std::io;
 use std::io::{Error, ErrorKind, Read, Write};
 
@@ -129,45 +130,57 @@ impl<W: Write> Write for FailsFirst<W> {
     }
 }
 
+// Whether a reader that fails in this way is asked once.
+fn is_read_once(kind: ErrorKind) -> bool {
+    let mut source = OfRead::new(FailsFirst::new(b"abc".as_slice(), kind));
+    let mut room = [0; 8];
+    let read = source.read(&mut room);
+    matches!(read, Err(DeviceFailed)) && source.faults == 1 && source.inner.calls == 1
+}
+
+// Whether a writer that fails in this way is asked once, and has taken nothing.
+fn is_written_once(alloc: Global, kind: ErrorKind) -> bool {
+    let mut sink = OfWrite::new(FailsFirst::new(Vec::new(alloc), kind));
+    let written = sink.write(b"abc");
+    let is_once = sink.faults == 1 && sink.inner.calls == 1;
+    matches!(written, Err(DeviceFailed)) && is_once && sink.inner.inner.is_empty()
+}
+
 #[test]
 fn calls_that_fail_otherwise_are_not_made_again(rt: HostRuntime) {
     for kind in [ErrorKind::Other, ErrorKind::WouldBlock, ErrorKind::TimedOut] {
-        let mut source = OfRead::new(FailsFirst::new(b"abc".as_slice(), kind));
-        let mut room = [0; 8];
-        assert!(rt; matches!(source.read(&mut room), Err(DeviceFailed)));
-        assert_eq!(rt; source.faults, 1);
-        assert_eq!(rt; source.inner.calls, 1);
-        let mut sink = OfWrite::new(FailsFirst::new(Vec::new(rt.alloc()), kind));
-        assert!(rt; matches!(sink.write(b"abc"), Err(DeviceFailed)));
-        assert_eq!(rt; sink.faults, 1);
-        assert_eq!(rt; sink.inner.calls, 1);
-        assert!(rt; sink.inner.inner.is_empty());
+        assert!(rt; is_read_once(kind));
+        assert!(rt; is_written_once(rt.alloc(), kind));
     }
+}
+
+// Whether a reader that is interrupted so often is read, or has failed.
+fn is_read(left: u32, works: bool) -> bool {
+    let mut source = OfRead::new(Interrupted {
+        inner: b"abc".as_slice(),
+        left,
+    });
+    let mut room = [0; 8];
+    let read = source.read(&mut room);
+    read.is_ok() == works && (source.faults == 0) == works
+}
+
+// Whether a writer that is interrupted so often takes octets, or has failed.
+fn is_written(alloc: Global, left: u32, works: bool) -> bool {
+    let mut sink = OfWrite::new(Interrupted {
+        inner: Vec::new(alloc),
+        left,
+    });
+    let written = sink.write(b"abc");
+    let has_taken = sink.inner.inner.as_slice() == b"abc".as_slice();
+    written.is_ok() == works && (sink.faults == 0) == works && has_taken == works
 }
 
 #[test]
 fn interrupted_calls_are_made_again(rt: HostRuntime) {
     for (left, works) in [(0, true), (1, true), (15, true), (16, false)] {
-        let mut source = OfRead::new(Interrupted {
-            inner: b"abc".as_slice(),
-            left,
-        });
-        let mut room = [0; 8];
-        let read = source.read(&mut room);
-        assert_eq!(rt; read.is_ok(), works, "reading, {left}");
-        assert_eq!(rt; source.faults == 0, works, "reading, {left}");
-        let mut sink = OfWrite::new(Interrupted {
-            inner: Vec::new(rt.alloc()),
-            left,
-        });
-        let written = sink.write(b"abc");
-        assert_eq!(rt; written.is_ok(), works, "writing, {left}");
-        assert_eq!(rt; sink.faults == 0, works, "writing, {left}");
-        assert_eq!(rt;
-            sink.inner.inner.as_slice() == b"abc".as_slice(),
-            works,
-            "writing, {left}"
-        );
+        assert!(rt; is_read(left, works), "reading, {left}");
+        assert!(rt; is_written(rt.alloc(), left, works), "writing, {left}");
     }
 }
 

@@ -2,18 +2,64 @@
 use crate::devices::Calls;
 use depot_actions::{Depot, Refusal};
 use encodings::{Encoding, OfWrite, encode};
-use sqlite::MemStore;
+use sqlite::{Alter, MemStore};
+use std::alloc::{AllocError, Global};
 use std::test::Fail;
 
-/// Each encoding, with the length and the end of the text of 4,561 octets `a`, and with the length of the text of a whole piece.
-const TEXTS: [(Encoding, usize, &[u8], usize); 7] = [
-    (Encoding::Raw, 4_561, b"a", 4_560),
-    (Encoding::Base64, 6_084, b"YQ==", 6_080),
-    (Encoding::Base64Mime, 6_246, b"YQ==\r\n", 6_240),
-    (Encoding::Base32, 7_304, b"ME======", 7_296),
-    (Encoding::Base32Hex, 7_304, b"C4======", 7_296),
-    (Encoding::Base16, 9_122, b"61", 9_120),
-    (Encoding::Qp, 4_741, b"a", 78),
+/// The text of 4,561 octets `a` in an encoding.
+#[derive(Clone, Copy)]
+struct Text {
+    encoding: Encoding,
+    /// How long it is, and how it ends.
+    length: usize,
+    end: &'static [u8],
+    /// How long the text of a whole piece is.
+    piece: usize,
+}
+
+static TEXTS: [Text; 7] = [
+    Text {
+        encoding: Encoding::Raw,
+        length: 4_561,
+        end: b"a",
+        piece: 4_560,
+    },
+    Text {
+        encoding: Encoding::Base64,
+        length: 6_084,
+        end: b"YQ==",
+        piece: 6_080,
+    },
+    Text {
+        encoding: Encoding::Base64Mime,
+        length: 6_246,
+        end: b"YQ==\r\n",
+        piece: 6_240,
+    },
+    Text {
+        encoding: Encoding::Base32,
+        length: 7_304,
+        end: b"ME======",
+        piece: 7_296,
+    },
+    Text {
+        encoding: Encoding::Base32Hex,
+        length: 7_304,
+        end: b"C4======",
+        piece: 7_296,
+    },
+    Text {
+        encoding: Encoding::Base16,
+        length: 9_122,
+        end: b"61",
+        piece: 9_120,
+    },
+    Text {
+        encoding: Encoding::Qp,
+        length: 4_741,
+        end: b"a",
+        piece: 78,
+    },
 ];
 
 /// Whether a text of this length was given a piece at a time.
@@ -35,97 +81,168 @@ fn holding(rt: &HostRuntime, message: &[u8]) -> Result<Depot<MemStore>, Refusal>
     Ok(depot)
 }
 
+// Exports ann's entry to a writer that takes so many octets at a time in so many calls, and gives the answer and the writer.
+fn exported<S: Alter>(
+    rt: &HostRuntime,
+    depot: &mut Depot<S>,
+    encoding: Encoding,
+    most: usize,
+    calls: usize,
+) -> (Result<(), Refusal>, OfWrite<Calls>) {
+    let mut out = OfWrite::new(Calls::new(rt, most, calls));
+    let answer = depot.export(rt.alloc(), "ann", 1, encoding, &mut out);
+    (answer, out)
+}
+
+// Whether the entry is exported as a text of this length and end, a piece at a time.
+fn is_given_in_pieces<S: Alter>(rt: &HostRuntime, depot: &mut Depot<S>, text: &Text) -> bool {
+    let (answer, out) = exported(rt, depot, text.encoding, 10_000, 100);
+    let Calls {
+        octets,
+        lengths,
+        ..
+    } = &out.inner;
+    answer.is_ok()
+        && octets.len() == text.length
+        && octets.ends_with(text.end)
+        && are_pieces(lengths, text.length, text.piece)
+}
+
 #[test]
 fn a_message_longer_than_a_piece(rt: HostRuntime) -> Result<(), Fail> {
-    let alloc = rt.alloc();
-    let message = vec![in alloc; b'a'; 4_561]?;
+    let message = vec![in rt.alloc(); b'a'; 4_561]?;
     let mut depot = holding(&rt, &message)?;
-    for (encoding, length, end, piece) in TEXTS {
-        let mut out = OfWrite::new(Calls::new(&rt, 10_000, 100));
-        depot.export(alloc, "ann", 1, encoding, &mut out)?;
-        assert_eq!(rt; out.inner.octets.len(), length, "a text of {length}");
-        assert!(rt; out.inner.octets.ends_with(end), "a text of {length}");
+    for text in &TEXTS {
         assert!(rt;
-            are_pieces(&out.inner.lengths, length, piece),
-            "a text of {length}"
+            is_given_in_pieces(&rt, &mut depot, text),
+            "a text of {}",
+            text.length
         );
     }
     Ok(())
 }
 
+// Whether the entry is exported as this text of this length, in a call for each octet.
+fn is_given_in_octets<S: Alter>(
+    rt: &HostRuntime,
+    depot: &mut Depot<S>,
+    text: &Text,
+    whole: &[u8],
+) -> bool {
+    let (answer, out) = exported(rt, depot, text.encoding, 1, 10_000);
+    let Calls {
+        octets,
+        lengths,
+        ..
+    } = &out.inner;
+    answer.is_ok() && lengths.len() == text.length && octets.as_slice() == whole
+}
+
 #[test]
 fn one_octet_a_call(rt: HostRuntime) -> Result<(), Fail> {
-    let alloc = rt.alloc();
-    let message = vec![in alloc; b'a'; 4_561]?;
+    let message = vec![in rt.alloc(); b'a'; 4_561]?;
     let mut depot = holding(&rt, &message)?;
-    for (encoding, length, _, _) in TEXTS {
-        let mut out = OfWrite::new(Calls::new(&rt, 1, 10_000));
-        depot.export(alloc, "ann", 1, encoding, &mut out)?;
-        assert_eq!(rt; out.inner.lengths.len(), length, "a text of {length}");
-        let whole = encode(alloc, encoding, &message)?;
-        assert!(rt; out.inner.octets == whole, "a text of {length}");
+    for text in &TEXTS {
+        let whole = encode(rt.alloc(), text.encoding, &message)?;
+        assert!(rt;
+            is_given_in_octets(&rt, &mut depot, text, &whole),
+            "a text of {}",
+            text.length
+        );
     }
     Ok(())
 }
 
+// Whether an export to a writer that takes 1,000 octets at a time breaks off after so many calls, with the beginning of the
+// text written, and more than what all of these calls but the last can take.
+fn breaks_off_within<S: Alter>(
+    rt: &HostRuntime,
+    depot: &mut Depot<S>,
+    text: &Text,
+    whole: &[u8],
+    calls: usize,
+) -> bool {
+    let (answer, out) = exported(rt, depot, text.encoding, 1_000, calls);
+    let written = out.inner.octets.as_slice();
+    let least = calls
+        .saturating_sub(1)
+        .saturating_mul(text.piece.min(1_000));
+    matches!(answer, Err(Refusal::Write))
+        && out.faults == 1
+        && (written.len() > least || calls == 0)
+        && whole.starts_with(written)
+}
+
 #[test]
 fn a_writer_that_fails_within_a_piece(rt: HostRuntime) -> Result<(), Fail> {
-    let alloc = rt.alloc();
-    let message = vec![in alloc; b'a'; 4_561]?;
+    let message = vec![in rt.alloc(); b'a'; 4_561]?;
     let mut depot = holding(&rt, &message)?;
-    for (encoding, length, _, piece) in TEXTS {
-        let whole = encode(alloc, encoding, &message)?;
-        for calls in 0..=length / 1_000 {
-            let mut out = OfWrite::new(Calls::new(&rt, 1_000, calls));
-            let exported = depot.export(alloc, "ann", 1, encoding, &mut out);
-            let written = out.inner.octets.as_slice();
+    for text in &TEXTS {
+        let whole = encode(rt.alloc(), text.encoding, &message)?;
+        for calls in 0..=text.length / 1_000 {
             assert!(rt;
-                matches!(exported, Err(Refusal::Write)),
-                "a text of {length}, {calls}"
+                breaks_off_within(&rt, &mut depot, text, &whole, calls),
+                "a text of {}, {calls}",
+                text.length
             );
-            assert_eq!(rt; out.faults, 1);
-            assert!(rt;
-                written.len() > calls.saturating_sub(1).saturating_mul(piece.min(1_000))
-                    || calls == 0
-            );
-            assert!(rt; whole.starts_with(written), "a text of {length}, {calls}");
         }
     }
     Ok(())
 }
 
+// Whether an export to a writer that fails at its second call breaks off after a piece.
+fn breaks_off_after_a_piece<S: Alter>(rt: &HostRuntime, depot: &mut Depot<S>, text: &Text) -> bool {
+    let (answer, out) = exported(rt, depot, text.encoding, 10_000, 1);
+    matches!(answer, Err(Refusal::Write)) && out.inner.octets.len() == text.piece
+}
+
 #[test]
 fn a_writer_that_fails_at_its_second_call(rt: HostRuntime) -> Result<(), Fail> {
-    let alloc = rt.alloc();
-    let message = vec![in alloc; b'a'; 4_561]?;
+    let message = vec![in rt.alloc(); b'a'; 4_561]?;
     let mut depot = holding(&rt, &message)?;
-    for (encoding, length, _, piece) in TEXTS {
-        let mut out = OfWrite::new(Calls::new(&rt, 10_000, 1));
-        let exported = depot.export(alloc, "ann", 1, encoding, &mut out);
+    for text in &TEXTS {
         assert!(rt;
-            matches!(exported, Err(Refusal::Write)),
-            "a text of {length}"
+            breaks_off_after_a_piece(&rt, &mut depot, text),
+            "a text of {}",
+            text.length
         );
-        assert_eq!(rt; out.inner.octets.len(), piece, "a text of {length}");
     }
     Ok(())
 }
 
+// Octets that look like chance.
+fn mixed(alloc: Global, length: usize) -> Result<Vec<u8>, AllocError> {
+    let mut octets = Vec::new(alloc);
+    for place in 0..length {
+        octets.push((place.wrapping_mul(7) % 251) as u8)?;
+    }
+    Ok(octets)
+}
+
+// Whether the entry is exported as the encoding of these octets.
+fn is_encoding<S: Alter>(
+    alloc: Global,
+    depot: &mut Depot<S>,
+    encoding: Encoding,
+    octets: &[u8],
+) -> Result<bool, Fail> {
+    let mut out = OfWrite::new(Vec::new(alloc));
+    depot.export(alloc, "ann", 1, encoding, &mut out)?;
+    let whole = encode(alloc, encoding, octets)?;
+    Ok(out.inner == whole)
+}
+
 #[test]
 fn lengths_around_pieces(rt: HostRuntime) -> Result<(), Fail> {
-    let alloc = rt.alloc();
-    let mut message = Vec::new(alloc);
-    for place in 0..9_200usize {
-        message.push((place.wrapping_mul(7) % 251) as u8)?;
-    }
+    let message = mixed(rt.alloc(), 9_200)?;
     for length in [0, 1, 4_559, 4_560, 4_561, 9_119, 9_120, 9_121, 9_200] {
         let (octets, _) = message.split_at(length.min(message.len()));
         let mut depot = holding(&rt, octets)?;
-        for (encoding, _, _, _) in TEXTS {
-            let mut out = OfWrite::new(Vec::new(alloc));
-            depot.export(alloc, "ann", 1, encoding, &mut out)?;
-            let whole = encode(alloc, encoding, octets)?;
-            assert!(rt; out.inner == whole, "{length}");
+        for text in &TEXTS {
+            assert!(rt;
+                is_encoding(rt.alloc(), &mut depot, text.encoding, octets)?,
+                "{length}"
+            );
         }
     }
     Ok(())

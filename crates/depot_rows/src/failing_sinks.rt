@@ -4,7 +4,7 @@ use depot_actions::{Depot, Refusal};
 use depot_cli::perform;
 use depot_jobs::Task;
 use encodings::{Encoding, OfWrite, Sink, encode};
-use sqlite::MemStore;
+use sqlite::{Alter, MemStore};
 use std::alloc::{AllocError, Global};
 use std::io;
 use std::io::Write;
@@ -12,7 +12,7 @@ use std::test::Fail;
 use store_rows::held::{Held, held_in};
 use store_rows::samples::{KEEP, MESSAGE, SCRIPT};
 
-const ENCODINGS: [Encoding; 7] = [
+static ENCODINGS: [Encoding; 7] = [
     Encoding::Raw,
     Encoding::Base64,
     Encoding::Base64Mime,
@@ -40,7 +40,7 @@ struct Row {
     leaves: [usize; 3],
 }
 
-const ROWS: [Row; 5] = [
+static ROWS: [Row; 5] = [
     Row {
         kind: Kind::Script,
         line: "stored\n",
@@ -88,11 +88,17 @@ impl Write for Full {
     }
 }
 
+// Makes an entry that ann's filter stores.
+fn lay<S: Alter>(alloc: Global, depot: &mut Depot<S>) -> Result<(), Refusal> {
+    depot.set_script(alloc, "ann", SCRIPT)?;
+    depot.deliver(alloc, "ann", MESSAGE)?;
+    Ok(())
+}
+
 // A depot where ann has an entry that her filter has stored.
 fn laid(alloc: Global) -> Result<Depot<MemStore>, Refusal> {
     let mut depot = Depot::in_memory(alloc)?;
-    depot.set_script(alloc, "ann", SCRIPT)?;
-    depot.deliver(alloc, "ann", MESSAGE)?;
+    lay(alloc, &mut depot)?;
     Ok(depot)
 }
 
@@ -119,17 +125,28 @@ fn task_of(alloc: Global, kind: Kind) -> Result<Task<'static>, AllocError> {
     }
 }
 
-// Performs a task on a new depot, and gives the status and what the depot holds then.
+// Performs a task on a depot, and gives the status and what the depot holds then.
+fn performed_on<S: Alter + Drop, O: Sink, E: Sink>(
+    alloc: Global,
+    laid: Depot<S>,
+    task: &Task<'_>,
+    out: &mut O,
+    err: &mut E,
+) -> Result<(u8, Held), Fail> {
+    let mut depot = laid;
+    let status = perform(alloc, task, &mut depot, out, err);
+    let mut conn = depot.release().release();
+    Ok((status, held_in(alloc, &mut conn)?))
+}
+
+// Performs a task on a new depot.
 fn performed<O: Sink, E: Sink>(
     alloc: Global,
     task: &Task<'_>,
     out: &mut O,
     err: &mut E,
 ) -> Result<(u8, Held), Fail> {
-    let mut depot = laid(alloc)?;
-    let status = perform(alloc, task, &mut depot, out, err);
-    let mut conn = depot.release().release();
-    Ok((status, held_in(alloc, &mut conn)?))
+    performed_on(alloc, laid(alloc)?, task, out, err)
 }
 
 // Exports ann's entry as lines of base64 to a writer, and gives the status, the writer and what was told of it.
@@ -146,7 +163,7 @@ fn exported<W: Write + Drop>(alloc: Global, writer: W) -> Result<(u8, W, Vec<u8>
 }
 
 // Whether a task prints its line and no other, and what the depot holds then.
-fn whole(alloc: Global, row: Row) -> Result<(bool, Held), Fail> {
+fn whole(alloc: Global, row: &Row) -> Result<(bool, Held), Fail> {
     let mut out = OfWrite::new(Vec::new(alloc));
     let mut err = OfWrite::new(Vec::new(alloc));
     let task = task_of(alloc, row.kind)?;
@@ -156,7 +173,7 @@ fn whole(alloc: Global, row: Row) -> Result<(bool, Held), Fail> {
 }
 
 // Whether a task whose reply can't be written says so.
-fn is_told(rt: &HostRuntime, row: Row, whole: &Held) -> Result<bool, Fail> {
+fn is_told(rt: &HostRuntime, row: &Row, whole: &Held) -> Result<bool, Fail> {
     let mut out = OfWrite::new(Calls::new(rt, 1, 0));
     let mut err = OfWrite::new(Vec::new(rt.alloc()));
     let task = task_of(rt.alloc(), row.kind)?;
@@ -166,7 +183,7 @@ fn is_told(rt: &HostRuntime, row: Row, whole: &Held) -> Result<bool, Fail> {
 }
 
 // The same where nothing can be written.
-fn is_mute(rt: &HostRuntime, row: Row, whole: &Held) -> Result<bool, Fail> {
+fn is_mute(rt: &HostRuntime, row: &Row, whole: &Held) -> Result<bool, Fail> {
     let mut out = OfWrite::new(Calls::new(rt, 1, 0));
     let mut err = OfWrite::new(Calls::new(rt, 1, 0));
     let task = task_of(rt.alloc(), row.kind)?;
@@ -176,7 +193,7 @@ fn is_mute(rt: &HostRuntime, row: Row, whole: &Held) -> Result<bool, Fail> {
 
 #[test]
 fn what_was_done_stands(rt: HostRuntime) -> Result<(), Fail> {
-    for row in ROWS {
+    for row in &ROWS {
         let line = row.line;
         let (is_printed, held) = whole(rt.alloc(), row)?;
         assert!(rt; is_printed, "{line}");
@@ -231,9 +248,9 @@ fn mixed(alloc: Global, length: usize) -> Result<Vec<u8>, AllocError> {
 }
 
 // Whether an export breaks off after so many calls of an octet each, with the beginning of the text written.
-fn breaks_off(
+fn breaks_off<S: Alter>(
     rt: &HostRuntime,
-    depot: &mut Depot<MemStore>,
+    depot: &mut Depot<S>,
     encoding: Encoding,
     text: &[u8],
     calls: usize,
@@ -250,12 +267,12 @@ fn every_97th_call_fails(rt: HostRuntime) -> Result<(), Fail> {
     let message = mixed(alloc, 10_000)?;
     let mut depot = Depot::in_memory(alloc)?;
     depot.deliver(alloc, "ann", &message)?;
-    for encoding in ENCODINGS {
-        let text = encode(alloc, encoding, &message)?;
+    for encoding in &ENCODINGS {
+        let text = encode(alloc, *encoding, &message)?;
         assert!(rt; text.len() >= 10_000);
         for calls in (0..text.len()).step_by(97) {
             assert!(rt;
-                breaks_off(&rt, &mut depot, encoding, &text, calls),
+                breaks_off(&rt, &mut depot, *encoding, &text, calls),
                 "{calls}"
             );
         }

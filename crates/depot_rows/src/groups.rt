@@ -1,66 +1,26 @@
 // Deliveries that a batch does together: what they are answered, and what is read of which files.
 use crate::devices::Calls;
-use crate::known::{EMPTY, MAIL, entries};
-use crate::shelf::{Asked, Shelf};
+use crate::known::{EMPTY, MAIL, Seen, entries, served};
+use crate::shelf::Asked;
 use depot_actions::{Depot, Refusal};
-use depot_batch::batch;
-use encodings::{OfRead, OfWrite};
-use sqlite::MemStore;
+use sqlite::Alter;
 use std::alloc::Global;
-use std::io::{BufReader, Write};
 use std::test::Fail;
-use store_rows::samples::MESSAGE;
 
-/// What came of a batch.
-#[derive(Drop)]
-struct Seen<W> {
-    status: u8,
-    given: u64,
-    out: W,
-    err: Vec<u8>,
-    opened: Vec<String>,
+// How many files were opened.
+fn opened(asked: &[Asked]) -> usize {
+    asked
+        .iter()
+        .filter(|asked| matches!(asked, Asked::Opened(_)))
+        .count()
 }
 
-// Serves lines to a depot, of which so many octets are ready at a time.
-fn served<W: Write + Drop>(
-    alloc: Global,
-    depot: &mut Result<Depot<MemStore>, Refusal>,
-    ready: usize,
-    lines: &[u8],
-    out: W,
-) -> Result<Seen<W>, Fail> {
-    let mut host = Shelf::new(alloc, MAIL, EMPTY, b"", 1_000);
-    let mut input = OfRead::new(BufReader::with_capacity(alloc, ready, lines)?);
-    let mut out = OfWrite::new(out);
-    let mut err = OfWrite::new(Vec::new(alloc));
-    let status = batch(alloc, "d", depot, &mut host, &mut input, &mut out, &mut err);
-    let mut opened = Vec::new(alloc);
-    for asked in host.asked {
-        if let Asked::Opened(name) = asked {
-            opened.push(name)?;
-        }
-    }
-    Ok(Seen {
-        status,
-        given: input.given,
-        out: out.inner,
-        err: err.inner,
-        opened,
-    })
-}
-
-// Whether lines that are all ready are answered so, with status 0, and this many files are opened.
-fn answers(
-    alloc: Global,
-    depot: &mut Result<Depot<MemStore>, Refusal>,
-    lines: &[u8],
-    answer: &[u8],
-    opened: usize,
-) -> Result<bool, Fail> {
-    let seen = served(alloc, depot, 65_536, lines, Vec::new(alloc))?;
-    let whole = seen.status == 0 && seen.given == lines.len() as u64;
-    let same = seen.out.as_slice() == answer && seen.err.is_empty();
-    Ok(whole && same && seen.opened.len() == opened)
+// Whether all lines were read and answered so, with status 0, and this many files were opened.
+fn is_whole(seen: &Seen<Vec<u8>>, given: usize, answer: &[u8], files: usize) -> bool {
+    seen.status == 0
+        && seen.given == given as u64
+        && seen.out.as_slice() == answer
+        && opened(&seen.asked) == files
 }
 
 // So many deliveries to ann.
@@ -80,6 +40,27 @@ fn filed(alloc: Global, first: usize, count: usize) -> Result<Vec<u8>, Fail> {
         text.extend_from_slice(line.as_bytes())?;
     }
     Ok(text)
+}
+
+// Whether lines that are all ready are answered so and nothing is told, with status 0, and this many files are opened.
+fn are_answered<S: Alter>(
+    alloc: Global,
+    depot: &mut Result<Depot<S>, Refusal>,
+    lines: &[u8],
+    answer: &[u8],
+    files: usize,
+) -> Result<bool, Fail> {
+    let seen = served(alloc, depot, [MAIL, EMPTY], 65_536, lines, Vec::new(alloc))?;
+    Ok(is_whole(&seen, lines.len(), answer, files) && seen.err.is_empty())
+}
+
+// Three texts, one after another.
+fn joined(alloc: Global, texts: [&[u8]; 3]) -> Result<Vec<u8>, Fail> {
+    let mut whole = Vec::new(alloc);
+    for text in texts {
+        whole.extend_from_slice(text)?;
+    }
+    Ok(whole)
 }
 
 #[test]
@@ -125,35 +106,76 @@ fn withdrawn_groups(rt: HostRuntime) -> Result<(), Fail> {
     ];
     for (lines, texts, opened) in rows {
         let mut depot = Depot::in_memory(alloc);
-        let mut answer = Vec::new(alloc);
-        for text in texts {
-            answer.extend_from_slice(text)?;
-        }
-        let same = answers(alloc, &mut depot, lines, &answer, opened)?;
-        assert!(rt; same, "{opened}");
+        let answer = joined(alloc, texts)?;
+        assert!(rt;
+            are_answered(alloc, &mut depot, lines, &answer, opened)?,
+            "{opened}"
+        );
         assert_eq!(rt; entries(&mut depot)?, 2, "{opened}");
     }
     Ok(())
 }
 
-#[test]
-fn whatever_is_ready(rt: HostRuntime) -> Result<(), Fail> {
-    let alloc = rt.alloc();
+// Eleven deliveries with another command between, and the beginning of a line.
+fn mixed_lines(alloc: Global) -> Result<Vec<u8>, Fail> {
     let mut lines = deliveries(alloc, 9)?;
     lines.extend_from_slice(b"list eve\ndeliver ann mail\ndeliver ann mail\ndeliver")?;
+    Ok(lines)
+}
+
+// What they are answered.
+fn mixed_answers(alloc: Global) -> Result<Vec<u8>, Fail> {
     let mut answer = filed(alloc, 1, 9)?;
     answer.extend_from_slice(b"none\n= 0\n")?;
     answer.extend_from_slice(filed(alloc, 10, 2)?.as_slice())?;
     answer.extend_from_slice(b"? the input ended within this line\n= 2\n")?;
+    Ok(answer)
+}
+
+// Whether these lines, of which so many octets are ready at a time, are answered so, and each delivery opens a file.
+fn are_answered_as_ready<S: Alter>(
+    alloc: Global,
+    depot: &mut Result<Depot<S>, Refusal>,
+    ready: usize,
+    lines: &[u8],
+    answer: &[u8],
+) -> Result<bool, Fail> {
+    let seen = served(alloc, depot, [MAIL, EMPTY], ready, lines, Vec::new(alloc))?;
+    Ok(is_whole(&seen, lines.len(), answer, 11))
+}
+
+#[test]
+fn whatever_is_ready(rt: HostRuntime) -> Result<(), Fail> {
+    let alloc = rt.alloc();
+    let lines = mixed_lines(alloc)?;
+    let answer = mixed_answers(alloc)?;
     for ready in [1, 16, 17, 33, 34, 35, 60, 1_000] {
         let mut depot = Depot::in_memory(alloc);
-        let seen = served(alloc, &mut depot, ready, &lines, Vec::new(alloc))?;
-        assert_eq!(rt; seen.status, 0, "{ready}");
-        assert!(rt; seen.out.as_slice() == answer.as_slice(), "{ready}");
-        assert_eq!(rt; seen.given, lines.len() as u64, "{ready}");
-        assert_eq!(rt; seen.opened.len(), 11, "{ready}");
+        assert!(rt;
+            are_answered_as_ready(alloc, &mut depot, ready, &lines, &answer)?,
+            "{ready}"
+        );
     }
     Ok(())
+}
+
+// Whether lines that are all ready, whose answers are written in so many calls of an octet each, are all read, and answered up
+// to there.
+fn is_answered_up_to<S: Alter>(
+    rt: &HostRuntime,
+    depot: &mut Result<Depot<S>, Refusal>,
+    lines: &[u8],
+    answer: &[u8],
+    calls: usize,
+) -> Result<bool, Fail> {
+    let out = Calls::new(rt, 1, calls);
+    let seen = served(rt.alloc(), depot, [MAIL, EMPTY], 65_536, lines, out)?;
+    let written = &answer[..calls.min(answer.len())];
+    Ok(
+        seen.ends(1, b"refused 45 Write\n")
+            && seen.given == lines.len() as u64
+            && seen.out.octets.as_slice() == written,
+    )
 }
 
 #[test]
@@ -163,14 +185,10 @@ fn writers_that_fail_in_a_group(rt: HostRuntime) -> Result<(), Fail> {
     let answer = filed(alloc, 1, 3)?;
     for calls in 0..answer.len() {
         let mut depot = Depot::in_memory(alloc);
-        let seen = served(alloc, &mut depot, 65_536, &lines, Calls::new(&rt, 1, calls))?;
-        assert_eq!(rt; seen.status, 1, "{calls}");
-        assert!(rt; seen.out.octets.as_slice() == &answer[..calls], "{calls}");
         assert!(rt;
-            seen.err.as_slice() == b"refused 45 Write\n".as_slice(),
+            is_answered_up_to(&rt, &mut depot, &lines, &answer, calls)?,
             "{calls}"
         );
-        assert_eq!(rt; seen.given, lines.len() as u64, "{calls}");
         assert_eq!(rt; entries(&mut depot)?, 3, "{calls}");
     }
     Ok(())

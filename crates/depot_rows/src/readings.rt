@@ -5,8 +5,10 @@ use depot_jobs::read_limited;
 use encodings::OfRead;
 use mime_decode::MAX_MESSAGE;
 use refusals::Refusal;
+use std::alloc::{AllocError, Global};
 use std::io;
 use std::io::{Error, ErrorKind, Read};
+use std::test::Fail;
 
 /// Gives its octets one at a time, and fails after the last.
 #[derive(Drop)]
@@ -28,27 +30,32 @@ impl Read for Failing<'_> {
     }
 }
 
+const TEXT: &[u8] = b"abcdef";
+
+// Whether the text is too large for a limit, of which one octet more is read.
+fn is_too_large(alloc: Global, limit: usize) -> bool {
+    let mut source = OfRead::new(TEXT);
+    let read = read_limited(alloc, &mut source, limit);
+    let given = (limit as u64).saturating_add(1);
+    matches!(&read, Err(Refusal::MessageTooLarge)) && source.given == given && source.faults == 0
+}
+
+// Whether the text is read to its end up to a limit.
+fn is_read(alloc: Global, limit: usize) -> bool {
+    let mut source = OfRead::new(TEXT);
+    let read = read_limited(alloc, &mut source, limit);
+    let is_same = matches!(&read, Ok(octets) if octets.as_slice() == TEXT);
+    is_same && source.has_ended && source.faults == 0
+}
+
 #[test]
 fn the_limit_and_one_more(rt: HostRuntime) {
-    let text = b"abcdef".as_slice();
-    for limit in 0..9usize {
-        let mut source = OfRead::new(text);
-        let read = read_limited(rt.alloc(), &mut source, limit);
-        if limit < 6 {
-            assert!(rt; matches!(&read, Err(Refusal::MessageTooLarge)), "{limit}");
-            assert_eq!(rt; source.given, limit as u64 + 1, "{limit}");
-        } else {
-            assert!(rt;
-                matches!(&read, Ok(octets) if octets.as_slice() == text),
-                "{limit}"
-            );
-            assert!(rt; source.has_ended, "{limit}");
-        }
-        assert_eq!(rt; source.faults, 0, "{limit}");
+    for limit in 0..6usize {
+        assert!(rt; is_too_large(rt.alloc(), limit), "{limit}");
     }
-    let mut source = OfRead::new(text);
-    let read = read_limited(rt.alloc(), &mut source, usize::MAX);
-    assert!(rt; matches!(&read, Ok(octets) if octets.as_slice() == text));
+    for limit in [6, 7, 8, usize::MAX] {
+        assert!(rt; is_read(rt.alloc(), limit), "{limit}");
+    }
 }
 
 #[test]
@@ -59,35 +66,36 @@ fn a_source_that_never_ends(rt: HostRuntime) {
     assert_eq!(rt; source.given, 67_108_865);
 }
 
-#[test]
-fn a_source_that_fails(rt: HostRuntime) {
-    for (limit, refused) in [(2usize, true), (3, false)] {
-        let mut source = OfRead::new(Failing { octets: b"abc" });
-        let read = read_limited(rt.alloc(), &mut source, limit);
-        if refused {
-            assert!(rt; matches!(&read, Err(Refusal::MessageTooLarge)));
-            assert_eq!(rt; source.faults, 0);
-        } else {
-            assert!(rt; matches!(&read, Err(Refusal::Read)));
-            assert_eq!(rt; source.faults, 1);
-        }
-        assert_eq!(rt; source.given, 3);
-    }
+// Reads three octets of a source that fails then, up to a limit, and gives what is refused and how many calls failed.
+fn refused_of_three(alloc: Global, limit: usize) -> (Option<Refusal>, u64, u64) {
+    let mut source = OfRead::new(Failing { octets: b"abc" });
+    let read = read_limited(alloc, &mut source, limit);
+    (read.err(), source.given, source.faults)
 }
 
 #[test]
-fn large_texts_in_pieces(rt: HostRuntime) -> io::Result<()> {
+fn a_source_that_fails(rt: HostRuntime) {
+    let came = refused_of_three(rt.alloc(), 2);
+    assert!(rt; matches!(came, (Some(Refusal::MessageTooLarge), 3, 0)));
+    let came = refused_of_three(rt.alloc(), 3);
+    assert!(rt; matches!(came, (Some(Refusal::Read), 3, 1)));
+}
+
+// Whether so many octets are read whole from a source that is interrupted thrice.
+fn is_read_whole(alloc: Global, length: usize) -> Result<bool, AllocError> {
+    let text = vec![in alloc; b'a'; length]?;
+    let mut source = OfRead::new(Interrupted {
+        inner: text.as_slice(),
+        left: 3,
+    });
+    let read = read_limited(alloc, &mut source, length);
+    Ok(matches!(&read, Ok(octets) if octets.as_slice() == text.as_slice()))
+}
+
+#[test]
+fn large_texts_in_pieces(rt: HostRuntime) -> Result<(), Fail> {
     for length in [65_535usize, 65_536, 65_537, 1_000_000] {
-        let text = vec![in rt.alloc(); b'a'; length]?;
-        let mut source = OfRead::new(Interrupted {
-            inner: text.as_slice(),
-            left: 3,
-        });
-        let read = read_limited(rt.alloc(), &mut source, length);
-        assert!(rt;
-            matches!(&read, Ok(octets) if octets.as_slice() == text.as_slice()),
-            "{length}"
-        );
+        assert!(rt; is_read_whole(rt.alloc(), length)?, "{length}");
     }
     Ok(())
 }

@@ -5,6 +5,8 @@ use depot_actions::Depot;
 use depot_cli::{Next, PendingTask, Saving, inspect, perform, run, save};
 use depot_jobs::{Host, tell};
 use encodings::{OfWrite, Sink};
+use refusals::Refusal;
+use sqlite::Alter;
 use std::alloc::{AllocError, Global};
 use std::test::Fail;
 
@@ -50,7 +52,7 @@ const ROW: Row = Row {
     asked: "[]",
 };
 
-const READ_MADE_AND_PRINTED: [Row; 10] = [
+static READ_MADE_AND_PRINTED: [Row; 10] = [
     Row {
         words: &["depot", "eval", "s", "m"],
         out: "none\ncharged 4 of 4\n",
@@ -126,7 +128,7 @@ const READ_MADE_AND_PRINTED: [Row; 10] = [
     },
 ];
 
-const ON_A_DEPOT: [Row; 9] = [
+static ON_A_DEPOT: [Row; 9] = [
     Row {
         words: &["depot", "script", "d", "ann", "s"],
         out: "stored\n",
@@ -183,7 +185,7 @@ const ON_A_DEPOT: [Row; 9] = [
     },
 ];
 
-const PROGRAM_AS_A_FILE: [Row; 5] = [
+static PROGRAM_AS_A_FILE: [Row; 5] = [
     Row {
         words: &["depot", "program", "d", "ann", "o"],
         room: 55,
@@ -226,74 +228,82 @@ const PROGRAM_AS_A_FILE: [Row; 5] = [
     },
 ];
 
-// Carries a task to an empty depot in memory, and gives the status.
-fn carry<O: Sink, E: Sink>(
+// Carries a task to a depot, and gives the status.
+fn carry<S: Alter, O: Sink, E: Sink>(
     alloc: Global,
     pending: &PendingTask<'_>,
+    opened: &mut Result<Depot<S>, Refusal>,
     out: &mut O,
     err: &mut E,
 ) -> u8 {
-    match Depot::in_memory(alloc) {
-        Ok(opened) => {
-            let mut depot = opened;
-            perform(alloc, &pending.task, &mut depot, out, err)
-        }
-        Err(refusal) => tell(err, &refusal),
+    match opened {
+        Ok(depot) => perform(alloc, &pending.task, depot, out, err),
+        Err(refusal) => tell(err, refusal),
     }
 }
 
-// Inspects an empty depot in memory, and gives the status.
-fn look<O: Sink, E: Sink>(alloc: Global, out: &mut O, err: &mut E) -> u8 {
-    match Depot::in_memory(alloc) {
-        Ok(opened) => {
-            let mut depot = opened;
-            inspect(alloc, None, &mut depot, out, err)
-        }
-        Err(refusal) => tell(err, &refusal),
+// Inspects a depot, and gives the status.
+fn look<S: Alter, O: Sink, E: Sink>(
+    alloc: Global,
+    opened: &mut Result<Depot<S>, Refusal>,
+    out: &mut O,
+    err: &mut E,
+) -> u8 {
+    match opened {
+        Ok(depot) => inspect(alloc, None, depot, out, err),
+        Err(refusal) => tell(err, refusal),
     }
 }
 
-// Saves a program from a depot in memory, in which ann has that of the script, and gives the status.
-fn fetch<H: Host, O: Sink, E: Sink>(
+// Saves a program from a depot in which ann gets that of the script, and gives the status.
+fn fetch<S: Alter, H: Host, O: Sink, E: Sink>(
     alloc: Global,
     saving: Saving<'_>,
+    opened: &mut Result<Depot<S>, Refusal>,
     host: &mut H,
     out: &mut O,
     err: &mut E,
 ) -> u8 {
-    let mut opened = Depot::in_memory(alloc);
-    if let Ok(depot) = &mut opened {
+    if let Ok(depot) = opened {
         let _ = depot.set_script(alloc, "ann", SCRIPT.octets);
     }
-    save(alloc, saving, &mut opened, host, out, err)
+    save(alloc, saving, opened, host, out, err)
 }
 
-// Runs words on a shelf with a script and a message.
-fn come(rt: &HostRuntime, words: &[&str], room: usize) -> Seen {
-    let mut host = Shelf::new(rt.alloc(), SCRIPT, MESSAGE, b"MZXW6YTBOI======", room);
-    let mut out = OfWrite::new(Vec::new(rt.alloc()));
-    let mut err = OfWrite::new(Vec::new(rt.alloc()));
-    let status = match run(rt.alloc(), words, &mut host, &mut out, &mut err) {
+// Runs words, with a depot where one is asked for, and gives the status.
+fn come_to<S: Alter, H: Host, O: Sink, E: Sink>(
+    alloc: Global,
+    words: &[&str],
+    opened: &mut Result<Depot<S>, Refusal>,
+    host: &mut H,
+    out: &mut O,
+    err: &mut E,
+) -> u8 {
+    match run(alloc, words, host, out, err) {
         Next::Exit(status) => status,
-        Next::Perform(pending) => carry(rt.alloc(), &pending, &mut out, &mut err),
-        Next::Inspect(_) => look(rt.alloc(), &mut out, &mut err),
-        Next::Save(saving) => fetch(rt.alloc(), saving, &mut host, &mut out, &mut err),
+        Next::Perform(pending) => carry(alloc, &pending, opened, out, err),
+        Next::Inspect(_) => look(alloc, opened, out, err),
+        Next::Save(saving) => fetch(alloc, saving, opened, host, out, err),
         // no row has lines
         Next::Batch(_) => 2,
-    };
-    let Shelf {
-        asked,
-        given,
-        faults,
-        ..
-    } = host;
+    }
+}
+
+// Runs words on a shelf with a script and a message, and on an empty depot in memory.
+fn come(rt: &HostRuntime, words: &[&str], room: usize) -> Seen {
+    let alloc = rt.alloc();
+    let mut host = Shelf::new(alloc, SCRIPT, MESSAGE, b"MZXW6YTBOI======", room);
+    let mut out = OfWrite::new(Vec::new(alloc));
+    let mut err = OfWrite::new(Vec::new(alloc));
+    let mut opened = Depot::in_memory(alloc);
+    let status = come_to(alloc, words, &mut opened, &mut host, &mut out, &mut err);
     Seen {
         status,
         out: out.inner,
         err: err.inner,
-        asked,
-        given,
-        faults,
+        asked: host.asked,
+        given: host.given,
+        faults: host.faults,
     }
 }
 
@@ -333,27 +343,24 @@ fn a_program_as_a_file(rt: HostRuntime) -> Result<(), Fail> {
     Ok(())
 }
 
+// Whether words come to so many octets read, and so many failed calls.
+fn counts(rt: &HostRuntime, words: &[&str], room: usize, given: u64, faults: u64) -> bool {
+    let came = come(rt, words, room);
+    came.given == given && came.faults == faults
+}
+
 #[test]
 fn octets_and_failures_are_counted(rt: HostRuntime) {
-    let came = come(&rt, &["depot", "eval", "s", "m"], 0);
-    assert_eq!(rt; came.given, 32);
-    assert_eq!(rt; came.faults, 0);
-    let came = come(&rt, &["depot", "eval", "s", "x"], 0);
-    assert_eq!(rt; came.given, 28);
-    assert_eq!(rt; came.faults, 1);
-    let came = come(&rt, &["depot", "compile", "s", "o"], 10);
-    assert_eq!(rt; came.faults, 1);
+    assert!(rt; counts(&rt, &["depot", "eval", "s", "m"], 0, 32, 0));
+    assert!(rt; counts(&rt, &["depot", "eval", "s", "x"], 0, 28, 1));
+    assert!(rt; counts(&rt, &["depot", "compile", "s", "o"], 10, 28, 1));
 }
 
 #[test]
 fn words_that_say_nothing(rt: HostRuntime) {
+    let told = b"error: unrecognized subcommand 'ch\\07eck'\n";
     let came = come(&rt, &["depot", "ch\u{7}eck", "s"], 0);
     assert_eq!(rt; came.status, 2);
-    assert!(rt; came.out.is_empty());
-    assert!(rt; came.asked.is_empty());
-    assert!(rt;
-        came.err
-            .as_slice()
-            .starts_with(b"error: unrecognized subcommand 'ch\\07eck'\n")
-    );
+    assert!(rt; came.out.is_empty() && came.asked.is_empty());
+    assert!(rt; came.err.as_slice().starts_with(told));
 }
