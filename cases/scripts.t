@@ -41,7 +41,7 @@
 
 ## refusals of memory, and the reasons of each
     $ "$TOP/cases/memory_refusals"
-    66 places, each with its reason
+    68 places, each with its reason
 
 ## deliver, behind a mail server
 Only if: command -v flock # there is no flock
