@@ -37,7 +37,7 @@
     2 message "INBOX" "" message/rfc822 19165
     $ wc -c < attached
     18032
-    $ depot decode base16 < attached | head -c 5
+    $ depot decode base16 < attached > decoded && head -c 5 decoded && rm decoded
     %PDF-
     [no line break]
 

@@ -1,6 +1,6 @@
 # check: whether a script has a fault, and at which token
 
-`docs/SPECIFICATION.md` says what a script may have. `explain.t` is about the same faults in words, and the texts of refusals are those of its table.
+`docs/LANGUAGE.md` says what a script can have, and `docs/INTERFACE.md` names the refusals. `explain.t` is about the same faults in words.
 
 Scripts without a fault.
 

@@ -162,7 +162,7 @@ Only if: command -v flock # there is no flock
     3
     free
     $ echo 'keep;' > script && DEPOT=./look "$TOP/contrib/refilter" mail.depot ann script | tail -n 1 && cat locks
-    3 messages, and 0 parts that were stored apart
+    3 messages, and 0 parts stored apart
     free
     free
     free
@@ -292,6 +292,11 @@ The batch ends after so many lines, and the script is killed then.
     2> refile: there is no file none
     2> refile: folder is no file
     2> refile: folder is no file
+    $ DEPOT=./none ./t refile new.depot ann script new; DEPOT=./mail ./t refile new.depot ann script new
+    69
+    69
+    2> refile: there is no program ./none: name it by the variable DEPOT, or put depot on the PATH
+    2> refile: there is no program ./mail: name it by the variable DEPOT, or put depot on the PATH
     $ rm -r Odd
 
 ## a filter that is none any more, and what each script says of it
@@ -325,6 +330,212 @@ The batch ends after so many lines, and the script is killed then.
     $ "$TOP/contrib/to_maildir" mail.depot ann Mail && cmp mail Mail/new/1.depot-ann && rm -r Mail
     1 Mail/new/1.depot-ann
 
+## an entry that can't be exported, with a stand-in that refuses it and ends the batch
+    $ for n in 1 2 3 4; do printf 'Subject: %s\n\n%s\n' $n $n > mail && depot deliver mail.depot ann mail > said; done && echo 'keep;' > script
+    $ cat > altered <<'END'
+    > #!/bin/sh
+    > case "$1 $4 $5" in "export ann $ALONE") echo 'refused 43 Database' >&2; exit 1 ;; esac
+    > [ "$1" != inspect ] || [ -z "$SAID" ] || { echo "$SAID"; exit 1; }
+    > [ "$1" = batch ] || exec depot "$@"
+    > while IFS= read -r line; do case $line in $REFUSED) : > now; break ;; esac; printf '%s\n' "$line"; done | depot "$@"
+    > [ ! -e now ] || { rm now; printf 'refused 43 Database\n= 1\n'; exit 1; }
+    > END
+    $ chmod +x altered && REFUSED='export "ann" [24] *' DEPOT=./altered "$TOP/contrib/to_maildir" mail.depot ann Mail
+    1 Mail/new/1.depot-ann
+    3 Mail/new/3.depot-ann
+    2> to_maildir: the content of entry 2 of ann was altered on the disk: restore it from a backup
+    2> to_maildir: the content of entry 4 of ann was altered on the disk: restore it from a backup
+    [65]
+
+A second run names them again, and adds what is new; the file of the journal has them behind the last number.
+
+    $ depot deliver mail.depot ann mail && REFUSED='export "ann" [24] *' DEPOT=./altered "$TOP/contrib/to_maildir" mail.depot ann Mail
+    5 message "INBOX"
+    5 Mail/new/5.depot-ann
+    2> to_maildir: the content of entry 2 of ann was altered on the disk: restore it from a backup
+    2> to_maildir: the content of entry 4 of ann was altered on the disk: restore it from a backup
+    [65]
+    $ cat Mail/depot-ann && ls Mail/tmp && rm Mail/new/* && depot remove mail.depot ann 4
+    5
+    2
+    4
+    removed 4
+    $ "$TOP/contrib/to_maildir" mail.depot ann Mail; "$TOP/contrib/to_maildir" mail.depot ann Mail; cat Mail/depot-ann; ls Mail/new && rm -r Mail
+    2 Mail/new/2.depot-ann
+    5
+    2.depot-ann
+    $ REFUSED='export "ann" 2 *' DEPOT=./altered "$TOP/contrib/refilter" mail.depot ann script --apply new.depot; echo "$?"; depot list new.depot ann
+    1 "INBOX": 1 message "INBOX"
+    3 "INBOX": 2 message "INBOX"
+    5 "INBOX": 3 message "INBOX"
+    4 messages, and 0 parts stored apart; 1 altered on the disk, and not filed
+    65
+    1 message "INBOX" "" message/rfc822 14
+    2 message "INBOX" "" message/rfc822 14
+    3 message "INBOX" "" message/rfc822 14
+    2> refilter: the content of entry 2 of ann was altered on the disk: restore it from a backup
+
+Where nothing else can be exported, or `inspect` finds a fault, nothing is passed over.
+
+    $ for script in 'to_maildir mail.depot ann Mail' 'refilter mail.depot ann script --apply other.depot'; do
+    >     REFUSED='export *' DEPOT=./altered "$TOP"/contrib/$script 2> said; echo "$?"; sed 's/.*: refused/refused/' said
+    >     REFUSED='export "ann" 1 *' SAID='no depot: the disk failed' DEPOT=./altered "$TOP"/contrib/$script 2> said; echo "$?"; sed 's/.*: refused/refused/' said
+    >     REFUSED='export "ann" 1 *' SAID='depot' DEPOT=./altered "$TOP"/contrib/$script 2> said; echo "$?"; sed 's/.*: refused/refused/' said
+    >     REFUSED='[ed]* "probe*' DEPOT=./altered "$TOP"/contrib/$script > passed; echo "$?"; rm -f other.depot
+    > done; ls Mail/cur Mail/tmp; rm -r Mail
+    75
+    refused 43 Database: the disk of the temporary folder is full or failed
+    65
+    refused 43 Database: the disk failed
+    75
+    refused 43 Database: the disk of the temporary folder is full or failed
+    0
+    75
+    refused 43 Database: the disk of the temporary folder is full or failed
+    65
+    refused 43 Database: the disk failed
+    75
+    refused 43 Database: the disk of the temporary folder is full or failed
+    0
+    Mail/cur:
+    
+    Mail/tmp:
+
+What ask says of it depends on what can be the reason.
+
+    $ REFUSED='export "ann" "2" *' DEPOT=./altered "$TOP/contrib/ask" mail.depot export ann 2 raw out
+    2> refused 43 Database: inspect finds no fault, so this content was altered on the disk, or the disk failed
+    [1]
+    $ REFUSED='remove *' DEPOT=./altered "$TOP/contrib/ask" mail.depot remove ann 2
+    2> refused 43 Database: inspect finds no fault, so the disk is full or failed
+    [1]
+    $ echo 'export ann 2 raw out' | REFUSED='export ann 2 *' DEPOT=./altered "$TOP/contrib/ask" mail.depot -
+    refused 43 Database
+    = 1
+    2> ask: mail.depot: inspect finds no fault, so another process had it open, or the disk is full or failed, or the content of an export was altered on the disk
+    [1]
+    $ cat > served <<'END'
+    > REFUSED='export "ann" "2" *' DEPOT=$PWD/altered "$TOP/contrib/hold" mail.depot 2> said & until [ -S mail.depot.hold ]; do sleep 0.1; done
+    > for n in 1 2 3; do "$TOP/contrib/ask" mail.depot export ann $n raw out; done; kill $!; wait
+    > END
+    $ sh served
+    exported 1
+    exported 3
+    2> refused 43 Database: inspect finds no fault, so this content was altered on the disk, or the disk failed
+    $ rm mail.depot.held
+
+## an archive of which an entry was altered after a run was killed
+Only if: python3 -c 'import sqlite3' # there is no sqlite3 for python3
+    $ mkdir archive && for n in 1 2 3; do printf 'Subject: %s\n\n%s\n' $n $n > archive/$n; done && ls archive/* > list && echo 'keep;' > script
+    $ cat > alter <<'END'
+    > import sqlite3, sys
+    > file = sqlite3.connect(sys.argv[1])
+    > file.execute("UPDATE contents SET octets = CAST(replace(octets, ?, ?) AS BLOB)", (sys.argv[2], sys.argv[3]))
+    > file.commit()
+    > file.close()
+    > END
+    $ printf '#!/bin/sh\ncase "$1 $4 $5" in "export ann 2") echo "refused 43 Database" >&2; exit 1 ;; esac\n[ "$1" = batch ] || exec depot "$@"\n' > altered
+    $ cat >> altered <<'END'
+    > while IFS= read -r line; do case $line in 'export "ann" 2 '*) : > now; break ;; esac; printf '%s\n' "$line"; done | depot "$@"
+    > [ ! -e now ] || { rm now; printf 'refused 43 Database\n= 1\n'; exit 1; }
+    > END
+    $ chmod +x altered && "$TOP/contrib/refile" mail.depot ann script journal < /dev/null && printf 'next\t0\tarchive/%s\n' 1 2 3 >> journal
+    0 mails: 0 filed before, 0 filed now, 0 refused
+    $ for n in 1 2; do depot deliver mail.depot ann archive/$n; done && python3 alter mail.depot 'Subject: 2' 'Subject: 0'
+    1 message "INBOX"
+    2 message "INBOX"
+    $ DEPOT=./altered "$TOP/contrib/refile" mail.depot ann script journal < list
+    3 mails: 1 filed before, 1 filed now, 1 refused
+    2> refile: archive/2: it was filed, and altered on the disk later: remove what it made, 2, and run this again
+    2> refile: archive/2: refused 42 Collision
+    [65]
+    $ depot remove mail.depot ann 2 && "$TOP/contrib/refile" mail.depot ann script journal < list
+    removed 2
+    3 mails: 2 filed before, 1 filed now, 0 refused
+    $ for n in 1 3 4; do depot export mail.depot ann $n raw | tail -n 1; done; tail -n +5 journal | tr '\t' ' '; rm -r archive
+    1
+    3
+    2
+    0 2 archive/1
+    1 no answer 2 archive/2
+    1 no answer 2 archive/3
+    next 2 archive/2
+    next 2 archive/3
+    1 refused 42 Collision 2 archive/2
+    0 3 archive/3
+    next 3 archive/2
+    0 4 archive/2
+
+## contents of which a byte was changed in the file
+Only if: python3 -c 'import sqlite3' # there is no sqlite3 for python3
+    $ for n in 1 2 3; do printf 'Subject: %s\n\n%s\n' $n $n > mail && depot deliver mail.depot ann mail > said; done && depot deliver mail.depot ann examples/invoice.eml
+    4 message "INBOX"
+    $ cat > alter <<'END'
+    > import sqlite3, sys
+    > file = sqlite3.connect(sys.argv[1])
+    > asked = "SELECT octets, digest FROM entries JOIN contents USING (digest) WHERE user = 'ann' AND number = ?"
+    > octets, digest = file.execute(asked, (int(sys.argv[2]),)).fetchone()
+    > octets = octets[:8] + bytes([octets[8] ^ 1]) + octets[9:]
+    > file.execute("UPDATE contents SET octets = ? WHERE digest = ?", (octets, digest))
+    > file.commit()
+    > file.close()
+    > END
+    $ depot list mail.depot ann > before && for n in 2 4; do python3 alter mail.depot $n; done; depot list mail.depot ann | cmp - before; depot inspect mail.depot | sed -n 1p
+    depot
+    $ for n in 1 2 3 4; do depot export mail.depot ann $n raw | tail -n 1; done
+    1
+    3
+    2> refused 43 Database
+    2> refused 43 Database
+    $ printf 'list ann\nexport ann 4 raw out\nlist ann\n' | depot batch mail.depot | tail -n 2; test ! -e out
+    refused 43 Database
+    = 1
+    $ "$TOP/contrib/ask" mail.depot export ann 2 raw out
+    2> refused 43 Database: inspect finds no fault, so this content was altered on the disk, or the disk failed
+    [1]
+    $ "$TOP/contrib/to_maildir" mail.depot ann Mail
+    1 Mail/new/1.depot-ann
+    3 Mail/new/3.depot-ann
+    2> to_maildir: the content of entry 2 of ann was altered on the disk: restore it from a backup
+    2> to_maildir: the content of entry 4 of ann was altered on the disk: restore it from a backup
+    [65]
+    $ echo 'keep;' > script && "$TOP/contrib/refilter" mail.depot ann script
+    1 "INBOX": 1 message "INBOX"
+    3 "INBOX": 2 message "INBOX"
+    4 messages, and 0 parts stored apart; 2 altered on the disk, and not filed
+    2> refilter: the content of entry 2 of ann was altered on the disk: restore it from a backup
+    2> refilter: the content of entry 4 of ann was altered on the disk: restore it from a backup
+    [65]
+    $ mkdir boxes && "$TOP/contrib/ask" mail.depot copy boxes/ann.depot && DEPOT=depot "$TOP/contrib/each_mailbox" boxes maildir mails; echo "$?"; find mails -path '*/new/*' | sort; rm -r boxes mails
+    copied
+    0 done, 1 failed
+    65
+    mails/ann/new/1.depot-ann
+    mails/ann/new/3.depot-ann
+    2> each_mailbox: boxes/ann.depot: the content of entry 2 of ann was altered on the disk: restore it from a backup; the content of entry 4 of ann was altered on the disk: restore it from a backup
+
+One is restored as it was, and the other one removed.
+
+    $ python3 alter mail.depot 2 && depot remove mail.depot ann 4 && "$TOP/contrib/to_maildir" mail.depot ann Mail
+    removed 4
+    2 Mail/new/2.depot-ann
+    $ "$TOP/contrib/to_maildir" mail.depot ann Mail && tail -n 1 Mail/new/2.depot-ann && rm -r Mail
+    2
+
+And after a run of refile was killed.
+
+    $ : | "$TOP/contrib/refile" new.depot ann script journal && printf 'next\t0\tmail\n' >> journal && depot deliver new.depot ann mail && python3 alter new.depot 1
+    0 mails: 0 filed before, 0 filed now, 0 refused
+    1 message "INBOX"
+    $ echo mail | "$TOP/contrib/refile" new.depot ann script journal
+    1 mail: 0 filed before, 0 filed now, 1 refused
+    2> refile: mail: it was filed, and altered on the disk later: remove what it made, 1, and run this again
+    2> refile: mail: refused 42 Collision
+    [65]
+    $ depot remove new.depot ann 1 && echo mail | "$TOP/contrib/refile" new.depot ann script journal && depot export new.depot ann 2 raw | cmp - mail
+    removed 1
+    1 mail: 0 filed before, 1 filed now, 0 refused
+
 ## a mailbox file among mails is filed as one mail, and named
     $ printf 'Subject: a\n\nb\n' > one && { echo 'From ann Mon Jan  4 10:00:00 2021'; cat one; } > mbox && echo 'keep;' > script && mkfifo pipe
     $ printf 'one\nmbox\n' | "$TOP/contrib/refile" mail.depot ann script journal
@@ -344,11 +555,11 @@ The batch ends after so many lines, and the script is killed then.
     $ "$TOP/contrib/refilter" mail.depot ann script
     1 "INBOX": 1 message "INBOX"
     2 "INBOX": 2 message "Two"
-    2 messages, and 0 parts that were stored apart
+    2 messages, and 0 parts stored apart
     $ "$TOP/contrib/refilter" mail.depot ann script --apply new.depot
     1 "INBOX": 1 message "INBOX"
     2 "INBOX": 2 message "Two"
-    2 messages, and 0 parts that were stored apart
+    2 messages, and 0 parts stored apart
     $ depot list new.depot ann
     1 message "INBOX" "" message/rfc822 18
     2 message "Two" "" message/rfc822 18
@@ -378,7 +589,7 @@ More messages than are filed at a time, each in its turn, and a script that disc
     9 "INBOX": 8 message "Nine", 9 message "INBOX"
     139 "INBOX": 136 message "Nine", 137 message "INBOX"
     140 "INBOX": 138 message "INBOX"
-    140 messages, and 0 parts that were stored apart
+    140 messages, and 0 parts stored apart
     $ depot export new.depot ann 136 raw | tail -n 1 && depot export new.depot ann 138 raw | tail -n 1
     139
     140
@@ -390,7 +601,7 @@ More messages than are filed at a time, each in its turn, and a script that disc
     $ for n in one two 'th"ree'; do printf 'Subject: %s\n\n%s\n' "$n" "$n" > "archive/$n mail"; done
     $ ls archive/* > list
     $ head -n 1 list | "$TOP/contrib/refile" new.depot ann script journal
-    1 mails: 0 filed before, 1 filed now, 0 refused
+    1 mail: 0 filed before, 1 filed now, 0 refused
 
 As after a run that was killed when the next mail was filed, and while it wrote that.
 
@@ -429,14 +640,14 @@ As after one that was killed before the next mail was filed.
 A mail that can't be read is refused, and tried again in the next run.
 
     $ echo none | "$TOP/contrib/refile" new.depot ann script journal
-    1 mails: 0 filed before, 0 filed now, 1 refused
+    1 mail: 0 filed before, 0 filed now, 1 refused
     2> refile: none: refused 46 Read
     [65]
     $ tail -n 1 journal | tr '\t' ' '
     1 refused 46 Read 4 none
     $ cp later none
     $ echo none | "$TOP/contrib/refile" new.depot ann script journal
-    1 mails: 0 filed before, 1 filed now, 0 refused
+    1 mail: 0 filed before, 1 filed now, 0 refused
     $ echo 'vacation;' > wrong
     $ "$TOP/contrib/refile" new.depot ann wrong journal < list
     2> refile: script "ann" "wrong": refused 15 UnknownCommand at 0
@@ -559,7 +770,7 @@ Another's mail among them isn't taken for one of them.
     $ printf 'Subject: a\n\n' > mail
     $ echo 'keep;' > script
     $ echo mail | "$TOP/contrib/refile" mail.depot ann script journal
-    1 mails: 0 filed before, 1 filed now, 0 refused
+    1 mail: 0 filed before, 1 filed now, 0 refused
     $ echo mail | "$TOP/contrib/refile" mail.depot bob script journal
     2> refile: the journal journal is one of the user ann
     [65]
@@ -597,34 +808,57 @@ Only if: command -v flock && command -v timeout && [ -d /proc/self ] # there is 
     $ grep -c ' 0 odd$' report
     1
 
-## file_all of docs/OPERATING.md, whatever the files are called
-Only if: command -v flock # there is no flock
-    $ sed -n '/# files the mails of a folder in a depot, by one process/,/^    exit /s/^    //p' "$TOP/docs/OPERATING.md" > file_all
-    $ printf 'Subject: a\n\nb\n' > mail
-    $ depot deliver mail.depot ann mail
+## admit and the lines that split a file, of docs/OPERATING.md, and scrub
+Only if: command -v flock && command -v sqlite3 && python3 -c 'import sqlite3' # there is no flock, no sqlite3 or no sqlite3 for python3
+    $ sed -n '/# gives a user a filter, unless/,/^    }/s/^    //p' "$TOP/docs/OPERATING.md" > admit
+    $ printf 'require ["foreverypart", "fileinto"];\nforeverypart { foreverypart { foreverypart { fileinto "Found"; } } }\n' > greedy
+    $ . ./admit; admit mail.depot ann examples/documents.sieve; admit mail.depot ann greedy; echo $?; admit mail.depot ann none; echo $?
+    wrote 129 octets
+    stored
+    wrote 94 octets
+    1
+    1
+    2> entries 161701, more than 10000
+    2> refused 46 Read
+    $ depot deliver mail.depot ann examples/invoice.eml && depot deliver mail.depot bob examples/invoice.eml && mkdir boxes
+    1 part "Documents"
+    2 message "INBOX"
     1 message "INBOX"
-    $ mkdir in && for name in 'a b' '"c"' 'd\e' -f "$(printf '1"\nremove ann 1\n"')"; do cp mail "in/$name.eml"; done
-    $ sh file_all mail.depot ann in
-    $ ls in/filed/*.eml | wc -l
-    7
-    $ ls in
-    filed
-    $ depot list mail.depot ann
-    1 message "INBOX" "" message/rfc822 14
-    2 message "INBOX" "" message/rfc822 14
-    3 message "INBOX" "" message/rfc822 14
-    4 message "INBOX" "" message/rfc822 14
-    5 message "INBOX" "" message/rfc822 14
-    6 message "INBOX" "" message/rfc822 14
-    $ rm -r in mail.depot.lock
+    $ cp mail.depot all.depot && sed -n '/^    ($/,/all.depot.lock$/s/^    //p' "$TOP/docs/OPERATING.md" > split && sh split
+    $ depot list boxes/ann.depot ann; depot list boxes/bob.depot bob; depot export boxes/bob.depot bob 1 raw | cmp - examples/invoice.eml; depot list boxes/bob.depot ann
+    1 part "Documents" "rechnung-2026-0417.pdf" application/pdf 9016
+    2 message "INBOX" "" message/rfc822 19165
+    1 message "INBOX" "" message/rfc822 19165
+    none
+    $ depot deliver boxes/ann.depot ann examples/invoice.eml
+    3 part "Documents"
+    4 message "INBOX"
+    $ "$TOP/contrib/scrub" all.depot
+    $ "$TOP/contrib/scrub" all.depot out && ls out && cmp examples/invoice.eml out/bob-1.eml && depot export mail.depot ann 1 raw | cmp - out/ann-1.part
+    ann-1.part
+    ann-2.eml
+    bob-1.eml
+    $ sed -i 's/%PDF-/%PDG-/' all.depot && "$TOP/contrib/scrub" all.depot
+    altered ann 1
+    [65]
+    $ "$TOP/contrib/scrub" none; echo $?; test ! -e none; : > empty; "$TOP/contrib/scrub" empty; echo $?; "$TOP/contrib/scrub" mail.depot out; echo $?
+    66
+    65
+    73
+    2> scrub: there is no file none
+    2> scrub: empty can't be read: no such table: entries
+    2> scrub: out can't be made: File exists
+    $ rm -r boxes ann.svbc out empty
 
 ## the tools without words say how they are called
-    $ for tool in deliver hold ask test_deliver test_hold to_maildir refilter refile; do "$TOP/contrib/$tool" > /dev/null 2> said; echo "$tool $?"; grep -c . said > lines; [ -s lines ] || echo silent; done
+    $ for tool in deliver hold ask each_mailbox test_deliver test_hold to_maildir refilter refile scrub; do "$TOP/contrib/$tool" > /dev/null 2> said; echo "$tool $?"; grep -c . said > lines; [ -s lines ] || echo silent; done
     deliver 64
     hold 64
     ask 64
+    each_mailbox 64
     test_deliver 2
     test_hold 2
     to_maildir 64
     refilter 64
     refile 64
+    scrub 64

@@ -201,5 +201,5 @@ Each filter of the gallery has a file of expectations beside it.
     2> usage: depot-expect [--trace | --write] FILTER EXPECTATIONS [MAIL ...]
     2> depot-expect: error: mails are only added with --write; a test names them in its file
     [2]
-    $ "$TOP/contrib/expect" --help | head -1
+    $ "$TOP/contrib/expect" --help | sed -n 1p
     Tests a filter: runs it on mails, and compares what it does with what is expected:

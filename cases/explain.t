@@ -33,10 +33,10 @@ Letters outside of ASCII in a test of the header, which mail writes encoded.
     $ printf '    fileinto "Bills";\n}\n' >> script
     $ depot explain script
     ok
-    script:2:47: note: header fields are compared as they are written, and mail mostly writes such letters encoded, as =?UTF-8?..?=: this may never match
+    script:2:47: note: fields are compared without decoding, and mail usually encodes such letters, as in =?UTF-8?..?=: this rarely matches
       if anyof (header :contains "Subject" ["bill", "Gr\c3\bc\c3\9fe"], header "From" "\c3\bc") {
                                                     ^
-    script:2:73: note: header fields are compared as they are written, and mail mostly writes such letters encoded, as =?UTF-8?..?=: this may never match
+    script:2:73: note: fields are compared without decoding, and mail usually encodes such letters, as in =?UTF-8?..?=: this rarely matches
       ...ader :contains "Subject" ["bill", "Gr\c3\bc\c3\9fe"], header "From" "\c3\bc") {
                                                                              ^
     $ depot check script
@@ -47,7 +47,7 @@ Letters outside of ASCII in a test of the header, which mail writes encoded.
     $ { echo 'require "mime";'; cat script; } > with_mime
     $ depot explain with_mime
     ok
-    with_mime:2:24: note: header fields are compared as they are written, and mail mostly writes such letters encoded, as =?UTF-8?..?=: this may never match
+    with_mime:2:24: note: fields are compared without decoding, and mail usually encodes such letters, as in =?UTF-8?..?=: this rarely matches
       if header :mime :param "\c3\bc" "Content-Type" "x" { stop; }
                              ^
 
@@ -68,20 +68,20 @@ Notes on tests and commands that can't mean what they say, one of each test or c
     > END
     $ depot explain script
     ok
-    script:1:21: note: no field has a name that ends in a colon: leave the colon out
+    script:1:21: note: no field name ends in a colon: remove the colon
       if header :contains "Subject:" "x" { stop; }
                           ^
-    script:2:24: note: no field has a name with a blank in it: leave the blank out
+    script:2:24: note: no field name contains a blank: remove the blank
       if header :is ["From", "X Spam"] "x" { stop; }
                              ^
-    script:3:18: note: no field has a name that ends in a colon: leave the colon out
+    script:3:18: note: no field name ends in a colon: remove the colon
       if exists ["To", "Cc:"] { stop; }
                        ^
     $ echo 'if allof (header "Subject" ["x:", "a b"], exists ["To", "Cc"], header ["a"] "b:") { stop; }' > script
     $ depot explain script
     ok
 
-## stars that stand for themselves
+## stars that match only themselves
     $ cat > script << 'END'
     > if header :contains "Subject" ["a", "*ticket*"] { stop; }
     > if header :is "Subject" "*y*" { stop; }
@@ -89,13 +89,13 @@ Notes on tests and commands that can't mean what they say, one of each test or c
     > END
     $ depot explain script
     ok
-    script:1:37: note: a star stands for itself here: leave it out, or write `:matches` if it is to stand for any text
+    script:1:37: note: `*` matches only itself here: remove it, or use `:matches` if it should match any text
       if header :contains "Subject" ["a", "*ticket*"] { stop; }
                                           ^
-    script:2:25: note: a star stands for itself here: write `:matches` if it is to stand for any text
+    script:2:25: note: `*` matches only itself here: use `:matches` if it should match any text
       if header :is "Subject" "*y*" { stop; }
                               ^
-    script:3:24: note: a star stands for itself here: write `:matches` if it is to stand for any text
+    script:3:24: note: `*` matches only itself here: use `:matches` if it should match any text
       if header "From" ["a", "boss*"] { stop; }
                              ^
     $ cat > script << 'END'
@@ -115,17 +115,17 @@ Notes on tests and commands that can't mean what they say, one of each test or c
     > END
     $ depot explain script
     ok
-    script:2:35: note: this `:matches` has no `*` and no `?`, so it compares whole values as `:is` does: put `*` where any text may stand, or write `:is`
+    script:2:35: note: this `:matches` has no `*` and no `?`, so it compares whole values like `:is`: write `:is`, or add a wildcard
       if header :matches ["From", "*"] ["boss", "chief"] { stop; }
                                         ^
-    script:3:27: note: this `:matches` has no `*` and no `?`, so it compares whole values as `:is` does: put `*` where any text may stand, or write `:is`
+    script:3:27: note: this `:matches` has no `*` and no `?`, so it compares whole values like `:is`: write `:is`, or add a wildcard
       if string :matches "${a}" "b" { stop; }
                                 ^
-    script:4:37: note: this `:matches` has no `*` and no `?`, so it compares whole values as `:is` does: put `*` where any text may stand, or write `:is`
+    script:4:37: note: this `:matches` has no `*` and no `?`, so it compares whole values like `:is`: write `:is`, or add a wildcard
       foreverypart { if partbody :matches "b" { stop; } }
                                           ^
     $ cat > script << 'END'
-    > require "variables";
+    > require "variables"; set "a" "b";
     > if header :matches "From" ["boss", "*<boss>"] { stop; }
     > if header :matches "From" "bos?" { stop; }
     > if string :matches "a" "${a}" { stop; }
@@ -144,10 +144,10 @@ Notes on tests and commands that can't mean what they say, one of each test or c
     > END
     $ depot explain script
     ok
-    script:3:88: note: no part has this digest: write 64 hexadecimal digits, with letters in lower case
+    script:3:88: note: no part has this digest: write 64 hexadecimal digits, with lower-case letters
       ...789abcdef0123456789abcdef0123456789abcdef0123456789abcdef", "0123"] { stop; }
                                                                      ^
-    script:4:19: note: no part has this digest: write 64 hexadecimal digits, with letters in lower case
+    script:4:19: note: no part has this digest: write 64 hexadecimal digits, with lower-case letters
           if partdigest "0123456789ABCDEF0123456789ABCDEF0123456789ABCDEF0123456789A...
                         ^
 
@@ -164,23 +164,290 @@ Notes on tests and commands that can't mean what they say, one of each test or c
     > END
     $ depot explain script
     ok
-    script:4:5: note: this never runs: put it before the `break`, which leaves the loop
+    script:4:5: note: this never runs, because `break` leaves the loop: move it before the `break`
           keep;
           ^
-    script:6:37: note: this branch never runs: the test before it is always true
+    script:6:37: note: this branch never runs, because the test before it is always true
       if true { if exists "a" { stop; } } elsif true { keep; } else { discard; }
                                           ^
-    script:6:58: note: this branch never runs: the test before it is always true
+    script:6:58: note: this branch never runs, because the test before it is always true
       if true { if exists "a" { stop; } } elsif true { keep; } else { discard; }
                                                                ^
-    script:8:1: note: this never runs: put it before the `stop`, which ends the script
+    script:8:1: note: this never runs, because `stop` ends the script: move it before the `stop`
       discard;
       ^
     $ cat > script << 'END'
     > require "foreverypart";
     > foreverypart { if exists "a" { break; } keep; }
-    > if true { keep; } if not true { stop; } else { discard; }
+    > if true { keep; } if exists "b" { stop; } else { discard; }
     > stop;
+    > END
+    $ depot explain script
+    ok
+
+## branches behind tests that are always true or false
+    $ cat > script << 'END'
+    > if false { keep; }
+    > if not true { keep; } elsif allof (false, exists "a") { discard; }
+    > if anyof (true, exists "a") { keep; } elsif exists "b" { discard; }
+    > if exists "a" { keep; } elsif not false { discard; } else { stop; }
+    > END
+    $ depot explain script
+    ok
+    script:1:4: note: this test is always false, so its block never runs
+      if false { keep; }
+         ^
+    script:2:4: note: this test is always false, so its block never runs
+      if not true { keep; } elsif allof (false, exists "a") { discard...
+         ^
+    script:2:29: note: this test is always false, so its block never runs
+      if not true { keep; } elsif allof (false, exists "a") { discard; }
+                                  ^
+    script:3:39: note: this branch never runs, because the test before it is always true
+      if anyof (true, exists "a") { keep; } elsif exists "b" { discard; }
+                                            ^
+    script:4:54: note: this branch never runs, because the test before it is always true
+      if exists "a" { keep; } elsif not false { discard; } else { stop; }
+                                                           ^
+    $ cat > script << 'END'
+    > if anyof (false, exists "a") { keep; } else { discard; }
+    > if allof (true, exists "a") { keep; } elsif not exists "true" { discard; }
+    > if not allof (false, exists "a") { keep; }
+    > END
+    $ depot explain script
+    ok
+
+## a command behind an if whose branches all end
+    $ cat > script << 'END'
+    > require "foreverypart";
+    > foreverypart {
+    >     if exists "a" { stop; } elsif exists "b" { if exists "c" { keep; } break; } else { keep; stop; }
+    >     keep;
+    > }
+    > if anyof (true, exists "a") { stop; }
+    > keep;
+    > END
+    $ depot explain script
+    ok
+    script:4:5: note: this never runs, because each branch of the `if` before it has a `stop` or `break`
+          keep;
+          ^
+    script:7:1: note: this never runs, because each branch of the `if` before it has a `stop` or `break`
+      keep;
+      ^
+    $ cat > script << 'END'
+    > require "foreverypart";
+    > if exists "a" { stop; } elsif exists "b" { stop; }
+    > if exists "a" { if exists "b" { stop; } } else { stop; }
+    > if exists "a" { keep; } else { stop; }
+    > if exists "a" { foreverypart { break; } } else { stop; }
+    > foreverypart { if exists "a" { stop; } else { break; } }
+    > keep;
+    > END
+    $ depot explain script
+    ok
+
+## fields of parts without mime
+    $ cat > script << 'END'
+    > require ["foreverypart", "mime"];
+    > foreverypart {
+    >     if header :contains ["Subject", "content-type"] "pdf" { keep; }
+    >     if exists "a" { foreverypart { stop; } }
+    >     if not exists "Content-Disposition" { stop; }
+    > }
+    > END
+    $ depot explain script
+    ok
+    script:3:37: note: without `:mime` this tests the field of the message, not of the current part: add `:mime`, or move the test out of the loop
+          if header :contains ["Subject", "content-type"] "pdf" { keep; }
+                                          ^
+    script:5:19: note: without `:mime` this tests the field of the message, not of the current part: add `:mime`, or move the test out of the loop
+          if not exists "Content-Disposition" { stop; }
+                        ^
+    $ cat > script << 'END'
+    > require ["foreverypart", "mime"];
+    > if header :contains "Content-Type" "pdf" { keep; }
+    > foreverypart {
+    >     if header :mime :contains "Content-Type" "pdf" { keep; }
+    >     if header :contains ["Subject", "X-Content-Type"] "Content-Type" { keep; }
+    > }
+    > if exists "Content-Type" { keep; }
+    > END
+    $ depot explain script
+    ok
+
+## variables that nothing gives a value
+    $ cat > script << 'END'
+    > require ["variables", "fileinto"];
+    > set "Ticket" "a";
+    > if string "${tickets}" "" { fileinto "Tickets/${ticket}${Number}"; }
+    > END
+    $ depot explain script
+    ok
+    script:3:11: note: a variable in this string is always empty: no `set` or `take` gives it a value
+      if string "${tickets}" "" { fileinto "Tickets/${ticket}${Number}"; }
+                ^
+    script:3:38: note: a variable in this string is always empty: no `set` or `take` gives it a value
+      if string "${tickets}" "" { fileinto "Tickets/${ticket}${Number}"; }
+                                           ^
+    $ cat > script << 'END'
+    > require ["variables", "foreverypart", "vnd.depot", "fileinto"];
+    > fileinto "a${B}${ c}${d${e-f}$g{h}";
+    > foreverypart { take "b"; }
+    > set "\i" "${0}"; fileinto "${i}";
+    > END
+    $ depot explain script
+    ok
+    $ echo 'require "fileinto"; fileinto "${a}";' > script
+    $ depot explain script
+    ok
+
+## variables that nothing reads
+    $ cat > script << 'END'
+    > require ["variables", "fileinto", "foreverypart", "vnd.depot"];
+    > set "ticket" "a";
+    > set "Number" "1"; set :upper "number" "${NUMBER}2";
+    > if header :is "Subject" "b" { set "folder" "b"; } else { set "folder" "c"; }
+    > foreverypart { take :first 9 "start"; }
+    > fileinto "$ticket/${ ticket}/${ticket";
+    > END
+    $ depot explain script
+    ok
+    script:2:5: note: no other command or test reads this variable: remove this command, or check how references spell its name
+      set "ticket" "a";
+          ^
+    script:3:5: note: no other command or test reads this variable: remove this command, or check how references spell its name
+      set "Number" "1"; set :upper "number" "${NUMBER}2";
+          ^
+    script:4:35: note: no other command or test reads this variable: remove this command, or check how references spell its name
+      if header :is "Subject" "b" { set "folder" "b"; } else { set "folder" "c"; }
+                                        ^
+    script:5:30: note: no other command or test reads this variable: remove this command, or check how references spell its name
+      foreverypart { take :first 9 "start"; }
+                                   ^
+    $ cat > script << 'END'
+    > require ["variables", "fileinto", "foreverypart", "vnd.depot"];
+    > if header :is "${first}" ["x", "${Part}"] { fileinto "a${b}${_c}"; }
+    > set "First" "Subject"; set :length "b" "${from}"; set "FROM" "c"; set "_C" "";
+    > foreverypart { take "part"; set "own" "${own}+"; fileinto text:
+    > [${own}]
+    > .
+    > ; }
+    > END
+    $ depot explain script
+    ok
+    $ echo 'require ["variables", "fileinto"]; set "a" "b"; fileinto "$\{a}";' > script
+    $ depot explain script
+    ok
+
+## names of loops, in which variables aren't expanded
+    $ cat > script << 'END'
+    > require ["variables", "foreverypart"];
+    > foreverypart :name "${x}${1}" { break :name "${x}${1}"; }
+    > END
+    $ depot explain script
+    ok
+
+## captures beyond the wildcards of each key
+    $ cat > script << 'END'
+    > require ["variables", "fileinto"];
+    > if header :matches "Subject" ["[*] *", "?"] { fileinto "${2}${1}"; }
+    > if header :matches "From" "*@a" { fileinto "${1}/${3}"; }
+    > END
+    $ depot explain script
+    ok
+    script:3:44: note: a numbered reference in this string is always empty: no test with `:matches` has that many wildcards
+      if header :matches "From" "*@a" { fileinto "${1}/${3}"; }
+                                                 ^
+    $ cat > script << 'END'
+    > require ["variables", "fileinto"]; set "x" "*";
+    > if header :matches "Subject" "${x}" { fileinto "${9}"; }
+    > END
+    $ depot explain script
+    ok
+
+## a keep and a fileinto into the same folder
+    $ cat > script << 'END'
+    > require "fileinto";
+    > keep;
+    > fileinto "INBOX";
+    > if exists "a" { fileinto "INBOX"; keep; }
+    > END
+    $ depot explain script
+    ok
+    script:3:1: note: this files the message into INBOX a second time: remove this command or the one before it
+      fileinto "INBOX";
+      ^
+    script:4:35: note: this files the message into INBOX a second time: remove this command or the one before it
+      if exists "a" { fileinto "INBOX"; keep; }
+                                        ^
+    $ cat > script << 'END'
+    > require "fileinto";
+    > keep; fileinto "Inbox";
+    > if exists "a" { fileinto "INBOX"; }
+    > keep;
+    > END
+    $ depot explain script
+    ok
+
+## fields of the message among those of all parts
+    $ cat > script << 'END'
+    > require "mime";
+    > if header :mime :anychild :contains ["X-Spam", "subject"] "yes" { stop; }
+    > if exists :mime :anychild "List-Id" { stop; }
+    > END
+    $ depot explain script
+    ok
+    script:2:48: note: parts other than attached messages don't have this field: remove `:anychild` to test only the message
+      if header :mime :anychild :contains ["X-Spam", "subject"] "yes" { stop; }
+                                                     ^
+    script:3:27: note: parts other than attached messages don't have this field: remove `:anychild` to test only the message
+      if exists :mime :anychild "List-Id" { stop; }
+                                ^
+    $ cat > script << 'END'
+    > require "mime";
+    > if header :mime :contains "Subject" "yes" { stop; }
+    > if header :mime :anychild :contains "Content-Type" ["To", "pdf"] { stop; }
+    > END
+    $ depot explain script
+    ok
+
+## a store for each part
+    $ cat > script << 'END'
+    > require ["foreverypart", "vnd.depot"];
+    > foreverypart {
+    >     if exists "a" { store "b"; }
+    >     store "c";
+    > }
+    > END
+    $ depot explain script
+    ok
+    script:4:5: note: this also stores each multipart, which contains its parts again: put it in an `if` that tests the type of the part
+          store "c";
+          ^
+    $ cat > script << 'END'
+    > require ["foreverypart", "vnd.depot", "mime"];
+    > foreverypart { if header :mime :type "Content-Type" "image" { store "a"; } }
+    > END
+    $ depot explain script
+    ok
+
+## tests that are always true or false in a group
+    $ cat > script << 'END'
+    > if anyof (exists "a", true) { keep; } else { discard; }
+    > if allof (exists ["a", "b"], not true, exists "c") { keep; }
+    > END
+    $ depot explain script
+    ok
+    script:1:39: note: this branch never runs, because the test before it is always true
+      if anyof (exists "a", true) { keep; } else { discard; }
+                                            ^
+    script:2:4: note: this test is always false, so its block never runs
+      if allof (exists ["a", "b"], not true, exists "c") { keep; }
+         ^
+    $ cat > script << 'END'
+    > if anyof (exists "a", allof (true, exists "b"), not anyof (true, false)) { keep; } else { stop; }
+    > if allof (exists "a", exists "false") { keep; }
     > END
     $ depot explain script
     ok
@@ -189,7 +456,7 @@ Notes on tests and commands that can't mean what they say, one of each test or c
     $ printf 'if size :over 64M { discard; }\nif size :over 67108863 { discard; }\nif size :under 64M { keep; }\n' > script
     $ depot explain script
     ok
-    script:1:15: note: no message is so large: the largest one has 67108864 bytes, so write a smaller number
+    script:1:15: note: no message is larger than 67108864 bytes, so this is never true: write a smaller number
       if size :over 64M { discard; }
                     ^
 
@@ -197,32 +464,52 @@ Notes on tests and commands that can't mean what they say, one of each test or c
     $ cat > script << 'END'
     > require ["variables", "fileinto"];
     > if header :contains "Subject" "[desk]" { fileinto "Desk ${1}"; }
-    > if header "Subject" ["${x}", "a${0}b", "${9}"] { set "a" "${2}"; }
+    > if header "Subject" ["${x}", "a${0}b", "${9}"] { set "x" "${2}"; }
     > END
     $ depot explain script
     ok
-    script:2:51: note: a number in this string is always empty: only a test with `:matches` gives it text, and the script has none
+    script:2:51: note: a numbered reference in this string is always empty: the script has no test with `:matches` to set it
       if header :contains "Subject" "[desk]" { fileinto "Desk ${1}"; }
                                                         ^
-    script:3:40: note: a number in this string is always empty: only a test with `:matches` gives it text, and the script has none
-      if header "Subject" ["${x}", "a${0}b", "${9}"] { set "a" "${2}"; }
+    script:3:40: note: a numbered reference in this string is always empty: the script has no test with `:matches` to set it
+      if header "Subject" ["${x}", "a${0}b", "${9}"] { set "x" "${2}"; }
                                              ^
-    script:3:58: note: a number in this string is always empty: only a test with `:matches` gives it text, and the script has none
-      if header "Subject" ["${x}", "a${0}b", "${9}"] { set "a" "${2}"; }
+    script:3:58: note: a numbered reference in this string is always empty: the script has no test with `:matches` to set it
+      if header "Subject" ["${x}", "a${0}b", "${9}"] { set "x" "${2}"; }
                                                                ^
-    $ echo 'if header :matches "From" "*" { stop; }' >> script
+    $ echo 'if header :matches "From" "*?*?*?*?*" { stop; }' >> script
     $ depot explain script
     ok
     $ echo 'require "fileinto"; fileinto "${1}";' > script
     $ depot explain script
     ok
+    $ echo 'require "fileinto"; fileinto "variables"; fileinto "${1}";' > script
+    $ depot explain script
+    ok
 
-## more notes than are told
+## keys that are longer than any variable
+    $ key=$(printf '%4096s' '' | tr ' ' x)
+    > for test in '"${a}" "KEYx"' ':contains ["${A}", "${a}"] ["b", "KEYx"]' \
+    >     '"${a}" "KEY"' ':matches "${a}" "KEY*"' '["b${a}", "${a}"] "KEYx"' '"${a}" "KEY${a}"' '"${a}" "KEY\x"'; do
+    >     printf 'require "variables"; set "a" "b"; if string %s { stop; }' "$(printf '%s' "$test" | sed "s/KEY/$key/")" > script
+    >     depot explain script | sed -n '1p; 2p'
+    > done
+    ok
+    script:1:52: note: a variable holds at most 4096 bytes, so this key never matches: write a shorter one
+    ok
+    script:1:78: note: a variable holds at most 4096 bytes, so this key never matches: write a shorter one
+    ok
+    ok
+    ok
+    ok
+    ok
+
+## more notes than are shown
     $ for line in $(seq 21); do echo 'if exists "a:" { stop; }'; done > script
-    $ depot explain script | grep -c 'leave the colon out'
+    $ depot explain script | grep -c 'remove the colon'
     20
     $ depot explain script | tail -n 1
-    script: note: more is noted than this: the first 20 are told
+    script: note: only the first 20 notes are shown
     $ head -n 20 script > twenty
     $ depot explain twenty | tail -n 2
       if exists "a:" { stop; }
@@ -233,7 +520,7 @@ Tokens.
 ## byte order mark
     $ printf '\357\273\277keep;' > script
     $ depot explain script
-    script:1:1: error: a byte order mark stands here: save the script as UTF-8 without one
+    script:1:1: error: this is a byte order mark: save the script as UTF-8 without one
       \ef\bb\bfkeep;
       ^
     2> refused 11 Lexical at 0
@@ -242,7 +529,7 @@ Tokens.
 ## typographic quotes
     $ printf 'require \342\200\234fileinto\342\200\235;' > script
     $ depot explain script
-    script:1:9: error: a typographic quote stands here: strings stand between straight double quotes, "like this"
+    script:1:9: error: this is a typographic quote: put strings in straight double quotes, "like this"
       require \e2\80\9cfileinto\e2\80\9d;
               ^
     2> refused 11 Lexical at 8
@@ -251,7 +538,7 @@ Tokens.
 ## single quotes
     $ printf "require 'fileinto';" > script
     $ depot explain script
-    script:1:9: error: a single quote stands here: strings stand between double quotes, "like this"
+    script:1:9: error: this is a single quote: put strings in double quotes, "like this"
       require 'fileinto';
               ^
     2> refused 11 Lexical at 8
@@ -260,7 +547,7 @@ Tokens.
 ## slashes
     $ printf '// bills\nkeep;\n' > script
     $ depot explain script
-    script:1:1: error: no comment begins so: one begins with `#`, or stands between `/*` and `*/`
+    script:1:1: error: this begins no comment: write `#` before it, or put it between `/*` and `*/`
       // bills
       ^
     2> refused 11 Lexical at 0
@@ -269,7 +556,7 @@ Tokens.
 ## no token
     $ printf 'keep; \303\251;' > script
     $ depot explain script
-    script:1:7: error: `\c3` begins nothing that a script may have here
+    script:1:7: error: `\c3` isn't allowed outside of strings and comments
       keep; \c3\a9;
             ^
     2> refused 11 Lexical at 6
@@ -277,7 +564,7 @@ Tokens.
 
 ## operators of other languages
     $ for test in 'true && true' 'true || true' 'size > 5K' 'size <= 5K' 'header "a" == "b"' 'header "a" = "b"' '!exists "a"'; do
-    >     echo "if $test { keep; }" > script; depot explain script 2> refused | head -n 1
+    >     echo "if $test { keep; }" > script; depot explain script 2> refused | sed -n 1p
     > done
     script:1:9: error: Sieve has no `&&`: write `allof (.., ..)`, which is true if all of its tests are
     script:1:9: error: Sieve has no `||`: write `anyof (.., ..)`, which is true if one of its tests is
@@ -290,7 +577,7 @@ Tokens.
 ## colon alone
     $ printf 'if header : is "a" "b" { keep; }' > script
     $ depot explain script
-    script:1:11: error: a colon stands here without the name of a tag behind it
+    script:1:11: error: this colon has no tag name directly after it
       if header : is "a" "b" { keep; }
                 ^
     2> refused 11 Lexical at 10
@@ -299,7 +586,7 @@ Tokens.
 ## number too large
     $ printf 'if size :over 99999999999G { discard; }' > script
     $ depot explain script
-    script:1:15: error: a number is above 18446744073709551615
+    script:1:15: error: this number is too large: the largest is 18446744073709551615
       if size :over 99999999999G { discard; }
                     ^
     2> refused 11 Lexical at 14
@@ -308,7 +595,7 @@ Tokens.
 ## open comment
     $ echo 'keep; /* and so on' > script
     $ depot explain script
-    script:1:7: error: a comment is never closed
+    script:1:7: error: this comment is never closed: add `*/` at its end
       keep; /* and so on
             ^
     2> refused 11 Lexical at 6
@@ -321,7 +608,7 @@ Tokens.
     > Bills
     > END
     $ depot explain script
-    script:2:10: error: a multi-line string is never closed: it needs a line that is a dot alone, with its line break
+    script:2:10: error: this multi-line string is never closed: end it with a line that has only a dot, and a line break after it
       fileinto text:
                ^
     2> refused 11 Lexical at 29
@@ -330,7 +617,7 @@ Tokens.
 ## open lines, whose dot has no line break
     $ printf 'require "fileinto";\nfileinto text:\nBills\n.' > script
     $ depot explain script
-    script:2:10: error: a multi-line string is never closed: it needs a line that is a dot alone, with its line break
+    script:2:10: error: this multi-line string is never closed: end it with a line that has only a dot, and a line break after it
       fileinto text:
                ^
     2> refused 11 Lexical at 29
@@ -366,7 +653,7 @@ The order of tokens.
 ## brace too many
     $ printf 'keep; }' > script
     $ depot explain script
-    script:1:7: error: `}` can't stand here: is a semicolon missing before it, or its opening brace?
+    script:1:7: error: `}` isn't allowed here: is a semicolon missing before it, or its opening brace?
       keep; }
             ^
     2> refused 13 Syntax at 2
@@ -375,7 +662,7 @@ The order of tokens.
 ## comma in the way
     $ printf 'if true, false { keep; }' > script
     $ depot explain script
-    script:1:8: error: `,` can't stand here: strings of a list stand in square brackets, tests in round ones behind `allof` or `anyof`
+    script:1:8: error: `,` isn't allowed here: put a list of strings in square brackets, and tests in round ones after `allof` or `anyof`
       if true, false { keep; }
              ^
     2> refused 13 Syntax at 2
@@ -384,7 +671,7 @@ The order of tokens.
 ## string in the way
     $ printf 'if header :is "a" "b" "c" , "d" { keep; }' > script
     $ depot explain script
-    script:1:27: error: `,` can't stand here: strings of a list stand in square brackets, tests in round ones behind `allof` or `anyof`
+    script:1:27: error: `,` isn't allowed here: put a list of strings in square brackets, and tests in round ones after `allof` or `anyof`
       if header :is "a" "b" "c" , "d" { keep; }
                                 ^
     2> refused 13 Syntax at 6
@@ -393,7 +680,7 @@ The order of tokens.
 ## string that reads as the end of its sentence
     $ printf %s 'keep; "a`b\\"; stop;' > script
     $ depot explain script
-    script:1:7: error: `"a\60b\5c\5c"` can't stand here: is a comma missing before it, or the name that it belongs to?
+    script:1:7: error: `"a\60b\5c\5c"` isn't allowed here: is a comma missing before it, or the name of its command or test?
       keep; "a`b\\"; stop;
             ^
     2> refused 13 Syntax at 2
@@ -405,7 +692,7 @@ The order of tokens.
     >     keep;
     > END
     $ depot explain script
-    script:3:1: error: the script ends before its last command does
+    script:3:1: error: the script ends before its last command is complete
     1>   
       ^
     script:1:9: note: this brace is never closed
@@ -417,7 +704,7 @@ The order of tokens.
 ## inner brace never closed
     $ printf 'if true {\n    keep;\n}\nif true {\n    if false {\n        discard;\n    }\n' > script
     $ depot explain script
-    script:8:1: error: the script ends before its last command does
+    script:8:1: error: the script ends before its last command is complete
     1>   
       ^
     script:4:9: note: this brace is never closed
@@ -429,7 +716,7 @@ The order of tokens.
 ## end within a line
     $ printf keep > script
     $ depot explain script
-    script:1:5: error: the script ends before its last command does
+    script:1:5: error: the script ends before its last command is complete
       keep
           ^
     2> refused 13 Syntax at 1
@@ -438,7 +725,7 @@ The order of tokens.
 ## too deep
     $ echo 'if not not not not not not not not not not not not not not not not not not not not not not not not not not not not not not not not true {}' > script
     $ depot explain script
-    script:1:132: error: braces and tests are nested more than 32 deep here
+    script:1:132: error: braces and tests are nested more than 32 levels deep here
       ...not not not not not not not not not not not not not not not true {}
                                                                      ^
     2> refused 14 TooDeep at 33
@@ -495,7 +782,7 @@ Names that there are not.
 ## command for a test
     $ printf 'if not keep { discard; }' > script
     $ depot explain script
-    script:1:8: error: `keep` is a command, and a test is needed here
+    script:1:8: error: `keep` is a command, but a test is needed here
       if not keep { discard; }
              ^
     2> refused 15 UnknownCommand at 2
@@ -521,7 +808,7 @@ Names that there are not.
     >   "foldering"];
     > END
     $ depot explain script
-    script:2:3: error: depot knows no capability "foldering": there are "fileinto", "variables", "mime", "foreverypart", "vnd.depot", "comparator-i;octet" and "comparator-i;ascii-casemap"
+    script:2:3: error: unknown capability "foldering": depot has "fileinto", "variables", "mime", "foreverypart", "vnd.depot", "comparator-i;octet" and "comparator-i;ascii-casemap"
         "foldering"];
         ^
     2> refused 17 UnknownCapability at 0
@@ -534,13 +821,13 @@ Names that there are not.
     > fileinto :copy "Bills";
     > END
     $ depot explain script
-    script:1:22: error: depot has no "copy": `keep` beside `fileinto` files a message twice
+    script:1:22: error: depot has no "copy": a `keep` and a `fileinto` together file a message twice
       require ["fileinto", "copy",
                            ^
-    script:2:3: error: depot has no "imap4flags": what it files has no flags, file into a folder instead
+    script:2:3: error: depot has no "imap4flags": its entries have no flags, file into a folder instead
         "imap4flags", "copy"];
         ^
-    script:3:1: error: depot has no `:copy`: `keep` beside `fileinto` files a message twice
+    script:3:1: error: depot has no `:copy`: a `keep` and a `fileinto` together file a message twice
       fileinto :copy "Bills";
       ^
     2> refused 17 UnknownCapability at 0
@@ -549,7 +836,7 @@ Names that there are not.
 ## capability in another case
     $ printf 'require "FileInto";' > script
     $ depot explain script
-    script:1:9: error: depot knows no capability "FileInto", did you mean "fileinto"?
+    script:1:9: error: unknown capability "FileInto", did you mean "fileinto"?
       require "FileInto";
               ^
     2> refused 17 UnknownCapability at 0
@@ -558,7 +845,7 @@ Names that there are not.
 ## capability one letter off
     $ printf 'require ["mime", "variable"];' > script
     $ depot explain script
-    script:1:18: error: depot knows no capability "variable", did you mean "variables"?
+    script:1:18: error: unknown capability "variable", did you mean "variables"?
       require ["mime", "variable"];
                        ^
     2> refused 17 UnknownCapability at 0
@@ -567,7 +854,7 @@ Names that there are not.
 ## capability with swapped letters
     $ printf 'require "vnd.deopt";' > script
     $ depot explain script
-    script:1:9: error: depot knows no capability "vnd.deopt", did you mean "vnd.depot"?
+    script:1:9: error: unknown capability "vnd.deopt", did you mean "vnd.depot"?
       require "vnd.deopt";
               ^
     2> refused 17 UnknownCapability at 0
@@ -576,7 +863,7 @@ Names that there are not.
 ## capability that is written with a backslash
     $ printf %s 'require "fileinto"; require "fo\o";' > script
     $ depot explain script
-    script:1:29: error: depot knows no capability "foo": there are "fileinto", "variables", "mime", "foreverypart", "vnd.depot", "comparator-i;octet" and "comparator-i;ascii-casemap"
+    script:1:29: error: unknown capability "foo": depot has "fileinto", "variables", "mime", "foreverypart", "vnd.depot", "comparator-i;octet" and "comparator-i;ascii-casemap"
       require "fileinto"; require "fo\o";
                                   ^
     2> refused 17 UnknownCapability at 3
@@ -585,7 +872,7 @@ Names that there are not.
 ## capability that another command has as its folder
     $ printf %s 'require "fo\o" { fileinto "foo"; }' > script
     $ depot explain script
-    script:1:9: error: depot knows no capability "foo": there are "fileinto", "variables", "mime", "foreverypart", "vnd.depot", "comparator-i;octet" and "comparator-i;ascii-casemap"
+    script:1:9: error: unknown capability "foo": depot has "fileinto", "variables", "mime", "foreverypart", "vnd.depot", "comparator-i;octet" and "comparator-i;ascii-casemap"
       require "fo\o" { fileinto "foo"; }
               ^
     script:1:18: error: `fileinto` needs `require "fileinto"` before it
@@ -597,7 +884,7 @@ Names that there are not.
 ## capability beside one that is written with a backslash
     $ printf %s 'require ["file\\into", "file\into"];' > script
     $ depot explain script
-    script:1:10: error: depot knows no capability "file\5cinto", did you mean "fileinto"?
+    script:1:10: error: unknown capability "file\5cinto", did you mean "fileinto"?
       require ["file\\into", "file\into"];
                ^
     2> refused 17 UnknownCapability at 0
@@ -611,7 +898,7 @@ Names that there are not.
     > ];
     > END
     $ depot explain script
-    script:1:22: error: depot knows no capability "fileinto\0a", did you mean "fileinto"?
+    script:1:22: error: unknown capability "fileinto\0a", did you mean "fileinto"?
       require ["fileinto", text:
                            ^
     2> refused 17 UnknownCapability at 0
@@ -620,7 +907,7 @@ Names that there are not.
 ## capability that reads as the end of its sentence
     $ printf %s 'require "x\", did you mean \"fileinto";' > script
     $ depot explain script
-    script:1:9: error: depot knows no capability "x\22, did you mean \22fileinto": there are "fileinto", "variables", "mime", "foreverypart", "vnd.depot", "comparator-i;octet" and "comparator-i;ascii-casemap"
+    script:1:9: error: unknown capability "x\22, did you mean \22fileinto": depot has "fileinto", "variables", "mime", "foreverypart", "vnd.depot", "comparator-i;octet" and "comparator-i;ascii-casemap"
       require "x\", did you mean \"fileinto";
               ^
     2> refused 17 UnknownCapability at 0
@@ -647,7 +934,7 @@ Names that there are not.
 ## tag one letter off
     $ printf 'if header :contain "Subject" "bill" { discard; }' > script
     $ depot explain script
-    script:1:4: error: depot knows no tag `:contain`, did you mean `:contains`?
+    script:1:4: error: unknown tag `:contain`, did you mean `:contains`?
       if header :contain "Subject" "bill" { discard; }
          ^
     2> refused 18 BadArguments at 1
@@ -656,7 +943,7 @@ Names that there are not.
 ## unknown tag
     $ printf 'if header :like "Subject" "bill" { discard; }' > script
     $ depot explain script
-    script:1:4: error: depot knows no tag `:like`
+    script:1:4: error: unknown tag `:like`
       if header :like "Subject" "bill" { discard; }
          ^
     2> refused 18 BadArguments at 1
@@ -666,11 +953,11 @@ Commands, tests and capabilities that other systems have.
 
 ## the names that docs/GALLERY.md lists
     $ sed -n '/^const LACKING/,/^];/p' "$TOP/crates/sieve_explain/src/hints.rt" | grep -o '"[a-z0-9;-]*"' | tr -d '"' | sort > told
-    $ sed -n '/^#.*Coming from another Sieve/,/^## [^C]/s/^| `:\{0,1\}\([^`]*\)` .*/\1/p' "$TOP/docs/GALLERY.md" | sort > listed
+    $ sed -n '/^## Coming from another Sieve/,/^## [^C]/s/^| \(`[^|]*\) |.*/\1/p' "$TOP/docs/GALLERY.md" | tr -d '` ' | tr , '\n' | sort > listed
     $ test -s listed || echo 'docs/GALLERY.md has no table under "Coming from another Sieve"'
     $ diff told listed
 
-## each of them is told
+## each of them is explained
     $ sed -n '/^const LACKING/,/^];/p' "$TOP/crates/sieve_explain/src/hints.rt" | grep -o '"[a-z0-9;-]*"' | tr -d '"' > told
     $ while read -r name; do
     >     printf 'require "%s";' "$name" > script
@@ -682,33 +969,33 @@ Commands, tests and capabilities that other systems have.
     $ for name in vacation enotify reject ereject imap4flags editheader include copy subaddress index envelope body date relational regex mailbox duplicate ihave encoded-character
     > do
     >     printf 'require "%s";' $name > script
-    >     depot explain script 2> refused | head -n 1
+    >     depot explain script 2> refused | sed -n 1p
     >     grep -v '^refused 17 UnknownCapability at 0$' refused
     > done; true
-    script:1:9: error: depot has no "vacation": it sends no mail, leave that to the mail server
-    script:1:9: error: depot has no "enotify": it sends no mail, leave that to the mail server
-    script:1:9: error: depot has no "reject": it sends no mail, leave that to the mail server
-    script:1:9: error: depot has no "ereject": it sends no mail, leave that to the mail server
-    script:1:9: error: depot has no "imap4flags": what it files has no flags, file into a folder instead
-    script:1:9: error: depot has no "editheader": it changes no message
-    script:1:9: error: depot has no "include": a script stands alone, put all of it into one file
-    script:1:9: error: depot has no "copy": `keep` beside `fileinto` files a message twice
+    script:1:9: error: depot has no "vacation": it sends no mail, the mail server can do that
+    script:1:9: error: depot has no "enotify": it sends no mail, the mail server can do that
+    script:1:9: error: depot has no "reject": it sends no mail, the mail server can do that
+    script:1:9: error: depot has no "ereject": it sends no mail, the mail server can do that
+    script:1:9: error: depot has no "imap4flags": its entries have no flags, file into a folder instead
+    script:1:9: error: depot has no "editheader": it doesn't change messages
+    script:1:9: error: depot has no "include": a script is a single file, put all commands into it
+    script:1:9: error: depot has no "copy": a `keep` and a `fileinto` together file a message twice
     script:1:9: error: depot has no "subaddress": `header` tests the whole value of a field, as in `header :matches "From" ["a@b", "*<a@b>*"]`
     script:1:9: error: depot has no "index": `header` tests all fields of a name
-    script:1:9: error: depot has no "envelope": it sees the message alone, `header` tests "Delivered-To" where the mail server writes that
-    script:1:9: error: depot has no "body": `partbody` tests the content of a part, inside of a `foreverypart`
-    script:1:9: error: depot has no "date": it compares no times
-    script:1:9: error: depot has no "relational": `size` and `partsize` alone compare numbers
-    script:1:9: error: depot has no "regex": patterns are those of `:matches`
-    script:1:9: error: depot has no "mailbox": a folder is there once something is filed into it
-    script:1:9: error: depot has no "duplicate": a script knows no earlier message
-    script:1:9: error: depot has no "ihave": what a script requires has to be there
-    script:1:9: error: depot has no "encoded-character": write the character itself, a string may hold any
+    script:1:9: error: depot has no "envelope": it sees only the message, `header` can test "Delivered-To" if the mail server adds it
+    script:1:9: error: depot has no "body": `partbody` tests the content of a part, inside a `foreverypart`
+    script:1:9: error: depot has no "date": it doesn't compare times
+    script:1:9: error: depot has no "relational": only `size` and `partsize` compare numbers
+    script:1:9: error: depot has no "regex": use the wildcards of `:matches`
+    script:1:9: error: depot has no "mailbox": a folder exists once something is filed into it
+    script:1:9: error: depot has no "duplicate": a script doesn't see earlier messages
+    script:1:9: error: depot has no "ihave": every capability that a script requires has to exist
+    script:1:9: error: depot has no "encoded-character": write the character itself, strings can contain any
 
 ## no addflag
     $ printf %s 'addflag "\\Seen";' > script
     $ depot explain script
-    script:1:1: error: depot has no `addflag`: what it files has no flags, file into a folder instead
+    script:1:1: error: depot has no `addflag`: its entries have no flags, file into a folder instead
       addflag "\\Seen";
       ^
     2> refused 15 UnknownCommand at 0
@@ -717,7 +1004,7 @@ Commands, tests and capabilities that other systems have.
 ## no addheader
     $ printf 'AddHeader "X-Seen" "yes"; keep;' > script
     $ depot explain script
-    script:1:1: error: depot has no `AddHeader`: it changes no message
+    script:1:1: error: depot has no `AddHeader`: it doesn't change messages
       AddHeader "X-Seen" "yes"; keep;
       ^
     2> refused 15 UnknownCommand at 0
@@ -739,7 +1026,7 @@ Commands, tests and capabilities that other systems have.
 ## no body
     $ printf 'if body :contains "bill" { discard; }' > script
     $ depot explain script
-    script:1:4: error: depot has no `body`: `partbody` tests the content of a part, inside of a `foreverypart`
+    script:1:4: error: depot has no `body`: `partbody` tests the content of a part, inside a `foreverypart`
       if body :contains "bill" { discard; }
          ^
     2> refused 15 UnknownCommand at 1
@@ -748,7 +1035,7 @@ Commands, tests and capabilities that other systems have.
 ## no date
     $ printf 'if currentdate :is "weekday" "0" { discard; }' > script
     $ depot explain script
-    script:1:4: error: depot has no `currentdate`: it compares no times
+    script:1:4: error: depot has no `currentdate`: it doesn't compare times
       if currentdate :is "weekday" "0" { discard; }
          ^
     2> refused 15 UnknownCommand at 1
@@ -757,7 +1044,7 @@ Commands, tests and capabilities that other systems have.
 ## no envelope
     $ printf 'if envelope :is "from" "a@example.org" { discard; }' > script
     $ depot explain script
-    script:1:4: error: depot has no `envelope`: it sees the message alone, `header` tests "Delivered-To" where the mail server writes that
+    script:1:4: error: depot has no `envelope`: it sees only the message, `header` can test "Delivered-To" if the mail server adds it
       if envelope :is "from" "a@example.org" { discard; }
          ^
     2> refused 15 UnknownCommand at 1
@@ -766,7 +1053,7 @@ Commands, tests and capabilities that other systems have.
 ## no hasflag
     $ printf 'if hasflag "x" { keep; }' > script
     $ depot explain script
-    script:1:4: error: depot has no `hasflag`: what it files has no flags, file into a folder instead
+    script:1:4: error: depot has no `hasflag`: its entries have no flags, file into a folder instead
       if hasflag "x" { keep; }
          ^
     2> refused 15 UnknownCommand at 1
@@ -775,7 +1062,7 @@ Commands, tests and capabilities that other systems have.
 ## no extracttext
     $ printf 'extracttext :first 100 "text";' > script
     $ depot explain script
-    script:1:1: error: depot has no `extracttext`: `take` gives the content of a part to a variable, inside of a `foreverypart`
+    script:1:1: error: depot has no `extracttext`: `take` sets a variable to the content of a part, inside a `foreverypart`
       extracttext :first 100 "text";
       ^
     2> refused 15 UnknownCommand at 0
@@ -784,7 +1071,7 @@ Commands, tests and capabilities that other systems have.
 ## no include
     $ printf 'include "common";' > script
     $ depot explain script
-    script:1:1: error: depot has no `include`: a script stands alone, put all of it into one file
+    script:1:1: error: depot has no `include`: a script is a single file, put all commands into it
       include "common";
       ^
     2> refused 15 UnknownCommand at 0
@@ -793,7 +1080,7 @@ Commands, tests and capabilities that other systems have.
 ## no mailboxexists
     $ printf 'if mailboxexists "Bills" { keep; }' > script
     $ depot explain script
-    script:1:4: error: depot has no `mailboxexists`: a folder is there once something is filed into it
+    script:1:4: error: depot has no `mailboxexists`: a folder exists once something is filed into it
       if mailboxexists "Bills" { keep; }
          ^
     2> refused 15 UnknownCommand at 1
@@ -802,7 +1089,7 @@ Commands, tests and capabilities that other systems have.
 ## no spamtest
     $ printf 'if spamtest "10" { discard; }' > script
     $ depot explain script
-    script:1:4: error: depot has no `spamtest`: `header` tests what a scanner wrote into a field
+    script:1:4: error: depot has no `spamtest`: `header` can test the field that a scanner adds
       if spamtest "10" { discard; }
          ^
     2> refused 15 UnknownCommand at 1
@@ -811,7 +1098,7 @@ Commands, tests and capabilities that other systems have.
 ## no vacation
     $ printf 'keep; vacation;' > script
     $ depot explain script
-    script:1:7: error: depot has no `vacation`: it sends no mail, leave that to the mail server
+    script:1:7: error: depot has no `vacation`: it sends no mail, the mail server can do that
       keep; vacation;
             ^
     2> refused 15 UnknownCommand at 2
@@ -852,7 +1139,7 @@ What has to be required.
     2> refused 16 MissingCapability at 5
     [1]
 
-## two capabilities of one command, one of which was told
+## two capabilities of one command, one of which was reported
     $ cat > script << 'END'
     > require "foreverypart";
     > set "a" "b";
@@ -874,7 +1161,7 @@ What has to be required.
 ## late require
     $ printf 'keep; require "fileinto";' > script
     $ depot explain script
-    script:1:7: error: `require` stands before all other commands, outside of blocks
+    script:1:7: error: `require` is allowed only before all other commands, outside of blocks
       keep; require "fileinto";
             ^
     2> refused 18 BadArguments at 2
@@ -918,7 +1205,7 @@ Semicolons, braces and tests.
     script:1:1: error: `require` takes no test: is a semicolon missing at its end?
       require ["foreverypart", "vnd.depot"]
       ^
-    script:3:1: error: `store` stands only inside of a `foreverypart`
+    script:3:1: error: `store` is allowed only inside a `foreverypart`
       store "b";
       ^
     2> refused 18 BadArguments at 0
@@ -943,7 +1230,7 @@ Semicolons, braces and tests.
     script:7:5: error: `fileinto` needs `require "fileinto"` before it
           fileinto "a";
           ^
-    script:9:1: error: `else` stands directly after an `if` or `elsif`
+    script:9:1: error: `else` is allowed only directly after the block of an `if` or `elsif`
       else { stop; }
       ^
     2> refused 18 BadArguments at 0
@@ -952,7 +1239,7 @@ Semicolons, braces and tests.
 ## block too many
     $ printf 'keep { discard; }' > script
     $ depot explain script
-    script:1:1: error: `keep` ends with a semicolon
+    script:1:1: error: `keep` has to end with a semicolon
       keep { discard; }
       ^
     2> refused 18 BadArguments at 0
@@ -970,7 +1257,7 @@ Semicolons, braces and tests.
 ## missing test
     $ printf 'if { keep; }' > script
     $ depot explain script
-    script:1:1: error: `if` needs one test behind it, without brackets around it
+    script:1:1: error: `if` needs one test after it, without brackets around it
       if { keep; }
       ^
     2> refused 18 BadArguments at 0
@@ -979,7 +1266,7 @@ Semicolons, braces and tests.
 ## brackets around a test
     $ printf 'if (header :is "Subject" "a") { keep; }' > script
     $ depot explain script
-    script:1:1: error: `if` needs one test behind it, without brackets around it
+    script:1:1: error: `if` needs one test after it, without brackets around it
       if (header :is "Subject" "a") { keep; }
       ^
     2> refused 18 BadArguments at 0
@@ -1015,7 +1302,7 @@ Semicolons, braces and tests.
 ## tests without comma
     $ printf 'if header :is "Subject" "a" and header :is "From" "b" { keep; }' > script
     $ depot explain script
-    script:1:4: error: `header` takes no test: is a comma or a brace missing behind it, or `allof` or `anyof` before it?
+    script:1:4: error: `header` takes no test: is a comma or a brace missing after it, or `allof` or `anyof` before it?
       if header :is "Subject" "a" and header :is "From" "b" { keep; }
          ^
     2> refused 18 BadArguments at 1
@@ -1030,7 +1317,7 @@ Semicolons, braces and tests.
     > }
     > END
     $ depot explain script
-    script:3:3: error: `else` takes no test: is `elsif` meant, or its opening brace missing?
+    script:3:3: error: `else` takes no test: did you mean `elsif`, or is its opening brace missing?
       } else if false {
         ^
     2> refused 18 BadArguments at 6
@@ -1039,7 +1326,7 @@ Semicolons, braces and tests.
 ## lone else
     $ printf 'keep; else { discard; }' > script
     $ depot explain script
-    script:1:7: error: `else` stands directly after an `if` or `elsif`
+    script:1:7: error: `else` is allowed only directly after the block of an `if` or `elsif`
       keep; else { discard; }
             ^
     2> refused 18 BadArguments at 2
@@ -1059,25 +1346,25 @@ Arguments.
 ## words in the place of strings
     $ printf 'if header :contains Subject "x" { stop; }' > script
     $ depot explain script
-    script:1:21: error: `Subject` stands where a string has to: put it in quotation marks, "like this"
+    script:1:21: error: `Subject` should be a string: put it in quotation marks, "like this"
       if header :contains Subject "x" { stop; }
                           ^
     2> refused 18 BadArguments at 1
     [1]
     $ for script in 'if exists Subject { stop; }' 'require fileinto;' 'require ["variables", fileinto];' 'require [fileinto];' 'require "variables"; set n "v";' 'require "variables"; set "n" v;' 'require "fileinto"; fileinto Spam;'; do
-    >     echo "$script" > script; depot explain script 2> refused | head -n 1
+    >     echo "$script" > script; depot explain script 2> refused | sed -n 1p
     > done
-    script:1:11: error: `Subject` stands where a string has to: put it in quotation marks, "like this"
-    script:1:9: error: `fileinto` stands where a string has to: put it in quotation marks, "like this"
-    script:1:23: error: `fileinto` stands where a string has to: put it in quotation marks, "like this"
-    script:1:10: error: `fileinto` stands where a string has to: put it in quotation marks, "like this"
-    script:1:26: error: `n` stands where a string has to: put it in quotation marks, "like this"
-    script:1:30: error: `v` stands where a string has to: put it in quotation marks, "like this"
-    script:1:30: error: `Spam` stands where a string has to: put it in quotation marks, "like this"
+    script:1:11: error: `Subject` should be a string: put it in quotation marks, "like this"
+    script:1:9: error: `fileinto` should be a string: put it in quotation marks, "like this"
+    script:1:23: error: `fileinto` should be a string: put it in quotation marks, "like this"
+    script:1:10: error: `fileinto` should be a string: put it in quotation marks, "like this"
+    script:1:26: error: `n` should be a string: put it in quotation marks, "like this"
+    script:1:30: error: `v` should be a string: put it in quotation marks, "like this"
+    script:1:30: error: `Spam` should be a string: put it in quotation marks, "like this"
 
 ## words behind too few arguments that begin a command or test
     $ for script in 'require "fileinto"; fileinto keep;' 'if anyof (header :is "a", true) { stop; }' 'if header contains "a" "b" { stop; }' 'if size :over big { stop; }'; do
-    >     echo "$script" > script; depot explain script 2> refused | head -n 1
+    >     echo "$script" > script; depot explain script 2> refused | sed -n 1p
     > done
     script:1:21: error: `fileinto` has too few arguments: it takes one string without brackets
     script:1:11: error: `header` has too few arguments: it takes two, each a string or a list of strings
@@ -1105,7 +1392,7 @@ Arguments.
 ## argument of another kind
     $ printf 'require "fileinto"; fileinto ["a", "b"];' > script
     $ depot explain script
-    script:1:21: error: `fileinto` has an argument of a wrong kind: it takes one string without brackets
+    script:1:21: error: `fileinto` has an argument of the wrong kind: it takes one string without brackets
       require "fileinto"; fileinto ["a", "b"];
                           ^
     2> refused 18 BadArguments at 3
@@ -1115,25 +1402,25 @@ Arguments.
     $ for unit in MB KB GiB ' MB' ' bytes' k
     > do
     >     printf 'if anyof (true, size :over 5%s) { discard; }' "$unit" > script
-    >     depot explain script 2> refused | head -n 1
+    >     depot explain script 2> refused | sed -n 1p
     >     cat refused
     > done
-    script:1:17: error: the units of a number are K, M and G, with no blank before the letter and nothing behind it, as in 5M
+    script:1:17: error: the units of a number are K, M and G: write the letter directly after the number, with nothing after it, as in 5M
     refused 18 BadArguments at 5
-    script:1:17: error: the units of a number are K, M and G, with no blank before the letter and nothing behind it, as in 5M
+    script:1:17: error: the units of a number are K, M and G: write the letter directly after the number, with nothing after it, as in 5M
     refused 18 BadArguments at 5
-    script:1:17: error: the units of a number are K, M and G, with no blank before the letter and nothing behind it, as in 5M
+    script:1:17: error: the units of a number are K, M and G: write the letter directly after the number, with nothing after it, as in 5M
     refused 18 BadArguments at 5
-    script:1:17: error: the units of a number are K, M and G, with no blank before the letter and nothing behind it, as in 5M
+    script:1:17: error: the units of a number are K, M and G: write the letter directly after the number, with nothing after it, as in 5M
     refused 18 BadArguments at 5
-    script:1:17: error: the units of a number are K, M and G, with no blank before the letter and nothing behind it, as in 5M
+    script:1:17: error: the units of a number are K, M and G: write the letter directly after the number, with nothing after it, as in 5M
     refused 18 BadArguments at 5
     ok
 
 ## unit of a part's octets
     $ printf 'require ["foreverypart", "vnd.depot"];\nforeverypart {\n    if partbody :first 5KB :contains "bill" { discard; }\n}\n' > script
     $ depot explain script
-    script:3:8: error: the units of a number are K, M and G, with no blank before the letter and nothing behind it, as in 5M
+    script:3:8: error: the units of a number are K, M and G: write the letter directly after the number, with nothing after it, as in 5M
           if partbody :first 5KB :contains "bill" { discard; }
              ^
     2> refused 18 BadArguments at 10
@@ -1158,7 +1445,7 @@ Tags.
     > }
     > END
     $ depot explain script
-    script:3:5: error: depot has no `:copy`: `keep` beside `fileinto` files a message twice
+    script:3:5: error: depot has no `:copy`: a `keep` and a `fileinto` together file a message twice
           fileinto :copy "Bills";
           ^
     2> refused 18 BadArguments at 9
@@ -1203,7 +1490,7 @@ Tags.
 ## late tag
     $ printf 'if header "Subject" :is "a" { keep; }' > script
     $ depot explain script
-    script:1:4: error: the tag `:is` stands after an argument that is no tag
+    script:1:4: error: the tag `:is` has to come before the other arguments
       if header "Subject" :is "a" { keep; }
          ^
     2> refused 18 BadArguments at 1
@@ -1212,7 +1499,7 @@ Tags.
 ## repeated tag
     $ printf 'if header :is :is "Subject" "a" { keep; }' > script
     $ depot explain script
-    script:1:4: error: `:is` is repeated, or stands beside another of its kind
+    script:1:4: error: `:is` is repeated, or used with another tag of its kind
       if header :is :is "Subject" "a" { keep; }
          ^
     2> refused 18 BadArguments at 1
@@ -1221,7 +1508,7 @@ Tags.
 ## two ways to match
     $ printf 'if header :is :matches "Subject" "a" { keep; }' > script
     $ depot explain script
-    script:1:4: error: `:matches` is repeated, or stands beside another of its kind
+    script:1:4: error: `:matches` is repeated, or used with another tag of its kind
       if header :is :matches "Subject" "a" { keep; }
          ^
     2> refused 18 BadArguments at 1
@@ -1230,7 +1517,7 @@ Tags.
 ## two modifiers
     $ printf 'require "variables"; set :upper :lower "a" "b";' > script
     $ depot explain script
-    script:1:22: error: `:lower` can't stand beside another modifier of its precedence
+    script:1:22: error: `:lower` can't be used with another modifier of the same precedence
       require "variables"; set :upper :lower "a" "b";
                            ^
     2> refused 18 BadArguments at 3
@@ -1248,7 +1535,7 @@ Tags.
 ## tag without mime
     $ printf 'require "mime"; if header :anychild :is "Subject" "a" { keep; }' > script
     $ depot explain script
-    script:1:20: error: `:anychild` stands only beside `:mime`, which needs `require "mime"`
+    script:1:20: error: `:anychild` is allowed only with `:mime`, which needs `require "mime"`
       require "mime"; if header :anychild :is "Subject" "a" { keep; }
                          ^
     2> refused 18 BadArguments at 4
@@ -1257,7 +1544,7 @@ Tags.
 ## tag without mime or require
     $ printf 'if header :anychild :is "Subject" "a" { keep; }' > script
     $ depot explain script
-    script:1:4: error: `:anychild` stands only beside `:mime`, which needs `require "mime"`
+    script:1:4: error: `:anychild` is allowed only with `:mime`, which needs `require "mime"`
       if header :anychild :is "Subject" "a" { keep; }
          ^
     2> refused 18 BadArguments at 1
@@ -1268,7 +1555,7 @@ Variables.
 ## name that is none
     $ printf 'require "variables"; set "1x" "b";' > script
     $ depot explain script
-    script:1:22: error: "1x" is no name of a variable
+    script:1:22: error: "1x" isn't a valid name of a variable
       require "variables"; set "1x" "b";
                            ^
     2> refused 18 BadArguments at 3
@@ -1277,7 +1564,7 @@ Variables.
 ## namespace
     $ printf 'require ["variables", "fileinto"]; fileinto "${a.b}";' > script
     $ depot explain script
-    script:1:36: error: "${a.b}" refers into a namespace, and there is none
+    script:1:36: error: "${a.b}" refers to a namespace, but depot has none
       require ["variables", "fileinto"]; fileinto "${a.b}";
                                          ^
     2> refused 18 BadArguments at 7
@@ -1286,7 +1573,7 @@ Variables.
 ## capture above nine
     $ printf 'require ["variables", "fileinto"]; fileinto "a${10}";' > script
     $ depot explain script
-    script:1:36: error: "a${10}" refers to a capture above 9
+    script:1:36: error: "a${10}" refers to a number above 9, but there are only 0 to 9
       require ["variables", "fileinto"]; fileinto "a${10}";
                                          ^
     2> refused 18 BadArguments at 7
@@ -1295,7 +1582,7 @@ Variables.
 ## strings as written
     $ printf 'require ["fileinto", "foreverypart", "vnd.depot"]; store "${a.b}";' > script
     $ depot explain script
-    script:1:52: error: `store` stands only inside of a `foreverypart`
+    script:1:52: error: `store` is allowed only inside a `foreverypart`
       require ["fileinto", "foreverypart", "vnd.depot"]; store "${a.b}";
                                                          ^
     2> refused 18 BadArguments at 9
@@ -1306,7 +1593,7 @@ Places.
 ## break outside
     $ printf 'require "foreverypart"; break;' > script
     $ depot explain script
-    script:1:25: error: `break` stands only inside of a `foreverypart`
+    script:1:25: error: `break` is allowed only inside a `foreverypart`
       require "foreverypart"; break;
                               ^
     2> refused 18 BadArguments at 3
@@ -1352,7 +1639,7 @@ Places.
 ## store outside
     $ printf 'require "vnd.depot"; store "a";' > script
     $ depot explain script
-    script:1:22: error: `store` stands only inside of a `foreverypart`
+    script:1:22: error: `store` is allowed only inside a `foreverypart`
       require "vnd.depot"; store "a";
                            ^
     2> refused 18 BadArguments at 3
@@ -1361,7 +1648,7 @@ Places.
 ## part test outside
     $ printf 'require "vnd.depot"; if partsize :over 1K { discard; }' > script
     $ depot explain script
-    script:1:25: error: `partsize` stands only inside of a `foreverypart`
+    script:1:25: error: `partsize` is allowed only inside a `foreverypart`
       require "vnd.depot"; if partsize :over 1K { discard; }
                               ^
     2> refused 18 BadArguments at 4
@@ -1372,7 +1659,7 @@ Limits.
 ## fourth loop
     $ printf 'require "foreverypart"; foreverypart { foreverypart { foreverypart {\n foreverypart { } } } }' > script
     $ depot explain script
-    script:2:2: error: more than 3 loops stand inside of one another here
+    script:2:2: error: more than 3 loops are nested here
        foreverypart { } } } }
        ^
     2> refused 19 Limit at 9
@@ -1381,7 +1668,7 @@ Limits.
 ## long name
     $ printf 'require ["variables", "fileinto"]; fileinto "${aaaaaaaaaaaaaaaaaaaaaaaaaaaaaaaaa}";' > script
     $ depot explain script
-    script:1:36: error: the name of a variable, "aaaaaaaaaaaaaaaaaaaaaaaaaaaaaaaaa", has more than 32 octets
+    script:1:36: error: the name of a variable, "aaaaaaaaaaaaaaaaaaaaaaaaaaaaaaaaa", has more than 32 bytes
       require ["variables", "fileinto"]; fileinto "${aaaaaaaaaaaaaaaaaaaaaaaaaaaaaaaaa}";
                                          ^
     2> refused 19 Limit at 7
@@ -1391,7 +1678,7 @@ Limits.
     $ segments=$(printf '%129s' '' | sed 's/ /${1}a/g')
     > printf 'require ["variables", "fileinto"]; fileinto "%s";' "$segments" > script
     $ depot explain script
-    script:1:36: error: the string "${1}a${1}a${1}a${1}a${1}a${1}a${1}a${1}a${1}a${1}a${1}a${1}a..." has more than 256 references and stretches between them
+    script:1:36: error: the string "${1}a${1}a${1}a${1}a${1}a${1}a${1}a${1}a${1}a${1}a${1}a${1}a..." has more than 256 references and pieces of text between them
       require ["variables", "fileinto"]; fileinto "${1}a${1}a${1}a${1}a${1}a${1}a${1}a${1}a${1}a${1}a...
                                          ^
     2> refused 19 Limit at 7
@@ -1400,7 +1687,7 @@ Limits.
 ## string too long
     $ printf 'require "fileinto"; fileinto "%s";' "$(printf '%16385s' '' | tr ' ' x)" > script
     $ depot explain script
-    script:1:21: error: the string "xxxxxxxxxxxxxxxxxxxxxxxxxxxxxxxxxxxxxxxxxxxxxxxxxxxxxxxxxxxx..." has more than 16384 octets
+    script:1:21: error: the string "xxxxxxxxxxxxxxxxxxxxxxxxxxxxxxxxxxxxxxxxxxxxxxxxxxxxxxxxxxxx..." has more than 16384 bytes
       require "fileinto"; fileinto "xxxxxxxxxxxxxxxxxxxxxxxxxxxxxxxxxxxxxxxxxxxxxxxxxx...
                           ^
     2> refused 19 Limit at 3
@@ -1424,7 +1711,7 @@ Limits.
     2> refused 19 Limit at 515
     [1]
 
-How many are told.
+How many are shown.
 
 ## twenty
     $ awk 'BEGIN { for (n = 1; n <= 20; n++) print "kep" n ";" }' > script
@@ -1440,47 +1727,47 @@ How many are told.
     script:20:1: error: unknown command `kep20`
       kep20;
       ^
-    script: note: more is refused than this: the first 20 are told
+    script: note: only the first 20 errors are shown
     2> refused 15 UnknownCommand at 0
 
 ## more than twenty of one require
     $ awk 'BEGIN { printf "require [\"fileinto\""; for (n = 1; n <= 21; n++) printf ", \"x%d\"", n; print "];" }' > script
-    $ depot explain script | grep -c '^script:1:[0-9]*: error: depot knows no capability'
+    $ depot explain script | grep -c '^script:1:[0-9]*: error: unknown capability'
     20
     2> refused 17 UnknownCapability at 0
     $ depot explain script 2> refused | tail -n 1
-    script: note: more is refused than this: the first 20 are told
+    script: note: only the first 20 errors are shown
 
 Files that are no script.
 
 ## a compiled program
     $ printf 'SVBC\002\000' > script
     $ depot explain script
-    script:1:5: error: `\02` begins nothing that a script may have here
+    script:1:5: error: `\02` isn't allowed outside of strings and comments
       SVBC\02\00
           ^
-    script: note: the file begins as a compiled program does: `depot disassemble` shows what is in one
+    script: note: the file begins like a compiled program: `depot disassemble` prints the instructions of one
     2> refused 11 Lexical at 4
     [1]
 
 ## a mail
     $ printf 'From: ann@example.org\r\nSubject: bill\r\n\r\nkeep;\r\n' > script
     $ depot explain script
-    script:1:5: error: a colon stands here without the name of a tag behind it
+    script:1:5: error: this colon has no tag name directly after it
       From: ann@example.org
           ^
-    script: note: the file begins with a header field, as a mail does: is it a script?
+    script: note: the file begins with a header field, like a mail: is it a script?
     2> refused 11 Lexical at 4
     [1]
 
 ## a mail whose first field has a hyphen in its name
     $ depot explain examples/invoice.eml 2> refused | tail -n 1
-    examples/invoice.eml: note: the file begins with a header field, as a mail does: is it a script?
+    examples/invoice.eml: note: the file begins with a header field, like a mail: is it a script?
 
 ## a mail that is too long for a script
     $ { printf 'Subject: long\n\n'; printf '%65536s' ''; } > script
     $ depot explain script 2> refused | tail -n 1
-    script: note: the file begins with a header field, as a mail does: is it a script?
+    script: note: the file begins with a header field, like a mail: is it a script?
     $ cat refused
     refused 12 ScriptTooLong
 
@@ -1585,7 +1872,7 @@ More than one fault.
     script:2:5: error: `fileinto` needs `require "fileinto"` before it
           fileinto "Bills";
           ^
-    script:4:5: error: depot has no `vacation`: it sends no mail, leave that to the mail server
+    script:4:5: error: depot has no `vacation`: it sends no mail, the mail server can do that
           vacation;
           ^
     script:5:3: error: unknown command `elseif`, did you mean `elsif`?
@@ -1609,7 +1896,7 @@ More than one fault.
 ## the block of a loop too many
     $ printf 'require "foreverypart"; foreverypart { foreverypart { foreverypart {\n foreverypart { kep; }\n kep; } } }' > script
     $ depot explain script
-    script:2:2: error: more than 3 loops stand inside of one another here
+    script:2:2: error: more than 3 loops are nested here
        foreverypart { kep; }
        ^
     script:3:2: error: unknown command `kep`, did you mean `keep`?

@@ -1,4 +1,4 @@
-# The gallery's filters, each on a mail that it is about and on one that it isn't; docs/GALLERY.md shows more of them
+# The gallery's filters, each on a mail that it is about and on one that it isn't, and the tables of docs/GALLERY.md
 
 ## sender
     $ depot eval examples/gallery/sender.sieve examples/gallery/sender.eml
@@ -319,11 +319,54 @@
     $ depot verify forms.svbc
     A0=12316 B0=0 A1=69691 B1=104 A2=0 B2=0 A3=0 B3=0 by chains
 
+## newsletters step by step
+    $ depot trace examples/gallery/newsletters.sieve examples/gallery/bulk.eml
+    examples/gallery/newsletters.sieve:4:4: header no, 0 values
+    examples/gallery/newsletters.sieve:7:16: exists yes
+    examples/gallery/newsletters.sieve:7:9: anyof yes
+    examples/gallery/newsletters.sieve:8:5: fileinto "Lists"
+    fileinto "Lists"
+    charged 240 of 36087
+
+The tables of the page, compared with what these filters do and cost.
+
+## the filters of docs/GALLERY.md do what its table says
+    $ cat > look << 'END'
+    > import re, subprocess, sys
+    > filters, mails = set(), 0
+    > for line in open(sys.argv[1], encoding="utf-8"):
+    >     if row := re.fullmatch(r"\| .* \| \[`(\w+)\.sieve`\]\(\S+\) \| (.*) \|\n", line):
+    >         filters.add(row[1])
+    >         for cell in row[2].split("; "):
+    >             mail, *wanted = re.findall("`([^`]*)`", cell)
+    >             words = ["depot", "eval", f"examples/gallery/{row[1]}.sieve", f"examples/gallery/{mail}"]
+    >             got = subprocess.run(words, capture_output=True, text=True).stdout.split("\n")[:-2]
+    >             mails += 1
+    >             if got != wanted:
+    >                 print(row[1], mail, got)
+    > print(len(filters), "filters,", mails, "mails")
+    > END
+    $ python3 look "$TOP/docs/GALLERY.md"
+    15 filters, 25 mails
+    $ ls examples/gallery/*.sieve | wc -l
+    15
+
+## the filters cost what the table of docs/GALLERY.md says
+    $ sed -n 's/^| `\([a-z]*\)` | \([0-9]*\) | \([0-9]*\) | \([0-9]*\) | \([0-9]*\) | \([0-9]*\) |.*/\1 A0=\2 B0=\3 A1=\4 B1=\5 A2=\6 B2=0 A3=0 B3=0 by chains/p' \
+    >     "$TOP/docs/GALLERY.md" | sort > wanted
+    $ for filter in examples/gallery/*.sieve; do
+    >     depot compile $filter out > said
+    >     echo "$(basename $filter .sieve) $(depot verify out)"
+    > done | sort > got
+    $ diff wanted got
+    $ wc -l < got
+    15
+
 The names of the gallery's table for those who come from another Sieve: none is a capability here, and what it says in their place is
 accepted.
 
 ## coming from another Sieve
-    $ sed -n '/^## Coming from another Sieve/,/^## What/s/^| `\([^`]*\)` .*/\1/p' "$TOP/docs/GALLERY.md" > names
+    $ sed -n '/^## Coming from another Sieve/,/^## What/s/^| \(`[^|]*\) |.*/\1/p' "$TOP/docs/GALLERY.md" | tr -d '` ' | tr , '\n' > names
     $ wc -l < names
     47
     $ sort names | uniq -d

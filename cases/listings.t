@@ -226,7 +226,7 @@ Faults of listings.
 ## a word that is no operation
     $ printf 'version 1\nvariables 0\nKEEP\nDISCRAD ; a typing error\nHALT\n' > listing
     $ depot assemble listing out
-    listing:4:1: error: `DISCRAD` can't stand here: after version and variables stand numbers, strings, and then instructions with their fields
+    listing:4:1: error: `DISCRAD` isn't allowed here: the version and the variables are followed by numbers, strings, and then instructions with their fields
       DISCRAD ; a typing error
       ^
     2> refused 28 Listing at 27
@@ -235,7 +235,7 @@ Faults of listings.
 ## a word that says nothing of a test
     $ printf 'version 1\nvariables 0\nHEADER a contain b 1 c 1\nHALT\n' > listing
     $ depot assemble listing out
-    listing:3:10: error: `contain` can't stand here: after version and variables stand numbers, strings, and then instructions with their fields
+    listing:3:10: error: `contain` isn't allowed here: the version and the variables are followed by numbers, strings, and then instructions with their fields
       HEADER a contain b 1 c 1
                ^
     2> refused 28 Listing at 31
@@ -244,7 +244,7 @@ Faults of listings.
 ## a label that is there twice
     $ printf 'version 1 variables 0\nlabel a KEEP\nlabel a HALT\n' > listing
     $ depot assemble listing out
-    listing:3:7: error: the label `a` is there a second time: a label stands once
+    listing:3:7: error: the label `a` is defined a second time
       label a HALT
             ^
     2> refused 28 Listing at 41
@@ -253,7 +253,7 @@ Faults of listings.
 ## a label that is missing
     $ printf 'version 1 variables 0\nJMP c there\nHALT\n' > listing
     $ depot assemble listing out
-    listing:2:7: error: `there` is no number, and no label of this listing
+    listing:2:7: error: `there` is neither a number nor a label of this listing
       JMP c there
             ^
     2> refused 28 Listing at 28
@@ -262,7 +262,7 @@ Faults of listings.
 ## a string without its end
     $ printf 'version 1 variables 0\nstring "a' > listing
     $ depot assemble listing out
-    listing:2:8: error: no string can stand here, or this one is never closed, too long, or has a backslash without two hexadecimal digits
+    listing:2:8: error: no string is allowed here, or this one is never closed, too long, or has a backslash without two hexadecimal digits
       string "a
              ^
     2> refused 28 Listing at 29
@@ -270,14 +270,14 @@ Faults of listings.
 
 ## an empty file
     $ depot assemble /dev/null out
-    /dev/null:1:1: error: the listing ends before its program does
+    /dev/null:1:1: error: the listing ends before its program is complete
     1>   
       ^
     2> refused 28 Listing at 0
     [1]
 
 ## a script
-    $ depot assemble examples/pager.sieve out | head -n 1 | cut -c 1-36
+    $ depot assemble examples/pager.sieve out | sed -n 1p | cut -c 1-36
     examples/pager.sieve:1:1: error: `#`
     2> refused 28 Listing at 0
 
@@ -308,7 +308,7 @@ Faults of listings.
     wrote 524303 octets
     $ { echo version 1 variables 0; yes HALT | head -n 65537; } > listing
     $ depot assemble listing out
-    listing:65539:1: error: the program exceeds the limits of programs
+    listing:65539:1: error: the program exceeds the limits for programs
     1>   
       ^
     2> refused 28 Listing at 327707

@@ -23,10 +23,12 @@ Only if: command -v dpkg-deb # there is no dpkg-deb
     -rwxr-xr-x root/root 2031-05-06 ./usr/bin/depot
     -rwxr-xr-x root/root 2031-05-06 ./usr/bin/depot-ask
     -rwxr-xr-x root/root 2031-05-06 ./usr/bin/depot-deliver
+    -rwxr-xr-x root/root 2031-05-06 ./usr/bin/depot-each-mailbox
     -rwxr-xr-x root/root 2031-05-06 ./usr/bin/depot-expect
     -rwxr-xr-x root/root 2031-05-06 ./usr/bin/depot-hold
     -rwxr-xr-x root/root 2031-05-06 ./usr/bin/depot-refile
     -rwxr-xr-x root/root 2031-05-06 ./usr/bin/depot-refilter
+    -rwxr-xr-x root/root 2031-05-06 ./usr/bin/depot-scrub
     -rwxr-xr-x root/root 2031-05-06 ./usr/bin/depot-to-maildir
     -rwxr-xr-x root/root 2031-05-06 ./usr/bin/depot-try
     drwxr-xr-x root/root 2031-05-06 ./usr/lib/
@@ -34,14 +36,19 @@ Only if: command -v dpkg-deb # there is no dpkg-deb
     -rwxr-xr-x root/root 2031-05-06 ./usr/lib/depot/ask
     -rw-r--r-- root/root 2031-05-06 ./usr/lib/depot/common.py
     -rwxr-xr-x root/root 2031-05-06 ./usr/lib/depot/deliver
+    -rwxr-xr-x root/root 2031-05-06 ./usr/lib/depot/each_mailbox
     -rwxr-xr-x root/root 2031-05-06 ./usr/lib/depot/expect
     -rwxr-xr-x root/root 2031-05-06 ./usr/lib/depot/hold
     -rwxr-xr-x root/root 2031-05-06 ./usr/lib/depot/refile
     -rwxr-xr-x root/root 2031-05-06 ./usr/lib/depot/refilter
+    -rwxr-xr-x root/root 2031-05-06 ./usr/lib/depot/scrub
     -rwxr-xr-x root/root 2031-05-06 ./usr/lib/depot/test_deliver
     -rwxr-xr-x root/root 2031-05-06 ./usr/lib/depot/test_hold
     -rwxr-xr-x root/root 2031-05-06 ./usr/lib/depot/to_maildir
     -rwxr-xr-x root/root 2031-05-06 ./usr/lib/depot/try
+    drwxr-xr-x root/root 2031-05-06 ./usr/lib/python3/
+    drwxr-xr-x root/root 2031-05-06 ./usr/lib/python3/dist-packages/
+    -rw-r--r-- root/root 2031-05-06 ./usr/lib/python3/dist-packages/depot.py
     drwxr-xr-x root/root 2031-05-06 ./usr/lib/systemd/
     drwxr-xr-x root/root 2031-05-06 ./usr/lib/systemd/system/
     -rw-r--r-- root/root 2031-05-06 ./usr/lib/systemd/system/depot-hold.service
@@ -73,10 +80,12 @@ Only if: command -v dpkg-deb # there is no dpkg-deb
     drwxr-xr-x root/root 2031-05-06 ./usr/share/man/man1/
     -rw-r--r-- root/root 2031-05-06 ./usr/share/man/man1/depot-ask.1.gz
     -rw-r--r-- root/root 2031-05-06 ./usr/share/man/man1/depot-deliver.1.gz
+    -rw-r--r-- root/root 2031-05-06 ./usr/share/man/man1/depot-each-mailbox.1.gz
     -rw-r--r-- root/root 2031-05-06 ./usr/share/man/man1/depot-expect.1.gz
     -rw-r--r-- root/root 2031-05-06 ./usr/share/man/man1/depot-hold.1.gz
     -rw-r--r-- root/root 2031-05-06 ./usr/share/man/man1/depot-refile.1.gz
     -rw-r--r-- root/root 2031-05-06 ./usr/share/man/man1/depot-refilter.1.gz
+    -rw-r--r-- root/root 2031-05-06 ./usr/share/man/man1/depot-scrub.1.gz
     -rw-r--r-- root/root 2031-05-06 ./usr/share/man/man1/depot-to-maildir.1.gz
     -rw-r--r-- root/root 2031-05-06 ./usr/share/man/man1/depot-try.1.gz
     -rw-r--r-- root/root 2031-05-06 ./usr/share/man/man1/depot.1.gz
@@ -102,10 +111,12 @@ What is packed is what the repository has.
     >     sed 's|/usr/bin/env python3|/usr/bin/python3|; s|/usr/local/bin/depot|/usr/bin/depot|' "$TOP/contrib/${script##*/}" | cmp - "$script"
     > done
     $ cmp out/usr/lib/depot/common.py "$TOP/contrib/common.py" && cmp out/usr/lib/tmpfiles.d/depot.conf "$TOP/release/debian/tmpfiles"
+    $ cmp out/usr/lib/python3/dist-packages/depot.py "$TOP/contrib/python/depot.py"
     $ cmp out/usr/share/bash-completion/completions/depot "$TOP/contrib/depot.bash"
     $ cmp out/usr/share/zsh/vendor-completions/_depot "$TOP/contrib/_depot"
-    $ grep -h -e '^program=.*DEPOT:-' -e 'setdefault("DEPOT"' out/usr/lib/depot/deliver out/usr/lib/depot/hold
+    $ grep -h -e '^program=.*DEPOT:-' -e 'setdefault("DEPOT"' out/usr/lib/depot/deliver out/usr/lib/depot/hold out/usr/lib/depot/each_mailbox
     program=${DEPOT:-/usr/bin/depot}
+    os.environ.setdefault("DEPOT", "/usr/bin/depot")
     os.environ.setdefault("DEPOT", "/usr/bin/depot")
 
 Each script but the tests has a name on the PATH, and a manual page of what stands at its head.
@@ -120,6 +131,8 @@ Each script but the tests has a name on the PATH, and a manual page of what stan
      NAME SYNOPSIS DESCRIPTION SEE
     depot\-deliver "2031-05-06"
      NAME SYNOPSIS DESCRIPTION SEE
+    depot\-each\-mailbox "2031-05-06"
+     NAME SYNOPSIS DESCRIPTION SEE
     depot\-expect "2031-05-06"
      NAME SYNOPSIS DESCRIPTION SEE
     depot\-hold "2031-05-06"
@@ -127,6 +140,8 @@ Each script but the tests has a name on the PATH, and a manual page of what stan
     depot\-refile "2031-05-06"
      NAME SYNOPSIS DESCRIPTION SEE
     depot\-refilter "2031-05-06"
+     NAME SYNOPSIS DESCRIPTION SEE
+    depot\-scrub "2031-05-06"
      NAME SYNOPSIS DESCRIPTION SEE
     depot\-to\-maildir "2031-05-06"
      NAME SYNOPSIS DESCRIPTION SEE

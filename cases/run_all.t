@@ -2,8 +2,8 @@
 
 ## cases that are wrong are named in their order, and counted
     $ mkdir -p tree/cases tree/docs tree/examples && cp depot program
-    $ sed 's/^PROCESSOR_SECONDS, IDLE_SECONDS = .*/PROCESSOR_SECONDS, IDLE_SECONDS = 1, 4/' "$TOP/cases/run_all" > tree/cases/run_all && chmod +x tree/cases/run_all
-    $ for tour in README docs/TOUR docs/GALLERY; do printf 'A tour.\n\n    $ echo a > /tmp/b; cat /tmp/b\n    a\n' > tree/$tour.md; done
+    $ sed 's/^PROCESSOR_SECONDS, IDLE_SECONDS = .*/PROCESSOR_SECONDS, IDLE_SECONDS = 1, 8/' "$TOP/cases/run_all" > tree/cases/run_all && chmod +x tree/cases/run_all
+    $ for tour in README docs/GUIDE docs/GALLERY docs/BYTECODE; do printf 'A tour.\n\n    $ echo a > /tmp/b; cat /tmp/b\n    a\n' > tree/$tour.md; done
     $ cat > tree/cases/a.t <<'END'
     > ## slow and wrong
     >     $ sleep 2; echo b
@@ -52,7 +52,7 @@
     @@ -1,2 +1,4 @@
          $ echo begun; sleep 100 & sleep 100
          begun
-    +    2> run_all: stopped, since it was idle for 4 seconds
+    +    2> run_all: stopped, since it was idle for 8 seconds
     +    [137]
     --- cases/a.t: busy
     +++ what was printed
@@ -61,7 +61,7 @@
     +    2> run_all: stopped, since it took 1 seconds of processor time
     +    [137]
     cases/a.t: nothing: no command
-    5 passed, 6 failed
+    6 passed, 6 failed
     [1]
     $ tree/cases/run_all program right a.t 2> said | tail -n 1; tree/cases/run_all program right 2> said; tree/cases/run_all program wrong
     2 passed, 6 failed

@@ -8,33 +8,33 @@
 
 ## the start of the program, with stand-ins for it and for the toolchain
     $ "$TOP/cases/starts"
-    30 tried, 0 wrong
+    31 tried, 0 wrong
 
-## the edits and docs/generated/EDITS.md
-    $ "$TOP/cases/edits_stand"
+## the edits and the code
+    $ "$TOP/checks/edits_stand"
 
-## the pages of laws and of edits, and docs/PROMISES.md
-    $ "$TOP/cases/pages"
+## the pages of promises, laws and edits
+    $ "$TOP/checks/pages"
 
-## the lines of docs/AUDIT.md and README.md, and the definitions
-    $ "$TOP/cases/rings"
+## the lines of docs/generated/RINGS.md, docs/AUDIT.md and README.md, and the definitions
+    $ "$TOP/checks/rings"
 
 ## a definition that is in the wrong module doesn't go unseen
-    $ mkdir copy && cd "$TOP" && tar c README.md docs/AUDIT.md cases crates/*/specs crates/*/src | tar x -C "$OLDPWD/copy"
-    $ copy/cases/rings
+    $ mkdir copy && cd "$TOP" && tar c README.md docs/AUDIT.md docs/generated/RINGS.md checks crates/*/specs crates/*/src | tar x -C "$OLDPWD/copy"
+    $ copy/checks/rings
     $ printf 'abbrev pub stray : Bool\nstray = true\n' >> copy/crates/mime_tree/specs/Order.antt
-    $ copy/cases/rings | sed -n 's/.*Order.antt:[0-9]*: //p'
+    $ copy/checks/rings | sed -n 's/.*Order.antt:[0-9]*: //p'
     stray: no public contract reaches this, and specs/Lib.antt doesn't name the module as private
     $ sed -i '/^pub mod Readable$/d' copy/crates/mime_tree/specs/Lib.antt
     $ echo 'pub mod Readable' >> copy/crates/mime_tree/specs/Lib.antt
-    $ copy/cases/rings | sed -n 's/.*Readable.antt:[0-9]*: //p'
+    $ copy/checks/rings | sed -n 's/.*Readable.antt:[0-9]*: //p'
     IsReadable: a public contract reaches this, and specs/Lib.antt names the module as private
     IsTree: a public contract reaches this, and specs/Lib.antt names the module as private
     only where specs/Lib.antt names a module as private does it begin with `-- Private: `
     $ rm -r copy
 
 ## the links, paths and contents of the documents
-    $ "$TOP/cases/links"
+    $ "$TOP/checks/links"
 
 ## the pictures of the figures, and the tables that they are drawn from
     $ "$TOP/bench/pictures" --check

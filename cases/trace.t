@@ -66,7 +66,7 @@ Kinds of events.
 
 ## a text that is long
     $ printf 'require "fileinto"; fileinto "%0100d";' 7 > script
-    $ depot trace script /dev/null | head -1
+    $ depot trace script /dev/null | sed -n 1p
     script:1:21: fileinto "00000000000000000000000000000000000000000000000000000000000000000000000000000000"..
 
 ## a name that can't be printed as it is

@@ -119,7 +119,7 @@ Octets that begin with SVBC are taken for a program.
     $ printf 'version 1 variables 0 LIT c "%0100d" FILE HALT' 7 > listing
     $ depot assemble listing program
     wrote 141 octets
-    $ depot trace program /dev/null | head -n 1
+    $ depot trace program /dev/null | sed -n 1p
     0 LIT | 1 1 | "00000000000000000000000000000000000000000000000000000000000000000000000000000000"..
 
 ## the steps of the program that a script compiles to

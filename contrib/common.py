@@ -1,4 +1,8 @@
-"""What refile, refilter and to_maildir share: a batch of depot, names as its lines have them, and how a script ends."""
+"""What refile, refilter and to_maildir share: a batch of depot, the entries of a user, and how a script ends.
+
+Other programs use python/depot.py. Here a batch is given lines ahead of its answers, names stay as the program prints them, and
+what it refuses is a status.
+"""
 
 import contextlib
 import os
@@ -58,6 +62,11 @@ def want_file(path):
         raise Failed(os.EX_NOINPUT, f"there is no file {path}")
     if not os.path.isfile(path):
         raise Failed(os.EX_NOINPUT, f"{path} is no file")
+
+
+def want_program():
+    if not shutil.which(PROGRAM):
+        raise Failed(os.EX_UNAVAILABLE, f"there is no program {PROGRAM}: name it by the variable DEPOT, or put depot on the PATH")
 
 
 def quoted(name):
@@ -130,11 +139,16 @@ class Batch:
         return self.process.returncode
 
 
+def inspected(depot):
+    """What `inspect` says of a file."""
+    return subprocess.run([PROGRAM, "inspect", "--", depot], stdin=subprocess.DEVNULL, capture_output=True, check=False)
+
+
 def reason(depot, why):
     """What `inspect` says of a file of which the program says 43 or 46."""
     if not re.match("refused 4[36] ", why):
         return ""
-    said = subprocess.run([PROGRAM, "inspect", "--", depot], stdin=subprocess.DEVNULL, capture_output=True, check=False)
+    said = inspected(depot)
     first = said.stdout.partition(b"\n")[0].decode(errors="replace")
     spoilt = re.findall(rb'^user ("[^"]*") .* program (refused .*)$', said.stdout, re.MULTILINE)
     if first.startswith("no depot: "):
@@ -152,11 +166,90 @@ def listed(batch, user):
         yield int(found[1]), found[2], found[3], found[4], int(found[5])
 
 
-def export(batch, user, number, length, to):
-    """Writes an entry to a file, all of it."""
-    lines = batch.ask(b"export %s %d raw %s" % (quoted(user), number, quoted(to)))
-    if lines != [b"exported %d" % number] or os.path.getsize(to) != length:
-        raise Failed(os.EX_SOFTWARE, f"entry {number} has {length} octets, and they weren't all exported")
+class Entries:
+    """What a user has in a copy of a depot, read by a batch. If that ends because a content was altered, a new one goes on."""
+
+    def __init__(self, copy, user):
+        self.copy, self.user = copy, user
+        # the numbers of those whose content was found to be altered
+        self.altered = []
+        self.batch, self.all = self.opened()
+
+    def __enter__(self):
+        return self
+
+    def __exit__(self, *_):
+        self.batch.end()
+
+    def opened(self):
+        """A batch on the copy, and the entries that it lists."""
+        batch = Batch(self.copy)
+        try:
+            return batch, list(listed(batch, self.user))
+        except BaseException:
+            batch.end()
+            raise
+
+    def export(self, number, length, to):
+        """Writes an entry to a file, all of it, and gives True; or False if its content was altered on the disk: then its export
+        is refused twice, and nothing else is wrong."""
+        line = b"export %s %d raw %s" % (quoted(self.user), number, quoted(to))
+        for _ in range(2):
+            self.batch.say(line)
+            lines, status = self.batch.answer()
+            if status == b"0":
+                if lines != [b"exported %d" % number] or os.path.getsize(to) != length:
+                    raise Failed(os.EX_SOFTWARE, f"entry {number} has {length} octets, and they weren't all exported")
+                return True
+            if (lines, status) != ([b"refused 43 Database"], b"1"):
+                raise self.batch.refusal(line, lines)
+            self.go_on(line)
+        self.altered.append(number)
+        return False
+
+    def go_on(self, line):
+        """Begins a new batch after the export of an entry was refused, if the copy is whole without it: `inspect` finds no fault,
+        each octet can be read, the same entries are listed, and what is filed now can be exported."""
+        self.batch.end()
+        said = inspected(self.copy)
+        first = said.stdout.partition(b"\n")[0].decode(errors="replace")
+        if said.returncode == 0 and first == "depot" and is_readable(self.copy):
+            self.batch, entries = self.opened()
+            if entries == self.all and self.exports_new():
+                return
+        why = f"{line.decode()}: refused 43 Database: "
+        if first.startswith("no depot: "):
+            raise Failed(os.EX_DATAERR, why + first.removeprefix("no depot: "))
+        raise Failed(os.EX_TEMPFAIL, why + "the disk of the temporary folder is full or failed")
+
+    def exports_new(self):
+        """Whether a mail that is filed in the copy can be exported, which ends the batch if it can't."""
+        mail = self.copy + "-probe"
+        with open(mail, "wb") as file:
+            file.write(b"Subject: probe\n\n")
+        user = quoted("probe." + os.urandom(16).hex())
+        for line in b"deliver %s %s" % (user, quoted(mail)), b"export %s 1 raw %s" % (user, quoted(mail + "-back")):
+            self.batch.say(line)
+            if self.batch.answer()[1] != b"0":
+                return False
+        with open(mail + "-back", "rb") as file:
+            return file.read() == b"Subject: probe\n\n"
+
+
+def tell_altered(name, user, number):
+    """Names an entry whose content was altered on standard error."""
+    print(f"{name}: the content of entry {number} of {user} was altered on the disk: restore it from a backup", file=sys.stderr)
+
+
+def is_readable(path):
+    """Whether the disk gives each octet of a file."""
+    try:
+        with open(path, "rb") as file:
+            while file.read(1 << 20):
+                pass
+    except OSError:
+        return False
+    return True
 
 
 @contextlib.contextmanager

@@ -1,5 +1,5 @@
-# Attachments go apart, but not those on a list of digests: here a picture that everybody has by now, and files without content.
-# What is itself made of parts isn't stored whole: each of its parts is looked at in its turn.
+# Attachments are stored apart, but not those on a list of digests: here a well-known picture, and empty files.
+# A part that contains parts isn't stored: each of its parts is looked at instead.
 require ["foreverypart", "mime", "vnd.depot"];
 
 foreverypart {

@@ -1,4 +1,4 @@
-# A mailbox with little room: messages of more than 50,000 octets are thrown away.
+# A mailbox with little room: messages of more than 50,000 bytes are thrown away.
 if size :over 50000 {
     discard;
 }

@@ -1,4 +1,4 @@
-# Every document of a mail goes into a folder of its own, wherever in the mail it stands. The mail itself is kept.
+# Each document of a mail is stored in a folder, wherever in the mail it is. The mail itself is kept.
 require ["foreverypart", "mime", "vnd.depot"];
 
 foreverypart {

@@ -1,4 +1,4 @@
-# One newsletter into a folder, without the rest of its sender's mail; a copy of what is forwarded stays in the inbox.
+# One newsletter goes into a folder, without its sender's other mail; forwarded mail goes into a folder and stays in the inbox.
 require ["fileinto", "comparator-i;octet"];
 
 if allof (

@@ -1,5 +1,5 @@
-# The intake of a ticket system. What is too short to be a report isn't one, and what no one could read
-# in the tracker is thrown away; all else becomes a ticket.
+# The intake of a ticket system. A mail that is too short to be a report, or too large to be read in the
+# tracker, is thrown away; every other mail becomes a ticket.
 if size :under 200 {
     discard;
 } elsif size :over 10M {

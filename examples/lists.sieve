@@ -1,4 +1,4 @@
-# Each mailing list into a folder of its own, named by its List-Id; tickets by their number.
+# Each mailing list has a folder of its own, named by its List-Id; tickets have one by their number.
 require ["variables", "fileinto"];
 
 if header :matches "List-Id" "*<*.lists.*>*" {

@@ -1,5 +1,5 @@
-# A mail to a help desk: what is attached goes into the folder of its ticket, under its name. Pictures in a signature are left out,
-# and what is itself made of parts isn't stored whole.
+# A mail to a help desk: each attachment goes into the folder of its ticket, under its name. Pictures in a signature are left
+# out, and a part that contains parts isn't stored.
 require ["foreverypart", "mime", "variables", "vnd.depot"];
 
 if header :matches "Subject" "*[#*]*" {

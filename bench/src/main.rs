@@ -2,7 +2,7 @@
 //!
 //!     harness [--list] [--pairs N] [--markdown FILE] [WORD..]
 //!
-//! With --markdown it writes the tables into a file, each under its heading of `bench/about.md`, after what stands there of the figures.
+//! With --markdown it writes the tables into a file, each under its heading of `bench/about.md`, after the text that is there.
 //!
 //! A job is run where its name has each of the words in it; without words all are. Before it is timed, both sides' answers on the input are compared,
 //! and a job whose answers differ has failed.
@@ -235,7 +235,7 @@ fn document(rows: &[(&str, String)]) -> String {
         text.push_str(&format!("\n## {}\n", section.trim_end()));
         if !table.is_empty() {
             text.push_str(&format!("\n{HEAD}{table}"));
-        } else if group == "Beside another filter" {
+        } else if group == "Compared with another filter" {
             text.push_str(&format!("\n{}", beside_another()));
         }
     }

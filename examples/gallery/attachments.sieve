@@ -1,5 +1,5 @@
 # Attachments of more than 16 kB are stored apart, each in a folder of its name. The mail stays in the inbox as it is.
-# What is itself made of parts isn't stored: each of its parts is looked at in its turn.
+# A part that contains parts isn't stored: each of its parts is looked at instead.
 require ["foreverypart", "mime", "variables", "vnd.depot"];
 
 foreverypart {

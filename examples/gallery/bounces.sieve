@@ -1,4 +1,4 @@
-# Reports on mail of ours that wasn't delivered: those that say that it failed go apart from those that say that it takes longer.
+# Reports on our mail that wasn't delivered: those about a failure and those about a delay go into a folder each.
 require ["foreverypart", "mime", "fileinto", "vnd.depot"];
 
 if header :mime :param "report-type" "Content-Type" "delivery-status" {

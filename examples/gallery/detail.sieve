@@ -6,7 +6,7 @@ if header :matches ["Delivered-To", "To", "Cc"] "ann+*@example.org" {
 } elsif header :matches ["To", "Cc"] "*<ann+*@example.org>*" {
     set :lower "detail" "${2}";
 }
-# what has a further @ in it was taken out of several addresses
+# a text with another @ in it was taken out of several addresses
 if not string :matches "${detail}" ["", "*@*"] {
     fileinto "${detail}";
 }

@@ -1,6 +1,6 @@
-# A mail with a program goes apart, and one with a file whose name hides what it ends in: the ending of a program is in the field,
-# however that is read; or the name is in pieces, isn't written plainly, ends in a character that a reader of mail may drop,
-# or is there twice.
+# A mail with a program goes apart, and so does one with a file whose name hides its ending. The tests look for the ending of
+# a program anywhere in the field, a name in pieces or encoded, a name that is there twice, and a name with a last character
+# that mail readers drop.
 require ["mime", "fileinto"];
 
 if anyof (

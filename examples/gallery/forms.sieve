@@ -1,5 +1,5 @@
 # A form that is attached as form.txt names its ticket, as in `Ticket [4711]`; the mail and what is attached go there.
-# What is itself made of parts isn't stored.
+# A part that contains parts isn't stored.
 require ["foreverypart", "mime", "variables", "vnd.depot", "fileinto"];
 
 foreverypart {

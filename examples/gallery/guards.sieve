@@ -1,5 +1,5 @@
-# Guards, to stand before other rules: mail of our own that has come round is thrown away,
-# and what is very large or was written by a machine goes apart.
+# Guards, for use before other rules: our own mail that comes back is thrown away,
+# and mail that is very large or was written by a machine goes apart.
 require "fileinto";
 
 if header :is "X-Loop" "desk@example.org" {

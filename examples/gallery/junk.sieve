@@ -1,4 +1,4 @@
-# What the spam filter marked goes to Junk. What it gave fifteen stars is thrown away unread.
+# Mail that the spam filter marked goes to Junk. Mail with fifteen stars is thrown away unread.
 require "fileinto";
 
 if header :contains "X-Spam-Level" "***************" {

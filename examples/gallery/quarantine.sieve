@@ -1,4 +1,4 @@
-# A mail with a file that is known to do harm goes into quarantine and nowhere else, whatever the file is called.
+# A mail with a file that is known to be harmful goes into quarantine and nowhere else, whatever the file's name is.
 # The list has the SHA-256 of each such file, as sha256sum prints it.
 require ["foreverypart", "fileinto", "vnd.depot"];
 

@@ -1,4 +1,4 @@
-# One person's mail, and that of one house, each into a folder. An address is in angle brackets, or alone.
+# Mail of one person and mail of one house go into a folder each. An address is in angle brackets, or alone.
 require "fileinto";
 
 if header :matches "From" ["chief@example.org", "*<chief@example.org>*"] {

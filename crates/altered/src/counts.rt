@@ -2,16 +2,20 @@
 use itoa::Buffer;
 use std::alloc::{AllocError, Global};
 
-/// How many were refused by a number that they may be refused by, taken, and answered in any other way.
+/// How many were refused with a number that is allowed for them, how many were accepted, and how many were answered in
+/// any other way. Each series of changes makes one.
 #[derive(Drop)]
 pub struct Counts {
+    /// Refused with a number that is allowed.
     pub refused: u64,
+    /// Accepted, with an answer that is allowed.
     pub taken: u64,
+    /// Answered in any other way.
     pub other: u64,
 }
 
 impl Counts {
-    /// None yet.
+    /// Counts that are all 0.
     pub fn new() -> Counts {
         Counts {
             refused: 0,
@@ -20,7 +24,7 @@ impl Counts {
         }
     }
 
-    /// Counts one that was refused, by a number that it may be refused by or by another.
+    /// Counts one that was refused, with a number that is allowed for it or with another.
     pub fn refuse(&mut self, expected: bool) {
         if expected {
             self.refused = self.refused.wrapping_add(1);
@@ -29,7 +33,7 @@ impl Counts {
         }
     }
 
-    /// Counts one that was taken, with an answer that it may have or with another.
+    /// Counts one that was accepted, with an answer that is allowed for it or with another.
     pub fn take(&mut self, expected: bool) {
         if expected {
             self.taken = self.taken.wrapping_add(1);
@@ -39,6 +43,10 @@ impl Counts {
     }
 
     /// The line of a series.
+    ///
+    /// # Errors
+    ///
+    /// `AllocError` if memory is refused.
     pub fn line(&self, alloc: Global, name: &str, series: &str) -> Result<String, AllocError> {
         let mut line = String::new(alloc);
         line.push_str(name)?;
@@ -55,7 +63,11 @@ impl Counts {
     }
 }
 
-/// A copy with another octet at a place.
+/// A copy with another byte at a place.
+///
+/// # Errors
+///
+/// `AllocError` if memory is refused.
 pub fn with_octet(
     alloc: Global,
     octets: &[u8],

@@ -1,4 +1,5 @@
-// Programs, messages and scripts that are cut short or altered, given to the calls that take them: counts how each was answered.
+// Gives programs, messages and scripts that are cut off or altered to the calls that take them, and counts how each was
+// answered.
 #![tactic(auto)]
 
 mod counts;
@@ -11,7 +12,8 @@ use std::fs;
 use std::io::{self, Write};
 use std::process::ExitCode;
 
-// Programs in octets: one without a loop, one with a loop, one with two in each other, and one for each version that has all of its operations.
+// Programs as bytes: one without a loop, one with a loop, one with two nested loops, and for each version one that has
+// all of its operations.
 const PROGRAMS: &[&str] = &[
     "keep.svbc",
     "store.svbc",
@@ -31,7 +33,7 @@ fn main(rt: HostRuntime) -> ExitCode {
     }
 }
 
-// Whether each was answered as it may be.
+// Whether each was answered as allowed.
 fn answer_all(rt: &HostRuntime) -> io::Result<bool> {
     let alloc = rt.alloc();
     let mut all = true;
@@ -74,7 +76,7 @@ fn answer_all(rt: &HostRuntime) -> io::Result<bool> {
     Ok(all)
 }
 
-// Prints what came of one series, and gives whether nothing else did.
+// Prints the result of one series, and returns whether there was no other answer.
 fn tell(rt: &HostRuntime, name: &str, series: &str, counts: &Counts) -> io::Result<bool> {
     rt.stdout()
         .write_all(counts.line(rt.alloc(), name, series)?.as_bytes())?;

@@ -1,4 +1,4 @@
-// Altered messages, read whole, with the content of each part.
+// Altered messages, read completely, with the content of each part.
 use crate::counts::{Counts, with_octet};
 use mime_decode::Message;
 use std::alloc::{AllocError, Global};
@@ -12,7 +12,11 @@ pub fn prefixes(alloc: Global, message: &[u8]) -> Counts {
     counts
 }
 
-/// Each octet set to each value: the message is read.
+/// Each byte set to each value: the message is read.
+///
+/// # Errors
+///
+/// `AllocError` if memory is refused.
 pub fn one_altered(alloc: Global, message: &[u8]) -> Result<Counts, AllocError> {
     let mut counts = Counts::new();
     for place in 0..message.len() {
@@ -23,7 +27,7 @@ pub fn one_altered(alloc: Global, message: &[u8]) -> Result<Counts, AllocError> 
     Ok(counts)
 }
 
-// Whether octets are a message of at least one part, each with a content that isn't longer than the message.
+// Whether bytes are a message of at least one part, and no part's content is longer than the message.
 fn is_read(alloc: Global, octets: &[u8]) -> bool {
     match Message::read(alloc, octets) {
         Ok(message) => message.parts() >= 1 && has_contents(alloc, &message),

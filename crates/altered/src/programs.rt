@@ -1,20 +1,24 @@
-// Altered programs, executed on a message without octets and on messages in each other.
+// Altered programs, executed on an empty message and on messages nested in each other.
 use crate::counts::{Counts, with_octet};
 use refusals::Refusal;
 use sieve_engine::{Report, check_program, execute};
 use std::alloc::{AllocError, Global};
 
-// Four messages in each other.
+// Four messages nested in each other.
 const CHAIN: &[u8] =
     b"Content-Type: message/rfc822\n\nContent-Type: message/rfc822\n\nContent-Type: message/rfc822\n\nContent-Type: message/rfc822\n\n";
 
-// How many pairs of octets of each program are altered.
+// How many pairs of bytes of each program are altered.
 const PAIRS: u64 = 50_000;
 
-// Where the version of a program stands.
+// The place of a program's version.
 const VERSION_PLACE: usize = 4;
 
-/// Each proper prefix spells no program.
+/// Each proper prefix is the spelling of no program.
+///
+/// # Errors
+///
+/// None: a prefix for which memory is refused counts as answered in another way.
 pub fn prefixes(alloc: Global, program: &[u8]) -> Result<Counts, AllocError> {
     let mut counts = Counts::new();
     for end in 0..program.len() {
@@ -26,7 +30,11 @@ pub fn prefixes(alloc: Global, program: &[u8]) -> Result<Counts, AllocError> {
     Ok(counts)
 }
 
-/// Each octet set to each value: the program is refused, or runs within its budget, and does the same in version 2.
+/// Each byte set to each value: the program is refused, or runs within its budget, and does the same in version 2.
+///
+/// # Errors
+///
+/// `AllocError` if memory is refused.
 pub fn one_altered(alloc: Global, program: &[u8]) -> Result<Counts, AllocError> {
     let mut counts = Counts::new();
     for place in 0..program.len() {
@@ -41,7 +49,11 @@ pub fn one_altered(alloc: Global, program: &[u8]) -> Result<Counts, AllocError> 
     Ok(counts)
 }
 
-/// Two octets, each set to some value, again and again: the same.
+/// Two bytes, each set to some value, again and again: the result is the same.
+///
+/// # Errors
+///
+/// `AllocError` if memory is refused.
 pub fn two_altered(alloc: Global, program: &[u8]) -> Result<Counts, AllocError> {
     let mut counts = Counts::new();
     let mut numbers = Numbers { state: 1 };
@@ -58,7 +70,7 @@ pub fn two_altered(alloc: Global, program: &[u8]) -> Result<Counts, AllocError> 
     Ok(counts)
 }
 
-// Numbers that look like any (Marsaglia's xorshift), the same in each run.
+// Numbers that look random (Marsaglia's xorshift), the same in each run.
 #[derive(Drop)]
 struct Numbers {
     state: u64,
@@ -72,7 +84,7 @@ impl Numbers {
         self.state
     }
 
-    // A number below n, or 0 where n is 0.
+    // A number below n, or 0 if n is 0.
     fn below(&mut self, n: usize) -> usize {
         match (self.next() >> 20).checked_rem(n as u64) {
             Some(number) => number as usize,
@@ -90,7 +102,8 @@ fn run_both(alloc: Global, program: &[u8], counts: &mut Counts) -> Result<(), Al
     run(alloc, program, CHAIN, counts)
 }
 
-// A program is refused for its spelling or by the verifier, or charges at most its budget, and does the same in version 2.
+// A program is refused for its spelling or by the verifier; or it charges at most its budget, and does the same in
+// version 2.
 fn run(
     alloc: Global,
     program: &[u8],
@@ -108,7 +121,7 @@ fn run(
     Ok(())
 }
 
-// Whether a program comes to the actions and the charge of a report, and may charge no more.
+// Whether a program results in the actions and the charge of a report, and its limit isn't larger.
 fn does_the_same(alloc: Global, program: &[u8], message: &[u8], report: &Report) -> bool {
     match execute(alloc, program, message) {
         Ok(newer) => {

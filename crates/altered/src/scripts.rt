@@ -3,7 +3,7 @@ use crate::counts::{Counts, with_octet};
 use sieve_engine::check_script;
 use std::alloc::{AllocError, Global};
 
-/// Each prefix is a script, or is refused as one.
+/// Each prefix is a script, or is refused as a script.
 pub fn prefixes(alloc: Global, script: &[u8]) -> Counts {
     let mut counts = Counts::new();
     for end in 0..=script.len() {
@@ -12,7 +12,11 @@ pub fn prefixes(alloc: Global, script: &[u8]) -> Counts {
     counts
 }
 
-/// Each octet set to each value: the same.
+/// Each byte set to each value: the same.
+///
+/// # Errors
+///
+/// `AllocError` if memory is refused.
 pub fn one_altered(alloc: Global, script: &[u8]) -> Result<Counts, AllocError> {
     let mut counts = Counts::new();
     for place in 0..script.len() {

@@ -1,9 +1,9 @@
-// Numbers that stand for answers.
+// Numbers that represent answers.
 
-/// What a job answers where a call was refused.
+/// What a job returns if a call was refused.
 pub const REFUSED: u64 = u64::MAX;
 
-/// A number in which each octet counts with its place.
+/// A number to which each byte contributes with its place.
 pub fn checksum(octets: &[u8]) -> u64 {
     let mut sum: u64 = 7;
     for octet in octets {
@@ -12,7 +12,7 @@ pub fn checksum(octets: &[u8]) -> u64 {
     sum
 }
 
-/// What stands for octets: their checksum where there are no rounds to be timed, else their length.
+/// The number for some bytes: their checksum if there are no rounds to be timed, otherwise their length.
 pub fn told(octets: &[u8], rounds: u32) -> u64 {
     if rounds == 0 {
         checksum(octets)

@@ -1,22 +1,22 @@
-// Octets to texts and back.
+// Bytes to texts and back.
 use crate::checksum::{REFUSED, told};
 use encodings::{Encoding, decode, encode};
 use lanes_base64_mime::Decoder;
 use std::alloc::Global;
 
-/// The texts of octets in an encoding.
+/// Encodes bytes in an encoding.
 #[unsafe(no_mangle)]
 pub extern "C" fn bench_encode(alloc: Global, encoding: u32, octets: &[u8], rounds: u32) -> u64 {
     encoded(alloc, encoding, octets, rounds).unwrap_or(REFUSED)
 }
 
-/// The octets of a text in an encoding.
+/// Decodes a text in an encoding.
 #[unsafe(no_mangle)]
 pub extern "C" fn bench_decode(alloc: Global, encoding: u32, text: &[u8], rounds: u32) -> u64 {
     decoded(alloc, encoding, text, rounds).unwrap_or(REFUSED)
 }
 
-/// The octets of a text in MIME base64 that comes in pieces of so many octets.
+/// Decodes a text in MIME base64 that comes in pieces of `piece` bytes.
 #[unsafe(no_mangle)]
 pub extern "C" fn bench_decode_pieces(
     alloc: Global,

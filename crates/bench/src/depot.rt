@@ -7,7 +7,7 @@ use sqlite::MemStore;
 use std::alloc::Global;
 use std::io;
 
-/// What is done in a new depot, `rounds` times but for a delivery's first mails.
+/// What is done in a new depot, `rounds` times, after the first mails are delivered.
 #[derive(Clone, Copy)]
 enum Job<'a> {
     Deliver { script: &'a [u8] },
@@ -16,31 +16,33 @@ enum Job<'a> {
     Export,
 }
 
-/// Delivers mails into a new depot by a script: each is the given one and its number's four octets. The sum is that of the new entries.
+/// Delivers mails into a new depot with a script; each mail is the given one followed by its number in four bytes. The
+/// sum is the number of new entries.
 #[unsafe(no_mangle)]
 pub extern "C" fn bench_deliver(alloc: Global, script: &[u8], mail: &[u8], rounds: u32) -> u64 {
     in_new_depot(alloc, Job::Deliver { script }, mail, rounds)
 }
 
-/// Lists a depot into which so many mails were delivered.
+/// Lists a depot into which `mails` mails were delivered.
 #[unsafe(no_mangle)]
 pub extern "C" fn bench_list(alloc: Global, mails: u32, mail: &[u8], rounds: u32) -> u64 {
     in_new_depot(alloc, Job::List { mails }, mail, rounds)
 }
 
-/// Delivers one mail more into a depot of so many, and removes it, in each round. The sum is how many were removed.
+/// In each round, delivers one more mail into a depot that has `mails`, and removes it. The sum is the number of
+/// removals.
 #[unsafe(no_mangle)]
 pub extern "C" fn bench_remove(alloc: Global, mails: u32, mail: &[u8], rounds: u32) -> u64 {
     in_new_depot(alloc, Job::Remove { mails }, mail, rounds)
 }
 
-/// Exports a delivered mail in base64 of lines. The sum is how often.
+/// Exports a delivered mail in base64 with lines. The sum is the number of exports.
 #[unsafe(no_mangle)]
 pub extern "C" fn bench_export(alloc: Global, mail: &[u8], rounds: u32) -> u64 {
     in_new_depot(alloc, Job::Export, mail, rounds)
 }
 
-// The one place where a depot is let go: that costs more proof than all that is done with it.
+// The only place where a depot is dropped: this costs more proof than everything that is done with it.
 fn in_new_depot(alloc: Global, job: Job<'_>, mail: &[u8], rounds: u32) -> u64 {
     let Ok(mut depot) = Depot::in_memory(alloc) else {
         return REFUSED;
@@ -84,7 +86,7 @@ fn deliver_all(alloc: Global, depot: &mut Depot<MemStore>, mail: &[u8], mails: u
     Some(sum)
 }
 
-// The new entries of a mail that no other number has.
+// The new entries of a mail that has its own number.
 fn deliver_one(
     alloc: Global,
     depot: &mut Depot<MemStore>,

@@ -6,7 +6,7 @@ use mime_tree::Tree;
 use std::alloc::Global;
 use text_lines::Lines;
 
-/// The octets of all lines without their breaks.
+/// The bytes of all lines, without their line breaks.
 #[unsafe(no_mangle)]
 pub extern "C" fn bench_lines(text: &[u8], rounds: u32) -> u64 {
     let mut sum: u64 = 0;
@@ -83,7 +83,7 @@ fn parts(alloc: Global, message: &[u8], rounds: u32) -> Option<u64> {
     Some(sum)
 }
 
-// What stands for the depths and bodies of the parts.
+// The number for the depths and bodies of the parts.
 fn places(tree: &Tree<'_>) -> u64 {
     let mut sum: u64 = 0;
     for part in 0..tree.parts() {

@@ -2,7 +2,8 @@
 use crate::checksum::REFUSED;
 use glob_match::{Comparator, contains, is, matches};
 
-/// Whether a value matches a key: by `:is` (0), `:contains` (1) or `:matches` (2, where the captures count too), with `i;ascii-casemap` or octet by octet.
+/// Whether a value matches a key: with `:is` (0), `:contains` (1) or `:matches` (2, in which the captures count too),
+/// and with `i;ascii-casemap` or byte by byte.
 #[unsafe(no_mangle)]
 pub extern "C" fn bench_match(
     way: u32,
@@ -26,7 +27,7 @@ pub extern "C" fn bench_match(
     sum
 }
 
-// What stands for a match; nothing where value and key are too long together, or there is no such way.
+// The number for a match; `None` if value and key are too long together, or there is no such way.
 fn found(way: u32, comparator: Comparator, value: &[u8], key: &[u8]) -> Option<u64> {
     let value_len = value.len().checked_add(1)?;
     value_len.checked_mul(key.len().checked_add(1)?)?;

@@ -1,4 +1,4 @@
-// Programs in their octets, verified and run.
+// Programs as bytes, verified and run.
 use crate::checksum::{REFUSED, told};
 use bytecode_format::{Action, Program};
 use bytecode_verifier::{Verified, verify};
@@ -18,7 +18,7 @@ pub extern "C" fn bench_verify(alloc: Global, program: &[u8], rounds: u32) -> u6
     sum
 }
 
-/// The actions of a program's runs on a message, and their charges where they count; program and message are read before.
+/// The actions of a program's runs on a message, and the charges if they count. Program and message are read before.
 #[unsafe(no_mangle)]
 pub extern "C" fn bench_run(
     alloc: Global,
@@ -54,7 +54,7 @@ fn outcomes(
     Some(sum)
 }
 
-// What stands for actions: each counts, and its folder.
+// The number for actions: each counts, and its folder.
 fn number_of(actions: &[Action], rounds: u32) -> u64 {
     let mut sum: u64 = 0;
     for action in actions {

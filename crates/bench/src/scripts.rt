@@ -6,7 +6,7 @@ use sieve_lexer::tokens;
 use sieve_parser::parse;
 use std::alloc::Global;
 
-/// How many tokens a script has, 0 where it has none that are right.
+/// How many tokens a script has; 0 if it isn't made of tokens.
 #[unsafe(no_mangle)]
 pub extern "C" fn bench_tokens(alloc: Global, script: &[u8], rounds: u32) -> u64 {
     let mut sum: u64 = 0;
@@ -18,7 +18,7 @@ pub extern "C" fn bench_tokens(alloc: Global, script: &[u8], rounds: u32) -> u64
     sum
 }
 
-/// How often a script is one that has no fault.
+/// How often a script has no fault.
 #[unsafe(no_mangle)]
 pub extern "C" fn bench_check(alloc: Global, script: &[u8], rounds: u32) -> u64 {
     let mut sum: u64 = 0;
@@ -32,7 +32,7 @@ pub extern "C" fn bench_check(alloc: Global, script: &[u8], rounds: u32) -> u64 
     sum
 }
 
-/// The code of a script as octets: it is checked, compiled and written in each round.
+/// The code of a script as bytes: it is checked, compiled and written in each round.
 #[unsafe(no_mangle)]
 pub extern "C" fn bench_compile(alloc: Global, script: &[u8], rounds: u32) -> u64 {
     compiled(alloc, script, rounds).unwrap_or(REFUSED)

@@ -1,8 +1,8 @@
 // The eight sums of a program.
 //
 // The budgets and the potentials of the two versions differ in one definition, `turns_left`, so the laws on runs are
-// the same words for both. `Budget::at` asks less than it could: the number of parts can be 0. `Display` of a budget
-// is its line in every formatter that takes all of it.
+// the same words for both. `Budget::at` requires less than it could: the number of parts can be 0. `Display` of a
+// budget is its line in every formatter that takes all of it.
 ghost use Rattle.std.specs.Prelude.{◌≡◌, ◌+◌, ◌*◌, ◌^◌, ◌<◌, ◌≤◌, slice_index, Some};
 ghost use Rattle.octets.specs.Limits.{max_message, max_parts};
 ghost use Rattle.bytecode_cost.specs.Sums.{no_sums, with_cap, budget_at, chains, turns};
@@ -14,15 +14,15 @@ use std::marker::Model;
 /// How many numbers of open loops there are: none to three.
 const LEVELS: usize = 4;
 
-/// The version of the programs whose turns are counted by chains of parts, each inside of the one
-/// before; those of other programs are powers.
+/// The version of the programs whose turns are counted by chains of parts, each part below the one before; the turns
+/// of other programs are powers.
 const BY_CHAINS: u8 = 2;
 
-/// The budget of a program: for each number of open loops, none to three, what the instructions
-/// there may charge however long the message is, and what they may charge for each of its octets.
+/// The budget of a program: eight sums. For each number of open loops, none to three, there is one sum of what the
+/// instructions there can charge however long the message is, and one of what they can charge for each of its bytes.
 ///
-/// A contract sees the version and the eight sums. The version of the program says how often what
-/// stands inside of loops is counted.
+/// The verifier makes it with [`Budget::new`] and [`Budget::add`]; [`Budget::at`] gives the limit for a message. A
+/// contract sees the version and the eight sums. The version determines how often the inside of a loop is counted.
 #[derive(Drop)]
 pub struct Budget {
     version: u8,
@@ -41,7 +41,7 @@ impl Model for Budget {
 }
 
 impl Budget {
-    /// The budget without instructions: eight sums of 0.
+    /// Returns the budget of a program without instructions: eight sums of 0.
     pub fn new(version: u8) -> Budget
         ensures { result ≡ no_sums version }
     {
@@ -52,8 +52,14 @@ impl Budget {
         }
     }
 
-    /// Adds the cap of an instruction inside `k` open loops: `a` charges, and `b` for each octet of
-    /// the message and one more.
+    /// Adds the cap of an instruction inside `k` open loops: `a` charges, and `b` for each byte of the message and
+    /// one more.
+    ///
+    /// # Requires
+    ///
+    /// - There are at most three open loops: `k < 4`.
+    /// - Neither sum reaches 2^63: the sum of the fixed charges inside `k` loops plus `a` is less than 2^63, and so
+    ///   is the sum of the charges for each byte plus `b`.
     pub fn add(&mut self, k: usize, a: u128, b: u128)
         requires level { k < 4 }
         requires fixed { slice_index self.old.fixed k + a < 2 ^ 63 }
@@ -64,7 +70,12 @@ impl Budget {
         self.scaled[k] += b as u64;
     }
 
-    /// The budget at a message of `n` octets and `p` parts, exactly.
+    /// Returns the budget for a message of `n` bytes and `p` parts, exactly. A run of an accepted program with these
+    /// sums charges at most this number.
+    ///
+    /// # Requires
+    ///
+    /// The message is within the limits: `n` is at most 67,108,864 bytes (2^26) and `p` at most 4,096.
     pub fn at(&self, n: u64, p: u64) -> u128
         requires octets { n ≤ max_message }
         requires parts { p ≤ max_parts }
@@ -74,7 +85,7 @@ impl Budget {
         self.term(0, n, 1) + self.term(1, n, one) + self.term(2, n, two) + self.term(3, n, three)
     }
 
-    // How often what stands inside of one, two and three loops may run, over so many parts.
+    // How often the inside of one, two and three loops can run, over so many parts.
     fn turns(&self, parts: u128) -> (u128, u128, u128)
         requires { parts ≤ max_parts }
         ensures few { (result.0 ≤ 2 ^ 36) × (result.1 ≤ 2 ^ 36) × (result.2 ≤ 2 ^ 36) }
@@ -89,7 +100,7 @@ impl Budget {
         }
     }
 
-    // What `k` open loops allow at a message of `n` octets, `turns` times.
+    // What `k` open loops allow for a message of `n` bytes, `turns` times.
     fn term(&self, k: usize, n: u64, turns: u128) -> u128
         requires level { k < 4 }
         requires octets { n ≤ max_message }
@@ -118,7 +129,7 @@ impl Budget {
         }
     }
 
-    // What the line says after the sums.
+    // The end of the line, after the sums.
     #[tactic(auto, unfolding(crate::specs::Text::turns_text))]
     fn ending(&self) -> &'static str
         ensures { result.now ≡ turns_text self.now.version }

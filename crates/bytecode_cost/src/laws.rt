@@ -1,9 +1,9 @@
-//! What holds of every budget.
+//! Laws of every budget.
 ghost use Rattle.std.specs.Prelude.{◌≡◌, ◌==◌, ℕ, ◌+◌, ◌*◌, ◌-◌, ◌^◌, ◌<◌, ◌≤◌, if◌then◌else◌};
 ghost use Rattle.octets.specs.Limits.{max_message, max_parts};
 ghost use Rattle.bytecode_cost.specs.Sums.{Sums, IsBudget, budget_at, by_chains, chains, turns};
 
-/// At a message of at most 2^26 octets and 4,096 parts every budget is below 2^128.
+/// Every budget for a message of at most 2^26 bytes and 4,096 parts is below 2^128.
 pub fn budget_fits()
     ensures { (sums : Sums) → IsBudget sums
         → (n p : ℕ) → n ≤ max_message → p ≤ max_parts → budget_at sums n p < 2 ^ 128 }
@@ -29,20 +29,19 @@ pub fn chains_within_powers()
     ensures { (n k : ℕ) → chains n k ≤ n ^ k }
 {}
 
-/// The budget of version 2 is nowhere larger than that of another version with the same sums.
+/// The budget of version 2 is never larger than that of another version with the same sums.
 pub fn chains_never_cost_more()
     ensures { (sums : Sums) → (n p : ℕ)
         → budget_at (record sums { version = by_chains }) n p ≤ budget_at sums n p }
 {}
 
-/// What stands inside `k` loops may run once for each set of `k` parts in version 2, and `parts ^ k`
-/// times in version 1.
+/// The inside of `k` loops can run once for each set of `k` parts in version 2, and `parts ^ k` times in version 1.
 pub fn turns_are_sets_or_powers()
     ensures { (version parts k : ℕ)
         → turns version parts k ≡ (if version == by_chains then chains parts k else parts ^ k) }
 {}
 
-/// The budget is nowhere smaller at a message of more octets and more parts, and neither are the turns.
+/// The budget for a message of more bytes and more parts is never smaller, and neither are the turns.
 pub fn budgets_grow_with_the_message()
     ensures budget { (sums : Sums) → (n m p q : ℕ) → n ≤ m → p ≤ q
         → budget_at sums n p ≤ budget_at sums m q }

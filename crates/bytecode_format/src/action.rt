@@ -1,4 +1,4 @@
-// What a run asks for.
+// The actions of a run.
 ghost use Rattle.std.specs.Prelude.{◌≡◌};
 ghost use Rattle.std.proofs.Common.{rules};
 ghost use Rattle.std.specs.Cmp.{partial_order_from_own_ties};
@@ -9,14 +9,14 @@ use octets::Octets;
 use std::alloc::AllocError;
 use std::cmp::Ordering;
 
-/// An action of a filter.
+/// An action of a filter. A run of a program returns a list of them, and a delivery carries them out.
 #[derive(Drop)]
 pub enum Action {
     /// Files the message in the inbox.
     Keep,
     /// Files the message in this folder.
     File(Octets),
-    /// Stores the content of the part of this number in this folder.
+    /// Stores the decoded content of a part, by its number counted from 0, in this folder.
     Store(Octets, usize),
 }
 
@@ -44,7 +44,7 @@ impl Action {
         }
     }
 
-    /// The part's number, 0 where there is no part.
+    /// The part's number, 0 if there is none.
     fn part(&self) -> usize
         ensures { result ≡ part_of self.now }
     {

@@ -10,15 +10,17 @@ use std::alloc::{AllocError, Global};
 use std::collections::BTreeSet;
 use std::marker::Model;
 
-/// The different actions of a run so far, in the order of their first occurrences.
+/// The different actions of a run, in the order of their first occurrences.
 ///
-/// A contract sees the list of them. An action takes time in the logarithm of their number.
+/// A run makes one with [`ActionList::new`], adds its actions with [`ActionList::push`], and ends with
+/// [`ActionList::into_final`]. To add an action takes time in the logarithm of their number. A contract sees the
+/// list.
 #[derive(Drop)]
 pub struct ActionList {
     listed: Vec<Action>,
-    // The same actions, by their order.
+    // The same actions, sorted.
     seen: BTreeSet<Action>,
-    // Whether Keep is among them.
+    // Whether Keep is one of them.
     keeps: bool,
 }
 
@@ -45,7 +47,7 @@ impl ActionList {
     ghost use Rattle.bytecode_format.specs.Action.{is_same};
     ghost use Rattle.bytecode_format.specs.Actions.{is_listed, with_action, with_implicit_keep};
 
-    /// No action. Takes no memory.
+    /// Returns a list of no actions. It takes no memory.
     pub fn new(alloc: Global) -> ActionList
         ensures { result ≡ [] }
     {
@@ -77,16 +79,18 @@ impl ActionList {
         }
     }
 
-    // Whether Keep is listed once the action is.
+    // Whether Keep is in the list after the action is added.
     fn will_keep(&self, action: &Action) -> bool
         ensures { result ≡ (is_listed Keep self.now || is_same action.now Keep) }
     {
         self.keeps || *action == Action::Keep
     }
 
-    /// Lists the action, unless an equal one is listed.
+    /// Adds the action at the end, unless an equal one is in the list.
     ///
-    /// An error comes only where memory was refused; the list is then as it was.
+    /// # Errors
+    ///
+    /// `AllocError` if memory is refused. The list is then as it was before.
     #[inline(always)]
     pub fn push(&mut self, action: Action) -> Result<(), AllocError>
         ensures ok { OnOk result (self.new ≡ with_action self.old action) }
@@ -98,7 +102,7 @@ impl ActionList {
         self.add(action)
     }
 
-    // Lists an action that isn't listed.
+    // Adds an action that isn't in the list.
     #[inline(never)]
     fn add(&mut self, action: Action) -> Result<(), AllocError>
         requires { is_listed action self.old ≡ false }
@@ -113,9 +117,12 @@ impl ActionList {
         Ok(())
     }
 
-    /// The final actions: those listed, then Keep where the implicit keep stands and none is listed.
+    /// Returns the final actions: those of the list, and then Keep if `implicit_keep` holds and no Keep is in the
+    /// list.
     ///
-    /// An error comes only where memory was refused.
+    /// # Errors
+    ///
+    /// `AllocError` if memory is refused.
     pub fn into_final(mut self, implicit_keep: bool) -> Result<Vec<Action>, AllocError>
         ensures { IfOk result (λ v. v.items ≡ with_implicit_keep self implicit_keep) }
     {
@@ -128,10 +135,12 @@ impl ActionList {
 
 ghost use Rattle.bytecode_format.specs.Actions.{final_actions};
 
-/// A run's final actions: the first occurrence of each action in order, then Keep where the
-/// implicit keep stands and no Keep is listed.
+/// Makes a run's actions final: returns the first occurrence of each, in order, and then Keep if `implicit_keep`
+/// holds and there is no Keep.
 ///
-/// An error comes only where memory was refused.
+/// # Errors
+///
+/// `AllocError` if memory is refused.
 pub fn final_actions(
     alloc: Global,
     actions: Vec<Action>,

@@ -1,7 +1,7 @@
 // Programs from their parts.
 //
-// `Program::build` takes no memory, so its one refusal is Spelling. A proof knows the ranges of an instruction's
-// fields only once the fields are read, so `build` goes over its instructions in a loop that leaves no code.
+// `Program::build` takes no memory, so its one error is Spelling. A proof knows the ranges of an instruction's fields
+// only once the fields are read, so `build` goes over its instructions in a loop that leaves no code.
 ghost use Rattle.std.specs.Prelude.{◌≡◌, ◌+◌, ◌*◌, ◌<◌, ◌≤◌, ◌^◌, length, All, IfOk, IfErr, IsTrue, ◌↔◌};
 ghost use Rattle.std.specs.List.{flat_map};
 ghost use Rattle.octets.specs.Limits.{max_string};
@@ -14,13 +14,13 @@ use crate::limits::MAX_VARIABLES;
 use crate::program::{MAX_INSTRUCTIONS, MAX_PROGRAM, MAX_TABLE, OPENING, Program, is_version};
 use octets::{MAX_STRING, Octets};
 
-/// How many octets the version takes.
+/// How many bytes the version takes.
 const VERSION_LEN: usize = 1;
 
-/// How many octets the four counts take.
+/// How many bytes the four counts take.
 const COUNTS_LEN: usize = 10;
 
-/// How many octets a number takes, and how many an instruction.
+/// How many bytes a number takes, and how many an instruction.
 const ROW_LEN: usize = 8;
 
 /// Whether each string is within its limit.
@@ -30,7 +30,7 @@ fn are_short(strings: &[Octets]) -> bool
     strings.iter().all(|text| text.len() <= MAX_STRING)
 }
 
-/// How many octets the strings take, each with its length.
+/// How many bytes the strings take, each with its length.
 fn strings_len(strings: &[Octets]) -> usize
     requires few { length strings.now < 2 ^ 16 }
     requires short { All (λ text. length text ≤ max_string) strings.now }
@@ -44,17 +44,17 @@ fn strings_len(strings: &[Octets]) -> usize
     total
 }
 
-// What the types say of numbers.
+// The range of numbers, from their type.
 fn numbers_fit(numbers: &[u64])
     ensures { All (λ n. n < 2 ^ 64) numbers.now }
 {}
 
-// What the types say of an instruction.
+// The ranges of an instruction's fields, from their types.
 fn instruction_fits(i: Instruction)
     ensures { Fits i }
 {}
 
-// What the types say of instructions; the loop leaves no code.
+// The ranges of the fields of instructions, from their types; the loop leaves no code.
 fn instructions_fit(instructions: &[Instruction])
     ensures { All Fits instructions.now }
 {
@@ -64,10 +64,13 @@ fn instructions_fit(instructions: &[Instruction])
 }
 
 impl Program {
-    /// The program of these parts.
+    /// Makes a program of its parts. It takes no memory.
     ///
-    /// `Spelling` comes exactly where they are outside the limits of a program; no other error comes,
-    /// and no memory is taken.
+    /// # Errors
+    ///
+    /// `FormatError::Spelling` if the parts exceed the limits of a program: the version is 1 or 2, there are at most
+    /// 128 variables, 65,535 numbers, 65,535 strings of at most 16,384 bytes each and 65,536 instructions, and the
+    /// program takes at most 4,194,304 bytes. There is no other error.
     pub fn build(
         version: u8,
         variables: u16,

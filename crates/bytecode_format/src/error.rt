@@ -5,13 +5,13 @@ ghost use Rattle.bytecode_format.specs.declared.error.FormatError.TheVariants.{M
 use std::alloc::{AllocError, AllocFailed};
 use thiserror::Error;
 
-/// Why octets or parts are no program.
+/// Why bytes or parts aren't a program.
 #[derive(Debug, Drop, Error)]
 pub enum FormatError {
-    /// An allocation was refused.
+    /// Memory is refused, so there is no result.
     #[error("an allocation was refused")]
     Memory,
-    /// The octets spell no program, or the parts exceed a program's limits.
+    /// The bytes spell no program, or the parts exceed a program's limits.
     #[error("no program is spelled so, or it is beyond the limits")]
     Spelling,
 }

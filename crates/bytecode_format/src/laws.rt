@@ -19,29 +19,29 @@ ghost use Rattle.bytecode_format.specs.Actions.{first_occurrences, with_action};
 ghost use Rattle.bytecode_format.specs.Modifiers.{modifiers_number, modifiers_numbered};
 ghost use Rattle.bytecode_format.specs.Selection.{counts_number, counts_numbered, field_test_number, field_test_numbered, key_numbers, match_number, match_numbered, order_number, order_numbered, scope_number, scope_numbered};
 
-/// Octets spell at most one program.
+/// Bytes spell at most one program.
 pub fn one_program_for_octets()
     ensures { (p q : Code) → IsProgram p → IsProgram q → spelling p ≡ spelling q → p ≡ q }
 {}
 
-/// What is a program in one version is a program in version 2.
+/// A program of one version is a program of version 2.
 pub fn programs_go_on_in_version_two()
     ensures { (code : Code) → IsProgram code → IsProgram (record code { version = version_two }) }
 {}
 
-/// What one more action at the end of a run changes.
+/// One more action at the end of a run is added to the list, unless it is in it.
 pub fn one_more_action()
     ensures { (actions : List Action) (action : Action)
         → first_occurrences (actions ++ action ∷ [])
         ≡ with_action (first_occurrences actions) action }
 {}
 
-/// Actions are the same exactly where they are equal.
+/// `is_same` is true exactly for equal actions.
 pub fn same_actions_are_equal()
     ensures { (a b : Action) → (is_same a b ≡ true) ↔ (a ≡ b) }
 {}
 
-/// Modifiers are known by their number, which takes six bits, and no other number stands for them.
+/// Each combination of modifiers has one number, of six bits, and no other number means it.
 pub fn one_number_for_modifiers()
     ensures number { (m : Modifiers) → modifiers_numbered (modifiers_number m) ≡ Some m }
     ensures small { (m : Modifiers) → modifiers_number m < 64 }
@@ -49,20 +49,20 @@ pub fn one_number_for_modifiers()
         → modifiers_number m ≡ n }
 {}
 
-/// How values are matched is known by its number, and no other number stands for it.
+/// Each way to match values has one number, and no other number means it.
 pub fn one_number_for_matches()
     ensures number { (how : Match) → match_numbered (match_number how) ≡ Some how }
     ensures only { (n : ℕ) (how : Match) → match_numbered n ≡ Some how → match_number how ≡ n }
 {}
 
-/// A scope is known by its number, and no other number stands for it.
+/// Each scope has one number, and no other number means it.
 pub fn one_number_for_scopes()
     ensures number { (scope : Scope) → scope_numbered (scope_number scope) ≡ Some scope }
     ensures only { (n : ℕ) (scope : Scope) → scope_numbered n ≡ Some scope
         → scope_number scope ≡ n }
 {}
 
-/// A test of fields is known by its number, which is an octet, and no other number stands for it.
+/// Each test of fields has one number, which is a byte, and no other number means it.
 pub fn one_number_for_field_tests()
     ensures number { (t : FieldTest) → field_test_numbered (field_test_number t) ≡ Some t }
     ensures small { (t : FieldTest) → field_test_number t < 256 }
@@ -70,22 +70,22 @@ pub fn one_number_for_field_tests()
         → field_test_number t ≡ n }
 {}
 
-/// Counts are known by their number, and each number stands for some.
+/// All counts of a test have a number, and each number means some counts.
 pub fn one_number_for_counts()
     ensures number { (counts : TestCounts) → counts.keys < key_numbers
         → counts_numbered (counts_number counts) ≡ counts }
     ensures only { (n : ℕ) → counts_number (counts_numbered n) ≡ n }
 {}
 
-/// An order is known by its number, and no other number stands for it.
+/// Each order has one number, and no other number means it.
 pub fn one_number_for_orders()
     ensures number { (order : Order) → order_numbered (order_number order) ≡ Some order }
     ensures only { (n : ℕ) (order : Order) → order_numbered n ≡ Some order
         → order_number order ≡ n }
 {}
 
-/// A question is known by its instruction, and so is how many strings it has. What an instruction asks is of its own
-/// operation.
+/// An instruction determines its question, and how many strings the question has. The question is one of the
+/// instruction's own operation.
 pub fn one_instruction_for_questions()
     ensures question { (numbers : List ℕ) (q : Question) (counts : Counts) (place : ℕ)
         → StandsIn numbers place q

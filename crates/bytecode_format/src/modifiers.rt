@@ -1,4 +1,4 @@
-// What is done to a text before it becomes a variable's value.
+// How a text is changed before it becomes a variable's value.
 ghost use Rattle.std.specs.Prelude.{◌≡◌, ◌↔◌, ℕ, true, List, [], ◌∷◌, ◌++◌, take, IfOk, OnOk, IsTrue};
 ghost use Rattle.std.specs.Fmt.{decimal};
 ghost use Rattle.bytecode_format.specs.Modifiers.{case_number, case_numbered, cased, first_cased, is_quotable, quoted, continues_character, characters, modified, no_modifiers, modifiers_number, modifiers_numbered};
@@ -16,15 +16,18 @@ pub enum Case {
 }
 
 /// The modifiers of a variable's value (RFC 5229, section 4.1), applied in the order of the fields.
+///
+/// A `set` of a script makes them, an instruction keeps their number, and a run applies them with
+/// [`Modifiers::apply`].
 #[derive(Clone, Copy, PartialEq, Eq)]
 pub struct Modifiers {
     /// The case of all letters: `:lower` or `:upper`.
     pub letters: Option<Case>,
-    /// The case of the first octet: `:lowerfirst` or `:upperfirst`.
+    /// The case of the first byte: `:lowerfirst` or `:upperfirst`.
     pub first: Option<Case>,
     /// A backslash before each asterisk, question mark and backslash: `:quotewildcard`.
     pub quote_wildcard: bool,
-    /// The number of characters in place of the text: `:length`.
+    /// The number of characters instead of the text: `:length`.
     pub length: bool,
 }
 
@@ -62,7 +65,7 @@ impl Case {
         }
     }
 
-    // The octet in a case, if one is named.
+    // The byte in a case, if one is named.
     fn of(case: Option<Case>, octet: u8) -> u8
         ensures { result ∷ [] ≡ cased case (octet ∷ []) }
     {
@@ -74,21 +77,21 @@ impl Case {
     }
 }
 
-// Whether a pattern reads the octet as more than itself.
+// Whether the byte has a special meaning in a pattern.
 fn is_quotable(octet: u8) -> bool
     ensures { result ≡ is_quotable octet }
 {
     octet == b'*' || octet == b'?' || octet == b'\\'
 }
 
-// Whether the octet belongs to a character in UTF-8 that began before it.
+// Whether the byte belongs to a UTF-8 character that began before it.
 fn continues_character(octet: u8) -> bool
     ensures { result ≡ continues_character octet }
 {
     octet >= 0x80 && octet < 0xC0
 }
 
-// Puts an octet at the end, where there is room below the limit.
+// Appends a byte, if there is room below the limit.
 fn put(out: &mut Vec<u8>, octet: u8, limit: usize) -> Result<(), AllocError>
     ensures { OnOk result ((text : List ℕ) → out.old.items ≡ take limit text
         → out.new.items ≡ take limit (text ++ octet ∷ [])) }
@@ -99,7 +102,7 @@ fn put(out: &mut Vec<u8>, octet: u8, limit: usize) -> Result<(), AllocError>
     Ok(())
 }
 
-// The same with a backslash before it, where a pattern reads the octet as more than itself.
+// The same with a backslash before it, if the byte has a special meaning in a pattern.
 fn put_quoted(out: &mut Vec<u8>, octet: u8, limit: usize) -> Result<(), AllocError>
     ensures { OnOk result ((text : List ℕ) → out.old.items ≡ take limit text
         → out.new.items ≡ take limit (text ++ quoted true (octet ∷ []))) }
@@ -110,7 +113,7 @@ fn put_quoted(out: &mut Vec<u8>, octet: u8, limit: usize) -> Result<(), AllocErr
     put(out, octet, limit)
 }
 
-// The number in decimal digits, of which the first `limit` stay.
+// The number in decimal digits, cut to the first `limit`.
 fn digits_of(alloc: Global, number: usize, limit: usize) -> Result<Octets, AllocError>
     ensures { IfOk result (λ digits. digits ≡ take limit (decimal number)) }
 {
@@ -120,7 +123,7 @@ fn digits_of(alloc: Global, number: usize, limit: usize) -> Result<Octets, Alloc
 }
 
 impl Modifiers {
-    /// No modifiers: a text stays as it is.
+    /// Returns no modifiers, with which a text stays as it is.
     pub fn none() -> Modifiers
         ensures { result ≡ no_modifiers }
     {
@@ -132,16 +135,17 @@ impl Modifiers {
         }
     }
 
-    /// Whether there is no modifier.
+    /// Returns whether there are no modifiers.
     pub fn is_none(self) -> bool
         ensures { IsTrue result ↔ (self ≡ no_modifiers) }
     {
         self == Modifiers::none()
     }
 
-    /// The modifiers that a number stands for: bits 0 and 1 are 1 for lower case and 2 for upper case of
-    /// all letters, bits 2 and 3 the same of the first octet, bit 4 is for backslashes and bit 5 for the
-    /// count. None where two bits are 3, or bit 6 or 7 is set.
+    /// Returns the modifiers that a number means: bits 0 and 1 are 1 for lower case and 2 for upper case of all
+    /// letters, bits 2 and 3 the same of the first byte, bit 4 is for backslashes and bit 5 for the count.
+    ///
+    /// The result is `None` if bits 0 and 1 or bits 2 and 3 are both set, or if bit 6 or 7 is set.
     pub fn of(number: u8) -> Option<Modifiers>
         ensures { result ≡ modifiers_numbered number }
     {
@@ -156,7 +160,7 @@ impl Modifiers {
         })
     }
 
-    /// The number that stands for the modifiers: 0 to 58.
+    /// Returns the number that means the modifiers: 0 to 58.
     pub fn number(self) -> u8
         ensures { result ≡ modifiers_number self }
     {
@@ -166,9 +170,11 @@ impl Modifiers {
             + 32 * u8::from(self.length)
     }
 
-    /// The text modified, of which the first `limit` octets stay.
+    /// Returns the modified text, cut to its first `limit` bytes. It takes time linear in the text.
     ///
-    /// An error comes only where memory was refused. The time is linear in the text.
+    /// # Errors
+    ///
+    /// `AllocError` if memory is refused.
     pub fn apply(self, alloc: Global, text: &[u8], limit: usize) -> Result<Octets, AllocError>
         ensures { IfOk result (λ value. value ≡ take limit (modified self text.now)) }
     {
@@ -178,7 +184,7 @@ impl Modifiers {
         self.written(alloc, text, limit)
     }
 
-    // The text modified but for its count.
+    // The modified text before its characters are counted.
     fn written(self, alloc: Global, text: &[u8], limit: usize) -> Result<Octets, AllocError>
         ensures { IfOk result (λ value. value
             ≡ take limit (quoted self.quote_wildcard
@@ -191,7 +197,7 @@ impl Modifiers {
         Ok(Octets::from(self.cased(alloc, kept)?))
     }
 
-    // The text with the case of its letters and of its first octet.
+    // The text with the case of its letters and of its first byte.
     fn cased(self, alloc: Global, text: &[u8]) -> Result<Vec<u8>, AllocError>
         ensures { IfOk result (λ out. out.items
             ≡ first_cased self.first (cased self.letters text.now)) }
@@ -203,7 +209,7 @@ impl Modifiers {
         Ok(out)
     }
 
-    // The same with backslashes, of which the first `limit` octets stay.
+    // The same with backslashes, cut to the first `limit` bytes.
     fn quoted(self, alloc: Global, text: &[u8], limit: usize) -> Result<Octets, AllocError>
         ensures { IfOk result (λ value. value
             ≡ take limit (quoted true (first_cased self.first (cased self.letters text.now)))) }
@@ -218,7 +224,7 @@ impl Modifiers {
         Ok(Octets::from(out))
     }
 
-    // How many characters the text has when it is modified but for that.
+    // How many characters the text has after the other modifiers.
     fn characters(self, text: &[u8]) -> usize
         ensures { result ≡ characters
             (quoted self.quote_wildcard (first_cased self.first (cased self.letters text.now))) }

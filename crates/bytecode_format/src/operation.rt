@@ -1,55 +1,55 @@
 // The names of the operations.
 ghost use Rattle.std.specs.Prelude.{◌≡◌};
 
-/// What an instruction tests.
+/// The operation of an instruction that runs a test.
 #[derive(Clone, Copy)]
 pub enum TestOperation {
-    /// Nothing: a truth value.
+    /// `BOOL`: a truth value that the instruction has itself.
     Constant,
-    /// Header fields.
+    /// Header fields match a key.
     Header,
-    /// Which fields are there.
+    /// Whether there are header fields with given names.
     Exists,
-    /// Texts.
+    /// Texts match a key.
     String,
-    /// The message's size.
+    /// The message's size is over or under a number.
     Size,
-    /// The current part's size.
+    /// The size of the current part's content is over or under a number.
     PartSize,
-    /// The current part's content.
+    /// The current part's content matches a key.
     PartBody,
-    /// The digest of the current part's content.
+    /// The digest of the current part's content is one of the keys.
     PartDigest,
 }
 
-/// An operation of the bytecode.
+/// An operation of the bytecode. [`Operation::of`] reads it from an instruction's byte.
 #[derive(Clone, Copy)]
 pub enum Operation {
-    /// Ends the run.
+    /// Ends the run, with the actions listed before.
     Halt,
     /// Pushes a string of the program.
     Literal,
     /// Pushes a variable's value.
     Variable,
-    /// Pushes a capture.
+    /// Pushes a capture of the last match.
     Capture,
-    /// Joins texts.
+    /// Joins texts into one.
     Join,
-    /// Sets a variable.
+    /// Sets a variable to a text, with modifiers.
     Set,
-    /// Asks a test, and pushes its truth value: 0x07 and 0x0C to 0x12.
+    /// Runs a test, and pushes its truth value: 0x07 and 0x0C to 0x12.
     Test(TestOperation),
-    /// Turns a truth value round.
+    /// Negates a truth value.
     Not,
-    /// Goes on at a later place.
+    /// Continues at a later place.
     Jump,
-    /// Goes on at a later place where the value taken is true.
+    /// Continues at a later place if the value that it takes is true.
     JumpIfTrue,
-    /// Goes on at a later place where the value taken is false.
+    /// Continues at a later place if the value that it takes is false.
     JumpIfFalse,
     /// Lists the action Keep.
     Keep,
-    /// Takes the implicit keep away.
+    /// Cancels the implicit keep.
     Discard,
     /// Lists the action File.
     File,
@@ -59,7 +59,7 @@ pub enum Operation {
     Each,
     /// Goes to the loop's next part, or closes it.
     Next,
-    /// Closes loops.
+    /// Closes one or more loops.
     Break,
     /// Sets a variable from the current part's content.
     Take,
@@ -68,7 +68,7 @@ pub enum Operation {
 impl TestOperation {
     ghost use Rattle.bytecode_format.specs.Operations.{name_of_test, octet_of_test};
 
-    /// The octet that names the operation.
+    /// Returns the byte that names the operation.
     pub fn octet(self) -> u8
         ensures { result ≡ octet_of_test self }
     {
@@ -84,7 +84,7 @@ impl TestOperation {
         }
     }
 
-    /// The operation's name in a listing.
+    /// Returns the operation's name in a listing.
     pub fn name(self) -> &'static [u8]
         ensures { result.now ≡ name_of_test self }
     {
@@ -104,7 +104,7 @@ impl TestOperation {
 impl Operation {
     ghost use Rattle.bytecode_format.specs.Operations.{name_of, octet_of, operation_of};
 
-    /// The operation that the octet names, if it names one.
+    /// Returns the operation that the byte names; `None` if it names none.
     pub fn of(octet: u8) -> Option<Operation>
         ensures { result ≡ operation_of octet }
     {
@@ -139,7 +139,7 @@ impl Operation {
         })
     }
 
-    /// The octet that names the operation.
+    /// Returns the byte that names the operation.
     pub fn octet(self) -> u8
         ensures { result ≡ octet_of self }
     {
@@ -166,7 +166,7 @@ impl Operation {
         }
     }
 
-    /// The operation's name in a listing.
+    /// Returns the operation's name in a listing.
     pub fn name(self) -> &'static [u8]
         ensures { result.now ≡ name_of self }
     {

@@ -7,22 +7,22 @@ use crate::instruction::Instruction;
 use octets::Octets;
 use std::marker::Model;
 
-/// The version of the format that has all operations but Take.
+/// The version of the format that has all operations except Take.
 pub const VERSION_ONE: u8 = 1;
 
-/// The version that has all operations.
+/// The version of the format that has all operations.
 pub const VERSION_TWO: u8 = 2;
 
-/// The most octets that a program has.
+/// The largest number of bytes of a program.
 pub(crate) const MAX_PROGRAM: usize = 4_194_304;
 
-/// The most numbers that a program has, and the most strings.
+/// The largest number of a program's numbers, and of its strings.
 pub(crate) const MAX_TABLE: usize = 65_535;
 
-/// The most instructions that a program has.
+/// The largest number of a program's instructions.
 pub(crate) const MAX_INSTRUCTIONS: usize = 65_536;
 
-/// What a program's octets begin with: the name of the format. The octet of the version follows.
+/// The first bytes of a program: the name of the format. The byte of the version follows.
 pub(crate) const OPENING: [u8; 4] = *b"SVBC";
 
 /// Whether the format has this version.
@@ -32,7 +32,10 @@ pub(crate) fn is_version(number: u8) -> bool
     number == VERSION_ONE || number == VERSION_TWO
 }
 
-/// A program within the limits of the format. A contract sees its `Code`.
+/// A program within the limits of the format: its version, its tables of numbers and strings, and its instructions.
+///
+/// [`Program::read`] makes it of bytes and [`Program::build`] of parts. Only a verified program can be run, so the
+/// next step is the verifier. A contract sees its `Code`.
 #[derive(Drop)]
 pub struct Program {
     version: u8,
@@ -101,7 +104,7 @@ impl Program {
         }
     }
 
-    /// The same program in version 2 of the format. Takes no memory.
+    /// Returns the same program in version 2 of the format. It takes no memory.
     #[tactic(auto, using(crate::proofs::Versions::in_two))]
     pub fn in_version_two(self) -> Program
         ensures { result ≡ record self { version = version_two } }
@@ -115,7 +118,7 @@ impl Program {
         )
     }
 
-    /// The version of the format that the program is in: 1 or 2.
+    /// Returns the version of the format that the program is in: 1 or 2.
     pub fn version(&self) -> u8
         ensures value { result ≡ self.now.version }
         ensures program { IsProgram self.now }
@@ -123,7 +126,7 @@ impl Program {
         self.version
     }
 
-    /// How many variables the program has: 0 to 128.
+    /// Returns how many variables the program has: 0 to 128.
     pub fn variables(&self) -> u16
         ensures value { result ≡ self.now.variables }
         ensures program { IsProgram self.now }
@@ -131,7 +134,7 @@ impl Program {
         self.variables
     }
 
-    /// The table of numbers.
+    /// Returns the table of numbers, at most 65,535.
     pub fn numbers(&self) -> &[u64]
         ensures value { result.now ≡ self.now.numbers }
         ensures program { IsProgram self.now }
@@ -139,7 +142,7 @@ impl Program {
         self.numbers.as_slice()
     }
 
-    /// The table of strings, each of at most 16,384 octets.
+    /// Returns the table of strings: at most 65,535, each of at most 16,384 bytes.
     pub fn strings(&self) -> &[Octets]
         ensures value { result.now ≡ self.now.strings }
         ensures program { IsProgram self.now }
@@ -147,7 +150,7 @@ impl Program {
         self.strings.as_slice()
     }
 
-    /// The instructions, at most 65,536.
+    /// Returns the instructions, at most 65,536.
     pub fn instructions(&self) -> &[Instruction]
         ensures value { result.now ≡ self.now.instructions }
         ensures program { IsProgram self.now }

@@ -1,4 +1,4 @@
-// What tests ask.
+// What tests ask: the questions of the bytecode.
 ghost use Rattle.std.specs.Prelude.{◌≡◌, slice_get};
 ghost use Rattle.bytecode_format.specs.Questions.{asking, takes_params};
 ghost use Rattle.bytecode_format.specs.Selection.{order_number, order_numbered, truth_numbered};
@@ -11,14 +11,14 @@ use glob_match::Match;
 /// How a size is compared (RFC 5228, section 5.9).
 #[derive(Clone, Copy, PartialEq, Eq)]
 pub enum Order {
-    /// More octets than the number.
+    /// The size is more bytes than the number.
     Over,
-    /// Fewer octets than the number.
+    /// The size is fewer bytes than the number.
     Under,
 }
 
 impl Order {
-    /// The number that stands for the order: 0 or 1.
+    /// Returns the number that means the order: 0 or 1.
     pub fn number(self) -> u8
         ensures { result ≡ order_number self }
     {
@@ -28,7 +28,7 @@ impl Order {
         }
     }
 
-    /// The order that the number stands for, if it stands for one.
+    /// Returns the order that the number means; `None` if it means none.
     pub fn of(number: u8) -> Option<Order>
         ensures { result ≡ order_numbered number }
     {
@@ -41,19 +41,23 @@ impl Order {
 }
 
 /// What a simple test asks, apart from its strings.
+///
+/// The checker makes it of a script's test, [`Question::instruction`] puts it into an instruction, and
+/// [`TestOperation::question_in`] reads it back from there.
 #[derive(Clone, Copy)]
 pub enum Question {
-    /// `true` and `false`.
+    /// `true` and `false`: a truth value without a test.
     Constant(bool),
-    /// `header`: whether what is selected of a field of one of the names matches one of the keys.
+    /// `header`: whether the selected value of a field with one of the names matches one of the keys.
     Header(FieldTest),
-    /// `exists`: whether there is a field of each of the names.
+    /// `exists`: whether there is a field with each of the names.
     Exists(Scope),
-    /// `size`.
+    /// `size`: whether the message has more, or fewer, bytes than the number.
     Size(Order, u64),
     /// `string`: whether one of the names, which are its sources, matches one of the keys (RFC 5229, section 5).
     String(Match),
-    /// `partsize`: the size of the current part's content. Ours, as the two that follow.
+    /// `partsize`: whether the current part's content has more, or fewer, bytes than the number. It is our own, like
+    /// the two below.
     PartSize(Order, u64),
     /// `partbody`: whether the current part's content matches one of the keys.
     PartBody(Match),
@@ -64,45 +68,51 @@ pub enum Question {
 /// Which lists of strings a question takes.
 #[derive(Clone, Copy)]
 pub struct Takes {
+    /// Names of fields, or the sources of `string`.
     pub names: bool,
+    /// The names of parameters.
     pub params: bool,
+    /// Keys that values are compared with.
     pub keys: bool,
 }
 
-/// How many strings the lists of a test have: names or sources, parameters, and keys.
+/// How many strings each list of a test has.
 #[derive(Clone, Copy)]
 pub struct Counts {
+    /// How many names of fields, or sources, there are.
     pub names: usize,
+    /// How many names of parameters there are.
     pub params: usize,
+    /// How many keys there are.
     pub keys: usize,
 }
 
-/// How large the texts of a test are at most.
+/// Upper bounds for the texts of a test, from which [`TestOperation::most`] computes its cost.
 #[derive(Clone, Copy)]
 pub struct Sizes {
-    /// The octets of its names or sources, with one more for each.
+    /// The bytes of the names or sources, with one more for each.
     pub names: u64,
     /// How many names or sources there are.
     pub number: u64,
     /// How many names of parameters there are.
     pub params: u64,
-    /// The octets of its keys, with one more for each.
+    /// The bytes of the keys, with one more for each.
     pub keys: u64,
 }
 
-/// What asking costs at most.
+/// What a test costs at most, in charges.
 #[derive(Clone, Copy)]
 pub struct Most {
-    /// However long the message is.
+    /// The part that doesn't depend on the message.
     pub fixed: u64,
-    /// For each octet of the message, and for one more.
+    /// The charges for each byte of the message, and for one more byte.
     pub scaled: u64,
 }
 
-/// How many octets a digest has.
+/// How many bytes a digest has.
 const DIGEST_LENGTH: u64 = 64;
 
-// Whether the values of parameters are taken, by their names.
+// Whether the selector selects parameters, by their names.
 fn takes_params(selector: Selector) -> bool
     ensures { result ≡ takes_params selector }
 {
@@ -117,7 +127,7 @@ impl Question {
     ghost use Rattle.std.specs.Option.{option_to_list};
     ghost use Rattle.bytecode_format.specs.Questions.{instruction_of, row_of};
 
-    /// The number that it compares with, if it does.
+    /// Returns the number that the question compares a size with; `None` if it compares none.
     pub fn number(self) -> Option<u64>
         ensures { option_to_list result ≡ (row_of self).numbers }
     {
@@ -132,7 +142,7 @@ impl Question {
         }
     }
 
-    /// Which lists of strings it takes.
+    /// Returns which lists of strings the question takes.
     pub fn takes(self) -> Takes
         ensures { result ≡ (row_of self).takes }
     {
@@ -165,7 +175,12 @@ impl Question {
         }
     }
 
-    /// The instruction that asks it, with so many strings, and with this place of its number in the table of numbers.
+    /// Returns the instruction that asks the question with so many strings. `place` is the place of the question's
+    /// number in the table of numbers, if it has one.
+    ///
+    /// # Requires
+    ///
+    /// Each of the three counts is less than 65,536.
     pub fn instruction(self, counts: Counts, place: u32) -> Instruction
         requires names { counts.names < 2 ^ 16 }
         requires params { counts.params < 2 ^ 16 }
@@ -212,7 +227,8 @@ impl TestOperation {
     ghost use Rattle.octets.specs.Limits.{max_stack, max_string};
     ghost use Rattle.bytecode_format.specs.Questions.{counts_in, most_of, question_in};
 
-    /// What an instruction of this operation asks, if its fields say it; its number is one of these.
+    /// Returns the question of an instruction with this operation; `None` if its fields mean none. The question's
+    /// number, if it has one, is looked up in `numbers`.
     #[inline(always)]
     pub fn question_in(self, instruction: &Instruction, numbers: &[u64]) -> Option<Question>
         ensures { result ≡ question_in numbers.now self instruction.now }
@@ -232,7 +248,7 @@ impl TestOperation {
         })
     }
 
-    /// How many strings an instruction of this operation takes.
+    /// Returns how many strings an instruction with this operation takes.
     #[inline(always)]
     pub fn counts_in(self, instruction: &Instruction) -> Counts
         ensures { result ≡ counts_in self instruction.now }
@@ -255,7 +271,12 @@ impl TestOperation {
         }
     }
 
-    /// What asking costs at most, of texts that are no larger.
+    /// Returns the most that a test with this operation costs if its texts are no larger than `sizes`.
+    ///
+    /// # Requires
+    ///
+    /// There are at most 1,024 names and at most 1,024 parameters. The names take at most 1,024 * 16,385 bytes, and
+    /// so do the keys.
     #[inline(always)]
     pub fn most(self, sizes: Sizes) -> Most
         requires names { sizes.names ≤ max_stack * (max_string + 1) }
@@ -282,7 +303,7 @@ impl TestOperation {
     }
 }
 
-// The truth value that a number says, if it says one.
+// The truth value that a number means, if it means one.
 fn truth_of(number: u8) -> Option<bool>
     ensures { result ≡ truth_numbered number }
 {
@@ -293,7 +314,7 @@ fn truth_of(number: u8) -> Option<bool>
     }
 }
 
-// The number that c of the instruction says, if there is one.
+// The number at the place c of the instruction, if there is one.
 fn number_in(instruction: &Instruction, numbers: &[u64]) -> Option<u64>
     ensures { result ≡ slice_get numbers.now instruction.now.c }
 {

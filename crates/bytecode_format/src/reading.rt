@@ -1,4 +1,4 @@
-// Programs from octets: from left to right, each reader giving a field and the octets after it.
+// Programs from bytes: from left to right, each reader gives a field and the bytes after it.
 ghost use Rattle.std.specs.Prelude.{◌≡◌, ◌≢◌, ◌<◌, length, IfOk, IfErr, IsErrAnd};
 ghost use Rattle.std.specs.Int.{w16, w32, w64};
 ghost use Rattle.octets.specs.Limits.{max_program};
@@ -172,7 +172,7 @@ fn instructions_of(
     Ok((instructions, rest))
 }
 
-/// What the octets of a program hold.
+/// The fields of a program that is read.
 #[derive(Drop)]
 struct Parts {
     version: u8,
@@ -216,13 +216,16 @@ fn parts_of(alloc: Global, octets: &[u8]) -> Result<Parts, FormatError>
 }
 
 impl Program {
-    /// The program that the octets spell, all of the octets.
+    /// Reads the program that the bytes spell, all of the bytes.
     ///
-    /// `Spelling` comes exactly where they spell no program: where the opening, the version, a count or a length
-    /// is outside the limits, a table passes the end, or octets stand after the last instruction.
-    /// `Memory` comes only where an allocation was refused, and never for more octets than the limit: their
-    /// number is judged before memory is taken. What is allocated grows with what is read, and not with what a
-    /// count claims.
+    /// The limit on their number is checked before memory is taken. Memory use grows with what has been read, not
+    /// with what a count claims.
+    ///
+    /// # Errors
+    ///
+    /// - `FormatError::Spelling` if the bytes spell no program: the opening or the version is wrong, a count or a
+    ///   length is outside the limits, a table goes beyond the end, or there are bytes after the last instruction.
+    /// - `FormatError::Memory` if memory is refused; never for more than 4,194,304 bytes.
     pub fn read(alloc: Global, octets: &[u8]) -> Result<Program, FormatError>
         ensures found { IfOk result (λ p. IsProgram p × (octets.now ≡ spelling p)) }
         ensures refused { IfErr result

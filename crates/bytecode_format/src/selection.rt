@@ -1,42 +1,42 @@
-// What the fields of an instruction say of a test.
+// Tests in the fields of an instruction.
 //
 // The numbers of tests have two functions each: the compiler asks for the number of a match, a scope or a selector,
-// the verifier and the machine for the meaning of a number. A law says that the two fit, which the proof that code
-// means its script needs.
+// the verifier and the machine for the meaning of a number. A law says that the two fit together, which the proof
+// that code means its script needs.
 ghost use Rattle.std.specs.Prelude.{◌≡◌, ◌≤◌, ◌<◌};
 ghost use Rattle.bytecode_format.specs.Selection.{comparator_number, comparator_numbered, counts_number, counts_numbered, field_test_number, field_test_numbered, kind_number, kind_numbered, match_number, match_numbered, scope_number, scope_numbered, selector_number, selector_numbered};
 
 use glob_match::{Comparator, Match, MatchType};
 
-// How many numbers there are for a way to match, for how values are matched at all, and for a scope.
+// How many numbers there are for a way to match, for a way to match with a comparator, and for a scope.
 const KIND_NUMBERS: u8 = 4;
 
 const MATCH_NUMBERS: u8 = 8;
 
 const SCOPE_NUMBERS: u8 = 4;
 
-// How many numbers there are for how many keys.
+// How many numbers there are for a count of keys.
 const KEY_NUMBERS: u32 = 65_536;
 
 /// Which parts' headers a test looks at (RFC 5703, section 4.1).
 #[derive(Clone, Copy)]
 pub enum Scope {
-    /// That of the message itself, which is its first part.
+    /// The header of the message itself, which is its first part.
     Message,
-    /// `:mime`: that of the current part, or of the message itself outside all loops.
+    /// `:mime`: the header of the current part, or of the message itself outside all loops.
     Part,
-    /// `:mime` and `:anychild`: that one, and those of all parts below it.
+    /// `:mime` and `:anychild`: that header, and those of all parts below it.
     PartAndBelow,
 }
 
 /// What a test takes of a field (RFC 5703, section 4.1).
 #[derive(Clone, Copy)]
 pub enum Selector {
-    /// Its value.
+    /// The whole value of the field.
     Value,
     /// Its media type without the subtype, or its disposition.
     Main,
-    /// Its subtype.
+    /// The subtype of its media type.
     Sub,
     /// Its media type with the subtype, or its disposition.
     ContentType,
@@ -44,23 +44,28 @@ pub enum Selector {
     Param,
 }
 
-/// How a test of fields selects values, and how it matches them with keys: what a of HEADER says.
+/// How a test of fields selects values, and how it matches them with keys. It is the field a of HEADER.
 #[derive(Clone, Copy)]
 pub struct FieldTest {
+    /// How values are matched with keys.
     pub how: Match,
+    /// Which headers are looked at.
     pub scope: Scope,
+    /// What is taken of a field.
     pub selector: Selector,
 }
 
-/// How many parameters and keys a test of fields is given: what c of HEADER says.
+/// How many parameters and keys a test of fields has. It is the field c of HEADER.
 #[derive(Clone, Copy)]
 pub struct TestCounts {
+    /// How many names of parameters there are.
     pub params: u16,
+    /// How many keys there are.
     pub keys: u16,
 }
 
 impl Scope {
-    /// The number that stands for the scope: 0 to 2.
+    /// Returns the number that means the scope: 0 to 2.
     pub fn number(self) -> u8
         ensures number { result ≡ scope_number self }
         ensures small { result ≤ 2 }
@@ -72,7 +77,7 @@ impl Scope {
         }
     }
 
-    /// The scope that the number stands for, if it stands for one.
+    /// Returns the scope that the number means; `None` if it means none.
     pub fn of(number: u8) -> Option<Scope>
         ensures { result ≡ scope_numbered number }
     {
@@ -86,7 +91,7 @@ impl Scope {
 }
 
 impl Selector {
-    /// The number that stands for the selector: 0 to 4.
+    /// Returns the number that means the selector: 0 to 4.
     pub fn number(self) -> u8
         ensures number { result ≡ selector_number self }
         ensures small { result ≤ 4 }
@@ -100,7 +105,7 @@ impl Selector {
         }
     }
 
-    /// The selector that the number stands for, if it stands for one.
+    /// Returns the selector that the number means; `None` if it means none.
     pub fn of(number: u8) -> Option<Selector>
         ensures { result ≡ selector_numbered number }
     {
@@ -127,7 +132,7 @@ fn kind_number(kind: MatchType) -> u8
     }
 }
 
-// The way to match that the number stands for, if it stands for one.
+// The way to match that the number means, if it means one.
 fn kind_of(number: u8) -> Option<MatchType>
     ensures { result ≡ kind_numbered number }
 {
@@ -150,7 +155,7 @@ fn comparator_number(comparator: Comparator) -> u8
     }
 }
 
-// The comparator that the number stands for, if it stands for one.
+// The comparator that the number means, if it means one.
 fn comparator_of(number: u8) -> Option<Comparator>
     ensures { result ≡ comparator_numbered number }
 {
@@ -161,7 +166,7 @@ fn comparator_of(number: u8) -> Option<Comparator>
     })
 }
 
-/// The number that says how values are matched with keys: 0 to 6.
+/// Returns the number that means how values are matched with keys: 0 to 6.
 pub fn match_number(how: Match) -> u8
     ensures number { result ≡ match_number how }
     ensures small { result ≤ 6 }
@@ -169,8 +174,8 @@ pub fn match_number(how: Match) -> u8
     kind_number(how.kind) + KIND_NUMBERS * comparator_number(how.comparator)
 }
 
-/// How values are matched with keys, if the number says it: bits 0 and 1 say by which of three ways, bit 2 by
-/// which of two comparators.
+/// Returns how values are matched with keys: bits 0 and 1 of the number are one of three ways, bit 2 is one of two
+/// comparators. `None` if it means none.
 pub fn match_of(number: u8) -> Option<Match>
     ensures { result ≡ match_numbered number }
 {
@@ -181,7 +186,7 @@ pub fn match_of(number: u8) -> Option<Match>
 }
 
 impl FieldTest {
-    /// The number that stands for the test: how values are matched, plus 8 times the scope, plus 32 times the
+    /// Returns the number that means the test: how values are matched, plus 8 times the scope, plus 32 times the
     /// selector.
     pub fn number(self) -> u8
         ensures { result ≡ field_test_number self }
@@ -191,7 +196,7 @@ impl FieldTest {
             + MATCH_NUMBERS * SCOPE_NUMBERS * self.selector.number()
     }
 
-    /// The test that the number stands for, if it stands for one.
+    /// Returns the test that the number means; `None` if it means none.
     pub fn of(number: u8) -> Option<FieldTest>
         ensures { result ≡ field_test_numbered number }
     {
@@ -204,14 +209,14 @@ impl FieldTest {
 }
 
 impl TestCounts {
-    /// The number that stands for the counts: that of the keys, plus 65,536 times that of the parameters.
+    /// Returns the number that means the counts: that of the keys, plus 65,536 times that of the parameters.
     pub fn number(self) -> u32
         ensures { result ≡ counts_number self }
     {
         u32::from(self.keys) + KEY_NUMBERS * u32::from(self.params)
     }
 
-    /// The counts that the number stands for.
+    /// Returns the counts that the number means.
     pub fn of(number: u32) -> TestCounts
         ensures { result ≡ counts_numbered number }
     {

@@ -11,11 +11,13 @@ use std::marker::Model;
 
 /// A table of strings that are lent: those of a program, or the names of its variables.
 ///
-/// A contract sees the list of them. A string takes time in the logarithm of their number.
+/// The compiler and the assembler add each string with [`StringTable::add`] and use its place as a number; at the end
+/// [`StringTable::to_list`] copies them. To add or find a string takes time in the logarithm of their number. A
+/// contract sees the list of the strings.
 #[derive(Drop)]
 pub struct StringTable<'a> {
     listed: Vec<&'a [u8]>,
-    // Where each of them stands in the list first.
+    // The first place of each of them in the list.
     places: BTreeMap<&'a [u8], usize>,
 }
 
@@ -40,7 +42,7 @@ impl<'a> StringTable<'a> {
     ghost use Rattle.std.specs.Prelude.{bytes_eq};
     ghost use Rattle.octets.specs.Once.{found_in, place_in, with_one};
 
-    /// No string. Takes no memory.
+    /// Returns a table of no strings. It takes no memory.
     pub fn new(alloc: Global) -> StringTable<'a>
         ensures { result ≡ [] }
     {
@@ -50,11 +52,11 @@ impl<'a> StringTable<'a> {
         }
     }
 
-    /// Lists the string, unless it is listed.
+    /// Adds the string at the end, unless the table has it.
     ///
     /// # Errors
     ///
-    /// An allocation was refused; the table is then as it was.
+    /// `AllocError` if memory is refused. The table is then as it was before.
     pub fn add(&mut self, text: &'a [u8]) -> Result<(), AllocError>
         ensures ok { OnOk result (self.new ≡ with_one bytes_eq self.old text.now) }
         ensures err { OnErr result (self.new ≡ self.old) }
@@ -68,11 +70,11 @@ impl<'a> StringTable<'a> {
         Ok(())
     }
 
-    /// Lists one more string, which may be listed already.
+    /// Adds the string at the end, even if the table has it.
     ///
     /// # Errors
     ///
-    /// An allocation was refused; the table is then as it was.
+    /// `AllocError` if memory is refused. The table is then as it was before.
     pub fn push(&mut self, text: &'a [u8]) -> Result<(), AllocError>
         ensures ok { OnOk result (self.new ≡ self.old ++ text.now ∷ []) }
         ensures err { OnErr result (self.new ≡ self.old) }
@@ -83,21 +85,21 @@ impl<'a> StringTable<'a> {
         self.add(text)
     }
 
-    /// How many strings are listed.
+    /// Returns how many strings the table has.
     pub fn count(&self) -> usize
         ensures { result ≡ length self.now }
     {
         self.listed.len()
     }
 
-    /// The first place of the string, if it is listed.
+    /// Returns the first place of the string, counted from 0; `None` if the table doesn't have it.
     pub fn get(&self, text: &[u8]) -> Option<usize>
         ensures { result ≡ found_in bytes_eq self.now text.now }
     {
         self.places.get(text).copied()
     }
 
-    /// The first place of the string; the table's end, where it isn't listed.
+    /// Returns the first place of the string, counted from 0; the number of strings if the table doesn't have it.
     pub fn place_of(&self, text: &[u8]) -> usize
         ensures place { result ≡ place_in bytes_eq self.now text.now }
         ensures within { result ≤ length self.now }
@@ -105,11 +107,11 @@ impl<'a> StringTable<'a> {
         self.get(text).unwrap_or(self.listed.len())
     }
 
-    /// Copies of the strings in order.
+    /// Returns copies of the strings, in order.
     ///
     /// # Errors
     ///
-    /// An allocation was refused.
+    /// `AllocError` if memory is refused.
     pub fn to_list(&self, alloc: Global) -> Result<Vec<Octets>, AllocError>
         ensures { IfOk result (λ list. list.items ≡ self.now) }
     {

@@ -1,4 +1,4 @@
-// Programs as octets.
+// Programs as bytes.
 ghost use Rattle.std.specs.Prelude.{◌≡◌, ◌+◌, ◌*◌, ◌<◌, ◌≤◌, ◌^◌, ◌++◌, length, All, OnOk, IfOk};
 ghost use Rattle.std.specs.List.{flat_map};
 ghost use Rattle.octets.specs.Limits.{max_string};
@@ -42,9 +42,11 @@ fn put_instructions(out: &mut Vec<u8>, instructions: &[Instruction]) -> Result<(
 }
 
 impl Program {
-    /// The octets that spell the program.
+    /// Returns the bytes that spell the program. [`Program::read`] reads them as the same program.
     ///
-    /// An error comes only where memory was refused.
+    /// # Errors
+    ///
+    /// `AllocError` if memory is refused.
     pub fn write(&self, alloc: Global) -> Result<Vec<u8>, AllocError>
         ensures { IfOk result (λ v. v.items ≡ spelling self.now) }
     {

@@ -22,7 +22,7 @@ const LOWEST_VERSION: u64 = bytecode_format::VERSION_ONE as u64;
 /// The highest version of the format.
 const HIGHEST_VERSION: u64 = bytecode_format::VERSION_TWO as u64;
 
-/// The most variables that a program has.
+/// The largest number of variables of a program.
 const MAX_VARIABLES: u64 = bytecode_format::MAX_VARIABLES as u64;
 
 // Reads the table of numbers.
@@ -53,7 +53,7 @@ fn strings_of(alloc: Global, octets: &[u8]) -> Result<(Vec<Octets>, &[u8]), Read
     Ok((strings, rest))
 }
 
-// How many instructions a line is.
+// How many instructions a line has: 1, or 0 for a label.
 fn steps_in(line: &Line) -> usize
     ensures { result ≡ count (line.now ∷ []) }
 {
@@ -79,7 +79,7 @@ fn lines_of(alloc: Global, octets: &[u8]) -> Result<(Vec<Line>, &[u8]), ReadErro
     Ok((lines, rest))
 }
 
-/// What a listing says before names and strings are looked up.
+/// The fields of a listing before names and strings are looked up.
 #[derive(Drop)]
 pub struct Parts {
     version: u8,
@@ -110,7 +110,7 @@ fn parts_of(alloc: Global, octets: &[u8]) -> Result<Parts, ReadError>
     })
 }
 
-// Why a listing isn't read, told by the octets before the fault.
+// Why a listing isn't read, with the number of bytes before the fault.
 fn fault_of(listing: &[u8], kind: FaultKind, error: ReadError) -> ListingError
     ensures { result ≡ fault_in (length listing.now) kind error }
 {
@@ -123,18 +123,21 @@ fn fault_of(listing: &[u8], kind: FaultKind, error: ReadError) -> ListingError
     }
 }
 
-/// The program that a listing says.
+/// Returns the program of a listing (docs/BYTECODE.md describes the form).
 ///
-/// A label or a string may stand in the place of c's number. In the place of a's may stand words,
-/// at HEADER, EXISTS, STRING and PARTBODY, and HEADER's counts may be told one by one.
+/// A label or a string can be written instead of the number of the field c. In HEADER, EXISTS, STRING and PARTBODY,
+/// words can be written instead of the number of the field a, and the counts of HEADER can be written one by one.
 ///
-/// `Fault` comes exactly where it says none: with the place of the first token that can't stand
-/// where it stands; where all can, with that of the first label that is there a second time; where
-/// none is, with that of the first name that is no label; and where all names are, with the
-/// listing's end, where the program exceeds the limits of programs. Its kind says which of these it
-/// is. `Memory` comes only where an allocation was refused. What is allocated grows with the
-/// listing, whose length is for the caller to limit; the listing is gone through once, and a name or
-/// a string is looked up in the logarithm of their number.
+/// Memory use grows with the listing, whose length the caller has to limit. The listing is read once, and a name or a
+/// string is looked up in the logarithm of their number.
+///
+/// # Errors
+///
+/// - `ListingError::Fault` if the listing has no program. Its place is that of the first token that isn't allowed
+///   there; if all are allowed, that of the first label that appears a second time; if there is none, that of the
+///   first name that isn't a label; and otherwise the listing's end, if the program exceeds the limits of programs.
+///   Its kind says which of these it is.
+/// - `ListingError::Memory` if memory is refused.
 pub fn assemble(alloc: Global, listing: &[u8]) -> Result<Program, ListingError>
     ensures listed { IfOk result (λ p. Lists listing.now p) }
     ensures fault { IfErr result (λ e. (place : ℕ) (kind : FaultKind) → e ≡ Fault place kind

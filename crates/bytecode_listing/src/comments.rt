@@ -1,4 +1,4 @@
-// What instructions refer to, as comments of a listing.
+// Comments of a listing: what an instruction refers to.
 ghost use Rattle.std.specs.Prelude.{◌≡◌, ◌++◌, OnOk, codes, option_map};
 ghost use Rattle.std.specs.Fmt.{decimal};
 ghost use Rattle.bytecode_listing.specs.Listing.{comment, entry_text, meant, shown, in_words, table_of, told};
@@ -12,10 +12,10 @@ use bytecode_verifier::{Range, row_of};
 use readable_text::quoting::put_cut;
 use std::alloc::AllocError;
 
-/// The most octets of a string that a comment has.
+/// How many bytes of a string a comment shows at most.
 const MAX_SHOWN: usize = 40;
 
-/// A table of a program that an instruction's c is a place in.
+/// A table of a program that an instruction's field c is a place in.
 #[derive(Clone, Copy)]
 pub enum Table {
     Strings,
@@ -24,7 +24,7 @@ pub enum Table {
     Instructions,
 }
 
-// The table that an operation's c is a place in, where its entries are told.
+// The table that an operation's c is a place in, if a comment shows its entry.
 fn table_of(operation: Operation) -> Option<Table>
     ensures { result ≡ table_of operation }
 {
@@ -39,7 +39,7 @@ fn table_of(operation: Operation) -> Option<Table>
     }
 }
 
-// Appends the comment of a string, of which no more than the first octets are shown.
+// Appends the comment of a string, which shows only its first bytes if it is long.
 fn put_text(out: &mut Vec<u8>, text: &[u8]) -> Result<(), AllocError>
     ensures { OnOk result (out.new.items ≡ out.old.items ++ (codes " ; " ++ shown text.now)) }
 {
@@ -168,7 +168,7 @@ fn put_selection(out: &mut Vec<u8>, a: u8, counts: u32) -> Result<(), AllocError
     }
 }
 
-// Appends what the fields of an instruction say in words, as a comment.
+// Appends the fields of an instruction in words, as a comment.
 fn put_words(out: &mut Vec<u8>, range: Range, instruction: Instruction) -> Result<(), AllocError>
     ensures { OnOk result (out.new.items ≡ out.old.items ++ comment (in_words range instruction)) }
 {
@@ -180,7 +180,7 @@ fn put_words(out: &mut Vec<u8>, range: Range, instruction: Instruction) -> Resul
     }
 }
 
-// Appends what an operation's fields refer to, or say in words, as a comment.
+// Appends what an operation's fields refer to, or mean in words, as a comment.
 fn put_told(
     out: &mut Vec<u8>,
     program: &Program,
@@ -196,7 +196,11 @@ fn put_told(
     }
 }
 
-/// Appends what an instruction of a program refers to, or says in words, as a comment.
+/// Appends what an instruction of a program refers to, or means in words, as a comment.
+///
+/// # Errors
+///
+/// `AllocError` if memory is refused.
 pub fn put_comment(
     out: &mut Vec<u8>,
     program: &Program,

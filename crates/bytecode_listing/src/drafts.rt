@@ -1,17 +1,17 @@
 // Lines of a listing before names and strings are looked up.
 use octets::Octets;
 
-/// What stands for the number of c.
+/// What is written instead of the number of c.
 #[derive(Drop)]
 pub enum Target {
     Number(u32),
-    /// A name, and how many octets of the listing are left where it stands.
+    /// A name, and how many bytes of the listing are left at it.
     Name(Octets, usize),
-    /// A string, and how many octets of the listing are left where it stands.
+    /// A string, and how many bytes of the listing are left at it.
     Quoted(Octets, usize),
 }
 
-/// An instruction whose c may be a name or a string.
+/// An instruction whose c can be a name or a string.
 #[derive(Drop)]
 pub struct Draft {
     pub op: u8,
@@ -23,7 +23,7 @@ pub struct Draft {
 /// A label or an instruction.
 #[derive(Drop)]
 pub enum Line {
-    /// Its name, and how many octets of the listing are left where that stands.
+    /// Its name, and how many bytes of the listing are left at that.
     Label(Octets, usize),
     Step(Draft),
 }

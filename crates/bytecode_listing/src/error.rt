@@ -5,39 +5,36 @@ ghost use Rattle.bytecode_listing.specs.declared.error.ReadError.TheVariants.{Me
 use std::alloc::{AllocError, AllocFailed};
 use thiserror::Error;
 
-/// What is wrong where a listing has its fault.
+/// What is wrong at the fault of a listing.
 #[derive(Clone, Copy, Debug)]
 pub enum FaultKind {
-    /// A token that can't stand there, or the end, where none is.
+    /// A token that isn't allowed there, or the end if there is no token.
     Misplaced,
-    /// A label that is there a second time.
+    /// A label that appears a second time.
     SecondLabel,
-    /// A name that is no label.
+    /// A name that isn't a label.
     NoLabel,
-    /// The program that is listed exceeds the limits of programs.
+    /// The listed program exceeds the limits of programs.
     Limits,
 }
 
-/// Why a listing is no program's.
+/// Why a listing isn't a program. [`crate::assemble`] returns it.
 #[derive(Debug, Drop, Error)]
 pub enum ListingError {
-    /// An allocation was refused.
+    /// Memory is refused, so there is no result.
     #[error("an allocation was refused")]
     Memory,
-    /// What stands at this place can't stand there: a token, a label that is there a second time or
-    /// a name that is no label. Or the program that is listed exceeds the limits of programs; then
-    /// the place is the listing's end.
+    /// The first fault of the listing. If the program exceeds the limits of programs, the place is the listing's end.
     #[error("fault at octet {place}")]
     Fault {
-        /// How many octets of the listing stand before it.
+        /// How many bytes of the listing come before the fault.
         place: usize,
-        /// Which of these it is.
+        /// What is wrong there.
         kind: FaultKind,
     },
 }
 
-/// Why reading ends: memory was refused, or what begins where so many octets are left can't stand
-/// there.
+/// Why reading ends: memory is refused, or what begins with so many bytes left isn't allowed there.
 #[derive(Drop)]
 pub enum ReadError {
     Memory,

@@ -16,10 +16,14 @@ use bytecode_format::Operation;
 use octets::{Octets, first, octet_of_digits};
 use std::alloc::Global;
 
-/// The most parameters, and the most keys, that c counts.
+/// The largest number of parameters, and of keys, that c counts.
 const MAX_COUNT: u32 = 65_535;
 
 /// Reads this word.
+///
+/// # Errors
+///
+/// `ReadError::At` if another token, or none, comes first.
 #[tactic(auto, unfolding(crate::specs::Items::keyword_at))]
 pub fn keyword_of<'a>(octets: &'a [u8], word: &[u8]) -> Result<&'a [u8], ReadError>
     ensures { Gives (λ x. tokens_of x.now) result (keyword_at word.now (tokens_of octets.now)) }
@@ -32,7 +36,7 @@ pub fn keyword_of<'a>(octets: &'a [u8], word: &[u8]) -> Result<&'a [u8], ReadErr
     }
 }
 
-// The number that one more digit makes of a number, where 64 bits hold it.
+// The number that one more digit makes of a number, if it fits into 64 bits.
 fn more(value: u64, digit: u8) -> Option<u64>
     ensures { result ≡ one_more value digit }
 {
@@ -42,7 +46,7 @@ fn more(value: u64, digit: u8) -> Option<u64>
     value.checked_mul(10)?.checked_add(u64::from(digit - b'0'))
 }
 
-// The number that decimal digits spell, where 64 bits hold it.
+// The number that decimal digits spell, if it fits into 64 bits.
 fn decimal_of(word: &[u8]) -> Option<u64>
     ensures { result ≡ decimal_on 0 word.now }
 {
@@ -81,7 +85,7 @@ pub fn number_of(octets: &[u8], low: u64, high: u64) -> Result<(u64, &[u8]), Rea
     }
 }
 
-// The octet that two hexadecimal digits are.
+// The byte that two hexadecimal digits are.
 fn octet_of(word: &[u8]) -> Option<u8>
     ensures { result ≡ octet_in word.now }
 {
@@ -91,7 +95,7 @@ fn octet_of(word: &[u8]) -> Option<u8>
     }
 }
 
-// Reads an octet.
+// Reads a byte.
 #[tactic(auto, unfolding(crate::specs::Items::octet_at))]
 fn octet_word(octets: &[u8]) -> Result<(u8, &[u8]), ReadError>
     ensures { Gives and_rest result (octet_at (tokens_of octets.now)) }
@@ -103,7 +107,7 @@ fn octet_word(octets: &[u8]) -> Result<(u8, &[u8]), ReadError>
     }
 }
 
-// Reads an operation: its name, or OP and the octet.
+// Reads an operation: its name, or OP and the byte.
 #[tactic(auto, unfolding(crate::specs::Items::operation_at))]
 fn operation_of(octets: &[u8]) -> Result<(u8, &[u8]), ReadError>
     ensures { Gives and_rest result (operation_at (tokens_of octets.now)) }
@@ -118,7 +122,7 @@ fn operation_of(octets: &[u8]) -> Result<(u8, &[u8]), ReadError>
     }
 }
 
-/// The fields of an instruction that have been given.
+/// The fields of an instruction that have been read.
 #[derive(Drop)]
 pub struct Fields {
     a: Option<u8>,
@@ -158,7 +162,7 @@ fn a_field(octets: &[u8], op: u8) -> Result<(u8, &[u8]), ReadError>
     a_value(keyword_of(octets, b"a")?, op)
 }
 
-// Reads the field a of an operation, where it stands first.
+// Reads the field a of an operation, if it comes first.
 #[tactic(auto, unfolding(crate::specs::Items::a_at))]
 fn a_of(octets: &[u8], op: u8, given: Option<u8>) -> Result<(Option<u8>, &[u8]), ReadError>
     ensures { Gives and_rest result (a_at op given (tokens_of octets.now)) }
@@ -173,7 +177,7 @@ fn a_of(octets: &[u8], op: u8, given: Option<u8>) -> Result<(Option<u8>, &[u8]),
     Ok((Some(number), rest))
 }
 
-// Reads the field b, where it stands first.
+// Reads the field b, if it comes first.
 #[tactic(auto, unfolding(crate::specs::Items::field_at))]
 fn b_of(octets: &[u8], given: Option<u16>) -> Result<(Option<u16>, &[u8]), ReadError>
     ensures { Gives and_rest result
@@ -201,7 +205,7 @@ fn keys_after(octets: &[u8], params: u32) -> Result<(u32, &[u8]), ReadError>
     Ok((COUNTS * params + keys as u32, rest))
 }
 
-// Reads the counts of HEADER after their first number, where words stand there.
+// Reads the counts of HEADER after their first number, if they are in words.
 #[tactic(auto, unfolding(crate::specs::Items::counts_at))]
 fn counts_of(octets: &[u8], number: u32) -> Result<(u32, &[u8]), ReadError>
     ensures { Gives and_rest result (counts_at number (tokens_of octets.now)) }
@@ -236,7 +240,7 @@ fn given_name(alloc: Global, octets: &[u8]) -> Result<(Octets, &[u8]), ReadError
     Ok((Octets::from_vec(word.to_vec(alloc)?), rest))
 }
 
-// Reads what stands for the number of c.
+// Reads what is written as the number of c.
 #[tactic(auto, unfolding(crate::specs::Items::target_at))]
 fn target_of(alloc: Global, octets: &[u8]) -> Result<(Target, &[u8]), ReadError>
     ensures { Gives and_rest result (target_at (tokens_of octets.now)) }
@@ -253,7 +257,7 @@ fn target_of(alloc: Global, octets: &[u8]) -> Result<(Target, &[u8]), ReadError>
     Ok((Target::Name(name, left_at(octets)), rest))
 }
 
-// Reads the name of the field c and what stands for its number.
+// Reads the name of the field c and what is written as its number.
 #[tactic(auto, unfolding(crate::specs::Items::target_field))]
 fn target_field(alloc: Global, octets: &[u8]) -> Result<(Target, &[u8]), ReadError>
     ensures { Gives and_rest result (target_field (tokens_of octets.now)) }
@@ -261,7 +265,7 @@ fn target_field(alloc: Global, octets: &[u8]) -> Result<(Target, &[u8]), ReadErr
     target_of(alloc, keyword_of(octets, b"c")?)
 }
 
-// Reads the field c, where it stands first.
+// Reads the field c, if it comes first.
 #[tactic(auto, unfolding(crate::specs::Items::c_at))]
 fn c_of(
     alloc: Global,
@@ -280,7 +284,7 @@ fn c_of(
     Ok((Some(target), rest))
 }
 
-// Reads each field of an operation that stands there, in the order a, b, c.
+// Reads each field of an operation that comes next, in the order a, b, c.
 #[tactic(auto, unfolding(crate::specs::Items::round_at))]
 fn round_of(
     alloc: Global,
@@ -312,7 +316,7 @@ fn fields_of(alloc: Global, octets: &[u8], op: u8) -> Result<(Fields, &[u8]), Re
     round_of(alloc, rest, op, given)
 }
 
-// Reads an instruction's place, where a number stands first.
+// Reads an instruction's place, if a number comes first.
 #[tactic(auto, unfolding(crate::specs::Items::place_at))]
 fn place_of(octets: &[u8], place: usize) -> Result<&[u8], ReadError>
     ensures { Gives (λ x. tokens_of x.now) result (place_at place (tokens_of octets.now)) }
@@ -352,7 +356,7 @@ fn label_of(alloc: Global, octets: &[u8]) -> Result<(Line, &[u8]), ReadError>
     Ok((Line::Label(name, left), rest))
 }
 
-/// Reads a label, or an instruction before which so many stand.
+/// Reads a label, or an instruction that so many others come before.
 #[tactic(auto, unfolding(crate::specs::Items::line_at))]
 pub fn line_of(alloc: Global, octets: &[u8], place: usize) -> Result<(Line, &[u8]), ReadError>
     ensures { (before : List Line) → count before ≡ place

@@ -1,4 +1,4 @@
-// The places that names and strings stand for.
+// The places that names and strings refer to.
 ghost use Rattle.std.specs.Prelude.{◌≡◌, ℕ, List, [], None, Some, MatchResult};
 ghost use Rattle.bytecode_listing.specs.Labels.{place_of, double_after, looked_up, c_of, instruction_of, instructions_in, resolved};
 ghost use Rattle.bytecode_listing.specs.declared.drafts.Line.{Line};
@@ -16,7 +16,7 @@ use std::collections::BTreeMap;
 /// The place of each name that is a label.
 pub type Places<'a> = BTreeMap<&'a [u8], usize>;
 
-/// Where each label of the lines stands; or the first that is there a second time.
+/// The place of each label among the lines; or the first label that appears a second time.
 pub fn places_of(alloc: Global, lines: &[Line]) -> Result<Places<'_>, ReadError>
     ensures { MatchResult result
         (λ places. (double_after [] lines.now ≡ None) × IsPlaces places lines.now)
@@ -39,7 +39,7 @@ pub fn places_of(alloc: Global, lines: &[Line]) -> Result<Places<'_>, ReadError>
     Ok(places)
 }
 
-// A place that there is, where 32 bits hold it; it is looked for where so many octets are left.
+// A place that was found, if it fits into 32 bits; it is looked for at the point with so many bytes left.
 fn looked_up(place: Option<usize>, left: usize) -> Result<u32, ReadError>
     ensures { Gives (λ c. c) result (looked_up place left) }
 {
@@ -49,7 +49,7 @@ fn looked_up(place: Option<usize>, left: usize) -> Result<u32, ReadError>
     }
 }
 
-// The place that a name stands for, which stands where so many octets are left.
+// The place that a name refers to; the name is at the point with so many bytes left.
 fn place_named(places: &Places<'_>, name: &[u8], left: usize) -> Result<u32, ReadError>
     ensures { (lines : List Line) → IsPlaces places.now lines
         → Gives (λ c. c) result (looked_up (place_of lines name.now) left) }
@@ -107,7 +107,7 @@ fn instructions_in(
     Ok(instructions)
 }
 
-/// The strings and the instructions of a program, whose labels have these places.
+/// The strings and the instructions of a program whose labels have these places.
 pub fn resolved(
     alloc: Global,
     table: &[Octets],

@@ -1,5 +1,4 @@
-//! What holds of every program and its listing, over the definitions that `disassemble` and
-//! `assemble` cite.
+//! Laws of every program and its listing, over the definitions that `disassemble` and `assemble` cite.
 ghost use Rattle.std.specs.Prelude.{◌≡◌, ◌≤◌, ◌<◌, ◌^◌, ℕ, List, [], Some, All, length, IfOk, IfErr};
 ghost use Rattle.bytecode_format.specs.Code.{Code};
 ghost use Rattle.bytecode_format.specs.Spelling.{IsProgram};
@@ -20,8 +19,8 @@ use crate::writing::disassemble;
 use bytecode_format::Program;
 use std::alloc::Global;
 
-/// What is disassembled is assembled as the same program, each octet of its strings included: also
-/// where the listing tells what each instruction adds to the budget, or the refusal at its place.
+/// A disassembled program is assembled as the same program, including each byte of its strings: also if the listing
+/// shows what each instruction adds to the budget, or the refusal at its place.
 pub fn listings_say_their_programs()
     ensures plain { (code : Code) → IsProgram code → All AreOctets code.strings
         → Lists (listing_of code) code }
@@ -31,20 +30,20 @@ pub fn listings_say_their_programs()
         → All AreOctets code.strings → Lists (refused_listing refusal code) code }
 {}
 
-/// A listing says at most one program. So different programs have different listings.
+/// A listing has at most one program. So different programs have different listings.
 pub fn one_program_for_a_listing()
     ensures { (listing : List ℕ) (p q : Code) → Lists listing p → Lists listing q → p ≡ q }
 {}
 
-/// What is disassembled has no fault.
+/// A disassembled program has no fault.
 pub fn listings_have_no_fault()
     ensures { (listing : List ℕ) (code : Code) → Lists listing code
         → (place : ℕ) → FaultsAt listing place → ⊥ }
 {}
 
-/// A comment has at most 128 octets, and one of what an instruction adds to the budget, or of a
-/// refusal, at most 64. So a listing grows with its program, whichever strings the instructions
-/// refer to, and however often.
+/// A comment has at most 128 bytes, and a comment with what an instruction adds to the budget, or with a refusal, at
+/// most 64. So the size of a listing is proportional to its program, whichever strings the instructions refer to, and
+/// however often.
 pub fn comments_are_short()
     ensures meant { (code : Code) (i : Instruction) → length (comment (meant code i)) ≤ 128 }
     ensures shares { (code : Code) (place : ℕ) → IsProgram code
@@ -53,23 +52,27 @@ pub fn comments_are_short()
         → length (comment (refusal_notes refusal place)) ≤ 64 }
 {}
 
-/// A word that says how a test compares, or what it looks at, is one number's, and a number has one
-/// word, in each of the four tables of them.
+/// Each word for how a test compares, or what it looks at, has one number, and each number has at most one word, in
+/// each of the four tables.
 pub fn words_and_numbers()
     ensures { (facet : Facet) (n : ℕ) (word : List ℕ)
         → (word_of facet n ≡ Some word → number_of facet word ≡ Some n)
         × (number_of facet word ≡ Some n → word_of facet n ≡ Some word) }
 {}
 
-/// What a comment says of the field a of a test is read as that field, by `assemble` in the place
-/// of a's number.
+/// The words of a comment for the field a are read as that field by `assemble`, if they are written instead of its
+/// number.
 pub fn words_say_their_numbers()
     ensures { (operation : Operation) (a : ℕ) (words : List ℕ)
         → a < 2 ^ 8 → a_words (row_of operation).a a ≡ Some words
         → worded_at (Some operation) (tokens_of words) ≡ (Some a, []) }
 {}
 
-/// The same program, by both calls: nothing but a refused allocation keeps it from being read.
+/// A program that is disassembled and assembled again is the same program.
+///
+/// # Errors
+///
+/// `ListingError::Memory` if memory is refused. There is no other error.
 pub fn read_again(alloc: Global, program: &Program) -> Result<Program, ListingError>
     ensures same { IfOk result (λ p. p ≡ program.now) }
     ensures memory { IfErr result (λ e. e ≡ Memory) }

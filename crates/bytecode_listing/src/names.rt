@@ -4,7 +4,7 @@ ghost use Rattle.bytecode_listing.specs.Names.{octet_named};
 
 use bytecode_format::Operation;
 
-/// The octet of the operation that has this name in a listing.
+/// The byte of the operation that has this name in a listing.
 pub(crate) fn octet_named(name: &[u8]) -> Option<u8>
     ensures { result ≡ octet_named name.now }
 {

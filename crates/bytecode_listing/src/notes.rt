@@ -1,4 +1,4 @@
-// What a listing says of instructions beside what they refer to, as comments.
+// Comments of a listing, apart from what instructions refer to.
 ghost use Rattle.std.specs.Prelude.{◌≡◌, ◌++◌, OnOk, codes};
 ghost use Rattle.bytecode_listing.specs.Listing.{added, comment, kind_text, refusal_notes, scaled_text, share_text};
 ghost use Rattle.bytecode_listing.specs.Noted.{notes_in};
@@ -8,18 +8,22 @@ use bytecode_verifier::{Refusal as BrokenRule, Share};
 use refusals::Refusal;
 use std::alloc::AllocError;
 
-/// What is said of instructions.
+/// What the comments say about instructions.
 #[derive(Clone, Copy)]
 pub enum Notes<'a> {
     /// Nothing.
     Without,
     /// What each adds to the budget.
     Shares(&'a [Share]),
-    /// Why the program is refused, at the place of that.
+    /// Why the program is refused, at the place of the refusal.
     Refusal(&'a BrokenRule),
 }
 
-/// Appends what is said of the instruction at a place, as a comment.
+/// Appends the note on the instruction at a place, as a comment.
+///
+/// # Errors
+///
+/// `AllocError` if memory is refused.
 pub fn put_note(out: &mut Vec<u8>, notes: Notes<'_>, place: usize) -> Result<(), AllocError>
     ensures { OnOk result
         (out.new.items ≡ out.old.items ++ comment (notes_in notes.entry place)) }
@@ -53,7 +57,7 @@ fn put_added(out: &mut Vec<u8>, letter: &[u8], loops: u32, number: u64) -> Resul
     put_number(out, number)
 }
 
-// Appends what is added for each octet of the message, unless it is 0.
+// Appends what is added for each byte of the message, unless it is 0.
 fn put_scaled(out: &mut Vec<u8>, loops: u32, number: u64) -> Result<(), AllocError>
     ensures { OnOk result (out.new.items ≡ out.old.items ++ scaled_text loops number) }
 {

@@ -22,7 +22,9 @@ fn add_line<'a>(strings: &mut StringTable<'a>, line: &'a Line) -> Result<(), All
 
 /// The strings of a table and those of lines.
 ///
-/// An error comes only where memory was refused.
+/// # Errors
+///
+/// `AllocError` if memory is refused.
 pub fn strings_in<'a>(
     alloc: Global,
     table: &'a [Octets],

@@ -56,7 +56,7 @@ fn token_start(octets: &[u8]) -> &[u8]
     rest
 }
 
-// How many octets of a word stand first.
+// How many bytes of a word come first.
 fn word_len(octets: &[u8]) -> usize
     ensures { result ≡ length (take_while is_word_octet octets.now) }
 {
@@ -66,8 +66,8 @@ fn word_len(octets: &[u8]) -> usize
         .count()
 }
 
-/// The word that the tokens begin with, and what is left after it; an empty one where they begin
-/// with no word, and what is left then begins where the first token does.
+/// The word that the tokens begin with, and the rest after it. If they begin with no word, it is empty, and the rest
+/// begins at the first token.
 pub fn leading_word(octets: &[u8]) -> (&[u8], &[u8])
     ensures { word_at (tokens_of octets.now) ≡ led result.0.now result.1.now }
 {
@@ -76,6 +76,10 @@ pub fn leading_word(octets: &[u8]) -> (&[u8], &[u8])
 }
 
 /// The word that the tokens begin with.
+///
+/// # Errors
+///
+/// `ReadError::At` if they begin with no word.
 pub fn word_of(octets: &[u8]) -> Result<(&[u8], &[u8]), ReadError>
     ensures { Gives (λ x. (x.0.now, tokens_of x.1.now)) result (word_at (tokens_of octets.now)) }
 {
@@ -86,7 +90,7 @@ pub fn word_of(octets: &[u8]) -> Result<(&[u8], &[u8]), ReadError>
     Ok((word, rest))
 }
 
-/// How many octets are left where the first token begins.
+/// How many bytes are left at the start of the first token.
 pub fn left_at(octets: &[u8]) -> usize
     ensures { result ≡ left_at (tokens_of octets.now) }
 {
@@ -109,7 +113,7 @@ pub fn begins_with(octets: &[u8], word: &[u8]) -> bool
     read == word
 }
 
-/// Whether the tokens begin with a word whose first octet is a digit.
+/// Whether the tokens begin with a word whose first byte is a digit.
 pub fn begins_number(octets: &[u8]) -> bool
     ensures { result ≡ begins_number (word_at (tokens_of octets.now)) }
 {
@@ -128,8 +132,7 @@ pub fn begins_word(octets: &[u8]) -> bool
     !read.is_empty()
 }
 
-// What is left after the quote that the tokens begin with, and how many octets are left where it
-// stands.
+// What is left after the quote that the tokens begin with, and how many bytes are left at the quote.
 #[tactic(auto, unfolding(crate::specs::Tokens::tokens_from), using(crate::proofs::Lexing::quote_first, crate::proofs::Lexing::no_text))]
 fn quote_of(octets: &[u8]) -> Result<(usize, &[u8]), ReadError>
     ensures { MatchResult result
@@ -143,7 +146,7 @@ fn quote_of(octets: &[u8]) -> Result<(usize, &[u8]), ReadError>
     }
 }
 
-// A string that has ended, where it is within the limit of strings.
+// A string that has ended, if it is within the limit of strings.
 fn whole(text: Vec<u8>, left: usize, rest: &[u8]) -> Result<(Octets, &[u8]), ReadError>
     ensures { Gives and_rest result (text_in (Text text.items) left (tokens_of rest.now)) }
 {
@@ -153,7 +156,7 @@ fn whole(text: Vec<u8>, left: usize, rest: &[u8]) -> Result<(Octets, &[u8]), Rea
     Ok((Octets::from_vec(text), rest))
 }
 
-// The string whose octets stand first, up to its quote, which began where so many octets were left.
+// The string whose bytes come first, up to its quote; it began with so many bytes left.
 fn text_after(alloc: Global, left: usize, octets: &[u8]) -> Result<(Octets, &[u8]), ReadError>
     ensures { Gives and_rest result (text_at (tokens_from (InText left []) octets.now)) }
 {
@@ -172,7 +175,12 @@ fn text_after(alloc: Global, left: usize, octets: &[u8]) -> Result<(Octets, &[u8
     Err(ReadError::At(left))
 }
 
-/// The string that the tokens begin with, where it is within the limit of strings.
+/// The string that the tokens begin with, if it is within the limit of strings.
+///
+/// # Errors
+///
+/// - `ReadError::At` if they begin with no string, or with one that is too long.
+/// - `ReadError::Memory` if memory is refused.
 pub fn text_of(alloc: Global, octets: &[u8]) -> Result<(Octets, &[u8]), ReadError>
     ensures { Gives and_rest result (text_at (tokens_of octets.now)) }
 {

@@ -1,4 +1,4 @@
-// Words in the place of numbers: how a test compares, and what it looks at.
+// Words for numbers: how a test compares, and what it looks at.
 ghost use Rattle.std.specs.Prelude.{◌≡◌, ◌+◌, ◌*◌, ◌<◌, map, bytes_eq, unwrap_or, length, option_map, IfSome};
 ghost use Rattle.std.specs.List.{position};
 ghost use Rattle.bytecode_listing.specs.Tokens.{tokens_of};
@@ -9,12 +9,12 @@ use crate::tokens::leading_word;
 use bytecode_format::Operation;
 use bytecode_verifier::{Range, row_of};
 
-/// What words say of a test.
+/// A property of a test that has words.
 #[derive(Clone, Copy)]
 pub enum Facet {
-    /// Where a key has to stand in a value.
+    /// How a key has to match a value.
     Match,
-    /// Which octets are the same.
+    /// Which bytes are the same.
     Comparator,
     /// Which parts' fields are looked at.
     Scope,
@@ -34,16 +34,16 @@ const SCOPES: &[&str] = &["message", "part", "below"];
 /// The words of a selector, from number 0 on.
 const SELECTORS: &[&str] = &["value", "type", "subtype", "contenttype", "param"];
 
-/// How many times the comparator counts in a match number.
+/// The factor of the comparator in a match number.
 const COMPARATOR: u8 = 4;
 
-/// How many times the scope counts in a selection.
+/// The factor of the scope in a selection.
 const SCOPE: u8 = 8;
 
-/// How many times the selector counts in a selection.
+/// The factor of the selector in a selection.
 const SELECTOR: u8 = 32;
 
-/// How many times the parameters count in c of HEADER; the keys count once.
+/// The factor of the parameters in the field c of HEADER; the keys have factor 1.
 pub const COUNTS: u32 = 65_536;
 
 // The words of a facet; the number of each is its place.
@@ -80,7 +80,7 @@ fn number_of(facet: Facet, word: &[u8]) -> Option<usize>
     place_in(words(facet), word)
 }
 
-// Reads the word of a facet, where one stands first.
+// Reads the word of a facet, if one comes first.
 #[tactic(auto, unfolding(crate::specs::Items::facet_at))]
 fn facet_of(octets: &[u8], facet: Facet) -> (Option<u8>, &[u8])
     ensures read { (result.0, tokens_of result.1.now) ≡ facet_at facet (tokens_of octets.now) }
@@ -93,7 +93,7 @@ fn facet_of(octets: &[u8], facet: Facet) -> (Option<u8>, &[u8])
     }
 }
 
-// Two numbers in one, the second so many times; one that isn't said is 0, unless neither is.
+// Two numbers in one, the second times `unit`. A missing one is 0, unless both are missing.
 fn joined(first: Option<u8>, unit: u8, second: Option<u8>) -> Option<u8>
     requires { unwrap_or first 0 + unit * unwrap_or second 0 < 256 }
     ensures { result ≡ joined first unit second }
@@ -129,7 +129,7 @@ fn selection_of(octets: &[u8]) -> (Option<u8>, &[u8])
     )
 }
 
-// Reads the field a in words, where its numbers are those of ways to compare or of what is looked at.
+// Reads the field a in words, if its range is one of ways to compare or of what is looked at.
 fn worded_as(octets: &[u8], range: Range) -> (Option<u8>, &[u8])
     ensures { (result.0, tokens_of result.1.now) ≡ worded_as range (tokens_of octets.now) }
 {

@@ -22,7 +22,7 @@ pub(crate) fn put_number(out: &mut Vec<u8>, number: u64) -> Result<(), AllocErro
     out.extend_from_slice(Buffer::new().format(number as u128).as_bytes())
 }
 
-// Appends an operation's name, or OP and the octet that names none.
+// Appends an operation's name, or OP and the byte that names none.
 fn put_operation(out: &mut Vec<u8>, octet: u8) -> Result<(), AllocError>
     ensures { OnOk result (out.new.items ≡ out.old.items ++ operation_text octet) }
 {
@@ -56,9 +56,11 @@ fn put_fields(out: &mut Vec<u8>, instruction: Instruction) -> Result<(), AllocEr
     put_field(out, b"c", u64::from(instruction.c))
 }
 
-/// Appends an instruction at its place, as it stands in a listing, without comments.
+/// Appends an instruction at its place, as a listing has it, without comments.
 ///
-/// An error comes only where memory was refused.
+/// # Errors
+///
+/// `AllocError` if memory is refused.
 pub fn put_instruction(
     out: &mut Vec<u8>,
     place: usize,
@@ -161,17 +163,19 @@ fn listing_with(alloc: Global, program: &Program, notes: Notes<'_>) -> Result<Ve
     Ok(out)
 }
 
-/// The listing of a program: a line for its version, one for its number of variables, one for each
-/// number, string and instruction. LF ends each line. `assemble` reads it as the same program.
+/// Returns the listing of a program: a line for its version, one for its number of variables, and one for each
+/// number, string and instruction. Each line ends with LF. [`crate::assemble`] reads it as the same program.
 ///
-/// A comment after an instruction tells the string or the number that its c refers to, or the place
-/// that it jumps to. Of a string it has at most 40 octets, and dots where there are more. There is
-/// none where c is outside of the tables. Of another test it tells in words how that compares or what
-/// it looks at, which is its a, and of HEADER also its counts, as `assemble` takes them; there is no
-/// comment where a has no words.
+/// A comment after an instruction shows the string or the number that its c refers to, or the place that it jumps to.
+/// Of a string it shows at most 40 bytes, and dots if there are more. There is none if c is outside of the tables.
+/// For other tests the comment shows in words how the test compares or what it looks at, which is its a, and for
+/// HEADER also its counts, as `assemble` accepts them; there is no comment if a has no words.
 ///
-/// An error comes only where memory was refused. A listing takes time and memory in proportion to
-/// the program, whatever its strings are.
+/// Time and memory are proportional to the program, whatever its strings are.
+///
+/// # Errors
+///
+/// `AllocError` if memory is refused.
 pub fn disassemble(alloc: Global, program: &Program) -> Result<Vec<u8>, AllocError>
     ensures text { IfOk result (λ v. v.items ≡ listing_of program.now) }
     ensures listed { IfOk result (λ v. Lists v.items program.now) }
@@ -179,11 +183,15 @@ pub fn disassemble(alloc: Global, program: &Program) -> Result<Vec<u8>, AllocErr
     listing_with(alloc, program, Notes::Without)
 }
 
-/// The listing of an accepted program, as that of [`disassemble`], where a last comment after each
-/// instruction tells what it adds to the budget: `A1+16 B1+29` is 16, and 29 for each octet of the
-/// message and one more, to the sums of those inside one open loop. A B of 0 is left out.
+/// Returns the listing of an accepted program, like [`disassemble`], with a last comment after each instruction that
+/// shows what it adds to the budget.
 ///
-/// An error comes only where memory was refused.
+/// `A1+16 B1+29` means 16 charges, and 29 for each byte of the message and one more, in the sums for one open loop. A
+/// B of 0 is left out.
+///
+/// # Errors
+///
+/// `AllocError` if memory is refused.
 pub fn disassemble_accepted(alloc: Global, program: &Verified) -> Result<Vec<u8>, AllocError>
     ensures text { IfOk result (λ v. v.items ≡ accepted_listing program.now) }
     ensures listed { IfOk result (λ v. Lists v.items program.now) }
@@ -192,10 +200,12 @@ pub fn disassemble_accepted(alloc: Global, program: &Verified) -> Result<Vec<u8>
     listing_with(alloc, program.program(), Notes::Shares(&shares))
 }
 
-/// The listing of a program that is refused, as that of [`disassemble`], where a last comment tells
-/// the number and the name of the refusal after the instruction at its place.
+/// Returns the listing of a refused program, like [`disassemble`], with a last comment that shows the number and the
+/// name of the refusal after the instruction at its place.
 ///
-/// An error comes only where memory was refused.
+/// # Errors
+///
+/// `AllocError` if memory is refused.
 pub fn disassemble_refused(
     alloc: Global,
     program: &Program,

@@ -1,4 +1,5 @@
-//! The bytecode's crates on every small program and on programs as large as they may be; what rows can say stands in the crate `tables`.
+//! Tests of the bytecode's crates on every small program and on the largest programs that are allowed. The crate
+//! `tables` has the tests that rows of data can describe.
 #![tactic(auto)]
 
 #[cfg(test)]

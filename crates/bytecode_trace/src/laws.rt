@@ -1,4 +1,4 @@
-//! Laws of the steps of a run, over the definitions alone.
+//! Laws about the steps of a run: no call is made.
 ghost use Rattle.std.specs.Prelude.{◌≡◌, ℕ, suc, ◌-◌, All, List, length, sum_by};
 ghost use Rattle.bytecode_format.specs.Code.{Code};
 ghost use Rattle.bytecode_format.specs.declared.action.Action.{Action};
@@ -9,8 +9,8 @@ ghost use Rattle.sieve_vm.specs.Runs.{RunEnds};
 ghost use Rattle.sieve_vm.specs.State.{State, start};
 ghost use Rattle.bytecode_trace.specs.Steps.{IsCharged, LeadToEnd, TakenStep, steps_of};
 
-/// The steps of an accepted program's run are those that lead from its start to its end: as many as the run takes, that
-/// to the end included.
+/// The steps of an accepted program's run are those that lead from its start to its end: as many as the run takes,
+/// including the step to the end.
 pub fn steps_lead_from_the_start_to_the_end()
     ensures lead { (code : Code) (mail : Mail) → IsAccepted code → IsMail mail → (end : State)
         → RunEnds code mail end → LeadToEnd code mail (start code) end (steps_of code mail) }
@@ -18,7 +18,7 @@ pub fn steps_lead_from_the_start_to_the_end()
         → (over : RunEnds code mail end) → length (steps_of code mail) ≡ suc over.steps }
 {}
 
-/// Each step takes an instruction of the program, and charges what that costs.
+/// Each step takes an instruction of the program, and charges what this instruction costs.
 pub fn steps_charge_what_their_instructions_cost()
     ensures { (code : Code) (mail : Mail) → IsAccepted code → IsMail mail
         → All (IsCharged code mail) (steps_of code mail) }

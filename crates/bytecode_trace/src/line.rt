@@ -16,16 +16,16 @@ use readable_text::quoting::put_quoted_start;
 use sieve_vm::{Progress, StackValue};
 use std::alloc::{AllocError, Global};
 
-/// What is known of a step before it is taken.
+/// What is known about a step before it is taken. [`begin_step`] makes it, and [`set_line`] uses it after the step.
 #[derive(Drop)]
 pub struct Begun {
-    /// The place of its instruction.
+    /// The place of its instruction in the program, counted from 0.
     pub place: usize,
     /// The instruction.
     pub instruction: Instruction,
     /// What the steps before it have charged.
     pub charged: u128,
-    /// Which value is told of it.
+    /// Which value is printed for the instruction.
     pub told: Told,
     /// The text of that value, if it is taken from the stack.
     pub taken: Vec<u8>,
@@ -49,7 +49,7 @@ fn put_value(out: &mut Vec<u8>, value: StackValue<'_>) -> Result<(), AllocError>
     }
 }
 
-// Appends a value behind a stroke, if there is one.
+// Appends a value after a stroke, if there is one.
 fn put_told(out: &mut Vec<u8>, value: Option<StackValue<'_>>) -> Result<(), AllocError>
     ensures { OnOk result (out.new.items ≡ out.old.items
         ++ column (option_map value_text (option_map value_of value.entry))) }
@@ -61,7 +61,7 @@ fn put_told(out: &mut Vec<u8>, value: Option<StackValue<'_>>) -> Result<(), Allo
     put_value(out, value)
 }
 
-// Appends a part behind a stroke, if there is one.
+// Appends a part after a stroke, if there is one.
 fn put_part(out: &mut Vec<u8>, part: Option<usize>) -> Result<(), AllocError>
     ensures { OnOk result (out.new.items ≡ out.old.items ++ column (option_map part_text part)) }
 {
@@ -72,7 +72,7 @@ fn put_part(out: &mut Vec<u8>, part: Option<usize>) -> Result<(), AllocError>
     put_number(out, number as u128)
 }
 
-// The text of the value that the next instruction takes from the stack, if that is told.
+// The text of the value that the next instruction takes from the stack, if that is printed.
 fn taken_text(alloc: Global, run: &Progress<'_, '_, '_>, told: Told) -> Result<Vec<u8>, AllocError>
     ensures { IfOk result (λ text. (before : State) → state_at run.now ≡ Some before
         → text.items ≡ told_before told before) }
@@ -84,7 +84,15 @@ fn taken_text(alloc: Global, run: &Progress<'_, '_, '_>, told: Told) -> Result<V
     Ok(text)
 }
 
-/// What is known of a run's next step.
+/// What is known about a run's next step.
+///
+/// # Requires
+///
+/// The run isn't over.
+///
+/// # Errors
+///
+/// `AllocError` if memory is refused.
 pub fn begin_step(alloc: Global, run: &Progress<'_, '_, '_>) -> Result<Begun, AllocError>
     requires { goes_on (turn_at run.now) ≡ true }
     ensures { IfOk result (λ begun. (before : State) → state_at run.now ≡ Some before
@@ -102,7 +110,7 @@ pub fn begin_step(alloc: Global, run: &Progress<'_, '_, '_>) -> Result<Begun, Al
     })
 }
 
-// Appends the value that an instruction left on the stack or gave a variable, if that is told.
+// Appends the value that an instruction left on the stack or gave to a variable, if that is printed.
 fn put_left(
     out: &mut Vec<u8>,
     run: &Progress<'_, '_, '_>,
@@ -119,7 +127,7 @@ fn put_left(
     }
 }
 
-// Appends the line of a step up to the value that is told.
+// Appends the line of a step up to the value that is printed.
 fn put_beginning(
     out: &mut Vec<u8>,
     begun: &Begun,
@@ -138,7 +146,11 @@ fn put_beginning(
     put_part(out, part)
 }
 
-/// Makes a line that of a step that was taken. What it held is gone, but for the memory.
+/// Makes `line` the line of a step that was taken. Only the memory of what it held is used again.
+///
+/// # Errors
+///
+/// `AllocError` if memory is refused.
 pub fn set_line(
     line: &mut Vec<u8>,
     begun: &Begun,

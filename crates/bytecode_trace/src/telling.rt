@@ -1,23 +1,23 @@
-// What is told of an instruction.
+// What is printed for an instruction.
 ghost use Rattle.std.specs.Prelude.{◌≡◌};
 ghost use Rattle.bytecode_trace.specs.Printed.{told_of};
 
 use bytecode_format::Operation;
 
-/// Which value is told of an instruction.
+/// Which value is printed for an instruction.
 #[derive(Clone, Copy)]
 pub enum Told {
-    /// The one that it left on top of the stack.
+    /// The value that it left on top of the stack.
     Left,
-    /// The one that it took from there.
+    /// The value that it took from the top of the stack.
     Taken,
-    /// The one that it gave a variable.
+    /// The value that it gave to a variable.
     Set,
-    /// None.
+    /// No value.
     Nothing,
 }
 
-/// Which value is told of an operation.
+/// Which value is printed for an operation.
 pub fn told_of(operation: Option<Operation>) -> Told
     ensures { result ≡ told_of operation }
 {

@@ -14,19 +14,24 @@ use refusals::Refusal;
 use sieve_vm::{Outcome, Progress};
 use std::alloc::Global;
 
-/// Writes the trace of an accepted program on a message, each line as its step was taken, and answers what the run came
-/// to.
+/// Writes the trace of an accepted program on a message, each line when its step was taken, and returns the outcome of
+/// the run.
 ///
-/// A line has the instruction at its place, as a listing has it; behind a stroke what the step charged and the sum so
-/// far; and behind further strokes, where there are such, the number of the current part after the step, and a value.
-/// That is the one that the instruction left on top of the stack; of those that leave none the one that they took
-/// from there, or gave a variable. A text is printed between quotes: its first 80 octets, and two dots behind them
-/// where there are more. The sum of the last line is what the run charged.
+/// A line has the instruction at its place, as a listing has it; after a stroke, what the step charged and the sum up
+/// to then; and after further strokes, if there are any, the number of the current part after the step, and a value.
+/// This is the value that the instruction left on top of the stack; for an instruction that leaves none, the value that
+/// it took from there, or gave to a variable. A text is printed between quotes: its first 80 bytes, followed by two
+/// dots if there are more. The sum of the last line is what the run charged.
+///
+/// For example, the first line for the program of `examples/keep.svbc` is `0 KEEP | 1 1`: the instruction at place 0
+/// keeps the message, and charges 1 of a sum of 1.
 ///
 /// # Errors
 ///
-/// `Write` where the sink failed, `Memory` where an allocation was refused. Then the beginning of the trace was
-/// written.
+/// The beginning of the trace was written then.
+///
+/// - `Write` if a call of `out` fails.
+/// - `Memory` if memory is refused.
 pub fn trace<O: Sink>(
     alloc: Global,
     verified: &Verified,
@@ -48,7 +53,7 @@ pub fn trace<O: Sink>(
     Ok(run.into_outcome()?)
 }
 
-// Takes a step, and writes its line, made in the memory of the one before it.
+// Takes a step and writes its line, which is made in the memory of the one before it.
 fn tell_step<'p, 's, 'm, O: Sink>(
     alloc: Global,
     run: Progress<'p, 's, 'm>,

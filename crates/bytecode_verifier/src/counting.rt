@@ -18,14 +18,18 @@ use std::alloc::{AllocError, Global};
 pub enum Counted {
     /// Those that list an action.
     Actions,
-    /// Those that list one that stores a part.
+    /// Those that list an action that stores a part.
     Stores,
 }
 
-/// The greatest depth of a part, the message's own being 1.
+/// The greatest depth of a part, where the message itself has depth 1.
 const MAX_DEPTH: u128 = 32;
 
 /// How many entries a delivery of a message of so many parts files at most.
+///
+/// # Errors
+///
+/// `AllocError` if memory is refused.
 pub fn entries_of(alloc: Global, program: &Program, parts: u64) -> Result<u128, AllocError>
     requires { parts ≤ max_parts }
     ensures { IfOk result (λ entries. entries ≡ entries_at program.now parts) }
@@ -33,7 +37,11 @@ pub fn entries_of(alloc: Global, program: &Program, parts: u64) -> Result<u128, 
     Ok(times_of(alloc, program, Counted::Actions, parts)? + 1)
 }
 
-/// How many octets the contents that it files have together at most, each content once.
+/// How many bytes the contents that it files have together at most, each content counted once.
+///
+/// # Errors
+///
+/// `AllocError` if memory is refused.
 pub fn octets_of(
     alloc: Global,
     program: &Program,
@@ -61,7 +69,7 @@ fn times_of(
     Ok(numbers_of(alloc, program, counted)?.at(0, parts))
 }
 
-// How many of them there are inside none, one, two and three open loops.
+// How many of the counted instructions there are inside none, one, two and three open loops.
 fn numbers_of(alloc: Global, program: &Program, counted: Counted) -> Result<Budget, AllocError>
     ensures numbers { IfOk result (λ numbers. numbers
         ≡ numbers_below counted program.now (length program.now.instructions)) }
@@ -81,7 +89,7 @@ fn numbers_of(alloc: Global, program: &Program, counted: Counted) -> Result<Budg
     Ok(numbers)
 }
 
-// One for an operation that is counted, else none.
+// 1 for an operation that is counted, otherwise 0.
 fn number_for(counted: Counted, operation: Option<Operation>) -> u64
     ensures { result ≡ (if counts counted operation then 1 else 0) }
 {

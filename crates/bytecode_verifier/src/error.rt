@@ -5,31 +5,35 @@ ghost use Rattle.bytecode_verifier.specs.declared.error.Refusal.TheVariants.{Mem
 use std::alloc::{AllocError, AllocFailed};
 use thiserror::Error;
 
-/// Why a program isn't accepted: the rule that is broken, and the place of the instruction.
+/// Why a program isn't accepted: the rule that it breaks, and the place of the instruction, counted from 0.
+///
+/// [`crate::verify`] returns the first rule in this order that is broken, with the least place where it is broken.
 #[derive(Clone, Copy, Debug, Drop, Error)]
 pub enum Refusal {
-    /// An allocation was refused.
+    /// Memory is refused, so there is no result.
     #[error("an allocation was refused")]
     Memory,
-    /// An index of what isn't there.
+    /// An index is beyond the end of its table.
     #[error("instruction {place} names what isn't there")]
     Index { place: usize },
-    /// No operation, a field out of its range, or a field that isn't named and not 0.
+    /// The byte names no operation, a field is out of its range, or a field that the operation doesn't use isn't 0.
     #[error("instruction {place} has a wrong field")]
     Form { place: usize },
-    /// The last instruction doesn't end the run. The place is 0 where there is no instruction.
+    /// The last instruction isn't HALT. The place is 0 if there are no instructions.
     #[error("instruction {place} doesn't end the run")]
     End { place: usize },
-    /// A loop without its other end, too many open loops, or a break of more than there are.
+    /// An EACH or NEXT has no partner or names another place, too many loops are open, or a BREAK closes more loops
+    /// than are open.
     #[error("a loop is wrong at instruction {place}")]
     Loop { place: usize },
-    /// A jump that isn't forward, or to a place that is none or has other open loops.
+    /// A jump isn't forward, or its target is beyond the end or has other open loops.
     #[error("instruction {place} jumps to a wrong place")]
     Jump { place: usize },
-    /// An operation on the current part where no loop is open.
+    /// An operation needs the current part, and no loop is open.
     #[error("no loop is open around instruction {place}")]
     NoPart { place: usize },
-    /// An entry of the stack is missing, of the wrong kind, too many, or left where none may be.
+    /// An entry of the stack is missing or of the wrong kind, there are too many, or one is left at a place where
+    /// none can be.
     #[error("the stack is wrong at instruction {place}")]
     Stack { place: usize },
 }

@@ -11,8 +11,8 @@ use crate::row::{MAX_LOOPS, Row};
 use crate::rules::{is_jump, needs_part};
 use bytecode_format::{Instruction, Operation};
 
-/// Whether an Each or Next lacks its partner or names another place, an Each stands inside as many
-/// loops as there may be, or a Break is of more loops than are open.
+/// Whether an EACH or NEXT has no partner or names another place, an EACH is inside as many loops as there can be, or
+/// a BREAK closes more loops than are open.
 #[inline(always)]
 pub fn misses_loop(
     nests: &[Nest],
@@ -34,8 +34,8 @@ pub fn misses_loop(
     }
 }
 
-/// Whether the instruction at a place is a jump that isn't forward, leads after the last instruction,
-/// or to a place with other open loops.
+/// Whether the instruction at a place is a jump that isn't forward, or whose target is after the last instruction or
+/// has other open loops.
 #[inline(always)]
 pub fn misses_target(
     nests: &[Nest],
@@ -54,7 +54,7 @@ pub fn misses_target(
     is_jump(row) && (target <= place || leaves_loops(nests, place, target))
 }
 
-/// Whether the operation is on the current part, and there is none.
+/// Whether the operation needs the current part, and there is none.
 #[inline(always)]
 pub fn misses_part(nests: &[Nest], place: usize, row: Option<Row>) -> bool
     requires { place < length nests.now }
@@ -84,7 +84,7 @@ fn has_loop(nests: &[Nest], each: usize, next: usize) -> bool
     }
 }
 
-// Whether there is no instruction at the target, or other loops are open there than at the place.
+// Whether there is no instruction at the target, or the open loops there differ from those at the place.
 fn leaves_loops(nests: &[Nest], place: usize, target: usize) -> bool
     requires { place < length nests.now }
     ensures { (code : Code) → AreNests code.instructions nests.now

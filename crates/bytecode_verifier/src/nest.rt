@@ -1,11 +1,11 @@
-// What is known of the loops at each place.
+// The loops at each place.
 //
 // The loops of a program are pairs of matched brackets, defined by counting: the partner of an EACH is the first
 // place up to which there are as many NEXT as EACH. The verifier finds them with a stack, in a pass from the end and
 // one from the start, and keeps 12 bytes for each instruction: what it opens, the innermost loop, and the depth. So
-// two places have the same open loops exactly if their innermost loops are the same, which is one comparison. An
-// EACH without a NEXT opens no loop, also for what comes after it. This isn't observable: it breaks the rule Loop
-// itself, at an earlier place.
+// two places have the same open loops exactly if their innermost loops are the same, which is one comparison. An EACH
+// without a NEXT opens no loop, also for what comes after it. This isn't observable: it breaks the rule Loop itself,
+// at an earlier place.
 ghost use Rattle.std.specs.Prelude.{◌≡◌, ◌≤◌, IfOk, OnOk, length};
 ghost use Rattle.octets.specs.Limits.{max_instructions};
 ghost use Rattle.bytecode_verifier.specs.Nests.{AreNests, leads, nexts_from, next_over, waiting_over, open_over};
@@ -14,12 +14,12 @@ use crate::places::Places;
 use bytecode_format::{Instruction, Operation};
 use std::alloc::{AllocError, Global};
 
-/// What is known of the loops at a place. A loop is named by the place of its Next, which is never 0.
+/// The loops at a place. A loop is identified by the place of its NEXT, which is never 0.
 #[derive(Clone, Copy)]
 pub struct Nest {
-    /// The loop that is opened here, or 0 where none is.
+    /// The loop that is opened here, or 0 if none is.
     pub next: u32,
-    /// The innermost of the loops that are open here, or 0 where none is.
+    /// The innermost of the loops that are open here, or 0 if none is.
     pub inner: u32,
     /// How many loops are open here.
     pub depth: u32,
@@ -34,10 +34,14 @@ impl Nest {
     }
 }
 
-/// For each place of an instruction what is known of the loops there.
+/// Finds the loops at the place of each instruction.
 ///
-/// A loop that is never closed is none. One pass from the end finds which Next closes what, and one
-/// from the start which loops are open.
+/// A loop that is never closed doesn't count. One pass from the end finds which NEXT closes what, and one from the
+/// start which loops are open.
+///
+/// # Errors
+///
+/// `AllocError` if memory is refused.
 pub fn nests_of(alloc: Global, instructions: &[Instruction]) -> Result<Vec<Nest>, AllocError>
     requires { length instructions.now ≤ max_instructions }
     ensures { IfOk result (λ nests. AreNests instructions.now nests.items) }
@@ -57,7 +61,7 @@ pub fn nests_of(alloc: Global, instructions: &[Instruction]) -> Result<Vec<Nest>
     Ok(nests)
 }
 
-// The open loops after the place of an instruction that opens the loop `next`, or none.
+// The open loops after the place of an instruction that opens the loop `next`, or no loop.
 fn pass_on(inside: &mut Places, place: u32, next: u32) -> Result<(), AllocError>
     ensures { OnOk result (inside.new ≡ open_over place next inside.old) }
 {
@@ -84,7 +88,7 @@ fn nexts_of(alloc: Global, instructions: &[Instruction]) -> Result<Places, Alloc
     Ok(nexts)
 }
 
-// The loop that the instruction at a place opens, or 0, with the Next that wait for their Each.
+// The loop that the instruction at a place opens, or 0, with the NEXTs that wait for their EACH.
 fn pass_back(
     waiting: &mut Places,
     operation: Option<Operation>,

@@ -21,8 +21,10 @@ use bytecode_cost::Budget;
 use bytecode_format::{Instruction, Operation, Program, TestOperation};
 use std::alloc::{AllocError, Global};
 
-/// What is known of the instructions so far: for each rule the first place where it is broken, the
-/// shape as far as it goes, and the budget.
+/// The state of the pass after some instructions: for each rule the first place at which it is broken, the shape as
+/// far as it goes, and the budget.
+///
+/// [`Pass::new`] makes it, [`Pass::take`] takes the next instruction, and `verify` reads the outcome at the end.
 #[derive(Drop)]
 pub struct Pass {
     pub index: Option<usize>,
@@ -35,14 +37,14 @@ pub struct Pass {
     pub budget: Budget,
 }
 
-/// An instruction, where it stands, and what is known there.
+/// An instruction, its place, and what the earlier passes found there.
 #[derive(Clone, Copy)]
 pub struct Here<'p> {
     pub program: &'p Program,
     pub nests: &'p [Nest],
     pub place: usize,
     pub instruction: &'p Instruction,
-    /// Whether a jump leads there.
+    /// Whether a jump leads here.
     pub targeted: bool,
 }
 
@@ -61,7 +63,7 @@ impl Broken {
     ghost use Rattle.std.specs.Prelude.{◌≡◌};
     ghost use Rattle.bytecode_verifier.specs.Noting.{are_some};
 
-    /// Whether one is broken.
+    /// Whether at least one rule is broken.
     #[inline(always)]
     pub fn are_some(self) -> bool
         ensures { result ≡ are_some self }
@@ -71,7 +73,7 @@ impl Broken {
 }
 
 impl Pass {
-    /// Before the first instruction of a program.
+    /// The state before the first instruction of a program.
     pub fn new(alloc: Global, program: &Program) -> Pass
         ensures { HasPassed program.now 0 result }
     {
@@ -87,7 +89,11 @@ impl Pass {
         }
     }
 
-    /// Takes an instruction.
+    /// Takes the next instruction.
+    ///
+    /// # Errors
+    ///
+    /// `AllocError` if memory is refused.
     pub fn take(&mut self, here: &Here<'_>) -> Result<(), AllocError>
         requires small { here.now.place < max_instructions }
         requires here { slice_get here.now.program.now.instructions here.now.place
@@ -124,7 +130,7 @@ impl Pass {
         }
     }
 
-    // The same of a test.
+    // The same for a test.
     #[inline(always)]
     fn take_test(&mut self, here: &Here<'_>, test: TestOperation) -> Result<(), AllocError>
         requires named { Some (Test test) ≡ operation_of here.now.instruction.now.op }
@@ -172,7 +178,7 @@ impl Pass {
         }
     }
 
-    // The same of an instruction with this operation: each call has the code of its own alone.
+    // The same for an instruction with this operation: each call has only the code for its own.
     #[inline(always)]
     fn take_as(&mut self, here: &Here<'_>, operation: Option<Operation>) -> Result<(), AllocError>
         requires named { operation ≡ operation_of here.now.instruction.now.op }
@@ -205,13 +211,13 @@ impl Pass {
             stack: passed.is_none(),
         };
         self.note(broken, here.place);
-        // Of a program whose shape fails the budget is of no account.
+        // If the shape fails, the program is refused, and its budget doesn't matter.
         let cap = passed.unwrap_or(ONE_CHARGE);
         charge(&mut self.budget, depth_at(here.nests, here.place), cap);
         Ok(())
     }
 
-    // Names the place for each rule that is broken at it and was broken at none before.
+    // Records the place for each rule that is broken at it for the first time.
     #[inline(always)]
     fn note(&mut self, broken: Broken, place: usize)
         ensures { Notes broken place self.old self.new }
@@ -235,7 +241,7 @@ impl Pass {
     }
 }
 
-/// Adds the cap of an instruction inside so many loops; with more than there may be it counts nowhere.
+/// Adds the cap of an instruction inside so many loops; inside more loops than there can be, it isn't counted.
 #[inline(always)]
 pub fn charge(budget: &mut Budget, depth: u32, cap: Cap)
     requires fixed { depth ≤ max_loops → slice_index budget.old.fixed depth + cap.fixed < 2 ^ 63 }
@@ -248,7 +254,7 @@ pub fn charge(budget: &mut Budget, depth: u32, cap: Cap)
     }
 }
 
-// The first place, where the rule was broken before or is broken at this one.
+// The first place at which the rule is broken: the one before, or else this one if it is broken here.
 fn first(before: Option<usize>, broken: bool, place: usize) -> Option<usize>
     ensures { result ≡ option_or before (then_some broken place) }
 {
@@ -259,8 +265,7 @@ fn first(before: Option<usize>, broken: bool, place: usize) -> Option<usize>
     }
 }
 
-// Takes the shape over an instruction: what that may charge, or None where the shape fails there or
-// has failed before.
+// Takes the shape over an instruction: what that can charge, or `None` if the shape fails there or has failed before.
 #[inline(always)]
 fn advance(
     failed: Option<usize>,

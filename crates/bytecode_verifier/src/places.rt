@@ -1,11 +1,11 @@
-// Places of instructions, one upon the other.
+// A stack of places of instructions.
 ghost use Rattle.std.specs.Prelude.{◌≡◌, [], ◌∷◌, OnOk, length};
 ghost use Rattle.bytecode_verifier.specs.Nests.{first_of, without_first};
 
 use std::alloc::{AllocError, Global};
 use std::marker::Model;
 
-/// Places of instructions. A contract sees their list, the top one first.
+/// A stack of places of instructions. A contract sees their list, the top one first.
 #[derive(Drop)]
 pub struct Places {
     places: Vec<u32>,
@@ -20,7 +20,7 @@ impl Model for Places {
 }
 
 impl Places {
-    /// No places.
+    /// An empty stack.
     pub fn new(alloc: Global) -> Places
         ensures { result ≡ [] }
     {
@@ -30,6 +30,10 @@ impl Places {
     }
 
     /// Puts a place on top.
+    ///
+    /// # Errors
+    ///
+    /// `AllocError` if memory is refused.
     pub fn push(&mut self, place: u32) -> Result<(), AllocError>
         ensures { OnOk result (self.new ≡ place ∷ self.old) }
     {
@@ -37,7 +41,7 @@ impl Places {
         Ok(())
     }
 
-    /// Takes the top place, 0 where there is none.
+    /// Takes the top place; 0 if there is none.
     pub fn pop(&mut self) -> u32
         ensures value { result ≡ first_of self.old }
         ensures left { self.new ≡ without_first self.old }
@@ -45,7 +49,7 @@ impl Places {
         self.places.pop().unwrap_or(0)
     }
 
-    /// The top place, 0 where there is none.
+    /// The top place; 0 if there is none.
     pub fn first(&self) -> u32
         ensures { result ≡ first_of self.now }
     {

@@ -1,4 +1,4 @@
-// What is known of each operation before what it does.
+// The table of operations: their fields and properties, apart from what they do.
 ghost use Rattle.std.specs.Prelude.{◌≡◌, ◌&&◌};
 ghost use Rattle.bytecode_verifier.specs.Rows;
 
@@ -8,71 +8,77 @@ use bytecode_format::{
 };
 use octets::MAX_VALUE;
 
-/// The most strings in the lists of a test.
+/// The largest number of strings in the lists of a test.
 const MAX_TEST_STRINGS: u16 = bytecode_format::MAX_TEST_STRINGS as u16;
 
-/// The most texts that are joined.
+/// The largest number of texts that are joined.
 const MAX_SEGMENTS: u32 = bytecode_format::MAX_SEGMENTS as u32;
 
 /// How many captures there are.
 const CAPTURES: u32 = glob_match::MAX_CAPTURES as u32;
 
-/// The most loops that are open at a place.
+/// The largest number of loops that are open at a place.
 pub const MAX_LOOPS: u32 = bytecode_format::MAX_LOOPS as u32;
 
-/// Which values a field of an instruction takes.
+/// Which values a field of an instruction can have.
 #[derive(Clone, Copy)]
 pub enum Range {
-    /// The operation doesn't name the field: 0 alone.
+    /// The operation doesn't use the field: only 0.
     Unnamed,
     /// The numbers below this one.
     Below(u32),
     /// The numbers from the first to the second, both included.
     Between(u32, u32),
-    /// The numbers of truth values.
+    /// The number of a truth value: 0 or 1.
     Truth,
-    /// The numbers of orders.
+    /// The number of an order, as [`bytecode_format::Order::number`] gives it.
     Order,
-    /// The numbers of ways to match values with keys.
+    /// The number of a way to match values with keys, as [`bytecode_format::match_number`] gives it.
     Match,
-    /// The numbers of scopes.
+    /// The number of a scope, as [`bytecode_format::Scope::number`] gives it.
     Scope,
-    /// The numbers of tests of fields.
+    /// The number of a test of fields, as [`bytecode_format::FieldTest::number`] gives it.
     FieldTest,
-    /// The numbers of keys and parameters, where there are parameters exactly where the instruction's a
-    /// selects them.
+    /// The number of keys and parameters. There are parameters exactly if the instruction's field a selects them.
     Counts,
-    /// The numbers of modifiers.
+    /// The number of modifiers, as [`bytecode_format::Modifiers::number`] gives it.
     Modifiers,
-    /// Every number.
+    /// Every number that the field holds.
     Any,
 }
 
-/// A table of a program that an instruction's c is an index of.
+/// A table of a program that the field c of an instruction is an index into.
 #[derive(Clone, Copy)]
 pub enum Table {
+    /// The variables of the program.
     Variables,
+    /// The table of numbers.
     Numbers,
+    /// The table of strings.
     Strings,
 }
 
-/// The row of an operation in the table of the bytecode.
+/// The row of an operation in the table of the bytecode: the ranges of its fields, and what the verifier has to
+/// check. [`row_of`] gives it.
 #[derive(Clone, Copy)]
 pub struct Row {
+    /// The range of the field a.
     pub a: Range,
+    /// The range of the field b.
     pub b: Range,
+    /// The range of the field c.
     pub c: Range,
-    /// What c is an index of.
+    /// The table that the field c is an index into, if it is one.
     pub index: Option<Table>,
-    /// Whether it jumps to c.
+    /// Whether the operation jumps to the place c.
     pub jumps: bool,
-    /// Whether it is on the current part.
+    /// Whether the operation needs a current part, so it has to be inside a loop.
     pub needs_part: bool,
-    /// Whether programs of version 2 alone have it.
+    /// Whether only programs of version 2 have the operation.
     pub since_two: bool,
 }
 
-/// An operation that names no field.
+/// An operation that uses no field.
 const PLAIN: Row = Row {
     a: Range::Unnamed,
     b: Range::Unnamed,
@@ -98,7 +104,7 @@ const SIZE: Row = Row {
     ..PLAIN
 };
 
-/// An operation on the current part that names no field.
+/// An operation on the current part that uses no field.
 const PART: Row = Row {
     needs_part: true,
     ..PLAIN
@@ -107,7 +113,7 @@ const PART: Row = Row {
 /// How many strings a list of a test has.
 const LIST: Range = Range::Between(1, MAX_TEST_STRINGS as u32);
 
-/// The row of an operation in programs of a version, if they may have it.
+/// The row of an operation in programs of a version, if they can have it.
 #[inline(always)]
 pub fn row_in_version(version: u8, operation: Operation) -> Option<Row>
     ensures { result ≡ Rows.row_in_version version operation }
@@ -119,7 +125,7 @@ pub fn row_in_version(version: u8, operation: Operation) -> Option<Row>
     Some(row)
 }
 
-/// The row of an operation.
+/// Returns the row of an operation.
 #[inline(always)]
 pub fn row_of(operation: Operation) -> Row
     ensures { result ≡ Rows.row_of operation }
@@ -214,7 +220,7 @@ fn test_row(test: TestOperation) -> Row
 }
 
 impl Range {
-    /// Whether the field of an instruction that has `a` takes the value.
+    /// Returns whether the field of an instruction can have the value. `a` is the value of the instruction's field a.
     #[inline(always)]
     pub fn takes(self, a: u8, value: u32) -> bool
         ensures { result ≡ Rows.takes a self value }
@@ -235,7 +241,7 @@ impl Range {
     }
 }
 
-// Whether a says that a test of fields selects parameters.
+// Whether the number `a` of a test of fields selects parameters.
 fn selects_params(a: u8) -> bool
     ensures { result ≡ Rows.selects_params a }
 {
@@ -248,7 +254,7 @@ fn selects_params(a: u8) -> bool
     )
 }
 
-// Whether there are keys, and parameters exactly where `a` selects them.
+// Whether there are keys, and there are parameters exactly if `a` selects them.
 fn are_counts(a: u8, value: u32) -> bool
     ensures { result ≡ Rows.are_counts a value }
 {
@@ -261,7 +267,7 @@ fn are_counts(a: u8, value: u32) -> bool
     is_list(keys) && fine
 }
 
-// Whether a list of a test may have so many strings.
+// Whether a list of a test can have so many strings.
 fn is_list(strings: u16) -> bool
     ensures { result ≡ Rows.is_list strings }
 {

@@ -26,7 +26,7 @@ pub fn is_well_formed(row: Option<Row>, instruction: &Instruction) -> bool
     row.a.takes(a, a as u32) && row.b.takes(a, b as u32) && row.c.takes(a, c)
 }
 
-/// Whether the instruction's index isn't below the count of what it is an index of.
+/// Whether the instruction's index is beyond the end of its table.
 #[inline(always)]
 pub fn misses_index(program: &Program, row: Option<Row>, instruction: &Instruction) -> bool
     ensures { result ≡ Rules.misses_index program.now row instruction.now }
@@ -58,7 +58,7 @@ pub fn is_jump(row: Option<Row>) -> bool
     row.jumps
 }
 
-/// Whether the octet names an operation that jumps to c, in whatever version.
+/// Whether the byte names an operation that jumps to c, in any version.
 pub fn jumps(octet: u8) -> bool
     ensures { result ≡ Rows.is_jump (option_map Rows.row_of (operation_of octet)) }
 {
@@ -75,7 +75,7 @@ pub fn is_halt(operation: Option<Operation>) -> bool
     matches!(operation, Some(Operation::Halt))
 }
 
-/// Whether the operation is on the current part.
+/// Whether the operation needs the current part.
 #[inline(always)]
 pub fn needs_part(row: Option<Row>) -> bool
     ensures { result ≡ Rows.needs_part row }

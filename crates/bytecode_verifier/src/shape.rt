@@ -1,4 +1,4 @@
-// Which entries stand on the stack.
+// The kinds of the stack's entries.
 //
 // LIT of a missing string fails the shape, too. This isn't observable, because such a program is refused Index
 // before.
@@ -17,15 +17,15 @@ use octets::{MAX_STRING, MAX_VALUE};
 use std::alloc::{AllocError, Global};
 use std::marker::Model;
 
-/// How many entries the stack takes at most.
+/// How many entries the stack has at most.
 const MAX_STACK: usize = 1024;
 
-/// What is known of an entry of the stack.
+/// The kind of an entry of the stack. The verifier keeps it instead of the value that a run would have there.
 #[derive(Clone, Copy)]
 pub enum Entry {
     /// A truth value.
     Truth,
-    /// A text of at most so many octets.
+    /// A text of at most so many bytes.
     Text(usize),
 }
 
@@ -36,7 +36,7 @@ pub struct Totals {
     pub keys: u64,
 }
 
-/// The entries of the stack. A contract sees their list, the top one first.
+/// The kinds of the stack's entries. A contract sees their list, the top one first.
 #[derive(Drop)]
 pub struct Shape {
     entries: Vec<Entry>,
@@ -52,7 +52,7 @@ impl Model for Shape {
 }
 
 impl Shape {
-    /// No entries.
+    /// An empty stack.
     pub fn new(alloc: Global) -> Shape
         ensures { result ≡ [] }
     {
@@ -75,7 +75,11 @@ impl Shape {
         matches!(self.entries.last(), Some(Entry::Truth))
     }
 
-    /// Puts an entry on top, or answers that there is no room.
+    /// Puts an entry on top; the result is `false` if there is no room.
+    ///
+    /// # Errors
+    ///
+    /// `AllocError` if memory is refused.
     pub fn push(&mut self, entry: Entry) -> Result<bool, AllocError>
         ensures { IfOk result (λ fine. (if fine then Some self.new else None)
             ≡ with_entry entry self.old) }
@@ -95,8 +99,12 @@ impl Shape {
         self.entries.pop()
     }
 
-    /// Takes the entries over an instruction: what it may charge, or None where they aren't what it
-    /// needs.
+    /// Takes the shape over an instruction: returns what the instruction can charge, or `None` if the entries aren't
+    /// what it needs.
+    ///
+    /// # Errors
+    ///
+    /// `AllocError` if memory is refused.
     #[inline(always)]
     pub fn advance(
         &mut self,
@@ -135,7 +143,7 @@ impl Shape {
         Ok(fine.then_some(ONE_CHARGE))
     }
 
-    // Pushes a text of at most as many octets as a string of the program, if there is one.
+    // Pushes a text of at most as many bytes as a string of the program, if there is one.
     fn push_string(&mut self, program: &Program, string: u32) -> Result<bool, AllocError>
         ensures { IfOk result (λ fine. (if fine then Some self.new else None)
             ≡ with_string (slice_get program.now.strings string) self.old) }
@@ -153,7 +161,7 @@ impl Shape {
         matches!(self.pop(), Some(Entry::Truth)) && self.is_empty()
     }
 
-    // Takes the text on top, of which each octet is charged.
+    // Takes the text on top; each of its bytes is charged.
     fn take_text(&mut self) -> Option<Cap>
         requires { IsSmall self.old }
         ensures { Passes result self.new
@@ -169,7 +177,7 @@ impl Shape {
         })
     }
 
-    // Takes texts, of which each octet is charged, and pushes the text that they are joined to.
+    // Takes texts, whose bytes are all charged, and pushes the joined text.
     fn join(&mut self, parts: u16) -> Result<Option<Cap>, AllocError>
         requires { IsSmall self.old }
         ensures { IfOk result (λ cap. Passes cap self.new
@@ -243,7 +251,7 @@ impl Shape {
     }
 }
 
-// What a test may charge that takes so many texts: one charge, and what asking costs at most.
+// What a test with so many texts can charge: one charge, and the most that the question costs.
 #[inline(always)]
 fn cap_of_test(test: TestOperation, counts: Counts, totals: Totals) -> Cap
     requires names { counts.names ≤ max_stack }
@@ -264,7 +272,7 @@ fn cap_of_test(test: TestOperation, counts: Counts, totals: Totals) -> Cap
     }
 }
 
-// What setting a variable to at most so many octets of a part's content may charge.
+// What setting a variable to at most so many bytes of a part's content can charge.
 fn cap_of_content(most: u16) -> Cap
     ensures { result ≡ cap_of_content most }
 {

@@ -1,7 +1,7 @@
-// What each instruction adds to a budget.
+// The share of each instruction in a budget.
 //
-// What each instruction adds to the budget is found by a pass of its own (`Verified::shares`), so that `verify`
-// keeps no list of it. Only `disassemble` asks for it.
+// What each instruction adds to the budget is found by a pass of its own (`Verified::shares`), so that `verify` keeps
+// no list of it. Only `disassemble` asks for it.
 ghost use Rattle.std.specs.Prelude.{◌≡◌, ◌+◌, ◌<◌, ℕ, IfOk, OnOk, Some, length, slice_get};
 ghost use Rattle.bytecode_verifier.specs.Acceptance.{IsAccepted};
 ghost use Rattle.bytecode_verifier.specs.Budget.{share_at};
@@ -16,16 +16,20 @@ use crate::shape::Shape;
 use bytecode_format::{Instruction, Operation, Program};
 use std::alloc::{AllocError, Global};
 
-/// What an instruction adds to the budget: its cap, to the sums of those inside as many open loops.
+/// What an instruction adds to the budget: its cap, which is added to the sums for its number of open loops.
 #[derive(Clone, Copy)]
 pub struct Share {
-    /// How many loops are open where it stands.
+    /// How many loops are open at the instruction.
     pub loops: u32,
-    /// What it may charge at most.
+    /// What the instruction charges at most.
     pub cap: Cap,
 }
 
-/// What each instruction of an accepted program adds to the budget, in the order of their places.
+/// What each instruction of an accepted program adds to the budget, in the order of the instructions.
+///
+/// # Errors
+///
+/// `AllocError` if memory is refused.
 pub fn shares_of(alloc: Global, program: &Program) -> Result<Vec<Share>, AllocError>
     requires { IsAccepted program.now }
     ensures number { IfOk result

@@ -1,4 +1,4 @@
-// The places that jumps lead to.
+// The targets of jumps.
 //
 // Every jump's field is a target, also that of a refused jump. This isn't observable, because Jump comes before
 // Stack.
@@ -10,6 +10,10 @@ use bytecode_format::Instruction;
 use std::alloc::{AllocError, Global};
 
 /// For each place of an instruction, whether a jump leads there.
+///
+/// # Errors
+///
+/// `AllocError` if memory is refused.
 pub fn targets_of(
     alloc: Global,
     version: u8,
@@ -28,7 +32,7 @@ pub fn targets_of(
     Ok(targets)
 }
 
-// Marks a place, where there is one.
+// Marks a place, if it is there.
 fn mark(targets: &mut [bool], place: usize)
     ensures { targets.new ≡ slice_set targets.old place true }
 {

@@ -21,7 +21,9 @@ use bytecode_format::{Operation, Program};
 use std::alloc::{AllocError, Global};
 use std::marker::Model;
 
-/// A program that is accepted. A contract sees its code.
+/// A program that is accepted, with its budget. Only [`verify`] makes one, and only such a program can be run.
+///
+/// A contract sees its code.
 #[derive(Drop)]
 pub struct Verified {
     program: Program,
@@ -42,18 +44,19 @@ impl Model for Verified {
 }
 
 impl Verified {
-    /// What a run of the program may charge.
+    /// Returns what a run of the program can charge at most, as sums; [`Budget::at`] gives the number for a message.
     pub fn budget(&self) -> &Budget
         ensures { result.now ≡ budget_of self.now }
     {
         &self.budget
     }
 
-    /// What each instruction adds to the budget, in the order of their places: the sums of the budget
-    /// are those of these.
+    /// Returns what each instruction adds to the budget, in the order of the instructions. The sums of the budget are
+    /// the sums of these. It takes time linear in the number of instructions.
     ///
-    /// An error comes only where memory was refused. The time is linear in the number of
-    /// instructions.
+    /// # Errors
+    ///
+    /// `AllocError` if memory is refused.
     pub fn shares(&self, alloc: Global) -> Result<Vec<Share>, AllocError>
         ensures number { IfOk result
             (λ shares. length shares.items ≡ length self.now.instructions) }
@@ -63,11 +66,16 @@ impl Verified {
         shares_of(alloc, &self.program)
     }
 
-    /// How many entries a delivery of a message of so many parts to this program files at most: one
-    /// each time that KEEP, FILE or STORE may run, and one for the implicit keep.
+    /// Returns how many entries a delivery of a message of so many parts files at most: one for each time that KEEP,
+    /// FILE or STORE can run, and one for the implicit keep. It takes time linear in the number of instructions.
     ///
-    /// An error comes only where memory was refused. The time is linear in the number of
-    /// instructions.
+    /// # Requires
+    ///
+    /// The message is within the limits: `parts <= 4096`.
+    ///
+    /// # Errors
+    ///
+    /// `AllocError` if memory is refused.
     pub fn entries(&self, alloc: Global, parts: u64) -> Result<u128, AllocError>
         requires { parts ≤ max_parts }
         ensures { IfOk result (λ entries. entries ≡ entries_at self.now parts) }
@@ -75,11 +83,16 @@ impl Verified {
         entries_of(alloc, &self.program, parts)
     }
 
-    /// How many octets the contents that it files have together at most, each content once, where
-    /// the message has so many octets and parts.
+    /// Returns how many bytes the contents that a delivery files have together at most, each content counted once,
+    /// for a message of so many bytes (`octets`) and parts. It takes time linear in the number of instructions.
     ///
-    /// An error comes only where memory was refused. The time is linear in the number of
-    /// instructions.
+    /// # Requires
+    ///
+    /// The message is within the limits: `parts <= 4096`.
+    ///
+    /// # Errors
+    ///
+    /// `AllocError` if memory is refused.
     pub fn octets(&self, alloc: Global, octets: u64, parts: u64) -> Result<u128, AllocError>
         requires { parts ≤ max_parts }
         ensures { IfOk result (λ filed. filed ≡ octets_at self.now octets parts) }
@@ -87,7 +100,7 @@ impl Verified {
         octets_of(alloc, &self.program, octets, parts)
     }
 
-    /// The program.
+    /// Returns the program that is accepted.
     pub fn program(&self) -> &Program
         ensures value { result.now ≡ self.now }
         ensures accepted { IsAccepted self.now }
@@ -96,12 +109,17 @@ impl Verified {
     }
 }
 
-/// The program as one that is accepted, or the first rule that it breaks, with the same program.
+/// Checks a program against the rules of the bytecode, and returns it as one that can be run.
 ///
-/// The rules come in the order of [`Refusal`], each with the least place where it is broken; places
-/// count instructions from 0.
-/// [`Refusal::Memory`] comes only where memory was refused. The time is linear in the number of
-/// instructions, wherever the jumps lead and however the loops lie.
+/// It takes time linear in the number of instructions, wherever the jumps lead and however the loops are nested.
+///
+/// # Errors
+///
+/// The same program, with the first rule in the order of [`Refusal`] that it breaks, and the least place where it
+/// breaks it, counted in instructions from 0. For example, a program whose only instruction is KEEP is refused with
+/// `End` at place 0.
+///
+/// The rule is `Refusal::Memory` if memory is refused.
 pub fn verify(alloc: Global, program: Program) -> Result<Verified, (Program, Refusal)>
     ensures value { IfOk result (λ verified. verified ≡ program) }
     ensures accepted { IfOk result (λ _. IsAccepted program) }
@@ -137,7 +155,7 @@ fn examine(alloc: Global, program: &Program) -> Result<Budget, Refusal>
     outcome(program, pass)
 }
 
-// The budget, or the first rule that is broken, when all instructions are passed.
+// The budget, or the first rule that is broken, after all instructions.
 fn outcome(program: &Program, pass: Pass) -> Result<Budget, Refusal>
     requires { HasPassed program.now (length program.now.instructions) pass }
     ensures accepted { IfOk result (λ _. IsAccepted program.now) }
@@ -178,7 +196,7 @@ fn outcome(program: &Program, pass: Pass) -> Result<Budget, Refusal>
     Ok(budget)
 }
 
-// The place of the last instruction where that isn't Halt, 0 where there is no instruction.
+// The place of the last instruction if it isn't HALT, 0 if there are no instructions.
 fn missing_end(program: &Program) -> Option<usize>
     ensures { result ≡ least_place (breaks_end program.now) program.now }
 {

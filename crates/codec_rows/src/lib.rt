@@ -1,4 +1,5 @@
-//! Tests of the codecs over their public calls: every length up to 200 octets, a stray character at each place, and texts in pieces.
+//! Tests of the codecs over their public calls: every length up to 200 octets, a stray character at each place, and
+//! texts in pieces.
 #![tactic(auto)]
 
 #[cfg(test)]

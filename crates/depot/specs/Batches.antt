@@ -16,7 +16,7 @@ use Rattle.depot_actions.specs.DepotState.{Accepts, Command, Export as Exports, 
 use Rattle.depot_jobs.specs.Host.{HasMade, HasNotMade, HostState, makes, with_call}
 use Rattle.depot_jobs.specs.Inputs.{HasNotReadFile, HasReadFile, file_of}
 use Rattle.depot_jobs.specs.Jobs.{HostAndOutputs}
-use Rattle.depot_jobs.specs.Printed.{refusal_line}
+use Rattle.printing.specs.Printed.{refusal_line}
 use Rattle.depot_jobs.specs.Requests.{Request}
 use Rattle.depot_cli.specs.Printed.{reply_text}
 use Rattle.depot_cli.specs.Requests.{request_command}

@@ -12,7 +12,7 @@ use Rattle.encodings.specs.Device.{HasBroken, HasTaken}
 use Rattle.depot_actions.specs.DepotState.{Accepts, Program, ProgramOf}
 use Rattle.depot_jobs.specs.Host.{HasMade, HasNotMade}
 use Rattle.depot_jobs.specs.Jobs.{HasTold, HostAndOutputs}
-use Rattle.depot_jobs.specs.Printed.{line, wrote_text}
+use Rattle.printing.specs.Printed.{line, wrote_text}
 use Rattle.depot_cli.specs.declared.saving.Saving.{Saving}
 use Rattle.depot.specs.Ending.{EndsSo, IsRefusedBy, IsUnopened}
 

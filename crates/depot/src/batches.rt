@@ -11,21 +11,22 @@ use depot_actions::Depot;
 use depot_batch::batch;
 use depot_jobs::Host;
 use encodings::{OfRead, OfWrite, Sink, Source};
+use part_store::Again;
 use refusals::Refusal;
 use sqlite::{FileFrom, FileStore, Start};
 use sqlite_disk::Disk;
 use std::alloc::Global;
 use std::io::{BufRead, Write};
 
-/// Opens the depot of this name, has the lines of the input done on it, and closes it. Gives the status, and what is left of the files;
-/// none where the depot wasn't opened.
+/// Opens the depot in the file `name`, does the lines of the input on it, and closes it. Returns the status, and what
+/// is left of the files; `None` if the depot wasn't opened.
 ///
-/// `B` stands for what the two files held. Where they stood for a state and no lie of the disk was taken for true, the turns of the batch
-/// bring that state to the one after them, as their lines were answered: a line alone, or deliveries together, all of them or none. The
-/// files hold the state after them, also after a crash. Where the close fails or a crash comes before its end, the files hold that state,
-/// too, or what one of the turns, whole, makes of it, at which a failure shut the depot. No clause ties `B` to the name: that the file
-/// there is opened is seen in the body.
-pub fn serve_from<B: Start, H: Host, R: BufRead + Drop, W: Write + Drop, E: Sink>(
+/// `B` describes what the two files held. If they represented a state and the disk returned no wrong data, the turns of
+/// the batch lead from that state to the one after them, as their lines were answered: a line alone, or deliveries
+/// together, all of them or none. The files hold the state after them, also after a crash. If the close fails, or a
+/// crash comes before its end, the files hold that state too, or what one whole turn, during which a failure shut the
+/// depot, makes of it. No clause ties `B` to the name: only the body shows that this file is opened.
+pub fn serve_from<B: Start + Again, H: Host, R: BufRead + Drop, W: Write + Drop, E: Sink>(
     rt: &HostRuntime,
     name: &str,
     start: B,
@@ -45,7 +46,7 @@ pub fn serve_from<B: Start, H: Host, R: BufRead + Drop, W: Write + Drop, E: Sink
     serve_and_close(rt.alloc(), name, opened, host, input, out, err)
 }
 
-// Has the lines of the input done on what opening gave, and closes that.
+// Does the lines of the input on the result of opening a depot, and closes it.
 fn serve_and_close<D: Disk + Drop, H: Host, R: BufRead + Drop, W: Write + Drop, E: Sink>(
     alloc: Global,
     name: &str,

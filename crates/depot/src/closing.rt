@@ -5,11 +5,11 @@ use depot_actions::Depot;
 use sqlite::{FileStore, Files};
 use sqlite_disk::Disk;
 
-/// What is left of files that were opened: both, closed; or the store that their close failed to let go of.
+/// What is left of files that were opened: both, closed; or the store, if its close failed.
 pub type Left<D> = Result<Files<D>, FileStore<D>>;
 
-/// Closes the depot that was opened, if one was, which copies its log into the file. Where that fails the log stays, and the next open
-/// copies it.
+/// Closes the depot that was opened, if one was: its log is copied into the file. If that fails, the log stays, and the
+/// next open copies it.
 pub(crate) fn close<D: Disk + Drop, W: Drop>(
     opened: Result<Depot<FileStore<D>>, W>,
 ) -> Option<Left<D>>

@@ -16,13 +16,15 @@ use sqlite::{FileFrom, FileStore, Start};
 use sqlite_disk::Disk;
 use std::alloc::Global;
 
-/// Opens the file of this name as it is, says what the depot in it holds, after how many octets its log had before that, and closes it.
-/// Gives the status, and what is left of the files; none where they aren't opened as a depot.
+/// Opens the file `name` as it is, reports what the depot in it holds, and closes it. `log` is the size of its log in
+/// bytes before the open, if there was one. Returns the status, and what is left of the files; `None` if they weren't
+/// opened as a depot.
 ///
-/// `B` stands for what the two files held. Where they held the store of a state and no lie of the disk was taken for true, a status of 0
-/// means that the overview of that state is written whole; a status of 1 that it broke off, or that there is none for its cause, which was
-/// told. The files hold the same state then, also after a crash, and where the close fails or a crash comes before its end. No clause ties
-/// `B` to the name: that the file there is opened is seen in the body.
+/// `B` describes what the two files held. If they held the store of a state and the disk returned no wrong data, the
+/// status 0 means that the overview of that state was written completely; the status 1 means that it broke off, or that
+/// there is none for the reason that was reported. The files then hold the same state, also after a crash, and also if
+/// the close fails or a crash comes before its end. No clause ties `B` to the name: only the body shows that this file
+/// is opened.
 pub fn inspect_from<B: Start, O: Sink, E: Sink>(
     rt: &HostRuntime,
     name: &str,
@@ -40,7 +42,7 @@ pub fn inspect_from<B: Start, O: Sink, E: Sink>(
     inspect_and_close(rt.alloc(), log, opened, out, err)
 }
 
-// Says what opening a file as it is gave, and closes that.
+// Reports what opening a file as it is resulted in, and closes it.
 fn inspect_and_close<D: Disk + Drop, O: Sink, E: Sink>(
     alloc: Global,
     log: Option<u64>,

@@ -1,4 +1,56 @@
-// Hands the words and the system to the command line, and its tasks to the depot that they name.
+//! Hands the words and the system to the command line, and its tasks to the depot that they name.
+//!
+//! # Promises
+//!
+//! ## The files of a depot
+//!
+//! ### From the open to the close
+//!
+//! If the files represented a state, a task that ends with status 0 was accepted, and its reply was written
+//! completely. If the close also succeeded and the disk returned no wrong data, the files hold the state after it,
+//! even after a crash. A refused task reports its refusal, and if the close succeeded the files hold the state as it
+//! was.
+//!
+//! If no depot is opened, that is reported and nothing else is written; a batch then reads none of its input, and
+//! neither it nor the saving of a program asks the host for a file. These theorems do not say what the files hold
+//! then: see "If closing or opening fails".
+//!
+//! ### Why it is refused
+//!
+//! A refusal is one that the command can get. `NoSuchEntry`, `NumberFull` and `Collision` have their cause in the
+//! state; nothing is said of `Memory`. The clauses of `carry`, `save`, `batch` and `inspect_opened` say exactly why
+//! `Database` is reported, in terms of the depot before and after.
+//!
+//! The theorems from the open to the close say the same, of a depot with this state and without a limit of steps. For a
+//! task, a saved program and a look it is the depot that was found in the files, with their tables; for a line of a
+//! batch it is some depot at the state of that turn. The files at the end have counted at least as many faults as that
+//! depot after the call.
+//!
+//! Two things stay open. A counted fault can be another than that of this call, for example one of the close. And a
+//! limit of the format that was met counts as a fault like any other: after a close that succeeded only the files tell
+//! what was counted, so these theorems don't rule out that `43` is reported for a limit that nothing met.
+//!
+//! ### A batch, from the open to the close
+//!
+//! The lines of a batch bring that state to the one after them, each line as it was answered: what it asks was
+//! accepted by the state that the lines before it left, or it was refused, as in "Why it is refused", and changed
+//! nothing. Each delivery of a group was accepted by the state that the one before it left. If the close succeeded the
+//! files hold the state after them, also after a crash.
+//!
+//! ### Looks, from the open to the close
+//!
+//! A saved program is the one that the user has in that state, and a look reports the overview of that state by the
+//! tables that were found in the files, if they held a store. Both leave the files with the state that they
+//! represented, whatever the close does.
+//!
+//! ### If the close fails
+//!
+//! The files hold what was answered. If the answer of a task changed nothing, for example a refusal, they can also
+//! hold what its command makes of the state. For a batch they can also hold what one of its turns makes of the state
+//! that was answered, whole, at which a failure shut the depot, with the bytes of its files as the host gave them in
+//! that turn. A premise is left ("What is left of a premise").
+//!
+//! By `carry_from`, `serve_from`, `save_from`, `inspect_from`; `Depot::open_from`, `look_from` of depot_actions.
 #![tactic(auto)]
 
 mod batches;
@@ -24,7 +76,7 @@ use std::io::{BufReader, BufWriter};
 use std::process::ExitCode;
 use std::{env, io, process};
 
-/// How many octets of a batch's lines are read, and how many of its answers are held back, at a time.
+/// How many bytes of a batch's lines are read, and how many of its answers are held back, at a time.
 const PIECE: usize = 65_536;
 
 fn main(rt: HostRuntime) -> ExitCode {
@@ -37,7 +89,7 @@ fn main(rt: HostRuntime) -> ExitCode {
     ExitCode::from(status)
 }
 
-// Runs the command line on the words of the process, and gives its status.
+// Runs the command line on the words of the process, and returns its status.
 fn start<O: Sink, E: Sink>(rt: &HostRuntime, out: &mut O, err: &mut E) -> u8 {
     let words = match words_of(rt) {
         Ok(words) => words,
@@ -62,7 +114,7 @@ fn words_of(rt: &HostRuntime) -> io::Result<Vec<String>> {
     Ok(words(rt.alloc(), env::args(rt)?)?)
 }
 
-// Opens the depot of a task, and has the task carried to it.
+// Opens the depot of a task, and does the task on it.
 fn perform_task<O: Sink, E: Sink>(
     rt: &HostRuntime,
     pending: &PendingTask<'_>,
@@ -73,7 +125,7 @@ fn perform_task<O: Sink, E: Sink>(
     status
 }
 
-// Opens the depot of a user, and has his program saved from it.
+// Opens the depot of a user, and saves the user's program from it.
 fn save_program<H: Host, O: Sink, E: Sink>(
     rt: &HostRuntime,
     saving: Saving<'_>,
@@ -85,7 +137,7 @@ fn save_program<H: Host, O: Sink, E: Sink>(
     status
 }
 
-// Opens the depot of a batch, and has the lines of standard input done on it.
+// Opens the depot of a batch, and does the lines of standard input on it.
 fn take_batch<H: Host, E: Sink>(rt: &HostRuntime, name: &str, host: &mut H, err: &mut E) -> u8 {
     let Ok(reader) = BufReader::with_capacity(rt.alloc(), PIECE, rt.reader()) else {
         return tell(err, &Refusal::Memory);
@@ -99,7 +151,7 @@ fn take_batch<H: Host, E: Sink>(rt: &HostRuntime, name: &str, host: &mut H, err:
     status
 }
 
-// Says what a file is, and gives the status. What can be seen without opening it is looked at before.
+// Reports what a file is, and returns the status. What can be seen without opening it is looked at first.
 fn inspect_file<O: Sink, E: Sink>(rt: &HostRuntime, name: &str, out: &mut O, err: &mut E) -> u8 {
     match look_at(rt, name) {
         Ok(log) => {

@@ -1,4 +1,4 @@
-// What stands at a path, before anything there is opened.
+// What is at a path, before anything there is opened.
 
 use depot_cli::NoDepot;
 use std::alloc::AllocError;
@@ -6,17 +6,17 @@ use std::fs::{self, File, Metadata, OpenOptions};
 use std::io::{self, ErrorKind, Read};
 use std::os::unix::fs::MetadataExt;
 
-/// What the name of a log adds to that of its file.
+/// What the name of a log adds to the name of its file.
 const LOG_ENDING: &str = "-wal";
 
-/// What a database begins with.
+/// How a database begins.
 const DATABASE_HEAD: &[u8; 16] = b"SQLite format 3\0";
 
-/// Why nothing at a path is opened.
+/// Why nothing at a path is opened. [`look_at`] returns it, and `depot inspect` reports it.
 pub enum Obstacle {
-    /// There is no depot.
+    /// The file is no depot.
     NoDepot(NoDepot),
-    /// An allocation was refused.
+    /// Memory was refused.
     Memory,
 }
 
@@ -40,13 +40,16 @@ impl From<AllocError> for Obstacle {
     }
 }
 
-/// How many octets the log beside a file has, if there is one, where the file may be a depot as far as that is seen from the outside: a
-/// regular file with one name, which this process may read and write, and which begins as a database does, or is empty where its log has
-/// what it lacks.
+/// Looks at a file from outside, and returns the size in bytes of the log next to it, if there is one. The file can be
+/// a depot: it is a regular file with one name, this process can read and write it, and it begins as a database does,
+/// or it is empty and its log has the contents.
 ///
 /// # Errors
 ///
-/// Why there is nothing to open. Nothing is made or changed.
+/// Nothing was made or changed.
+///
+/// - [`Obstacle::NoDepot`] if the file can't be a depot, with the reason.
+/// - [`Obstacle::Memory`] if memory is refused.
 pub fn look_at(rt: &HostRuntime, path: &str) -> Result<Option<u64>, Obstacle> {
     let found = match fs::metadata(rt, path) {
         Ok(found) => found,
@@ -64,7 +67,7 @@ pub fn look_at(rt: &HostRuntime, path: &str) -> Result<Option<u64>, Obstacle> {
     Ok(log)
 }
 
-// Whether a file begins as every database does. No log is made beside one that doesn't.
+// Whether a file begins as every database does. No log is made next to a file that doesn't.
 fn begins_as_database(file: &mut File) -> io::Result<bool> {
     let mut head = [0; 16];
     match file.read_exact(&mut head) {
@@ -89,7 +92,7 @@ fn missing(rt: &HostRuntime, path: &str) -> Obstacle {
     }
 }
 
-// The octets of the log, which lies beside the file itself where the path leads to it by a link.
+// The size of the log, which is next to the file itself if the path leads to it by a link.
 fn octets_of_log(rt: &HostRuntime, path: &str) -> Result<Option<u64>, Obstacle> {
     let real = fs::canonicalize(rt, path)?;
     let mut log = String::from_str(rt.alloc(), real.as_str())?;
@@ -101,7 +104,7 @@ fn octets_of_log(rt: &HostRuntime, path: &str) -> Result<Option<u64>, Obstacle> 
     }
 }
 
-// What is wrong with a file, if it is seen from the outside.
+// What is wrong with a file, if that can be seen from outside.
 fn fault_of(found: &Metadata, log: Option<u64>) -> Option<NoDepot> {
     if found.is_dir() {
         return Some(NoDepot::Directory);

@@ -11,19 +11,21 @@ use depot_actions::Depot;
 use depot_cli::{Saving, save};
 use depot_jobs::Host;
 use encodings::Sink;
+use part_store::Again;
 use refusals::Refusal;
 use sqlite::{FileFrom, FileStore, Start};
 use sqlite_disk::Disk;
 use std::alloc::Global;
 
-/// Opens the depot of a user, has his program saved from it, and closes it. Gives the status, and what is left of the files; none where
-/// the depot wasn't opened.
+/// Opens the depot of a user, saves the user's program from it as a file, and closes it. Returns the status, and what
+/// is left of the files; `None` if the depot wasn't opened.
 ///
-/// `B` stands for what the two files held. Where they stood for a state and no lie of the disk was taken for true, a status of 0 means
-/// that the user has a program in that state, that it is the file, and that its length is written; a status of 1 that there is no file,
-/// and that this was told for its cause, or that the writing broke off. The files hold the same state then, also after a crash, and where
-/// the close fails or a crash comes before its end. No clause ties `B` to the name: that the file there is opened is seen in the body.
-pub fn save_from<B: Start, H: Host, O: Sink, E: Sink>(
+/// `B` describes what the two files held. If they represented a state and the disk returned no wrong data, the status 0
+/// means that the user has a program in that state, that the file has it, and that its length was written; the status 1
+/// means that no file was made and the reason was reported, or that the writing broke off. The files of the depot then
+/// hold the same state, also after a crash, and also if the close fails or a crash comes before its end. No clause ties
+/// `B` to the name: only the body shows that this file is opened.
+pub fn save_from<B: Start + Again, H: Host, O: Sink, E: Sink>(
     rt: &HostRuntime,
     saving: Saving<'_>,
     start: B,
@@ -41,7 +43,7 @@ pub fn save_from<B: Start, H: Host, O: Sink, E: Sink>(
     save_and_close(rt.alloc(), saving, opened, host, out, err)
 }
 
-// Has the program saved from what opening gave, and closes that.
+// Saves the program from the result of opening a depot, and closes it.
 fn save_and_close<D: Disk + Drop, H: Host, O: Sink, E: Sink>(
     alloc: Global,
     saving: Saving<'_>,

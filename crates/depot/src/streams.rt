@@ -4,13 +4,14 @@ use std::fs::{File, OpenOptions};
 use std::io;
 use std::os::fd::AsFd;
 
-/// What reads as empty, and takes all that is written to it.
+/// A device that reads as empty and takes everything that is written to it.
 const NULL_DEVICE: &str = "/dev/null";
 
 /// The number of the error that a descriptor isn't open.
 const NOT_OPEN: i32 = 9;
 
-/// What is open in place of the standard streams that were closed.
+/// What is open instead of the standard streams that were closed. [`hold_closed`] makes it; keep it as long as the
+/// program runs.
 #[derive(Drop)]
 pub struct Held {
     _input: Option<File>,
@@ -18,14 +19,15 @@ pub struct Held {
     _errors: Option<File>,
 }
 
-/// Opens a null device in place of each standard stream that is closed, so that no file which is opened later takes its number. It is
-/// opened the other way round, so that reads from standard input and writes to the other two fail as they do on a closed stream.
+/// Opens a null device instead of each standard stream that is closed, so that no file that is opened later gets its
+/// number. The device is opened the other way round, so that reads from standard input and writes to the other two fail
+/// as they do on a closed stream.
 ///
-/// The lowest free number is the one that is given; so what is closed is opened in order.
+/// The lowest free number is the one that the system gives, so what is closed is opened in order.
 ///
 /// # Errors
 ///
-/// The null device can't be opened.
+/// A fault of the system if the null device can't be opened.
 pub fn hold_closed(rt: &HostRuntime) -> io::Result<Held> {
     Ok(Held {
         _input: hold_if_closed(rt, rt.stdin(), OpenOptions::new().write(true))?,
@@ -34,7 +36,7 @@ pub fn hold_closed(rt: &HostRuntime) -> io::Result<Held> {
     })
 }
 
-// Opens a null device where a standard stream is closed.
+// Opens a null device if a standard stream is closed.
 fn hold_if_closed<S: AsFd + Drop>(
     rt: &HostRuntime,
     stream: S,

@@ -1,8 +1,8 @@
 //! Tasks, from the open of their depot to its close.
 //!
-//! The promises hold for any type that stands for what the files held. The program passes the one of which nothing is known (`Unknown`),
-//! since what a file of the system holds no contract can say: what it runs is the same code. So it is with batches, with programs that
-//! are saved, and with looks.
+//! The promises hold for any type that describes what the files held. The program passes the type about which nothing
+//! is known (`Unknown`), because no contract can say what a file of the system holds: the code that it runs is the
+//! same. Batches, programs that are saved, and looks do the same.
 ghost use Rattle.sqlite.specs.Recovery.{Image};
 ghost use Rattle.sqlite.specs.WalFiles.{image_at};
 ghost use Rattle.depot_cli.specs.Requests.{command_of};
@@ -14,21 +14,22 @@ use crate::closing::{Left, close};
 use depot_actions::Depot;
 use depot_cli::{PendingTask, carry};
 use encodings::Sink;
+use part_store::Again;
 use refusals::Refusal;
 use sqlite::{FileFrom, FileStore, Start};
 use sqlite_disk::Disk;
 use std::alloc::Global;
 
-/// Opens the depot that a task names, has the task carried to it, and closes it. Gives the status, and what is left of the files;
-/// none where the depot wasn't opened.
+/// Opens the depot that a task names, does the task on it, and closes it. Returns the status, and what is left of the
+/// files; `None` if the depot wasn't opened.
 ///
-/// `B` stands for what the two files held. Where they stood for a state and no lie of the disk was taken for true, a status of 0 means
-/// that the depot accepted the command, that its reply is written whole, and that the files hold the state after it, also after a crash.
-/// A status of 1 means that the command was refused, that this was told, and that the state is as it was; or that its reply broke off,
-/// and the files hold the state after it. Where the close fails or a crash comes before its end, the files hold what was answered; where
-/// the answer changed nothing, they may hold what the command makes. No clause ties `B` to the name: that the file there is opened is seen
-/// in the body.
-pub fn carry_from<B: Start, O: Sink, E: Sink>(
+/// `B` describes what the two files held. If they represented a state and the disk returned no wrong data, the status 0
+/// means that the depot accepted the command, that its reply was written completely, and that the files hold the state
+/// after it, also after a crash. The status 1 means that the command was refused, that this was reported, and that the
+/// state is as it was; or that its reply broke off, and the files hold the state after it. If the close fails, or a
+/// crash comes before its end, the files hold what was answered; if the answer changed nothing, they can hold what the
+/// command makes. No clause ties `B` to the name: only the body shows that this file is opened.
+pub fn carry_from<B: Start + Again, O: Sink, E: Sink>(
     rt: &HostRuntime,
     pending: &PendingTask<'_>,
     start: B,
@@ -44,7 +45,7 @@ pub fn carry_from<B: Start, O: Sink, E: Sink>(
     carry_and_close(rt.alloc(), pending, opened, out, err)
 }
 
-// Carries a task to what opening gave, and closes that.
+// Does a task on the result of opening a depot, and closes it.
 fn carry_and_close<D: Disk + Drop, O: Sink, E: Sink>(
     alloc: Global,
     pending: &PendingTask<'_>,

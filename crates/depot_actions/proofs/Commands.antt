@@ -5,9 +5,11 @@ use Rattle.sqlite_trees.specs.Tree.{Trees}
 use Rattle.bytecode_format.specs.Code.{Code}
 use Rattle.bytecode_format.specs.Spelling.{spelling}
 use Rattle.sieve_engine.specs.Evaluation.{IsCompiled}
+use Rattle.encodings.specs.Texts.{text_of}
+use Rattle.encodings.specs.declared.encoding.Encoding.{Encoding}
 use Rattle.part_store.specs.Entries.{Entries, Entry, with_program, without_entry}
-use Rattle.part_store.specs.Standing.{IsEntryAt, IsStored, Makes, MayMake, LeavesUnchanged, Stands}
-use Rattle.depot_actions.specs.DepotState.{Accepts, Command, Does, Done, Leaves, MayLeave, Remove, Reply, SetScript}
+use Rattle.part_store.specs.Standing.{AddsVerified, IsEntryAt, IsStored, Makes, MayMake, LeavesUnchanged, Stands}
+use Rattle.depot_actions.specs.DepotState.{Accepts, Command, Does, Done, Export, Leaves, MayLeave, Remove, Reply, SetScript, Steps, Text}
 use Rattle.depot_actions.specs.Users.{is_user_name}
 
 -- ---- what calls of the store leave
@@ -45,7 +47,7 @@ made_done change command reply old new makes accepts = (
   λ before stands. (
     change before,
     accepts before stands,
-    record { stands = λ _. (makes.1 before stands, makes.0.2); closes = inl makes.0.1 },
+    record { stands = λ _. ((makes.1 before stands).0, makes.0.2); closes = inl makes.0.1 },
   ),
 )
 
@@ -64,12 +66,29 @@ module _ (old new : State) (user : List ℕ) (named : IsTrue (is_user_name user)
       Done,
       with_program user octets before,
       record { named = named; step = (code, compiled, refl, ap (λ p. with_program user p before) is) },
-      left before stands,
+      (left before stands).0,
+    ),
+  )
+
+  pub export_step : (before : Entries) (number : ℕ) (encoding : Encoding) (octets : List ℕ) → (entry : Entry) × IsEntryAt before user number entry × (octets ≡ entry.octets)
+      → Steps before (Export user number encoding) (Text (text_of encoding octets)) before
+  export_step before number encoding octets (entry, at, is) = (entry, at, ap (λ o. Text (text_of encoding o)) is, refl)
+
+  -- an entry's octets were read
+  pub export_done : (number : ℕ) (encoding : Encoding) (octets : List ℕ) → IsTrue old.is_open → (IsTrue new.is_open → new.committed ≡ new.now) → LeavesUnchanged old new
+      → ((before : Entries) → Stands old.now before → (entry : Entry) × IsEntryAt before user number entry × (octets ≡ entry.octets))
+      → Does (Export user number encoding) (Text (text_of encoding octets)) old new
+  export_done number encoding octets was_open settled spares told = (
+    was_open,
+    λ before stands. (
+      before,
+      record { named = named; step = export_step before number encoding octets (told before stands) },
+      left_alone old new before was_open settled spares stands,
     ),
   )
 
   pub removal_left : (number : ℕ) → (trees : Trees)
-      → IsTrue old.is_open × ((before : Entries) → Stands old.now before → ((x : Entry) × IsEntryAt before user number x) × IsStored trees (without_entry user number before))
+      → IsTrue old.is_open × ((before : Entries) → Stands old.now before → ((x : Entry) × IsEntryAt before user number x) × IsStored trees (without_entry user number before) × AddsVerified old.now.trees trees)
       → MayLeave (Remove user number) old trees
   removal_left number trees (is_open, left) = (
     is_open,

@@ -195,7 +195,7 @@ module _ (old mid new : State) (stored renewed : List UserProgram) (was_open : I
     λ before stands. (
       with_programs renewed before,
       subst (λ n. Accepts before Migrate (Migrated n) (with_programs renewed before)) (sym same) (accepts before stored renewed (told before stands) are),
-      record { stands = λ _. (makes.1 before (stands_still old mid before spares stands makes.0.0), makes.0.2); closes = inl makes.0.1 },
+      record { stands = λ _. ((makes.1 before (stands_still old mid before spares stands makes.0.0)).0, makes.0.2); closes = inl makes.0.1 },
     ),
   )
 
@@ -222,7 +222,7 @@ module _ (old mid new : State) (stored renewed : List UserProgram) (was_open : I
       Migrated (length renewed),
       with_programs renewed before,
       accepts before stored renewed (told before stands) are,
-      left before (stands_still old mid before spares stands is_open),
+      (left before (stands_still old mid before spares stands is_open)).0,
     ),
   )
 

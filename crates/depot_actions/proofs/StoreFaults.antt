@@ -1,6 +1,7 @@
 -- A refusal of the store is a command's, for the same cause.
-use Rattle.std.proofs.Common.{◌≡◌, inl, inr, Ok, Err, Result, MatchResult, IfErr, IsErrAnd, refl, sym, ap, subst, ◌∙◌}
+use Rattle.std.proofs.Common.{◌≡◌, inl, inr, Ok, Err, Result, MatchResult, IfOk, IfErr, IsErrAnd, refl, sym, ap, subst, ◌∙◌}
 use Rattle.std.proofs.lemmas.Bool.{cases_Bool}
+use Rattle.std.proofs.lemmas.Result.{IfOk-at_ok}
 use Rattle.sqlite_trees.specs.Tree.{Trees}
 use Rattle.sqlite.specs.Effect.{Database as Held}
 use Rattle.sqlite.specs.State.{State, HasCleanDisk, Survives}
@@ -58,3 +59,9 @@ passed_on (Err e) given P h holds = subst P (sym h) holds
 
 pub of_refusal : {T : Type 0} (r : Result T Refusal) (e : Refusal) (P : Refusal → Type 0) → r ≡ Err e → IfErr r P → P e
 of_refusal r e P is h = subst (λ t. IfErr t P) is h
+
+-- an answer of the store, where it is passed on
+pub of_answer : {T : Type 0} (r : Result T StoreError) (told : Result T Refusal) → MatchResult r (λ x. told ≡ Ok x) (λ e. IsErrAnd told (λ d. d ≡ of_store e)) → (P : T → Type 0) → IfOk r P
+    → (x : T) → told ≡ Ok x → P x
+of_answer (Ok y) told cases P h x is = IfOk-at_ok P is (subst (λ t. IfOk t P) (sym cases) h)
+of_answer (Err e) told cases P h x is = absurd (subst (λ t. IsErrAnd t (λ d. d ≡ of_store e)) is cases)

@@ -16,6 +16,7 @@ use Rattle.part_store.specs.Refusals.{HasFailed, HasNoUserRoom, HaveNoUserRoom, 
 use Rattle.part_store.specs.Totals.{octets_of}
 use Rattle.part_store.specs.Tables.{contents_tree}
 use Rattle.part_store.specs.Standing.{HasNone, Stands}
+use Rattle.part_store.specs.Verifying.{IsAltered}
 use Rattle.refusals.specs.declared.refusal.Refusal.{Refusal}
 use Rattle.refusals.specs.declared.refusal.Refusal.TheVariants.{Memory, NoSuchEntry, NumberFull, Collision, Database, UserName, Write}
 use Rattle.depot_actions.specs.DepotState.{AreActions, Command, SetScript, SetCode, Deliver, ListAll, ProgramOf, Export, Remove, Migrate, IsNamed}
@@ -125,7 +126,8 @@ IsSpoilt None = ⊥
 IsSpoilt (Some program) = (refusal : Refusal) × (refusal ≢ Memory) × IsProgramRefusal program refusal
 
 -- What may keep a store that works from a command: what is to be put in has no room, where its
--- numbers suffice, or a stored program is spoilt. Where a command only reads or removes, nothing does.
+-- numbers suffice; a stored program is spoilt; or the octets that are to be exported were altered. Where a command
+-- only lists, reads a program or removes, nothing does.
 abbrev pub IsHindered : Command → Entries → Trees → Type 0
 IsHindered (SetScript user script) before db = (code : Code) × IsCompiled script code
     × HasNoUserRoom user (with_program user (spelling code) before) db
@@ -136,7 +138,7 @@ IsHindered (Deliver user message) before db =
     × LackRoom user (drafts_of (mail_of message) actions) before db)
 IsHindered (ListAll user) before db = ⊥
 IsHindered (ProgramOf user) before db = ⊥
-IsHindered (Export user number encoding) before db = ⊥
+IsHindered (Export user number encoding) before db = IsAltered db user number
 IsHindered (Remove user number) before db = ⊥
 IsHindered Migrate before db =
     ((user : List ℕ) × IsSpoilt (before.programs user))

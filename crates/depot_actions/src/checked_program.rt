@@ -1,8 +1,8 @@
 // A stored program that was checked.
 //
-// The program that was checked last is kept, with its bytes. If the stored bytes are equal, it runs at once, so a
-// batch doesn't read and verify the same filter for each mail. The bytes are compared, so nothing has to be believed
-// of the store between two deliveries.
+// The program that was checked last is kept, with its bytes. If the next stored bytes are the same, it runs at once, so
+// a batch doesn't read and verify the same filter for each mail. The bytes are compared, so nothing has to be assumed
+// about the store between two deliveries.
 ghost use Rattle.std.specs.Prelude.{◌≡◌, ◌⊎◌, All, IfErr, IfOk, IsTrue, Some};
 ghost use Rattle.sieve_vm.specs.Stores.{NamesPart};
 ghost use Rattle.refusals.specs.declared.refusal.Refusal.TheVariants.{Memory, Database};
@@ -18,7 +18,7 @@ use sieve_vm::run;
 use std::alloc::{AllocError, Global};
 use std::marker::Model;
 
-/// The octets of a stored program, and the program that they spell. A contract sees the octets.
+/// The bytes of a stored program, and the verified program that they spell. A contract sees the bytes.
 #[derive(Drop)]
 pub(crate) struct CheckedProgram {
     octets: Vec<u8>,
@@ -37,11 +37,13 @@ impl Model for CheckedProgram {
 }
 
 impl CheckedProgram {
-    /// Checks a stored program, unless it is the one that was checked last: octets are compared in place of checking them again.
+    /// Checks a stored program. If it has the same bytes as the one that was checked last, it isn't read and verified
+    /// again.
     ///
     /// # Errors
     ///
-    /// `Database` where it no longer reads and verifies. `Memory` where an allocation was refused.
+    /// - `Database` if the program no longer reads and verifies.
+    /// - `Memory` if memory is refused.
     pub(crate) fn check(
         alloc: Global,
         octets: Vec<u8>,
@@ -64,7 +66,7 @@ impl CheckedProgram {
     ///
     /// # Errors
     ///
-    /// Where an allocation was refused.
+    /// `AllocError` if memory is refused.
     pub(crate) fn actions_on(
         &self,
         alloc: Global,
@@ -74,7 +76,7 @@ impl CheckedProgram {
             (λ actions. AreActions (Some self.now) message.now actions.items) }
         ensures parts { IfOk result (λ actions. All (NamesPart message.now) actions.items) }
     {
-        // What holds of every message is known where it is asked.
+        // What holds for every message is known only after asking.
         let _size = message.size();
         Ok(run(alloc, &self.verified, message)?.actions)
     }

@@ -1,4 +1,4 @@
-// Scripts and programs that are to be stored, and programs that are.
+// Scripts and programs that are to be stored, and programs that are stored.
 ghost use Rattle.std.specs.Prelude.{◌≡◌, ◌⊎◌, IfErr, IfOk, OnOk, Some};
 ghost use Rattle.refusals.specs.declared.refusal.Refusal.TheVariants.{Memory, Database};
 ghost use Rattle.bytecode_format.specs.Code.{Code};
@@ -10,11 +10,12 @@ use refusals::Refusal;
 use sieve_engine::check_program;
 use std::alloc::Global;
 
-/// Checks that octets spell an accepted program.
+/// Checks that bytes spell an accepted program.
 ///
 /// # Errors
 ///
-/// What the program is refused for. `Memory` where an allocation was refused.
+/// - What [`sieve_engine::check_program`] refuses the program for.
+/// - `Memory` if memory is refused.
 pub(crate) fn check_code(alloc: Global, program: &[u8]) -> Result<(), Refusal>
     ensures checked { OnOk result ((code : Code) × IsChecked program.now code) }
     ensures refused { IfErr result (λ e. IsProgramRefusal program.now e) }
@@ -23,11 +24,12 @@ pub(crate) fn check_code(alloc: Global, program: &[u8]) -> Result<(), Refusal>
     Ok(())
 }
 
-/// A program that is stored.
+/// Reads and verifies a stored program.
 ///
 /// # Errors
 ///
-/// `Database` where it no longer reads and verifies. `Memory` where an allocation was refused.
+/// - `Database` if it no longer reads and verifies.
+/// - `Memory` if memory is refused.
 pub(crate) fn check_stored(alloc: Global, program: &[u8]) -> Result<Verified, Refusal>
     ensures checked { IfOk result (λ verified. IsChecked program.now verified) }
     ensures refused { IfErr result (λ e. (e ≡ Memory) ⊎ (e ≡ Database)) }

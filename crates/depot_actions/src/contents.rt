@@ -1,9 +1,9 @@
 // Which actions file the same content.
 //
-// A delivery knows which of its entries have the same content (`add_sharing_entries`), so a content is hashed,
-// looked up and compared once, and a filter of a thousand `fileinto` isn't a thousand times as expensive as one.
-// Which content an entry has is known from the action, by the number of its part: this language can't compare two
-// slices by their addresses, and comparing 64 MiB takes milliseconds each time.
+// A delivery knows which of its entries have the same content (`add_sharing_entries`), so each content is hashed,
+// looked up and compared once, and a filter with a thousand `fileinto` isn't a thousand times as expensive as a filter
+// with one. Which content an entry has is known from the action, by the number of its part: this language can't compare
+// two slices by their addresses, and comparing 64 MiB takes milliseconds each time.
 ghost use Rattle.std.specs.Prelude.{◌≡◌, ◌+◌, ◌<◌, All, IfOk, List, ℕ, length, map, slice_index_or};
 ghost use Rattle.sieve_vm.specs.Stores.{NamesPart};
 ghost use Rattle.part_store.specs.Sharing.{SharesContents, first_of};
@@ -15,9 +15,15 @@ use mime_decode::Message;
 use part_store::Shared;
 use std::alloc::{AllocError, Global};
 
-/// Of each action the first that files the same content: the message's, or that of one of its parts.
+/// For each action, the first action that files the same content: the whole message, or one of its parts.
 ///
-/// An error comes only where an allocation was refused.
+/// # Requires
+///
+/// Each action that stores a part names a part of the message.
+///
+/// # Errors
+///
+/// `AllocError` if memory is refused.
 pub(crate) fn shared_contents(
     alloc: Global,
     message: &Message,
@@ -38,7 +44,7 @@ pub(crate) fn shared_contents(
     Ok(shared)
 }
 
-// Where the content of an action comes from: the number of its part, or that after all parts for the message.
+// Where the content of an action comes from: the number of its part, or the number of parts for the message.
 fn source_of(parts: usize, action: &Action) -> usize
     ensures { result ≡ source_of parts action.now }
 {
@@ -48,7 +54,7 @@ fn source_of(parts: usize, action: &Action) -> usize
     }
 }
 
-// The first place of a source. It is this one where none was known.
+// The first place at which a source was used. If there was none, it is this place.
 fn first_place(firsts: &mut Vec<Option<usize>>, source: usize, place: usize) -> usize
     requires { source < length firsts.old.items }
     ensures long { length firsts.new.items ≡ length firsts.old.items }

@@ -19,22 +19,23 @@ use refusals::Refusal;
 use sqlite::{Alter, Transaction};
 use std::alloc::Global;
 
-/// A message that is to be delivered.
+/// A message to be delivered to a user. Callers of [`crate::Depot::deliver_all`] make one for each mail of a batch.
 #[derive(Clone, Copy)]
 pub struct Delivery<'a> {
-    /// The user that it is for.
+    /// The user to whom the message is delivered.
     pub user: &'a str,
-    /// The message.
+    /// The message, as bytes.
     pub message: &'a [u8],
 }
 
-/// Why several deliveries are refused.
+/// Why several deliveries are refused: which of them, and for what. [`crate::Depot::deliver_all`] returns it; none of
+/// the deliveries was made then.
 #[derive(Drop)]
 pub struct RefusedDelivery {
-    /// The place of the first one that is refused, from 0: so many would have been accepted before it. It is their number where all
-    /// would have been, and their commit failed.
+    /// The place of the first delivery that is refused, counted from 0: as many would have been accepted before it. If
+    /// all would have been accepted and their commit failed, it is their number.
     pub place: usize,
-    /// Why it is refused.
+    /// Why this delivery, or the commit, is refused.
     pub refusal: Refusal,
 }
 
@@ -42,7 +43,7 @@ pub struct RefusedDelivery {
 ///
 /// # Errors
 ///
-/// What `deliver_within` is refused for, and `Database` and `Memory` of the commit. Nothing is filed then.
+/// Those of [`crate::Depot::deliver`]. Nothing is filed then.
 pub(crate) fn deliver_alone<S: Alter>(
     store: &mut PartStore<S>,
     last: &mut Option<CheckedProgram>,
@@ -69,11 +70,11 @@ pub(crate) fn deliver_alone<S: Alter>(
     }
 }
 
-/// Delivers messages in one transaction, in their order. The rows of each one's new entries.
+/// Delivers messages in one transaction, in their order, and returns the new entries of each.
 ///
 /// # Errors
 ///
-/// That of the first that is refused, or of the commit. Nothing is filed then.
+/// The error of the first delivery that is refused, or of the commit. Nothing is filed then.
 pub(crate) fn deliver_together<S: Alter>(
     store: &mut PartStore<S>,
     last: &mut Option<CheckedProgram>,
@@ -140,11 +141,12 @@ fn deliver_each<S: Alter>(
     Ok(replies)
 }
 
-/// Delivers a message within a transaction. The rows of the new entries.
+/// Delivers a message within a transaction, and returns the new entries. After an error, the transaction has to be
+/// rolled back.
 ///
 /// # Errors
 ///
-/// Those of [`crate::Depot::deliver`]. The transaction is to be rolled back then.
+/// Those of [`crate::Depot::deliver`].
 fn deliver_within<S: Alter>(
     tx: &mut Transaction<'_, S>,
     last: &mut Option<CheckedProgram>,

@@ -1,13 +1,13 @@
 // What a delivery files, and how.
 //
 // A delivery reads its user's row twice: for the program, before the filter runs, and for the last number, when it
-// files. Both are in one transaction. To read once, a call would have to take the number that another one found,
-// with a premise on the state between them that no caller can test; or the store would keep a number next to its
-// tables. The second look reads one number. A delivery without actions needs no number: if the filter discards the
-// message, the answer is `none`, also for a user whose numbers have run out. A delivery lets its message go before
-// the store writes: the tree of a message of empty header fields takes 5.3 times the mail, and the database takes
-// five buffers of an entry's length while it writes one. What is kept of a part borrows the mail's bytes alone, so
-// nothing needs the tree then.
+// files. Both reads are in one transaction. To read once, a call would have to take the number that another call found,
+// with a premise on the state between them that no caller can test; or the store would have to keep a number next to
+// its tables. The second read gets one number. A delivery without actions needs no number: if the filter discards the
+// message, the answer is `none`, also for a user whose numbers are used up. A delivery frees its message before the
+// store writes: the tree of a message of empty header fields takes 5.3 times the mail, and the database takes five
+// buffers of an entry's length while it writes one. What is kept of a part borrows only the mail's bytes, so nothing
+// needs the tree then.
 ghost use Rattle.std.specs.Prelude.{◌≡◌, ◌<◌, ◌⊎◌, [], ◌∷◌, All, IfErr, IfOk, length, map, option_map};
 ghost use Rattle.bytecode_format.specs.declared.action.Action.TheVariants.{Keep};
 ghost use Rattle.sieve_vm.specs.Stores.{NamesPart};
@@ -37,12 +37,13 @@ use refusals::Refusal;
 use sqlite::{Alter, Transaction};
 use std::alloc::{AllocError, Global};
 
-/// The final actions of a user's program on a message, or Keep where he has none. The program that was checked last isn't checked
-/// again, and a program that was run is then the last one.
+/// The final actions of a user's program on a message, or only Keep if the user has no program. If the program is the
+/// one that was checked last, it isn't checked again; if a program ran, `last` is that program after the call.
 ///
 /// # Errors
 ///
-/// `Database` where the program no longer reads and verifies. `Memory` where an allocation was refused.
+/// - `Database` if the program no longer reads and verifies.
+/// - `Memory` if memory is refused.
 pub(crate) fn actions_of(
     alloc: Global,
     program: Option<Vec<u8>>,
@@ -74,13 +75,20 @@ fn keep_alone(alloc: Global) -> Result<Vec<Action>, AllocError>
     Ok(actions)
 }
 
-/// Files an entry for each of the actions, of which there is at least one. The rows of the entries. The message is let go as soon as
-/// what is filed is known, so that the tree of its parts takes no memory while the store writes.
+/// Files an entry for each of the actions and returns the rows of the entries. The message is freed as soon as it is
+/// known what to file, so that the tree of its parts takes no memory while the store writes. After an error, the
+/// transaction has to be rolled back.
+///
+/// # Requires
+///
+/// - There is at least one action.
+/// - Each action that stores a part names a part of the message.
+/// - `octets` are the message's bytes.
 ///
 /// # Errors
 ///
-/// `NumberFull`, `Collision` and `Database` of the store, and `Memory` where an allocation was refused. The transaction is to be
-/// rolled back then.
+/// - `NumberFull`, `Collision` and `Database` as for [`crate::Depot::deliver`].
+/// - `Memory` if memory is refused.
 pub(crate) fn file_all<S: Alter>(
     tx: &mut Transaction<'_, S>,
     alloc: Global,
@@ -112,7 +120,8 @@ pub(crate) fn file_all<S: Alter>(
     add_all(tx, alloc, user, &entries, &mut shared)
 }
 
-// Adds entries, of which there is at least one and some may have the same content. Their rows are made before, so that nothing is added where memory is refused.
+// Adds entries, at least one; some can have the same content. Their rows are made first, so that nothing is added if
+// memory is refused.
 fn add_all<S: Alter>(
     tx: &mut Transaction<'_, S>,
     alloc: Global,

@@ -1,7 +1,7 @@
 //! The depot and its calls.
 //!
-//! `program` of a user without a program is refused `40 NoSuchEntry`, also if the user has entries: what is asked
-//! for isn't there. An empty file would be no program, and nobody stored the program that keeps every message.
+//! For a user without a program, `program` is refused with `40 NoSuchEntry`, even if the user has entries: what is
+//! asked for doesn't exist. An empty file would be no program, and nobody stored the program that keeps every message.
 ghost use Rattle.std.specs.Prelude.{◌≡◌, ◌≢◌, ◌⊎◌, IsTrue, List, ℕ, map, option_map, IfOk, IfErr, None, OnOk, true, false};
 ghost use Rattle.sqlite.specs.Held.{state};
 ghost use Rattle.sqlite.specs.State.{HasCleanDisk};
@@ -10,7 +10,9 @@ ghost use Rattle.part_store.specs.Entries.{Entries, no_entries};
 ghost use Rattle.part_store.specs.Opening.{HoldsNoTables, HoldsStore, IsAt, IsFoundIn, IsReady, IsReadyFrom, TellsWhy};
 ghost use Rattle.sqlite.specs.WalFiles.{image_at};
 ghost use Rattle.part_store.specs.Refusals.{AreNamed};
-ghost use Rattle.part_store.specs.Standing.{LeavesUnchanged, Stands, listed};
+ghost use Rattle.part_store.specs.Standing.{HaveDigests, LeavesUnchanged, Stands, listed};
+ghost use Rattle.part_store.specs.Tables.{store_schema};
+ghost use Rattle.part_store.specs.Verifying.{IsVerified};
 ghost use Rattle.refusals.specs.declared.refusal.Refusal.TheVariants.{Memory, Database, Write};
 ghost use Rattle.depot_actions.specs.Causes.{IsCause, IsFault, IsStoreFault, IsUncounted, MayRefuse};
 ghost use Rattle.depot_actions.specs.Deliveries.{AreRefused, DoesAll, MayLeaveAll, MayRefuseAll, command_of, reply_of};
@@ -19,6 +21,7 @@ ghost use Rattle.depot_actions.specs.Overviews.{IsOverview};
 ghost use Rattle.sqlite.specs.Files.{file_state, IsOpened};
 ghost use Rattle.part_store.specs.Looking.{are_tables};
 ghost use Rattle.encodings.specs.Device.{HasBegun, HasBroken, HasTaken};
+ghost use Rattle.encodings.specs.Texts.{text_of};
 ghost use Rattle.part_store.specs.Calls.{Always, CommitsNothing, IfDone, IfRefused, MayCommit, OnDone, OnRefused};
 
 use crate::checked_program::CheckedProgram;
@@ -30,17 +33,21 @@ use crate::refusing::refused;
 use crate::renewing::renewed_programs;
 use crate::user::is_user_name;
 use encodings::{Encoding, Sink, put_text};
-use part_store::{EntryRow, PartStore, Unopened};
+use part_store::{Again, EntryRow, PartStore, Unopened};
 use refusals::Refusal;
 use sieve_engine::code_octets;
 use sqlite::{Alter, File, FileFrom, FileStore, MemStore, Start, Unknown};
 use std::alloc::Global;
 use std::marker::Model;
 
-/// What users have filed, and their filters, in a store of theirs.
+/// A depot: what users have filed, and their filters. `open` makes one over a file and `in_memory` one for tests; the
+/// crates `depot_cli` and `depot_batch` carry out the commands of the program with it.
 ///
-/// A contract sees the state of the store; `specs/DepotState` says what each command replies and leaves, `specs/Causes` why one is
-/// refused. A refused command changes nothing.
+/// A contract sees the state of the store: `specs/DepotState` says what each command replies and leaves, `specs/Causes`
+/// why one is refused. A refused command changes nothing. If the store's tables represent a state, the store fails only
+/// if it can't work: its disk failed in the call, a failure had shut it before, or its connection limits the steps of a
+/// statement. Which refusals a command can get is promised whatever the disk does; everything else, if the disk returns
+/// what was written.
 pub struct Depot<S: Alter> {
     store: PartStore<S>,
     last: Option<CheckedProgram>,
@@ -63,7 +70,7 @@ impl<S: Alter + Drop> Drop for Depot<S> {
 }
 
 impl<S: Alter> Depot<S> {
-    /// The depot of a store.
+    /// Makes a depot of a store.
     pub fn adopt(store: PartStore<S>) -> Depot<S>
         ensures { result ≡ store }
     {
@@ -78,12 +85,16 @@ impl<S: Alter> Depot<S> {
         store
     }
 
-    /// Stores the code of a script as the user's filter, in place of the one before.
+    /// Compiles a script and stores its program as the user's filter; it replaces the one before.
     ///
     /// # Errors
     ///
-    /// `UserName`; then what the script is refused for; then `Database`, also where its code has no room. `Memory` where an allocation was
-    /// refused.
+    /// In this order, except that `Memory` can come at any point after `UserName`:
+    ///
+    /// - `UserName` if the name isn't a user name ([`crate::is_user_name`]).
+    /// - The script's first fault, as [`sieve_engine::check_script`] lists them.
+    /// - `Database` if the store fails, or has no room for the user's row with the new program.
+    /// - `Memory` if memory is refused.
     pub fn set_script(&mut self, alloc: Global, user: &str, script: &[u8]) -> Result<(), Refusal>
         ensures done { OnDone S.Store self.old self.new result
             (Does (SetScript user.now script.now) Done) }
@@ -103,12 +114,16 @@ impl<S: Alter> Depot<S> {
         self.store.set_program(user, &octets).map_err(refused)
     }
 
-    /// Stores a filter program as the user's, in place of the one before.
+    /// Stores a program as the user's filter; it replaces the one before.
     ///
     /// # Errors
     ///
-    /// `UserName`; then what the program is refused for; then `Database`, also where it has no room. `Memory` where an allocation was
-    /// refused.
+    /// In this order, except that `Memory` can come at any point after `UserName`:
+    ///
+    /// - `UserName` if the name isn't a user name.
+    /// - What [`sieve_engine::check_program`] refuses the program for.
+    /// - `Database` if the store fails, or has no room for the user's row with the new program.
+    /// - `Memory` if memory is refused.
     pub fn set_code(&mut self, alloc: Global, user: &str, program: &[u8]) -> Result<(), Refusal>
         ensures done { OnDone S.Store self.old self.new result
             (Does (SetCode user.now program.now) Done) }
@@ -128,14 +143,25 @@ impl<S: Alter> Depot<S> {
         self.store.set_program(user, program).map_err(refused)
     }
 
-    /// Runs the user's filter on a message, and files an entry for each of its final actions, in their order; where he has no filter the
-    /// message is kept. The rows of the new entries.
+    /// Runs the user's filter on a message and files an entry for each of its final actions, in their order; for a user
+    /// without a filter the message is kept. Returns the new entries, without their contents.
+    ///
+    /// For example, if a new user has the filter of `examples/documents.sieve`, delivering `examples/invoice.eml` files
+    /// two entries: entry 1, the attached PDF of 9,016 bytes, in the folder `Documents`, and entry 2, the whole message
+    /// of 19,165 bytes, in `INBOX`.
     ///
     /// # Errors
     ///
-    /// `UserName`; then `MessageTooLarge` or `TooManyParts`; then, of what is read, `Database`, also where the stored filter no longer reads
-    /// and verifies; then `NumberFull`, `Collision` and `Database` of what is written, also where it has no room. `Memory` where an
-    /// allocation was refused.
+    /// In this order, except that `Memory` can come at any point after `UserName`:
+    ///
+    /// - `UserName` if the name isn't a user name.
+    /// - `MessageTooLarge` if the message is longer than 67,108,864 bytes, `TooManyParts` if it has more than 4,096
+    ///   parts.
+    /// - `Database` if the store fails, or the stored filter no longer reads and verifies.
+    /// - `NumberFull` if the user has too few numbers left for the entries.
+    /// - `Collision` if the numbers suffice, and different bytes have the digest of one of the entries.
+    /// - `Database` if the store fails, or has no room for the entries or the user's row.
+    /// - `Memory` if memory is refused.
     pub fn deliver(
         &mut self,
         alloc: Global,
@@ -156,13 +182,17 @@ impl<S: Alter> Depot<S> {
         deliver_alone(&mut self.store, &mut self.last, alloc, user, message)
     }
 
-    /// Delivers messages, of one user or several, as [`Depot::deliver`] would one after another, and commits them together: all are
-    /// delivered, or none. The rows of each one's new entries, in the order of the deliveries. A crash leaves all, or none.
+    /// Delivers messages, to one user or several, as [`Depot::deliver`] would one after another, and commits them
+    /// together: all are delivered, or none. Returns the new entries of each delivery, in the order of the deliveries.
+    /// A crash leaves all deliveries, or none.
     ///
     /// # Errors
     ///
-    /// With its place, the first that `deliver` would refuse after those before it, and what it would refuse it for; or, at the place
-    /// after the last, `Database` or `Memory` of the commit. Nothing has changed then.
+    /// Nothing has changed then.
+    ///
+    /// - For the first delivery that [`Depot::deliver`] would refuse after those before it: its place in the list,
+    ///   counted from 0, and that refusal.
+    /// - If the commit fails: the number of deliveries as the place, and `Database` or `Memory`.
     pub fn deliver_all(
         &mut self,
         alloc: Global,
@@ -181,11 +211,13 @@ impl<S: Alter> Depot<S> {
         deliver_together(&mut self.store, &mut self.last, alloc, deliveries)
     }
 
-    /// The rows of the user's entries, by their numbers.
+    /// Returns the user's entries without their contents, in the order of their numbers; none for an unknown user.
     ///
     /// # Errors
     ///
-    /// `UserName`, then `Database`. `Memory` where an allocation was refused.
+    /// - `UserName` if the name isn't a user name.
+    /// - `Database` if the store fails.
+    /// - `Memory` if memory is refused.
     pub fn list(&mut self, user: &str) -> Result<Vec<EntryRow>, Refusal>
         ensures done { IfDone S.Store self.old self.new result (λ rows. Does (ListAll user.now)
             (Listed (map listed rows.items))) }
@@ -201,11 +233,13 @@ impl<S: Alter> Depot<S> {
         self.store.entries_of(user).map_err(refused)
     }
 
-    /// The octets of the user's filter program, or none where he has none.
+    /// Returns the bytes of the user's filter program, or `None` if the user has none.
     ///
     /// # Errors
     ///
-    /// `UserName`, then `Database`. `Memory` where an allocation was refused.
+    /// - `UserName` if the name isn't a user name.
+    /// - `Database` if the store fails.
+    /// - `Memory` if memory is refused.
     pub fn program_of(&mut self, user: &str) -> Result<Option<Vec<u8>>, Refusal>
         ensures done { IfDone S.Store self.old self.new result (λ found. Does (ProgramOf user.now)
             (Program (option_map (λ v. v.items) found))) }
@@ -222,13 +256,19 @@ impl<S: Alter> Depot<S> {
         self.store.program_of(user).map_err(refused)
     }
 
-    /// Writes the octets of the user's entry of this number, in an encoding, and nothing else. The octets are read whole, and
-    /// encoded and written a few thousand at a time, in quoted-printable a line at a time.
+    /// Writes the bytes of the user's entry with this number in an encoding, and nothing else. Their SHA-256 is the
+    /// digest that they are stored under (`verified`). The entry is read as a whole, and encoded and written in pieces
+    /// of 4,560 bytes; in quoted-printable, line by line.
     ///
     /// # Errors
     ///
-    /// `UserName`, then `NoSuchEntry` where he has none of that number, and `Database`; nothing was written then. `Memory` where an
-    /// allocation was refused, and `Write` where a call of the writer failed; a prefix was written.
+    /// - `UserName` if the name isn't a user name; nothing was written.
+    /// - `NoSuchEntry` if the user has no entry with this number; nothing was written.
+    /// - `Database` if the store fails, or if the stored bytes were altered: they don't have the digest that they are
+    ///   stored under, or nothing is stored under the digest that the entry names; nothing was written. If each content
+    ///   has its digest, only if the store fails (`sound`).
+    /// - `Memory` if memory is refused; the beginning of the text can have been written.
+    /// - `Write` if a call of the writer fails; the beginning of the text was written.
     pub fn export<W: Sink>(
         &mut self,
         alloc: Global,
@@ -257,6 +297,12 @@ impl<S: Alter> Depot<S> {
             (IsCause (Export user.now number encoding)) }
         ensures cause { IfRefused S.Store self.old self.new result
             (IsFault (Export user.now number encoding)) }
+        ensures verified { OnOk result ((octets : List ℕ)
+            × HasTaken (text_of encoding octets) (W.output writer.old) (W.output writer.new)
+            × (Always S.Store self.old self.new (λ old _. old.now.schema ≡ store_schema
+            → IsVerified old.now.trees user.now number octets))) }
+        ensures sound { IfRefused S.Store self.old self.new result
+            (λ old new e. HaveDigests old.now.trees → IsStoreFault (λ _ _. ⊥) old new e) }
         ensures survives { CommitsNothing S.Store self.old self.new }
     {
         if !is_user_name(user) {
@@ -266,11 +312,14 @@ impl<S: Alter> Depot<S> {
         put_text(alloc, encoding, &octets, writer)
     }
 
-    /// Removes the user's entry of this number. The number isn't given again.
+    /// Removes the user's entry with this number. The number isn't given again.
     ///
     /// # Errors
     ///
-    /// `UserName`, then `NoSuchEntry` where he has none of that number, and `Database`. `Memory` where an allocation was refused.
+    /// - `UserName` if the name isn't a user name.
+    /// - `NoSuchEntry` if the user has no entry with this number.
+    /// - `Database` if the store fails.
+    /// - `Memory` if memory is refused.
     pub fn remove(&mut self, user: &str, number: u32) -> Result<(), Refusal>
         ensures done { OnDone S.Store self.old self.new result
             (Does (Remove user.now number) Done) }
@@ -288,14 +337,17 @@ impl<S: Alter> Depot<S> {
         self.store.remove_entry(user, number).map_err(refused)
     }
 
-    /// Gives each filter program that has another version the latest one, and answers how many there were. Its code stays the same; so
-    /// its final actions on every message stay the same, and what it charges, and it may charge no more
-    /// ([`crate::laws::migrated_programs_run_as_before`]).
+    /// Gives each filter program of another version the latest version, and returns how many there were. A program's
+    /// code stays the same. So its final actions on every message and its charge stay the same, and the limit of the
+    /// charge doesn't grow ([`crate::laws::migrated_programs_run_as_before`]).
     ///
     /// # Errors
     ///
-    /// `Database`, also where a stored program, whatever its version, no longer reads and verifies, a user's name isn't UTF-8 or a new
-    /// program has no room. `Memory` where an allocation was refused.
+    /// Nothing has changed then.
+    ///
+    /// - `Database` if the store fails; if a stored program, whatever its version, no longer reads and verifies; if a
+    ///   user's name isn't UTF-8; or if a new program has no room.
+    /// - `Memory` if memory is refused.
     pub fn migrate(&mut self, alloc: Global) -> Result<usize, Refusal>
         ensures done { IfDone S.Store self.old self.new result (λ number. Does Migrate
             (Migrated number)) }
@@ -315,12 +367,15 @@ impl<S: Alter> Depot<S> {
         Ok(renewed.len())
     }
 
-    /// What the depot holds, user by user: the last number, the entries and their octets, and the state of the filter; and how much its
-    /// contents are. Nothing changes. A filter that no longer reads and verifies is told as such.
+    /// Returns what the depot holds, user by user: the last number, the entries and their bytes, and the state of the
+    /// filter; and the number and size of all contents. Nothing changes. A filter that no longer reads and verifies is
+    /// reported, and isn't an error.
     ///
     /// # Errors
     ///
-    /// `Database`, also where octets are more than 64 bits can count or a user's name isn't UTF-8. `Memory` where an allocation was refused.
+    /// - `Database` if the store fails; if the bytes of all contents, or of a user's entries, are 2^64 or more; or if a
+    ///   user's name isn't UTF-8.
+    /// - `Memory` if memory is refused.
     pub fn inspect(&mut self, alloc: Global) -> Result<Overview, Refusal>
         ensures answer { IfDone S.Store self.old self.new result (λ x old _. IsTrue old.is_open
             × ((before : Entries) → Stands old.now before → IsOverview old.now.trees before x)) }
@@ -335,11 +390,12 @@ impl<S: Alter> Depot<S> {
 }
 
 impl Depot<MemStore> {
-    /// An empty depot in memory.
+    /// Makes an empty depot in memory.
     ///
     /// # Errors
     ///
-    /// `Memory` where an allocation was refused, `Database` where the database fails.
+    /// - `Memory` if memory is refused.
+    /// - `Database` if the database fails.
     pub fn in_memory(alloc: Global) -> Result<Depot<MemStore>, Refusal>
         ensures empty { IfOk result (λ d. Stands (state over_memory d).now no_entries) }
         ensures committed { IfOk result
@@ -355,14 +411,17 @@ impl Depot<MemStore> {
     }
 }
 
-impl<B: Start> Depot<FileStore<FileFrom<B>>> {
-    /// The depot in the file at a path, where `B` stands for what the file and its log held. One that isn't there, is empty or has
-    /// no tables becomes the empty depot. No clause ties `B` to the path: that the file there is opened is seen in the bodies. Nor does
-    /// one say why it is refused.
+impl<B: Start + Again> Depot<FileStore<FileFrom<B>>> {
+    /// Opens the depot in the file at a path; `B` describes what the file and its log held. A file that doesn't exist,
+    /// is empty or has no tables becomes the empty depot. While another process has the file open, this waits and tries
+    /// again for 10 seconds. No clause ties `B` to the path: only the bodies show that
+    /// this file is opened. No clause says why an open is refused either.
     ///
     /// # Errors
     ///
-    /// `Memory` where an allocation was refused; `Database` where the file can't be opened, is no database, or is open elsewhere.
+    /// - `Memory` if memory is refused.
+    /// - `Database` if the file can't be opened, is no database, is damaged or stays open elsewhere, or if the disk
+    ///   fails.
     pub fn open_from(
         rt: &HostRuntime,
         path: &str,
@@ -382,12 +441,14 @@ impl<B: Start> Depot<FileStore<FileFrom<B>>> {
             Err(error) => Err(refused(error)),
         }
     }
+}
 
-    /// The same as `look`, where `B` stands for what the file and its log held.
+impl<B: Start> Depot<FileStore<FileFrom<B>>> {
+    /// Opens a depot as [`Depot::look`] does; `B` describes what the file and its log held.
     ///
     /// # Errors
     ///
-    /// What the file is instead.
+    /// Why the file isn't opened as a depot, as `part_store` says it of `look_from`.
     pub fn look_from(
         rt: &HostRuntime,
         path: &str,
@@ -410,11 +471,13 @@ impl<B: Start> Depot<FileStore<FileFrom<B>>> {
 }
 
 impl Depot<FileStore<File>> {
-    /// The depot in the file at a path, which is made if it isn't there.
+    /// Opens the depot in the file at a path, as [`Depot::open_from`] does. The file is made if it doesn't exist.
     ///
     /// # Errors
     ///
-    /// `Memory` where an allocation was refused; `Database` where the file can't be opened, is no database, or is open elsewhere.
+    /// - `Memory` if memory is refused.
+    /// - `Database` if the file can't be opened, is no database, is damaged or stays open elsewhere, or if the disk
+    ///   fails.
     pub fn open(rt: &HostRuntime, path: &str) -> Result<Depot<FileStore<File>>, Refusal>
         ensures ready { IfOk result IsReady }
         ensures refused { IfErr result (λ e. (e ≡ Memory) ⊎ (e ≡ Database)) }
@@ -422,11 +485,12 @@ impl Depot<FileStore<File>> {
         Depot::open_from(rt, path, Unknown)
     }
 
-    /// The depot in the file at a path, as it is: no table is made. The file has to be there, since one that isn't is made, empty.
+    /// Opens the depot in the file at a path, as it is: no table is made. A file that doesn't exist is made, empty, so
+    /// check first that it exists.
     ///
     /// # Errors
     ///
-    /// What the file is instead.
+    /// Why the file isn't opened as a depot: each case of [`Unopened`] says it.
     pub fn look(rt: &HostRuntime, path: &str) -> Result<Depot<FileStore<File>>, Unopened>
         ensures opened { IfOk result (λ d. HasCleanDisk (file_state d) → IsOpened d) }
         ensures tables { IfOk result (λ d. are_tables (file_state d).now.schema.tables ≡ true) }

@@ -10,9 +10,16 @@ use bytecode_format::Action;
 use part_store::{Kind, NewEntry};
 use std::alloc::{AllocError, Global};
 
-/// An entry for each of the actions, in their order, of a message of these octets. They lend what is kept of its parts.
+/// An entry for each of the actions, in their order; `octets` are the message's bytes. The entries borrow what is kept
+/// of the message's parts.
 ///
-/// An error comes only where an allocation was refused.
+/// # Requires
+///
+/// `kept` has each part that an action stores.
+///
+/// # Errors
+///
+/// `AllocError` if memory is refused.
 pub(crate) fn new_entries<'e>(
     alloc: Global,
     octets: &'e [u8],

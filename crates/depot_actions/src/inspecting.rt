@@ -1,4 +1,4 @@
-// How a depot is looked over, user by user.
+// How `depot inspect` reads a depot, user by user.
 ghost use Rattle.std.specs.Prelude.{◌≡◌, ◌⊎◌, ◌^◌, ◌≤◌, IfErr, IfOk, IsTrue, map, option_map, string_bytes};
 ghost use Rattle.std.specs.List.{sum_by};
 ghost use Rattle.sqlite.specs.Held.{state};
@@ -23,11 +23,13 @@ use sieve_engine::check_program;
 use sqlite::Alter;
 use std::alloc::Global;
 
-/// What a store holds, user by user. Each user's entries are read once, and one user's at a time.
+/// Reads what a store holds, user by user. Each user's entries are read once, and the entries of one user at a time.
 ///
 /// # Errors
 ///
-/// `Database`, also where octets are more than 64 bits can count. `Memory` where an allocation was refused.
+/// - `Database` if the store fails; if the bytes of all contents, or of a user's entries, are 2^64 or more; or if a
+///   user's name isn't UTF-8.
+/// - `Memory` if memory is refused.
 pub(crate) fn look_over<S: Alter>(
     store: &mut PartStore<S>,
     alloc: Global,
@@ -59,7 +61,7 @@ fn rows_of<S: Alter>(store: &mut PartStore<S>) -> Result<Vec<UserRow>, Refusal>
     store.users().map_err(refused)
 }
 
-// How many contents there are, and their octets.
+// The number of contents, and their bytes.
 fn total_of<S: Alter>(store: &mut PartStore<S>) -> Result<ContentTotal, Refusal>
     ensures answer { IfDone S.Store store.old store.new result (λ total old _. (before : Entries)
         → Stands old.now before → IsTotalOf (old.now.trees contents_tree) total) }
@@ -70,7 +72,7 @@ fn total_of<S: Alter>(store: &mut PartStore<S>) -> Result<ContentTotal, Refusal>
     store.contents().map_err(refused)
 }
 
-// Each of the users, summarised.
+// A summary of each of the users.
 fn summaries<S: Alter>(
     store: &mut PartStore<S>,
     alloc: Global,
@@ -91,7 +93,7 @@ fn summaries<S: Alter>(
     Ok(users)
 }
 
-// A user, summarised.
+// A summary of one user.
 fn summary<S: Alter>(
     store: &mut PartStore<S>,
     alloc: Global,
@@ -107,7 +109,7 @@ fn summary<S: Alter>(
     summary_of(alloc, row, &entries)
 }
 
-// The entries of a user, who may have any name that is stored.
+// The entries of a user; the user can have any name that is stored.
 fn entries_in<S: Alter>(store: &mut PartStore<S>, user: &str) -> Result<Vec<EntryRow>, Refusal>
     ensures answer { Tells S.Store store.old store.new result (λ before rows. map listed rows.items
         ≡ map listing_of (entries_of user.now before)) }
@@ -118,7 +120,7 @@ fn entries_in<S: Alter>(store: &mut PartStore<S>, user: &str) -> Result<Vec<Entr
     store.entries_of(user).map_err(refused)
 }
 
-// A user with these entries, summarised.
+// A summary of a user with these entries.
 fn summary_of(alloc: Global, row: &UserRow, entries: &[EntryRow]) -> Result<UserOverview, Refusal>
     ensures answer { IfOk result (λ x. Summarises (line_of row.now) (map listed entries.now) x) }
     ensures refused { IfErr result (λ e. (e ≡ Memory) ⊎ (e ≡ Database)) }
@@ -136,7 +138,7 @@ fn summary_of(alloc: Global, row: &UserRow, entries: &[EntryRow]) -> Result<User
     })
 }
 
-// How many octets entries have together, or `Database` where that is more than 64 bits.
+// The number of bytes that the entries have together, or `Database` if it is 2^64 or more.
 fn octets_of(entries: &[EntryRow]) -> Result<u64, Refusal>
     ensures sum { IfOk result (λ octets. octets ≡ sum_by (λ (e : Row). e.octets) entries.now) }
     ensures refused { IfErr result (λ e. e ≡ Database) }
@@ -152,7 +154,7 @@ fn octets_of(entries: &[EntryRow]) -> Result<u64, Refusal>
     Ok(octets)
 }
 
-// The state of a user's program, if he has one.
+// The state of a user's program.
 fn program_state(alloc: Global, program: &Option<Vec<u8>>) -> Result<ProgramState, Refusal>
     ensures judged { IfOk result (IsStateOf (option_map (λ v. v.items) program.now)) }
     ensures refused { IfErr result (λ e. e ≡ Memory) }

@@ -1,4 +1,4 @@
-// The parts that actions store, each read once.
+// The parts that actions store. Each is read once.
 ghost use Rattle.std.specs.Prelude.{◌≡◌, ◌<◌, ℕ, All, IfOk, OnOk, None, length, replicate};
 ghost use Rattle.sieve_vm.specs.Stores.{NamesPart};
 ghost use Rattle.depot_actions.specs.Filing.{AreKept, Keeps, KeepsAction};
@@ -8,9 +8,16 @@ use bytecode_format::Action;
 use mime_decode::Message;
 use std::alloc::{AllocError, Global};
 
-/// The parts that the actions store, by their numbers: a place for each part of the message. Each is read once.
+/// The parts that the actions store, by their numbers: the list has a place for each part of the message. Each part is
+/// read once.
 ///
-/// An error comes only where an allocation was refused.
+/// # Requires
+///
+/// Each action that stores a part names a part of the message.
+///
+/// # Errors
+///
+/// `AllocError` if memory is refused.
 pub(crate) fn kept_parts<'m>(
     alloc: Global,
     message: &Message<'m>,
@@ -27,7 +34,7 @@ pub(crate) fn kept_parts<'m>(
     Ok(kept)
 }
 
-// Places for so many parts, of which none is kept.
+// A list with `number` places and no part in any of them.
 fn no_parts<'m>(alloc: Global, number: usize) -> Result<Vec<Option<StoredPart<'m>>>, AllocError>
     ensures { IfOk result (λ kept. kept.items ≡ replicate number None) }
 {
@@ -58,7 +65,7 @@ fn keep_stored<'m>(
     }
 }
 
-// Keeps the part of this number, if it isn't kept.
+// Keeps the part with this number, if it isn't kept already.
 fn keep_part<'m>(
     alloc: Global,
     message: &Message<'m>,

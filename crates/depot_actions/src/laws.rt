@@ -1,6 +1,6 @@
-//! What holds of the definitions alone.
+//! Laws about the definitions: no call is made.
 //!
-//! What a crash leaves is said of sessions, not of disks. The type of a real file names what it held when it was
+//! What a crash leaves is stated for sessions, not for disks. The type of a real file names what it held when it was
 //! opened, so each run has a type of its own, and a list of runs over one type would describe no two real runs. A
 //! session leads from what the files held to what they hold (`Leads`), whatever the type, so sessions follow one
 //! another.
@@ -27,8 +27,8 @@ ghost use Rattle.depot_actions.specs.Runs.{AreLed, AreSessionSteps, HoldFold, Is
 use sqlite::Alter;
 use sqlite_disk::Disk;
 
-/// Whatever calls a depot is given, and whichever of them fail, what its store shows while it is open stands for what the accepted ones make of
-/// what it stood for, one after another. A store that a failure has shut accepts nothing more.
+/// Whatever calls a depot gets, and whichever of them fail, what its store shows while it is open represents what the
+/// accepted calls make of the first state, one after another. A store that a failure has shut accepts nothing more.
 pub fn commands_are_a_fold<S: Alter>()
     ensures { (calls : List Call) (old new : Held S) (before : Entries)
         → AreAnswered S.Store calls old new
@@ -37,8 +37,8 @@ pub fn commands_are_a_fold<S: Alter>()
         × (IsTrue (state S.Store new).is_open → Stands (state S.Store new).now after) }
 {}
 
-/// The disk of a store that is open has returned what was written, and a crash then leaves what is committed, nothing else. So what a command
-/// leaves committed is what a later open finds.
+/// The disk of an open store has returned what was written, and a crash then leaves exactly what is committed. So what
+/// a command leaves committed is what a later open finds.
 pub fn open_stores_leave_what_is_committed<S: Alter>()
     ensures clean { (store : Held S) → IsTrue (state S.Store store).is_open
         → HasCleanDisk (state S.Store store) }
@@ -46,11 +46,10 @@ pub fn open_stores_leave_what_is_committed<S: Alter>()
         → (state S.Store store).may_leave trees → trees ≡ (state S.Store store).committed.trees }
 {}
 
-/// What a session over two files makes of the state that they stand for, also where they have no
-/// tables yet. A run opens them, does one command, and ends by itself or in a crash, also within the
-/// close, or of a depot that a failure had shut. It makes what its command makes, or nothing; one
-/// that ends with the depot open makes what its reply says. An open that is refused, or that a crash
-/// cuts off, also while the tables are made, makes nothing.
+/// A session over two files makes of the state that they represent what its command makes, or nothing, also if they
+/// hold no tables. A run opens the files, does one command, and ends by itself or in a crash, also within the close, or
+/// after a failure had shut the depot. A run that ends with the depot open makes what its reply says. An open that is
+/// refused, or that a crash cuts off, also while the tables are made, changes nothing.
 pub fn sessions_are_steps<D: Disk + Drop>()
     ensures run { (image : Image) (run : Run D.Disk) → IsRun image run
         → Leads (session_of run) image run.left }
@@ -60,16 +59,15 @@ pub fn sessions_are_steps<D: Disk + Drop>()
         → Leads NotOpened image other }
 {}
 
-/// What one session left is what the next one finds. Sessions one after another, whatever disks the
-/// files are on, leave files that stand for what the commands make of what was held, one after
-/// another.
+/// What one session left is what the next one finds. Sessions one after another, whatever disks the files are on, leave
+/// files that represent what the commands make of the first state, one after another.
 pub fn runs_are_a_fold()
     ensures { (past : List Past) (image : Image) (before : Entries) → HoldsState image before
         → AreLed image past → ∥ HoldFold image past before ∥₁ }
 {}
 
-/// An accepted command has none of the causes that commands are refused for: its user is named, an entry that it names is
-/// there, and the numbers that a delivery needs suffice.
+/// An accepted command has none of the causes for which commands are refused: its user name is valid, an entry that it
+/// names exists, and the numbers that a delivery needs suffice.
 pub fn accepted_commands_have_no_cause()
     ensures user { (before after : Entries) (command : Command) (reply : Reply)
         → Accepts before command reply after → IsNamed command }
@@ -79,7 +77,7 @@ pub fn accepted_commands_have_no_cause()
         → Accepts before command reply after → IsFull before command → ⊥ }
 {}
 
-/// A migration changes no delivery: on every message the final actions of each user's program are what they were.
+/// A migration changes no delivery: on every message the final actions of each user's program stay the same.
 pub fn migrations_change_no_actions()
     ensures { (before after : Entries) (reply : Reply) → Accepts before Migrate reply after
         → (user : List ℕ) (mail : Mail) (actions : List Action)
@@ -87,18 +85,18 @@ pub fn migrations_change_no_actions()
         → AreActions (after.programs user) mail actions }
 {}
 
-/// Who had a program has one after a migration. On every message it comes to the same final actions and the same charge as the one
-/// before, and to no others, within a limit that is no larger.
+/// A user who had a program has one after a migration. On every message it results in the same final actions and the
+/// same charge as the one before, and in no others, within a limit that is no larger.
 pub fn migrated_programs_run_as_before()
     ensures { (before after : Entries) (reply : Reply) → Accepts before Migrate reply after
         → (user program : List ℕ) → before.programs user ≡ Some program
         → (renewed : List ℕ) × (after.programs user ≡ Some renewed) × RunsAs program renewed }
 {}
 
-/// A delivery appends at most as many entries as its limit says, and their contents have together, each
-/// content once, at most as many octets as the limit says: to a user without a program one entry with
-/// the message, else what the program's code allows at the message's octets and parts. Whatever the
-/// filter, that is at most 33 times the message: once itself, and once for each depth of a part.
+/// A delivery adds at most as many entries as its limit says, and their contents have together, if each content counts
+/// once, at most as many bytes as the limit says. For a user without a program the limit is one entry with the message;
+/// otherwise it is what the program's code allows for the message's size and number of parts. Whatever the filter, it
+/// is at most 33 times the message: once for the message itself, and once for each depth of a part.
 pub fn deliveries_stay_within_their_limit()
     ensures { (before after : Entries) (user message : List ℕ) (reply : Reply)
         → Accepts before (Deliver user message) reply after
@@ -107,9 +105,9 @@ pub fn deliveries_stay_within_their_limit()
         × AppendsWithin entries octets before after }
 {}
 
-/// No media type in a depot has a line break, whatever was filed: none is in one that holds nothing, and
-/// an accepted command brings none in. So where a depot began without there is none after calls, one after
-/// another, nor after sessions over its files, also where crashes ended them.
+/// No media type in a depot has a line break, whatever was filed: an empty depot has none, and an accepted command adds
+/// none. So if a depot had none at first, it has none after any calls, and after any sessions over its files, also if
+/// crashes ended them.
 pub fn media_types_have_no_line_break()
     ensures empty { HavePlainMedia no_entries }
     ensures accepted { (before after : Entries) (command : Command) (reply : Reply)

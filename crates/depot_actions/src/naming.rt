@@ -11,7 +11,16 @@ use mime_params::{MediaType, disposition_param};
 use mime_tree::Tree;
 use std::alloc::{AllocError, Global};
 
-/// The name of a part. An error comes only where an allocation was refused.
+/// The name of a part: the file name of its first Content-Disposition; without one, the parameter `name` of its media
+/// type; empty if it has neither.
+///
+/// # Requires
+///
+/// The tree has such a part: `part` is less than the number of parts.
+///
+/// # Errors
+///
+/// `AllocError` if memory is refused.
 pub(crate) fn part_name(alloc: Global, tree: &Tree<'_>, part: usize) -> Result<Vec<u8>, AllocError>
     requires { part < length tree.now }
     ensures { HoldsAt (λ p. IfOk result (λ name. name.items ≡ name_of (part_of p))) tree.now part }
@@ -25,7 +34,11 @@ pub(crate) fn part_name(alloc: Global, tree: &Tree<'_>, part: usize) -> Result<V
     }
 }
 
-/// A media type without its parameters, in lower case. An error comes only where an allocation was refused.
+/// A media type without its parameters, in lower case.
+///
+/// # Errors
+///
+/// `AllocError` if memory is refused.
 pub(crate) fn media_text(alloc: Global, media: &MediaType) -> Result<Vec<u8>, AllocError>
     ensures { IfOk result (λ text. text.items ≡ media_text media.now) }
 {
@@ -34,7 +47,7 @@ pub(crate) fn media_text(alloc: Global, media: &MediaType) -> Result<Vec<u8>, Al
     Ok(text)
 }
 
-// The file name that the first Content-Disposition has.
+// The file name in the first Content-Disposition, if there is one.
 fn file_name(alloc: Global, fields: &[Field]) -> Result<Option<Vec<u8>>, AllocError>
     ensures { IfOk result (λ name. option_map (λ v. v.items) name
         ≡ file_name_in (first_value (codes "Content-Disposition") fields.now)) }
@@ -45,7 +58,7 @@ fn file_name(alloc: Global, fields: &[Field]) -> Result<Option<Vec<u8>>, AllocEr
     }
 }
 
-// The file name that the value of a Content-Disposition has.
+// The file name in the value of a Content-Disposition, if there is one.
 fn file_name_of(alloc: Global, value: &[u8]) -> Result<Option<Vec<u8>>, AllocError>
     ensures { IfOk result (λ name. option_map (λ v. v.items) name ≡ file_name_in (Some value.now)) }
 {

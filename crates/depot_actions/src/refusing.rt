@@ -1,11 +1,11 @@
-// The errors of the store, as refusals.
+// The errors of the store as refusals.
 ghost use Rattle.std.specs.Prelude.{◌≡◌};
 ghost use Rattle.depot_actions.specs.Private.{of_store};
 
 use part_store::StoreError;
 use refusals::Refusal;
 
-/// An error of the store, as the refusal of its name.
+/// The refusal with the name of a store's error.
 pub(crate) fn refused(error: StoreError) -> Refusal
     ensures { result ≡ of_store error }
 {

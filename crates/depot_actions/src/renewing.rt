@@ -1,7 +1,7 @@
 // How stored programs get the latest version.
 //
-// `migrate` judges every stored program, also one that has the latest version, and changes nothing if one is no
-// accepted program any more. So after it each stored filter is known to run.
+// `migrate` checks every stored program, also one that has the latest version, and changes nothing if one is no longer
+// an accepted program. So after it each stored filter is known to run.
 ghost use Rattle.std.specs.Prelude.{◌≡◌, ◌⊎◌, ◌++◌, [], IfErr, IfOk, OnOk, Some, map, option_map};
 ghost use Rattle.bytecode_format.specs.Code.{Code};
 ghost use Rattle.part_store.specs.Standing.{pair_of};
@@ -19,11 +19,12 @@ use std::alloc::Global;
 /// The version that programs get.
 const LATEST_VERSION: u8 = bytecode_format::VERSION_TWO;
 
-/// Of the users whose programs have another version the programs with the latest one.
+/// The users whose programs have another version, with these programs in the latest version.
 ///
 /// # Errors
 ///
-/// `Database` where one of the programs, whatever its version, no longer reads and verifies. `Memory` where an allocation was refused.
+/// - `Database` if one of the programs, whatever its version, no longer reads and verifies.
+/// - `Memory` if memory is refused.
 pub(crate) fn renewed_programs(
     alloc: Global,
     stored: &[(String, Vec<u8>)],
@@ -42,7 +43,7 @@ pub(crate) fn renewed_programs(
     Ok(renewed)
 }
 
-// Adds a user's program with the latest version, where it has another.
+// Adds a user's program in the latest version, if it has another version.
 fn push_renewed(
     alloc: Global,
     user: &str,
@@ -62,7 +63,7 @@ fn push_renewed(
     Ok(())
 }
 
-// The program with the latest version, where it has another.
+// The program in the latest version, if it has another version.
 fn renewed_program(alloc: Global, program: &[u8]) -> Result<Option<Vec<u8>>, Refusal>
     ensures renewed { IfOk result
         (λ renewed. (code : Code) × IsChecked program.now code
@@ -77,7 +78,7 @@ fn renewed_program(alloc: Global, program: &[u8]) -> Result<Option<Vec<u8>>, Ref
     Ok(Some(in_latest_version(alloc, program)?))
 }
 
-// The octets of a program with the latest version.
+// The bytes of a program in the latest version.
 fn in_latest_version(alloc: Global, program: &[u8]) -> Result<Vec<u8>, Refusal>
     ensures renewed { IfOk result
         (λ octets. (code : Code) × Spells program.now code × (octets.items ≡ renewed_octets code)) }

@@ -1,7 +1,7 @@
-// The rows of entries that are made.
+// The rows of new entries.
 //
-// The rows of a delivery are made before anything is written, so that nothing has to be taken back for lack of
-// memory. They get their numbers afterwards.
+// The rows of a delivery are made before anything is written, so that nothing has to be undone if memory is refused.
+// They get their numbers afterwards.
 ghost use Rattle.std.specs.Prelude.{◌≡◌, ◌+◌, ◌≤◌, ℕ, List, IfOk, length, map};
 ghost use Rattle.octets.specs.Limits.{max_entry_number};
 ghost use Rattle.part_store.specs.Entries.{Draft, listing_of, numbered};
@@ -11,7 +11,11 @@ ghost use Rattle.depot_actions.specs.Filing.{unnumbered};
 use part_store::{EntryRow, NewEntry};
 use std::alloc::{AllocError, Global};
 
-/// The rows of the entries, without their numbers. An error comes only where an allocation was refused.
+/// The rows of the entries, without their numbers.
+///
+/// # Errors
+///
+/// `AllocError` if memory is refused.
 pub(crate) fn unnumbered_rows(
     alloc: Global,
     entries: &[NewEntry<'_>],
@@ -26,7 +30,7 @@ pub(crate) fn unnumbered_rows(
     Ok(rows)
 }
 
-/// Numbers the rows from a number on, as their entries are.
+/// Numbers the rows in order, beginning with `first`.
 pub(crate) fn set_numbers(rows: &mut Vec<EntryRow>, first: u32)
     ensures { (user : List ℕ) (drafts : List Draft)
         → map listed rows.old.items ≡ map unnumbered drafts

@@ -1,4 +1,4 @@
-// A part of a message as an entry shows it.
+// A part of a message as an entry stores it.
 ghost use Rattle.std.specs.Prelude.{◌≡◌, ◌<◌, IfOk, length};
 ghost use Rattle.std.specs.List.{HoldsAt};
 ghost use Rattle.mime_decode.specs.Mail.{Part};
@@ -12,19 +12,27 @@ use part_store::{Kind, NewEntry};
 use std::alloc::{AllocError, Global};
 use std::borrow::CowSlice;
 
-/// A part as an entry shows it. Its content is lent by the message where nothing is decoded.
+/// A part of a message as an entry stores it. If the content needs no decoding, it is borrowed from the message.
 #[derive(Drop)]
 pub(crate) struct StoredPart<'m> {
-    /// The part's name.
+    /// The part's name: its file name, or else the `name` of its media type; empty if it has neither.
     pub name: Vec<u8>,
-    /// Its media type.
+    /// The media type without parameters, in lower case.
     pub media: Vec<u8>,
-    /// Its content.
+    /// The decoded content.
     pub content: CowSlice<'m, u8>,
 }
 
 impl<'m> StoredPart<'m> {
-    /// The part of this number. An error comes only where an allocation was refused.
+    /// Reads the part with this number.
+    ///
+    /// # Requires
+    ///
+    /// The message has such a part: `part` is less than the number of parts.
+    ///
+    /// # Errors
+    ///
+    /// `AllocError` if memory is refused.
     pub(crate) fn read(
         alloc: Global,
         message: &Message<'m>,

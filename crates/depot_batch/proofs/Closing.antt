@@ -3,8 +3,8 @@ use Rattle.std.proofs.Common.{◌≡◌, ◌∙◌, refl, sym, ap, cond, Bool, t
 use Rattle.std.specs.Prelude.{◌==◌, ◌/◌, ◌%◌, nat_le, nat_lt}
 use Rattle.std.specs.List.{flat_map, list_all}
 use Rattle.std.specs.Fmt.{decimal, digit_glyph, digits, digits_onto}
-use Rattle.depot_jobs.specs.Printed.{escaped, escaped_octet, is_plain, quoted}
-use Rattle.depot_jobs.specs.declared.piece.Setting.TheVariants.{Quotes}
+use Rattle.printing.specs.Printed.{escaped, escaped_octet, is_plain, quoted}
+use Rattle.printing.specs.declared.piece.Setting.TheVariants.{Quotes}
 use Rattle.depot_actions.specs.PlainMedia.{is_one_line}
 use Rattle.depot_batch.specs.Closings.{begins_closing, has_closing}
 

@@ -15,8 +15,8 @@ use Rattle.depot_actions.specs.DepotState as depot
 use Rattle.depot_actions.specs.PlainMedia.{HavePlainMedia, is_one_line}
 use Rattle.refusals.specs.Lines.{name_of, number_of, place_of, place_text, refusal_text}
 use Rattle.refusals.specs.declared.refusal.Refusal.{Refusal}
-use Rattle.refusals.specs.declared.refusal.Refusal.TheVariants.{Memory, Form}
-use Rattle.depot_jobs.specs.Printed.{line, quoted, refusal_line}
+use Rattle.refusals.specs.declared.refusal.Refusal.TheVariants.{Memory}
+use Rattle.printing.specs.Printed.{line, quoted, refusal_line}
 use Rattle.depot_jobs.specs.Requests.{Request}
 use Rattle.depot_jobs.specs.declared.request.OnDepot.TheVariants.{Script, Code, Deliver, List as ListEntries, Export, Remove, Migrate}
 use Rattle.depot_cli.specs.Printed.{entries_text, entry_text, kind_text, reply_text}

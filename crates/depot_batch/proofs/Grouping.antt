@@ -2,7 +2,6 @@
 use Rattle.std.proofs.Common.{◌≡◌, ◌++◌, ◌∙◌, ◌+◌, ◌<◌, ◌≤◌, suc, zero, arith, append-nil, ap, inl, inr, refl, subst, sym, ℕ, IfNone, List, [], ◌∷◌, None, Option, Some, length, map, take, drop, Vec, Global}
 use Rattle.std.specs.List.{flat_map}
 use Rattle.std.proofs.Math.ListN.{get_or}
-use Rattle.std.proofs.lemmas.Grind.{flat_map-append}
 use Rattle.std.proofs.lemmas.List.{drop_more, map-append, take-append-drop, take-map, take_more}
 use Rattle.sqlite_trees.specs.declared.store.Store.{Ghosts}
 use Rattle.sqlite.specs.Held.{state}
@@ -10,8 +9,7 @@ use Rattle.sqlite.specs.State.{HasCleanDisk, State, Survives}
 use Rattle.part_store.specs.Entries.{Listing}
 use Rattle.part_store.specs.Standing.{LeavesUnchanged}
 use Rattle.part_store.specs.declared.entry.EntryRow.{EntryRow}
-use Rattle.encodings.specs.Device.{HasBroken, HasTaken, Output}
-use Rattle.encodings.proofs.Outputs.{broken_first, broken_later}
+use Rattle.encodings.specs.Device.{Output}
 use Rattle.depot_actions.specs.Deliveries.{DoesAll, MayLeaveAll, reply_of}
 use Rattle.depot_actions.specs.DepotState.{Command, Listed}
 use Rattle.depot_jobs.specs.Host.{HostState}
@@ -121,23 +119,6 @@ cut_some lines cut n k is count some all =
     subst (λ (ls : List (Vec ℕ Global)). 0 < length (lines_of ls)) (sym is) (first_some lines n (omega (arith, count, some)) all)
 
 -- ---- answers
-
--- the sink broke in the answer to one of several deliveries
-pub broken_in_turn : {s0 s1 s2 : Output} (replies done : List (Vec EntryRow Global)) (rows : Vec EntryRow Global) → length done < length replies → done ≡ take (length done) replies
-    → rows ≡ get_or replies (length done) rows → HasTaken (flat_map filed_text (map filed_by done)) s0 s1 → HasBroken (filed_text (filed_by rows)) s1 s2
-    → HasBroken (flat_map filed_text (map filed_by replies)) s0 s2
-broken_in_turn {s0 = s0} {s1 = s1} {s2 = s2} replies done rows within so_far is taken broken =
-    let others = drop (length done + 1) replies in
-    let next : drop (length done) replies ≡ rows ∷ others =
-    drop_more replies (length done) rows within ∙ ap (λ (r : Vec EntryRow Global). r ∷ others) (sym is) in
-    let parts : replies ≡ done ++ (rows ∷ others) =
-    sym (take-append-drop (length done) replies) ∙ ap (λ (l : List (Vec EntryRow Global)). l ++ drop (length done) replies) (sym so_far) ∙ ap (λ (l : List (Vec EntryRow Global)). done ++ l) next in
-    let text : flat_map filed_text (map filed_by replies) ≡ flat_map filed_text (map filed_by done) ++ (filed_text (filed_by rows) ++ flat_map filed_text (map filed_by others)) =
-    ap (λ (l : List (Vec EntryRow Global)). flat_map filed_text (map filed_by l)) parts ∙ ap (flat_map filed_text) (map-append filed_by done (rows ∷ others))
-    ∙ flat_map-append filed_text (map filed_by done) (map filed_by (rows ∷ others)) in
-    subst (λ octets. HasBroken octets s0 s2) (sym text)
-    (broken_later (flat_map filed_text (map filed_by done)) (filed_text (filed_by rows) ++ flat_map filed_text (map filed_by others)) taken
-    (broken_first (filed_text (filed_by rows)) (flat_map filed_text (map filed_by others)) broken))
 
 -- what holds anyway holds where there is nothing
 pub on_none : {A P : Type 0} (r : Option A) → P → IfNone r P

@@ -2,7 +2,6 @@ mod WordLemmas
 mod Spoken
 mod Folding
 mod Taking
-mod Writing
 mod LineLemmas
 mod LineReading
 mod Progress

@@ -1,21 +1,24 @@
 -- What comes of a line, from what came of its words and of what they ask for.
-use Rattle.std.proofs.Common.{◌≡◌, ◌++◌, inl, inr, refl, subst, sym, arith, ℕ, List, Result, Ok, Err, IfOk, OnErr}
+use Rattle.std.proofs.Common.{◌≡◌, ◌∙◌, ap, append-nil, inl, inr, refl, subst, sym, arith, ℕ, List, [], Result, Ok, Err, IfOk, OnErr, OnOk}
+use Rattle.std.proofs.KnownBytes.{Appends-kept}
+use Rattle.std.proofs.lemmas.Result.{on_err_weaker}
 use Rattle.sqlite_trees.specs.declared.store.Store.{Ghosts}
 use Rattle.sqlite_trees.specs.Tree.{Trees}
-use Rattle.sqlite.specs.Held.{state}
+use Rattle.sqlite.specs.Held.{Held, state}
 use Rattle.sqlite.specs.State.{State, Survives}
-use Rattle.encodings.specs.Device.{HasBroken, HasTaken}
-use Rattle.depot_batch.specs.Answers.{AreNoTexts, HasComeOf, IsUnasked, IsUnaskedText}
+use Rattle.encodings.specs.Device.{HasBroken, HasFailed, HasTaken, Output, counted}
+use Rattle.depot_jobs.specs.Host.{HostState}
+use Rattle.depot_batch.specs.Answers.{AreNoTexts, HasComeOf, IsReportOn, IsUnasked, answer_text, outcome_of, report_text, unasked_report}
 use Rattle.depot_batch.specs.Asked.{AskNothing}
-use Rattle.depot_batch.specs.Batch.{HasCome, HasWords, IsAnsweredBy, IsAsked, IsWrong, MayMake, MayMakeOne, DepotAndOutput, Outlasts, closing}
-use Rattle.depot_batch.specs.Turns.{Alone}
+use Rattle.depot_batch.specs.Batch.{HasCome, HasWords, IsAnsweredBy, IsAsked, IsWrong, MayMake, depot_and_output}
 use Rattle.depot_batch.specs.declared.asked.Asked.{Asked}
 use Rattle.depot_batch.specs.declared.fault.LineFault.{LineFault}
 use Rattle.depot_batch.specs.declared.fault.LineFault.TheVariants as faults
 use Rattle.depot_batch.specs.declared.line.Unasked.{Unasked}
 use Rattle.depot_batch.specs.declared.line.Unasked.TheVariants as unasked
 use Rattle.depot_batch.specs.declared.outcome.Outcome.{Outcome}
-use Rattle.depot_batch.specs.declared.outcome.Outcome.TheVariants.{Done, Refused, Wrong}
+use Rattle.depot_batch.specs.declared.report.Report.{Report}
+use Rattle.depot_batch.specs.declared.report.Report.TheVariants.{Done, Refused, Wrong}
 
 -- what nothing happened to survives
 pub still : {P : Trees → Type 0} (s : State) → Survives s s P
@@ -57,81 +60,48 @@ no_texts octets words unasked.NoMemory has are = tt
 pub nothing_asked : (octets : List ℕ) (words : List (List ℕ)) (fault : LineFault) → HasWords octets words → AskNothing words fault → IsUnasked octets (unasked.Wrong fault)
 nothing_asked octets words fault has nothing = wrong_words octets words fault has nothing
 
-module _ {S : Type 0} (g : Ghosts S) where
-  come_of : (name octets : List ℕ) (asked : Asked) (outcome : Outcome) (text : List ℕ) (old new : DepotAndOutput S) → IsAsked octets asked
-      → HasComeOf g name asked outcome text old.depot new.depot old.host new.host → HasCome g name octets outcome text old new
-  come_of name octets asked Done text old new is come = (asked, is, come)
-  come_of name octets asked (Refused refusal) text old new is come = (come.0, inr (asked, is, come.1))
-  come_of name octets asked Wrong text old new is come = absurd come
+-- a text was taken, and then a call failed
+pub broken_after : (text : List ℕ) (s0 s1 s2 : Output) → HasTaken text s0 s1 → HasFailed s1 s2 → HasBroken text s0 s2
+broken_after text s0 s1 s2 taken failed = record {
+  prefix = text;
+  rest = [];
+  whole = sym (append-nil text);
+  written = Appends-kept s0.written s1.written s2.written text taken.written failed.written;
+  faults = failed.faults ∙ ap (counted 1) taken.faults;
+}
 
-  unasked_come : (name octets : List ℕ) (why : Unasked) (outcome : Outcome) (text : List ℕ) (old new : DepotAndOutput S) → IsUnasked octets why → IsUnaskedText why outcome text
-      → new.depot ≡ old.depot → new.host ≡ old.host → HasCome g name octets outcome text old new
-  unasked_come name octets (unasked.Wrong fault) outcome text old new wrong is depot host =
-      subst (λ o. HasCome g name octets o text old new) (sym is.0) (fault, wrong, is.1, (depot, host))
-  unasked_come name octets unasked.NoMemory outcome text old new wrong is depot host =
-      subst (λ o. HasCome g name octets o text old new) (sym is.0) (is.1, inl (refl, (depot, host)))
+module _ {S : Type 0} (g : Ghosts S) (name octets : List ℕ) where
+  come_of : (asked : Asked) (report : Report) (old new : Held S) (host host2 : HostState) (out out2 : Output) → IsAsked octets asked → HasComeOf g name asked report old new host host2
+      → HasCome g name octets (outcome_of report) (report_text report) (depot_and_output g old host out) (depot_and_output g new host2 out2)
+  come_of asked (Done answer) old new host host2 out out2 is come = (asked, is, come)
+  come_of asked (Refused refusal) old new host host2 out out2 is come = (refl, inr (asked, is, come))
+  come_of asked (Wrong fault) old new host host2 out out2 is come = absurd come
 
-  outlasts_asked : (octets : List ℕ) (outcome : Outcome) (asked : Asked) (old new : DepotAndOutput S) → IsAsked octets asked
-      → Survives (state g old.depot) (state g new.depot) (MayMake asked (state g old.depot) old.host new.host) → Outlasts g (Alone octets outcome) old new
-  outlasts_asked octets outcome asked old new is survives = more_left (state g old.depot) (state g new.depot) (λ db made. (asked, is, made)) survives
-
-  outlasts_idle : (octets : List ℕ) (outcome : Outcome) (old new : DepotAndOutput S) → new.depot ≡ old.depot → Outlasts g (Alone octets outcome) old new
-  outlasts_idle octets outcome old new same =
-      subst (λ d. Survives (state g old.depot) (state g d) (MayMakeOne octets (state g old.depot) old.host new.host)) (sym same)
-      (still (state g old.depot))
-
-  -- what is asked was answered
-  pub asked_answered : {E : Type 0} (r : Result Outcome E) (name octets : List ℕ) (asked : Asked) (old new : DepotAndOutput S) → IsAsked octets asked
-      → Survives (state g old.depot) (state g new.depot) (MayMake asked (state g old.depot) old.host new.host)
-      → IfOk r (λ outcome. (text : List ℕ) × HasComeOf g name asked outcome text old.depot new.depot old.host new.host × HasTaken (text ++ closing outcome) old.out new.out)
-      → IfOk r (λ outcome. IsAnsweredBy g HasTaken name octets outcome old new)
-  asked_answered (Ok outcome) name octets asked old new is survives answered = record {
-    text = answered.0;
-    come = come_of name octets asked outcome answered.0 old new is answered.1;
-    written = answered.2;
-    outlasts = outlasts_asked octets outcome asked old new is survives;
+  -- what is asked was done, or refused
+  pub asked_reported : (asked : Asked) (report : Report) (old new : Held S) (host host2 : HostState) → IsAsked octets asked → HasComeOf g name asked report old new host host2
+      → Survives (state g old) (state g new) (MayMake asked (state g old) host host2) → IsReportOn g name octets report old new host host2
+  asked_reported asked report old new host host2 is come survives = record {
+    come = λ out out2. come_of asked report old new host host2 out out2 is come;
+    outlasts = more_left (state g old) (state g new) (λ db made. (asked, is, made)) survives;
   }
-  asked_answered (Err e) name octets asked old new is survives answered = tt
 
-  pub asked_broken : {E : Type 0} (r : Result Outcome E) (name octets : List ℕ) (asked : Asked) (old new : DepotAndOutput S) → IsAsked octets asked
-      → Survives (state g old.depot) (state g new.depot) (MayMake asked (state g old.depot) old.host new.host)
-      → OnErr r ((outcome : Outcome) × (text : List ℕ) × HasComeOf g name asked outcome text old.depot new.depot old.host new.host × HasBroken (text ++ closing outcome) old.out new.out)
-      → OnErr r ((outcome : Outcome) × IsAnsweredBy g HasBroken name octets outcome old new)
-  asked_broken (Ok outcome) name octets asked old new is survives broken = tt
-  asked_broken (Err e) name octets asked old new is survives broken = (
-    broken.0,
-    record {
-      text = broken.1;
-      come = come_of name octets asked broken.0 broken.1 old new is broken.2;
-      written = broken.3;
-      outlasts = outlasts_asked octets broken.0 asked old new is survives;
-    },
-  )
+  -- nothing was asked
+  pub unasked_reported : (why : Unasked) (old : Held S) (host : HostState) → IsUnasked octets why → IsReportOn g name octets (unasked_report why) old old host host
+  unasked_reported (unasked.Wrong fault) old host wrong = record { come = λ out out2. (fault, wrong, refl, (refl, refl)); outlasts = still (state g old) }
+  unasked_reported unasked.NoMemory old host wrong = record { come = λ out out2. (refl, inl (refl, (refl, refl))); outlasts = still (state g old) }
 
-  -- a line that wasn't asked for anything was answered
-  pub unasked_answered : {E : Type 0} (r : Result Outcome E) (name octets : List ℕ) (why : Unasked) (old new : DepotAndOutput S) → IsUnasked octets why
-      → new.depot ≡ old.depot → new.host ≡ old.host
-      → IfOk r (λ outcome. (text : List ℕ) × IsUnaskedText why outcome text × HasTaken (text ++ closing outcome) old.out new.out)
-      → IfOk r (λ outcome. IsAnsweredBy g HasTaken name octets outcome old new)
-  unasked_answered (Ok outcome) name octets why old new wrong depot host answered = record {
-    text = answered.0;
-    come = unasked_come name octets why outcome answered.0 old new wrong answered.1 depot host;
-    written = answered.2;
-    outlasts = outlasts_idle octets outcome old new depot;
-  }
-  unasked_answered (Err e) name octets why old new wrong depot host answered = tt
+  module _ (report : Report) (old new : Held S) (host host2 : HostState) (out out2 : Output) (is : IsReportOn g name octets report old new host host2) where
+    answered_so : (Written : List ℕ → Output → Output → Type 0) → Written (answer_text report) out out2
+        → IsAnsweredBy g Written name octets (outcome_of report) (depot_and_output g old host out) (depot_and_output g new host2 out2)
+    answered_so Written written = record { text = report_text report; come = is.come out out2; written = written; outlasts = is.outlasts }
 
-  pub unasked_broken : {E : Type 0} (r : Result Outcome E) (name octets : List ℕ) (why : Unasked) (old new : DepotAndOutput S) → IsUnasked octets why
-      → new.depot ≡ old.depot → new.host ≡ old.host
-      → OnErr r ((outcome : Outcome) × (text : List ℕ) × IsUnaskedText why outcome text × HasBroken (text ++ closing outcome) old.out new.out)
-      → OnErr r ((outcome : Outcome) × IsAnsweredBy g HasBroken name octets outcome old new)
-  unasked_broken (Ok outcome) name octets why old new wrong depot host broken = tt
-  unasked_broken (Err e) name octets why old new wrong depot host broken = (
-    broken.0,
-    record {
-      text = broken.1;
-      come = unasked_come name octets why broken.0 broken.1 old new wrong broken.2 depot host;
-      written = broken.3;
-      outlasts = outlasts_idle octets broken.0 old new depot;
-    },
-  )
+    -- the report was written, or broke off
+    pub answered : {E : Type 0} (r : Result Outcome E) → IfOk r (λ outcome. outcome ≡ outcome_of report) → OnOk r (HasTaken (answer_text report) out out2)
+        → IfOk r (λ outcome. IsAnsweredBy g HasTaken name octets outcome (depot_and_output g old host out) (depot_and_output g new host2 out2))
+    answered (Ok outcome) same written =
+        subst (λ o. IsAnsweredBy g HasTaken name octets o (depot_and_output g old host out) (depot_and_output g new host2 out2)) (sym same) (answered_so HasTaken written)
+    answered (Err e) same written = tt
+
+    pub broken_off : {E : Type 0} (r : Result Outcome E) → OnErr r (HasBroken (answer_text report) out out2)
+        → OnErr r ((outcome : Outcome) × IsAnsweredBy g HasBroken name octets outcome (depot_and_output g old host out) (depot_and_output g new host2 out2))
+    broken_off r broken = on_err_weaker r (λ written. (outcome_of report, answered_so HasBroken written)) broken

@@ -8,8 +8,8 @@ use Rattle.std.proofs.lemmas.List.Elements.{All-append, All-cons, All-head, All-
 use Rattle.std.proofs.lemmas.Bool.{agree_below_at}
 use Rattle.octets.specs.Escapes.{octet_of_digits}
 use Rattle.octets.proofs.Digits.{both_digits}
-use Rattle.depot_jobs.specs.Printed.{escaped, escaped_octet, is_plain, quoted}
-use Rattle.depot_jobs.specs.declared.piece.Setting.TheVariants.{Quotes}
+use Rattle.printing.specs.Printed.{escaped, escaped_octet, is_plain, quoted}
+use Rattle.printing.specs.declared.piece.Setting.TheVariants.{Quotes}
 use Rattle.depot_batch.specs.Words.{IsBare, Plain, Writes, before_first, is_gap, is_quote, is_quoted_after, said_before, said_from, spaced, texts_from, texts_of, with_word, word_in, words_in, words_of}
 use Rattle.depot_batch.proofs.WordLemmas.{said_end, step, words_none, words_step}
 

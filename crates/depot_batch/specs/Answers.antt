@@ -3,13 +3,14 @@ use Rattle.std.specs.Prelude.{◌≡◌, ℕ, List, [], ◌∷◌, ◌++◌, Som
 use Rattle.std.specs.List.{All}
 use Rattle.std.specs.Str.{IsUtf8}
 use Rattle.sqlite_trees.specs.declared.store.Store.{Ghosts}
-use Rattle.sqlite.specs.Held.{Held}
-use Rattle.encodings.specs.Device.{HasBroken, HasTaken, Output}
+use Rattle.sqlite.specs.Held.{Held, state}
+use Rattle.sqlite.specs.State.{Survives}
+use Rattle.encodings.specs.Device.{Output}
+use Rattle.printing.specs.Printed.{refusal_line}
 use Rattle.depot_jobs.specs.Host.{HostState}
-use Rattle.depot_jobs.specs.Printed.{refusal_line}
 use Rattle.depot_cli.specs.Tasks.{text_in as reply_text}
 use Rattle.refusals.specs.declared.refusal.Refusal.TheVariants.{Memory}
-use Rattle.depot_batch.specs.Batch.{IsDone, IsRefused, IsWrong, closing, exported_text}
+use Rattle.depot_batch.specs.Batch.{HasCome, IsDone, IsRefused, IsWrong, MayMakeOne, closing, depot_and_output, exported_text}
 use Rattle.depot_batch.specs.Sentences.{wrong_line}
 use Rattle.depot_batch.specs.Words.{words_of}
 use Rattle.depot_batch.specs.declared.answering.Answer.{Answer}
@@ -20,11 +21,31 @@ use Rattle.depot_batch.specs.declared.line.Unasked.{Unasked}
 use Rattle.depot_batch.specs.declared.line.Unasked.TheVariants.{Wrong, NoMemory}
 use Rattle.depot_batch.specs.declared.outcome.Outcome.{Outcome}
 use Rattle.depot_batch.specs.declared.outcome.Outcome.TheVariants as outcomes
+use Rattle.depot_batch.specs.declared.report.Report.{Report}
+use Rattle.depot_batch.specs.declared.report.Report.TheVariants as reports
+
+-- ---- what a line is answered with
 
 -- what is printed of an answer
 abbrev pub text_in : Answer → List ℕ
 text_in (Replied reply) = reply_text reply
 text_in (Exported number) = exported_text number
+
+-- of a report
+abbrev pub report_text : Report → List ℕ
+report_text (reports.Done answer) = text_in answer
+report_text (reports.Refused refusal) = refusal_line refusal
+report_text (reports.Wrong fault) = wrong_line fault
+
+-- the outcome of its line
+abbrev pub outcome_of : Report → Outcome
+outcome_of (reports.Done answer) = outcomes.Done
+outcome_of (reports.Refused refusal) = outcomes.Refused refusal
+outcome_of (reports.Wrong fault) = outcomes.Wrong
+
+-- the report, and the line that ends the answer
+abbrev pub answer_text : Report → List ℕ
+answer_text report = report_text report ++ closing (outcome_of report)
 
 -- ---- lines
 
@@ -42,22 +63,20 @@ abbrev pub AreNoTexts : List (List ℕ) → Unasked → Type 0
 AreNoTexts words (Wrong fault) = (fault ≡ NotText) × (All IsUtf8 words → ⊥)
 AreNoTexts words NoMemory = Unit {0}
 
--- what is answered to a line that wasn't asked
-abbrev pub IsUnaskedText : Unasked → Outcome → List ℕ → Type 0
-IsUnaskedText (Wrong fault) outcome text = (outcome ≡ outcomes.Wrong) × (text ≡ wrong_line fault)
-IsUnaskedText NoMemory outcome text = (outcome ≡ outcomes.Refused Memory) × (text ≡ refusal_line Memory)
+-- what a line is answered with that wasn't asked
+abbrev pub unasked_report : Unasked → Report
+unasked_report (Wrong fault) = reports.Wrong fault
+unasked_report NoMemory = reports.Refused Memory
 
 module _ {S : Type 0} (g : Ghosts S) where
-  -- what came of what is asked, and the text of the answer
-  abbrev pub HasComeOf : List ℕ → Asked → Outcome → List ℕ → Held S → Held S → HostState → HostState → Type 0
-  HasComeOf name asked outcomes.Done text old new host host2 = IsDone g name asked text old new host host2
-  HasComeOf name asked (outcomes.Refused refusal) text old new host host2 = (text ≡ refusal_line refusal)
-      × IsRefused g name asked refusal old new host host2
-  HasComeOf name asked outcomes.Wrong text old new host host2 = ⊥
+  -- what came of what is asked
+  abbrev pub HasComeOf : List ℕ → Asked → Report → Held S → Held S → HostState → HostState → Type 0
+  HasComeOf name asked (reports.Done answer) old new host host2 = IsDone g name asked (text_in answer) old new host host2
+  HasComeOf name asked (reports.Refused refusal) old new host host2 = IsRefused g name asked refusal old new host host2
+  HasComeOf name asked (reports.Wrong fault) old new host host2 = ⊥
 
--- a text and the line that ends it were written, or the sink broke while they were
-abbrev pub HasWritten : Outcome → List ℕ → Output → Output → Type 0
-HasWritten outcome text old new = HasTaken (text ++ closing outcome) old new
-
-abbrev pub HasNotWritten : Outcome → List ℕ → Output → Output → Type 0
-HasNotWritten outcome text old new = HasBroken (text ++ closing outcome) old new
+  -- what came of a line, whatever was written, and what a crash may leave of it
+  pub record IsReportOn (name line : List ℕ) (report : Report) (old new : Held S) (host host2 : HostState) : Type 0 where
+    pub come : (out out2 : Output) → HasCome g name line (outcome_of report) (report_text report)
+        (depot_and_output g old host out) (depot_and_output g new host2 out2)
+    pub outlasts : Survives (state g old) (state g new) (MayMakeOne line (state g old) host host2)

@@ -1,5 +1,5 @@
 -- What the words of a line ask for.
-use Rattle.std.specs.Prelude.{◌≡◌, ◌≢◌, ℕ, ◌≤◌, List, [], ◌∷◌, Option, Some, None, codes, length}
+use Rattle.std.specs.Prelude.{◌≡◌, ◌≢◌, ℕ, ◌≤◌, List, [], ◌∷◌, Some, None, codes, length}
 use Rattle.std.specs.Str.Parse.{digits_value, without_leading_plus}
 use Rattle.encodings.specs.Names.{encoding_of}
 use Rattle.depot_jobs.specs.Words.{IsNumberText}

@@ -17,7 +17,7 @@ use Rattle.encodings.specs.Device.{HasBroken, HasTaken, Output}
 use Rattle.encodings.specs.Supply.{Supply}
 use Rattle.depot_jobs.specs.Host.{HasMade, HasNotMade, HostState, makes, with_call}
 use Rattle.depot_jobs.specs.Jobs.{HasTold}
-use Rattle.depot_jobs.specs.Printed.{line, refusal_line}
+use Rattle.printing.specs.Printed.{line, refusal_line}
 use Rattle.depot_jobs.specs.Inputs.{HasNotReadFile, HasReadFile, file_of}
 use Rattle.depot_cli.specs.Printed.{entries_text}
 use Rattle.depot_cli.specs.Requests.{request_command}

@@ -1,6 +1,6 @@
 -- What is wrong with a line, in words.
 use Rattle.std.specs.Prelude.{ℕ, List, ◌++◌, codes}
-use Rattle.depot_jobs.specs.Printed.{line}
+use Rattle.printing.specs.Printed.{line}
 use Rattle.depot_batch.specs.declared.fault.Form.TheVariants as forms
 use Rattle.depot_batch.specs.declared.fault.LineFault.{LineFault}
 use Rattle.depot_batch.specs.declared.fault.LineFault.TheVariants as faults

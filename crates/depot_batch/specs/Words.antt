@@ -2,7 +2,7 @@
 use Rattle.std.specs.Prelude.{ℕ, ◌==◌, ◌&&◌, ◌≡◌, ◌≢◌, ◌⊎◌, Bool, false, not, List, [], ◌∷◌, ◌++◌, Option, Some, None, if◌then◌else◌}
 use Rattle.std.specs.Option.{option_map}
 use Rattle.std.specs.List.{All, list_any}
-use Rattle.depot_jobs.specs.Printed.{quoted}
+use Rattle.printing.specs.Printed.{quoted}
 use Rattle.octets.specs.Escapes.{octet_of_digits}
 
 -- a quotation mark

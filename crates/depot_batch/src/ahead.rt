@@ -1,4 +1,4 @@
-// What an input has ready.
+// The lines that an input has ready.
 ghost use Rattle.std.specs.Prelude.{◌≡◌, ◌⊎◌, ◌++◌, ◌<◌, ◌^◌, [], IfErr, IfOk, IfSome, length};
 ghost use Rattle.std.specs.Io.KnownBytes.{Keeps};
 ghost use Rattle.std.specs.List.{concat};
@@ -13,28 +13,30 @@ use refusals::Refusal;
 use std::alloc::{AllocError, Global};
 use std::io::{BufRead, Error, ErrorKind};
 
-/// How many lines are done together at most.
+/// The most lines that are done together.
 const MOST_TOGETHER: usize = 64;
 
-/// How each of them begins.
+/// How each of these lines begins.
 const DELIVER: &[u8] = b"deliver ";
 
-/// What an input has ready.
+/// What an input has ready. [`look_ahead`] finds it without taking anything; a batch then does the deliveries together,
+/// or takes the next line alone.
 #[derive(Drop)]
 pub enum Ahead {
-    /// Lines that begin as a delivery does, two at least, before anything else.
+    /// At least two lines that begin as a delivery does, before anything else.
     Deliveries(Vec<Vec<u8>>),
-    /// Anything else, or what isn't known.
+    /// Anything else, or nothing that is known.
     Other,
-    /// Its end.
+    /// The end of the input.
     End,
 }
 
-/// Looks at what an input has ready, and takes nothing of it. It waits only where nothing is ready.
+/// Looks at what an input has ready, and takes nothing of it. It waits only if nothing is ready.
 ///
 /// # Errors
 ///
-/// `Memory` where an allocation was refused, and `Read` where a call failed, which is counted.
+/// - `Memory` if memory is refused.
+/// - `Read` if a call on the input fails; the failure is counted.
 pub fn look_ahead<R: BufRead + Drop>(alloc: Global, input: &mut OfRead<R>) -> Result<Ahead, Refusal>
     ensures ahead { IfOk result (λ ahead. IsAhead ahead (⟦<OfRead<R> as Source>⟧.supply input.old)
         (⟦<OfRead<R> as Source>⟧.supply input.new)) }
@@ -78,7 +80,7 @@ fn look<R: BufRead>(alloc: Global, reader: &mut R) -> Result<Ahead, Refusal>
     }
 }
 
-// What is known where a look failed. One that a signal interrupted is left to the next read.
+// What is known after a failed look. If a signal interrupted it, the next read tries again.
 fn unseen(fault: Error) -> Result<Ahead, Refusal>
     ensures other { IfOk result (λ ahead. ahead ≡ Other) }
     ensures refused { IfErr result (λ e. (e ≡ Memory) ⊎ (e ≡ Read)) }
@@ -90,7 +92,7 @@ fn unseen(fault: Error) -> Result<Ahead, Refusal>
     }
 }
 
-// The whole lines that octets begin with, as long as each begins as a delivery does.
+// The whole lines at the beginning of some bytes, as long as each begins as a delivery does.
 fn deliveries_in(alloc: Global, octets: &[u8]) -> Result<Vec<Vec<u8>>, AllocError>
     ensures { IfOk result (λ lines. AreShown (lines_of lines.items) octets.now) }
 {
@@ -108,8 +110,7 @@ fn deliveries_in(alloc: Global, octets: &[u8]) -> Result<Vec<Vec<u8>>, AllocErro
     Ok(lines)
 }
 
-// The line that octets begin with, if it is whole and begins as a delivery does, and what comes
-// after it.
+// The line at the beginning of some bytes, if it is whole and begins as a delivery does, and what comes after it.
 fn first_delivery(octets: &[u8]) -> Option<(&[u8], &[u8])>
     ensures { IfSome result (λ parts. IsLine parts.0.now
         × (octets.entry.now ≡ parts.0.now ++ parts.1.now)) }
@@ -123,7 +124,11 @@ fn first_delivery(octets: &[u8]) -> Option<(&[u8], &[u8])>
     }
 }
 
-/// Takes lines that were looked at.
+/// Takes lines that [`look_ahead`] found.
+///
+/// # Requires
+///
+/// The lines have fewer than 2^64 bytes together.
 pub fn take_lines<R: BufRead + Drop>(input: &mut OfRead<R>, lines: &[Vec<u8>])
     requires { length (concat (lines_of lines.now)) < 2 ^ 64 }
     ensures { (before : Supply)
@@ -139,7 +144,7 @@ pub fn take_lines<R: BufRead + Drop>(input: &mut OfRead<R>, lines: &[Vec<u8>])
     input.has_ended = false;
 }
 
-// How many octets lines have.
+// The number of bytes that lines have together. It is below 2^64.
 fn length_of(lines: &[Vec<u8>]) -> usize
     requires { length (concat (lines_of lines.now)) < 2 ^ 64 }
     ensures { result ≡ length (concat (lines_of lines.now)) }

@@ -1,43 +1,48 @@
-// What comes of what a line asks for.
-//
-// A refusal of a line goes to standard output, instead of the answer: with two streams nobody can tell which line of
-// one belongs to which of the other. Standard error is for what ends the batch.
-ghost use Rattle.std.specs.Prelude.{◌≡◌, List, IfErr, IfOk, OnErr, OnOk};
+// The answer to what a line asks for.
+ghost use Rattle.std.specs.Prelude.{◌≡◌, List, IfErr, IfOk, OnOk};
 ghost use Rattle.sqlite.specs.Held.{state};
 ghost use Rattle.sqlite.specs.State.{Survives};
-ghost use Rattle.encodings.specs.Device.{HasBroken, HasTaken};
 ghost use Rattle.depot_jobs.specs.Host.{with_faults};
 ghost use Rattle.depot_cli.specs.Requests.{command_of, request_command};
 ghost use Rattle.depot_cli.specs.Tasks.{text_in as reply_text};
 ghost use Rattle.depot_batch.specs.Answers.{text_in};
 ghost use Rattle.depot_batch.specs.Asked.{Asks, Text};
-ghost use Rattle.depot_batch.specs.Batch.{HasExported, HasNotExported, HasNotReplied, HasReplied, IsDone, IsRefused, MayMake, exported_text};
+ghost use Rattle.depot_batch.specs.Batch.{HasExported, HasNotExported, HasNotReplied, HasReplied, IsDone, IsRefused, MayMake};
 
 use crate::asked::{Asked, Export};
 use depot_actions::Depot;
-use depot_cli::{Reply, put_reply, reply_to};
-use depot_jobs::{Host, Piece, Request, Task, put_pieces, read_file_of};
+use depot_cli::{Reply, reply_to};
+use depot_jobs::{Host, Request, Task, read_file_of};
 use encodings::{DeviceFailed, Sink};
 use refusals::Refusal;
 use sqlite::Alter;
 use std::alloc::Global;
 
-/// What a line was answered with.
+/// The answer to a line whose command was done. [`answer_to`] makes it.
 #[derive(Drop)]
 pub enum Answer {
     /// The reply of the depot.
     Replied(Reply),
-    /// The entry of this number was exported.
+    /// The entry with this number was exported.
     Exported(u32),
 }
 
-/// Does what is asked: reads the request's file, has the depot do its task, and gives the reply; or
-/// makes the file of an export, whole or not at all, unless it is the depot's, which has this name,
-/// or one that the depot has beside it.
+/// Does what is asked for: reads the request's file, has the depot do its task, and returns the reply; or makes the
+/// file of an export, whole or not at all. `name` is the name of the depot's file: an export doesn't overwrite that, or
+/// a file that the depot has next to it.
+///
+/// # Requires
+///
+/// `asked` is what the words of some line ask for, as [`crate::asked_by`] returns it.
 ///
 /// # Errors
 ///
-/// The file can't be read or made, or the depot refuses. The depot is as it was.
+/// The depot is as it was.
+///
+/// - `Read` if the request's file can't be read, `MessageTooLarge` if it is longer than 67,108,864 bytes.
+/// - The depot's refusal of the command, as [`Depot`]'s call lists it.
+/// - `Write` if the file of an export can't be made or written.
+/// - `Memory` if memory is refused.
 pub fn answer_to<S: Alter, H: Host>(
     alloc: Global,
     name: &str,
@@ -93,7 +98,7 @@ fn reply<S: Alter, H: Host>(
     }
 }
 
-// The task of a request, with the octets of its file: it asks of the depot what the request does.
+// The task of a request, with the bytes of its file: it asks the depot for what the request asks.
 fn task_of<'a>(request: Request<'a>, octets: Vec<u8>) -> Task<'a>
     ensures { command_of result ≡ request_command request.entry octets.items }
 {
@@ -130,7 +135,7 @@ fn export<S: Alter, H: Host>(
     }
 }
 
-// Takes away the file of what was refused, and gives the refusal.
+// Removes the file of an export that was refused, and returns the refusal.
 fn give_up<H: Host>(host: &mut H, file: H::Writer, refusal: Refusal) -> Refusal
     ensures gone { H.state host.new ≡ with_faults (H.Writer.output file).faults
         (H.state host.old) }
@@ -138,33 +143,4 @@ fn give_up<H: Host>(host: &mut H, file: H::Writer, refusal: Refusal) -> Refusal
 {
     host.discard(file);
     refusal
-}
-
-/// Writes the lines of an answer.
-pub fn put_answer<O: Sink>(out: &mut O, answer: &Answer) -> Result<(), DeviceFailed>
-    ensures ok { OnOk result (HasTaken (text_in answer.now) (O.output out.old) (O.output out.new)) }
-    ensures err { OnErr result (HasBroken (text_in answer.now) (O.output out.old)
-        (O.output out.new)) }
-{
-    match answer {
-        Answer::Replied(reply) => put_reply(out, reply),
-        Answer::Exported(number) => put_exported(out, *number),
-    }
-}
-
-// Writes the line of an entry that was exported.
-fn put_exported<O: Sink>(out: &mut O, number: u32) -> Result<(), DeviceFailed>
-    ensures ok { OnOk result (HasTaken (exported_text number) (O.output out.old)
-        (O.output out.new)) }
-    ensures err { OnErr result (HasBroken (exported_text number) (O.output out.old)
-        (O.output out.new)) }
-{
-    put_pieces(
-        out,
-        &[
-            Piece::Text("exported "),
-            Piece::Number(number as u128),
-            Piece::Text("\n"),
-        ],
-    )
 }

@@ -1,7 +1,8 @@
 // What a line asks for.
 //
 // An export in a batch makes a file: the bytes of an entry can look like answers, and only their number would show
-// where they end. The file is made like that of a compiled program, whole or not at all, and never over the depot.
+// where they end. The file is made like that of a compiled program, whole or not at all, and never overwrites the
+// depot.
 ghost use Rattle.std.specs.Prelude.{◌≡◌, ◌∷◌, [], ℕ, MatchOption, IfErr, IfOk, map};
 ghost use Rattle.depot_batch.specs.Asked.{Asks, AskNothing, IsEntryNumber, name_of};
 ghost use Rattle.depot_batch.specs.declared.fault.Form.{Form};
@@ -10,34 +11,37 @@ use crate::fault::{Form, LineFault};
 use depot_jobs::Request;
 use encodings::Encoding;
 
-/// What a line asks for.
+/// The command that a line asks for. [`asked_by`] makes it from the line's words, and a batch does it.
 #[derive(Clone, Copy)]
 pub enum Asked<'a> {
-    /// What a depot replies to, which is no export.
+    /// A command to which the depot has a reply. It isn't an export.
     Reply(Request<'a>),
-    /// An entry's octets in an encoding, as a file.
+    /// Write an entry's bytes in an encoding to a file.
     Export(Export<'a>),
 }
 
-/// Which entry is written to which file.
+/// Which entry is to be written to which file.
 #[derive(Clone, Copy)]
 pub struct Export<'a> {
     /// The name of the user.
     pub user: &'a str,
-    /// The number of his entry.
+    /// The number of the user's entry.
     pub number: u32,
-    /// How its octets are written.
+    /// The encoding in which its bytes are written.
     pub encoding: Encoding,
     /// The name of the file.
     pub file: &'a str,
 }
 
-/// What the words of a line ask for.
+/// Returns the command that the words of a line ask for. For example, `deliver`, `ann` and `examples/invoice.eml` ask
+/// to deliver that file to the user `ann`.
 ///
 /// # Errors
 ///
-/// `NoCommand` where the first is no command's name, `Form` where others come after it than its
-/// command takes, `Number` and `Encoding` where one should be such and is none.
+/// - [`LineFault::NoCommand`] if the first word isn't the name of a command, or there is no word.
+/// - [`LineFault::Form`] if the command takes more or fewer words after its name.
+/// - [`LineFault::Number`] if a word that should be the number of an entry isn't one.
+/// - [`LineFault::Encoding`] if a word that should be the name of an encoding isn't one.
 pub fn asked_by<'a>(words: &[&'a str]) -> Result<Asked<'a>, LineFault>
     ensures asks { IfOk result (Asks (map (λ w. w.now) words.now)) }
     ensures nothing { IfErr result (AskNothing (map (λ w. w.now) words.now)) }
@@ -51,7 +55,7 @@ pub fn asked_by<'a>(words: &[&'a str]) -> Result<Asked<'a>, LineFault>
     }
 }
 
-// The first word, and those after it.
+// The first word, and the words after it.
 fn split<'w, 'a>(words: &'w [&'a str]) -> Option<(&'a str, &'w [&'a str])>
     ensures { MatchOption result (map (λ w. w.now) words.entry.now ≡ [])
         (λ x. map (λ w. w.now) words.entry.now ≡ x.0.now ∷ map (λ w. w.now) x.1.now) }
@@ -62,7 +66,7 @@ fn split<'w, 'a>(words: &'w [&'a str]) -> Option<(&'a str, &'w [&'a str])>
     }
 }
 
-// The form of the command of a name.
+// The form of the command with this name.
 fn form_of(name: &str) -> Option<Form>
     ensures { MatchOption result ((form : Form) → name.now ≡ name_of form → ⊥)
         (λ form. name.now ≡ name_of form) }
@@ -79,7 +83,7 @@ fn form_of(name: &str) -> Option<Form>
     }
 }
 
-// What a command asks for, by the words after its name.
+// What a command asks for, from the words after its name.
 fn asked_in<'a>(form: Form, rest: &[&'a str]) -> Result<Asked<'a>, LineFault>
     ensures asks { IfOk result (Asks (name_of form ∷ map (λ w. w.now) rest.now)) }
     ensures nothing { IfErr result (AskNothing (name_of form ∷ map (λ w. w.now) rest.now)) }

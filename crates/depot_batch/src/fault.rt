@@ -3,39 +3,48 @@ ghost use Rattle.std.specs.Prelude.{◌≡◌};
 ghost use Rattle.depot_batch.specs.Sentences.{sentence_of};
 ghost use Rattle.depot_batch.specs.declared.fault.LineFault.TheVariants as faults;
 
-/// The form of a command.
+/// The commands that a line can have, each with a fixed number of words. [`LineFault::Form`] names the one whose words
+/// were too many or too few, so that the answer can show how the command is written.
 #[derive(Clone, Copy)]
 pub enum Form {
+    /// `script USER SCRIPT`
     Script,
+    /// `code USER PROGRAM`
     Code,
+    /// `deliver USER MESSAGE`
     Deliver,
+    /// `list USER`
     List,
+    /// `export USER NUMBER ENCODING FILE`
     Export,
+    /// `remove USER NUMBER`
     Remove,
+    /// `migrate`
     Migrate,
 }
 
-/// Why a line is no command.
+/// Why a line is no command. [`crate::asked_by`] and the reading of lines return it, and the answer is its sentence
+/// after a `?`.
 #[derive(Clone, Copy)]
 pub enum LineFault {
-    /// The input ended within it.
+    /// The input ended within the line.
     Unfinished,
-    /// It isn't made of words with one space between two of them.
+    /// The line doesn't consist of words with one space between each two.
     Words,
     /// A word isn't UTF-8.
     NotText,
-    /// Its first word is no command's name.
+    /// The first word isn't the name of a command.
     NoCommand,
-    /// The words after its command's name aren't as many as that command takes.
+    /// The command takes more or fewer words after its name.
     Form(Form),
-    /// What should be the number of an entry is none.
+    /// A word that should be the number of an entry isn't one.
     Number,
-    /// What should be an encoding is none.
+    /// A word that should be the name of an encoding isn't one.
     Encoding,
 }
 
 impl LineFault {
-    /// What is wrong, in words.
+    /// Returns the mistake in words, as the answer to the line has it.
     pub fn sentence(self) -> &'static str
         ensures { result.now ≡ sentence_of self }
     {

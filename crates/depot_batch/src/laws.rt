@@ -1,4 +1,4 @@
-//! What holds of the definitions alone.
+//! Laws about the definitions: no call is made.
 ghost use Rattle.std.specs.Prelude.{◌≡◌, ◌<◌, ◌≤◌, ◌+◌, ◌*◌, ◌⊎◌, ◌∷◌, IsTrue, List, Some, false, length, map, true, ℕ};
 ghost use Rattle.std.specs.List.{All, concat};
 ghost use Rattle.sqlite.specs.Held.{state};
@@ -19,8 +19,8 @@ ghost use Rattle.depot_batch.specs.declared.outcome.Outcome.{Outcome};
 
 use sqlite::Alter;
 
-/// A line of texts that write words, with one space between two, has these words: so each word, of
-/// whatever octets, can be said.
+/// A line of texts that write words, with one space between each two, has these words. So each word can be written in a
+/// line, whatever bytes it has.
 pub fn lines_say_their_words()
     ensures { (first : List ℕ × List ℕ) (others : List (List ℕ × List ℕ))
         → All (λ w. Writes w.0 w.1 × All (λ octet. octet < 256) w.1) (first ∷ others)
@@ -28,9 +28,9 @@ pub fn lines_say_their_words()
         ≡ Some (map (λ w. w.1) (first ∷ others)) }
 {}
 
-/// What an open depot holds after turns of a batch is what the commands of the lines that were answered `= 0` make of what it held before, one
-/// after another, in the order of the lines, whether they were done alone or together: each with the octets that were read of its file in
-/// its turn. Other lines make nothing.
+/// What an open depot holds after turns of a batch is what the commands of the lines that were answered `= 0` make of
+/// what it held before, one after another, in the order of the lines, whether they were done alone or together; each
+/// command has the bytes that were read of its file in its turn. Other lines change nothing.
 pub fn batches_are_a_fold<S: Alter>()
     ensures { (name : List ℕ) (turns : List Turn) (input rest : Supply) (old new : DepotAndOutput S)
         (before : Entries) (taken : AreTaken S.Store name turns input rest old new)
@@ -42,8 +42,9 @@ pub fn batches_are_a_fold<S: Alter>()
         × (IsTrue (state S.Store new.depot).is_open → Stands (state S.Store new.depot).now after) }
 {}
 
-/// A crash, at any moment of a batch, leaves what it could have left before the batch, or what one of the turns makes, whole, of what the turns
-/// before it left: the command of a line that is done alone, or all commands of lines that are done together.
+/// A crash at any moment of a batch leaves what it could have left before the batch, or what one whole turn makes of
+/// what the turns before it left. A turn is the command of a line that is done alone, or all commands of lines that are
+/// done together.
 pub fn crashes_leave_one_turn_whole<S: Alter>()
     ensures { (name : List ℕ) (turns : List Turn) (input rest : Supply) (old new : DepotAndOutput S)
         → AreTaken S.Store name turns input rest old new → HasCleanDisk (state S.Store new.depot)
@@ -52,23 +53,23 @@ pub fn crashes_leave_one_turn_whole<S: Alter>()
         ⊎ IsMadeAtOne S.Store name turns input old trees }
 {}
 
-/// Exactly the lines that are answered in turns are taken of the input, in their order.
+/// Exactly the lines that are answered in turns are taken from the input, in their order.
 pub fn lines_are_taken_as_answered<S: Alter>()
     ensures { (name : List ℕ) (turns : List Turn) (input rest : Supply) (old new : DepotAndOutput S)
         → AreTaken S.Store name turns input rest old new
         → HasGiven (concat (lines_answered turns)) input rest }
 {}
 
-/// Turns of a batch are at most one more than twice as many as the lines that are answered in them, since they make progress. So a batch that
-/// ends after 2^64 - 1 turns has answered 2^63 - 1 lines at least.
+/// A batch has at most twice as many turns as lines that are answered in them, and one more, because turns make
+/// progress. So a batch that ends after 2^64 - 1 turns has answered at least 2^63 - 1 lines.
 pub fn turns_are_at_most_twice_the_lines()
     ensures { (turns : List Turn) → MakeProgress turns
         → length turns ≤ 2 * length (lines_answered turns) + 1 }
 {}
 
-/// No line of an answer begins with `= `, so whoever reads a batch's output can tell the line that ends an answer from its own lines,
-/// whatever was filed. Of the depot this takes one thing: no media type of an entry has a line break. A depot that commands made of
-/// nothing has that.
+/// If no media type of an entry has a line break, no line of an answer begins with `= `, so a program that reads a batch's
+/// output can distinguish the line that ends an answer from the answer's own lines, whatever was filed. In every depot
+/// that commands made from an empty one no media type has a line break.
 pub fn no_answer_closes_itself<S: Alter>()
     ensures alone { (name octets : List ℕ) (outcome : Outcome) (text : List ℕ) (old new : DepotAndOutput S)
         → HasCome S.Store name octets outcome text old new

@@ -1,10 +1,73 @@
 //! Many commands over one open depot: `depot batch DB`.
 //!
-//! [`batch`] reads lines, each of which is a command on the depot in words ([`words_of`],
-//! `specs/Words`; [`asked_by`], `specs/Asked`), does it, and writes the answer, which a line with its
-//! status ends (`specs/Batch`). Deliveries whose lines are there together are done in one transaction
-//! (`specs/Turns`), and answered when it is committed. So whoever is at the other end of a pipe sees
-//! what came of a command when it has happened.
+//! [`batch`] reads lines, each of which is a command on the depot in words ([`words_of`], `specs/Words`; [`asked_by`],
+//! `specs/Asked`). It does each command, and writes its answer, which ends in a line with its status (`specs/Batch`).
+//! Deliveries whose lines are there together are done in one transaction (`specs/Turns`), and are answered when it is
+//! committed. So a reader of the answers sees the result of a command when it has happened.
+//!
+//! `43 Database` ends a batch: a failure of the disk can have shut the store, no call asks a store whether one has, and
+//! a shut store refuses everything after that. So a stored filter that is no accepted program any more ends a batch,
+//! too. A line that exports names a file, which no request does, so it is an `Export`, apart from the requests.
+//!
+//! # Promises
+//!
+//! ## Batches
+//!
+//! ### Lines of a batch
+//!
+//! The lines of a batch are answered in their order, each exactly as the input has it: the bytes up to the next line
+//! break and with it, of any length, never a piece of a line and never nothing (`lines_are_taken_as_answered`). In a
+//! depot that commands made of nothing no line of an answer begins with `= `, as the line does that ends it
+//! (`no_answer_closes_itself`). It is tested, not proved, that an answer has left the program's buffer before the next
+//! line is read.
+//!
+//! ### Lines that are done together
+//!
+//! A batch goes by turns. In a turn a line is done and answered alone; or up to 64 lines are done together; or lines
+//! were tried together in vain. Each of the lines that are done together asks for a delivery, and their files were
+//! read one after another. If the disk returns what was written the depot accepted them all, one after another, and
+//! the answers are theirs, in order, each with its `= 0`.
+//!
+//! ### Lines that are tried in vain
+//!
+//! If lines were tried together in vain, the depot is as it was, provided that the disk returns what was written. No
+//! answer is written, and the same lines come next in the input. Then as many lines are answered alone, each in a turn
+//! of its own, unless the batch ends before. So a batch that answers N lines has at most 2 N + 1 turns
+//! (`turns_are_at_most_twice_the_lines`).
+//!
+//! ### What a line does
+//!
+//! For each line the definition has its words, what they ask for, its file as it was read, the depot's step, the text
+//! of the answer or the refusal's line, and the line with the status. For a line that is no command the answer is an
+//! exact description of the mistake, and nothing happens. The same holds for the bytes after the last line break,
+//! after which nothing is read. A line of texts that write words, as they are or between quotes, has these words,
+//! whatever bytes they are (`lines_say_their_words`).
+//!
+//! ### When a batch ends
+//!
+//! A batch ends only in these cases:
+//!
+//! - at the end of the input;
+//! - after a line that is refused `Database`;
+//! - if writing fails, or memory to read a line is refused;
+//! - if a read fails, which is counted: `Read` is reported for no other cause, and at most one line is lost then;
+//! - after 2^64 - 1 turns, when it has answered at least 2^63 - 1 lines.
+//!
+//! It ends with status 0 only at the end of the input or of these turns. An export is refused `Write` only if its file
+//! couldn't be made or written. If the depot refuses it, that is by a refusal that an export can get, and, if the disk
+//! returns what was written, for its cause.
+//!
+//! ### What a batch leaves
+//!
+//! If the disk returns what was written, the depot holds the fold of what was answered `= 0`, line after line, each
+//! with the bytes that were read of its file (`batches_are_a_fold`). A crash leaves what it could have left before, or
+//! what one of the turns makes of what those before it left, with the bytes that were read of its files, whole
+//! (`crashes_leave_one_turn_whole`). So of lines that are done together it leaves all or none.
+//!
+//! By `batch`, `words_of`, `asked_by`; `reply_to`, `print_reply` of depot_cli; `Request::file`, `Request::with_octets`,
+//! `read_file_of` of depot_jobs; `Depot::deliver_all` of depot_actions; laws `lines_say_their_words`,
+//! `lines_are_taken_as_answered`, `turns_are_at_most_twice_the_lines`, `batches_are_a_fold`,
+//! `crashes_leave_one_turn_whole`, `no_answer_closes_itself`.
 #![tactic(auto)]
 
 mod ahead;
@@ -16,6 +79,7 @@ mod line;
 mod mails;
 mod outcome;
 mod reading;
+mod report;
 mod serving;
 mod together;
 mod words;

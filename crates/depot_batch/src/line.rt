@@ -1,27 +1,25 @@
 // One line of a batch.
 //
-// A line that the input ends within isn't done: its writer can have died within it, and `remove ann 1` can be the
-// beginning of `remove ann 12`. It is reported as no command. Nothing is read after it, because on a growing file
+// If the input ends within a line, the line isn't done: its writer can have died within it, and `remove ann 1` can be
+// the beginning of `remove ann 12`. It is reported as no command. Nothing is read after it, because on a growing file
 // the rest of the line would be taken for a command of its own.
-ghost use Rattle.std.specs.Prelude.{◌≡◌, List, ℕ, [], IfErr, IfOk, OnErr, OnOk, map};
+ghost use Rattle.std.specs.Prelude.{◌≡◌, List, [], IfErr, IfOk, OnErr, OnOk, map};
 ghost use Rattle.sqlite.specs.Held.{state};
 ghost use Rattle.sqlite.specs.State.{Survives};
 ghost use Rattle.encodings.specs.Device.{HasBroken, HasFailed, HasTaken};
-ghost use Rattle.depot_jobs.specs.Printed.{line as line_of, refusal_line};
-ghost use Rattle.depot_batch.specs.Answers.{AreNoTexts, HasComeOf, HasLineWords, HasNotWritten, HasWritten, IsUnasked, IsUnaskedText};
+ghost use Rattle.depot_batch.specs.Answers.{AreNoTexts, HasComeOf, HasLineWords, IsReportOn, IsUnasked, answer_text, outcome_of, unasked_report};
 ghost use Rattle.depot_batch.specs.Asked.{Asks, Text};
-ghost use Rattle.depot_batch.specs.Sentences.{wrong_line};
-ghost use Rattle.depot_batch.specs.Batch.{IsAnsweredBy, MayMake, closing, depot_and_output};
+ghost use Rattle.depot_batch.specs.Batch.{IsAnsweredBy, MayMake, depot_and_output};
 ghost use Rattle.depot_batch.specs.declared.outcome.Outcome.{Outcome};
-ghost use Rattle.depot_batch.specs.declared.outcome.Outcome.TheVariants.{Refused};
 
-use crate::answering::{answer_to, put_answer};
+use crate::answering::answer_to;
 use crate::asked::{Asked, asked_by};
 use crate::fault::LineFault;
 use crate::outcome::Outcome;
+use crate::report::{Report, put_report};
 use crate::words::words_of;
 use depot_actions::Depot;
-use depot_jobs::{Host, Piece, put_line, put_pieces, put_refusal};
+use depot_jobs::Host;
 use encodings::{DeviceFailed, OfWrite, Sink};
 use refusals::Refusal;
 use sqlite::Alter;
@@ -29,20 +27,32 @@ use std::alloc::{AllocError, Global};
 use std::io::Write;
 use std::str;
 
-/// Why a line isn't asked for anything.
+/// Why nothing is done for a line.
 #[derive(Drop)]
 pub enum Unasked {
-    /// It is no command.
+    /// The line is no command.
     Wrong(LineFault),
     /// Memory was refused for its words.
     NoMemory,
 }
 
-/// Answers a line: does its command, and writes the answer and what ends it.
+impl Unasked {
+    // Returns what the line is answered with.
+    fn report(self) -> Report
+        ensures { result ≡ unasked_report self }
+    {
+        match self {
+            Unasked::Wrong(fault) => Report::Wrong(fault),
+            Unasked::NoMemory => Report::Refused(Refusal::Memory),
+        }
+    }
+}
+
+/// Answers a line: does its command, and writes the answer and the line that ends it.
 ///
 /// # Errors
 ///
-/// The writer failed. What the command did stands.
+/// `DeviceFailed` if the writer fails. What the command did remains done.
 pub fn serve<S: Alter, H: Host, W: Write + Drop>(
     alloc: Global,
     name: &str,
@@ -59,23 +69,39 @@ pub fn serve<S: Alter, H: Host, W: Write + Drop>(
         (depot_and_output S.Store depot.old (H.state host.old) (⟦<OfWrite<W> as Sink>⟧.output out.old))
         (depot_and_output S.Store depot.new (H.state host.new) (⟦<OfWrite<W> as Sink>⟧.output out.new))) }
 {
+    let report = report_on(alloc, name, line, depot, host);
+    give(out, report)
+}
+
+// Does the command of a line, and returns what the line is answered with.
+fn report_on<S: Alter, H: Host>(
+    alloc: Global,
+    name: &str,
+    line: &[u8],
+    depot: &mut Depot<S>,
+    host: &mut H,
+) -> Report
+    ensures { IsReportOn S.Store name.now line.now result depot.old depot.new (H.state host.old)
+        (H.state host.new) }
+{
     match line_words(alloc, line) {
         Ok(words) => match texts(alloc, &words) {
             Ok(texts) => match asked_by(&texts) {
-                Ok(asked) => answer(alloc, name, asked, depot, host, out),
-                Err(fault) => put_unasked(out, Unasked::Wrong(fault)),
+                Ok(asked) => report_of(alloc, name, asked, depot, host),
+                Err(fault) => Report::Wrong(fault),
             },
-            Err(unasked) => put_unasked(out, unasked),
+            Err(unasked) => unasked.report(),
         },
-        Err(unasked) => put_unasked(out, unasked),
+        Err(unasked) => unasked.report(),
     }
 }
 
-/// The words of a line, which a line break ends.
+/// The words of a line that ends with a line break.
 ///
 /// # Errors
 ///
-/// It is wrong, or memory was refused.
+/// - [`Unasked::Wrong`] if the line doesn't end with a line break, or isn't made of words.
+/// - [`Unasked::NoMemory`] if memory is refused.
 pub fn line_words(alloc: Global, line: &[u8]) -> Result<Vec<Vec<u8>>, Unasked>
     ensures words { IfOk result (λ words. HasLineWords line.now (map (λ w. w.items) words.items)) }
     ensures unasked { IfErr result (IsUnasked line.now) }
@@ -94,7 +120,8 @@ pub fn line_words(alloc: Global, line: &[u8]) -> Result<Vec<Vec<u8>>, Unasked>
 ///
 /// # Errors
 ///
-/// One of them isn't UTF-8, or memory was refused.
+/// - [`Unasked::Wrong`] if a word isn't UTF-8.
+/// - [`Unasked::NoMemory`] if memory is refused.
 pub fn texts<'a>(alloc: Global, words: &'a [Vec<u8>]) -> Result<Vec<&'a str>, Unasked>
     ensures texts { IfOk result (λ texts. map (λ t. t.now) texts.items
         ≡ map (λ w. w.items) words.entry.now) }
@@ -113,117 +140,58 @@ pub fn texts<'a>(alloc: Global, words: &'a [Vec<u8>]) -> Result<Vec<&'a str>, Un
     Ok(texts)
 }
 
-// Does what is asked, and writes the answer and what ends it.
-fn answer<S: Alter, H: Host, W: Write + Drop>(
+// Does what is asked for, and returns what its line is answered with.
+//
+// # Requires
+//
+// `asked` is what the words of some line ask for.
+fn report_of<S: Alter, H: Host>(
     alloc: Global,
     name: &str,
     asked: Asked<'_>,
     depot: &mut Depot<S>,
     host: &mut H,
-    out: &mut OfWrite<W>,
-) -> Result<Outcome, DeviceFailed>
+) -> Report
     requires { (words : List Text) × Asks words asked }
-    ensures answered { IfOk result (λ outcome. (text : List ℕ)
-        × HasComeOf S.Store name.now asked.entry outcome text depot.old depot.new
-        (H.state host.old) (H.state host.new)
-        × HasWritten outcome text (⟦<OfWrite<W> as Sink>⟧.output out.old)
-        (⟦<OfWrite<W> as Sink>⟧.output out.new)) }
-    ensures broken { OnErr result ((outcome : Outcome) × (text : List ℕ)
-        × HasComeOf S.Store name.now asked.entry outcome text depot.old depot.new
-        (H.state host.old) (H.state host.new)
-        × HasNotWritten outcome text (⟦<OfWrite<W> as Sink>⟧.output out.old)
-        (⟦<OfWrite<W> as Sink>⟧.output out.new)) }
+    ensures come { HasComeOf S.Store name.now asked.entry result depot.old depot.new
+        (H.state host.old) (H.state host.new) }
     ensures survives { Survives (state S.Store depot.old) (state S.Store depot.new)
         (MayMake asked.entry (state S.Store depot.old) (H.state host.old) (H.state host.new)) }
 {
     match answer_to(alloc, name, asked, depot, host) {
-        Ok(answer) => {
-            put_answer(out, &answer)?;
-            close(out, Outcome::Done)
-        }
-        Err(refusal) => refuse(out, refusal),
+        Ok(answer) => Report::Done(answer),
+        Err(refusal) => Report::Refused(refusal),
     }
 }
 
-// Writes why a line isn't asked for anything, and what ends the answer.
-fn put_unasked<W: Write + Drop>(
-    out: &mut OfWrite<W>,
-    unasked: Unasked,
-) -> Result<Outcome, DeviceFailed>
-    ensures written { IfOk result (λ outcome. (text : List ℕ) × IsUnaskedText unasked outcome text
-        × HasWritten outcome text (⟦<OfWrite<W> as Sink>⟧.output out.old)
-        (⟦<OfWrite<W> as Sink>⟧.output out.new)) }
-    ensures broken { OnErr result ((outcome : Outcome) × (text : List ℕ)
-        × IsUnaskedText unasked outcome text
-        × HasNotWritten outcome text (⟦<OfWrite<W> as Sink>⟧.output out.old)
-        (⟦<OfWrite<W> as Sink>⟧.output out.new)) }
-{
-    match unasked {
-        Unasked::Wrong(fault) => {
-            put_wrong(out, fault)?;
-            close(out, Outcome::Wrong)
-        }
-        Unasked::NoMemory => refuse(out, Refusal::Memory),
-    }
-}
-
-// Writes the line of what is wrong.
-fn put_wrong<O: Sink>(out: &mut O, fault: LineFault) -> Result<(), DeviceFailed>
-    ensures ok { OnOk result (HasTaken (wrong_line fault) (O.output out.old) (O.output out.new)) }
-    ensures err { OnErr result (HasBroken (wrong_line fault) (O.output out.old)
-        (O.output out.new)) }
-{
-    put_pieces(
-        out,
-        &[
-            Piece::Text("? "),
-            Piece::Text(fault.sentence()),
-            Piece::Text("\n"),
-        ],
-    )
-}
-
-// Writes the line of a refusal, and what ends the answer.
-fn refuse<W: Write + Drop>(out: &mut OfWrite<W>, refusal: Refusal) -> Result<Outcome, DeviceFailed>
-    ensures outcome { IfOk result (λ outcome. outcome ≡ Refused refusal) }
-    ensures ok { OnOk result (HasWritten (Refused refusal) (refusal_line refusal)
+// Writes a report and the line that ends the answer, and returns the outcome of the line.
+fn give<W: Write + Drop>(out: &mut OfWrite<W>, report: Report) -> Result<Outcome, DeviceFailed>
+    ensures outcome { IfOk result (λ outcome. outcome ≡ outcome_of report) }
+    ensures ok { OnOk result (HasTaken (answer_text report)
         (⟦<OfWrite<W> as Sink>⟧.output out.old) (⟦<OfWrite<W> as Sink>⟧.output out.new)) }
-    ensures err { OnErr result (HasNotWritten (Refused refusal) (refusal_line refusal)
+    ensures err { OnErr result (HasBroken (answer_text report)
         (⟦<OfWrite<W> as Sink>⟧.output out.old) (⟦<OfWrite<W> as Sink>⟧.output out.new)) }
 {
-    put_refusal(out, &refusal)?;
-    close(out, Outcome::Refused(refusal))
+    put_whole(out, &report)?;
+    Ok(report.outcome())
 }
 
-// Writes the line that ends an answer, and has all of the answer written.
-fn close<W: Write + Drop>(out: &mut OfWrite<W>, outcome: Outcome) -> Result<Outcome, DeviceFailed>
-    ensures outcome { IfOk result (λ same. same ≡ outcome) }
-    ensures ok { OnOk result (HasTaken (closing outcome)
+// Writes a report and the line that ends the answer, and makes sure that all of it is written.
+fn put_whole<W: Write + Drop>(out: &mut OfWrite<W>, report: &Report) -> Result<(), DeviceFailed>
+    ensures ok { OnOk result (HasTaken (answer_text report.now)
         (⟦<OfWrite<W> as Sink>⟧.output out.old) (⟦<OfWrite<W> as Sink>⟧.output out.new)) }
-    ensures err { OnErr result (HasBroken (closing outcome)
+    ensures err { OnErr result (HasBroken (answer_text report.now)
         (⟦<OfWrite<W> as Sink>⟧.output out.old) (⟦<OfWrite<W> as Sink>⟧.output out.new)) }
 {
-    put_line(out, status_of(&outcome))?;
-    flush(out)?;
-    Ok(outcome)
+    put_report(out, report)?;
+    flush(out)
 }
 
-/// The status of a line, as it is written.
-pub fn status_of(outcome: &Outcome) -> &'static str
-    ensures { line_of result.now ≡ closing outcome.now }
-{
-    match outcome {
-        Outcome::Done => "= 0",
-        Outcome::Refused(_) => "= 1",
-        Outcome::Wrong => "= 2",
-    }
-}
-
-/// Has what a writer holds back written.
+/// Writes what a writer holds back.
 ///
 /// # Errors
 ///
-/// The writer failed, which is counted.
+/// `DeviceFailed` if the writer fails; the failure is counted.
 pub fn flush<W: Write + Drop>(out: &mut OfWrite<W>) -> Result<(), DeviceFailed>
     ensures ok { OnOk result (HasTaken [] (⟦<OfWrite<W> as Sink>⟧.output out.old)
         (⟦<OfWrite<W> as Sink>⟧.output out.new)) }

@@ -10,21 +10,25 @@ use crate::line::{line_words, texts};
 use depot_jobs::{Host, Request, read_file_of};
 use std::alloc::Global;
 
-/// As many octets of messages are read for lines that are done together, and then no further message.
+/// How many bytes of messages are read for lines that are done together; after that, no further message is read.
 const ENOUGH: usize = 16 << 20;
 
 /// A message that a line asks to deliver.
 #[derive(Drop)]
 pub struct Mail {
-    /// The user that it is for.
+    /// The user to whom it is delivered.
     pub user: String,
     /// The message, as it was read.
     pub message: Vec<u8>,
 }
 
-/// Reads the messages that the first of these lines ask to deliver: of all, or of as many as have
-/// 16 MiB together. None, where one of the lines asks for something else, or its message can't be
-/// read, or memory is refused.
+/// Reads the messages that these lines ask to deliver: those of all lines, or of the first ones, until they have 16 MiB
+/// together. Returns `None` if one of the lines asks for something else, its message can't be read, or memory is
+/// refused.
+///
+/// # Requires
+///
+/// There is at least one line.
 pub fn read_mails<H: Host>(alloc: Global, lines: &[Vec<u8>], host: &mut H) -> Option<Vec<Mail>>
     requires { 0 < length lines.now }
     ensures some { IfSome result (λ mails. 0 < length mails.items) }
@@ -70,7 +74,7 @@ fn read_mail<H: Host>(alloc: Global, line: &[u8], host: &mut H) -> Option<Mail>
     }
 }
 
-// Reads a message of this file for a user.
+// Reads a message for a user from this file.
 fn mail_for<H: Host>(alloc: Global, user: &str, file: &str, host: &mut H) -> Option<Mail>
     ensures user { IfSome result (λ mail. string_bytes mail.user ≡ user.now) }
     ensures read { IfSome result (λ mail. HasReadFile (Some file.now) mail.message.items

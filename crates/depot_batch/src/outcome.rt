@@ -1,14 +1,14 @@
-// What comes of a line.
+// The outcome of a line.
 
 use refusals::Refusal;
 
-/// What comes of a line.
+/// The outcome of a line: it decides the status in the line that ends the answer.
 #[derive(Drop)]
 pub enum Outcome {
-    /// Its command was done.
+    /// The command was done: `= 0`.
     Done,
-    /// It was refused.
+    /// The command was refused: `= 1`.
     Refused(Refusal),
-    /// It says no command.
+    /// The line is no command: `= 2`.
     Wrong,
 }

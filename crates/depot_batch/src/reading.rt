@@ -11,22 +11,23 @@ use encodings::{OfRead, Source};
 use refusals::Refusal;
 use std::io::{BufRead, ErrorKind};
 
-/// What was taken of an input.
+/// What was taken from an input.
 #[derive(Clone, Copy)]
 pub enum Taken {
     /// A line, with its line break.
     Line,
-    /// What the input ends with, which no line break ends.
+    /// The rest of the input, without a line break at its end.
     Unfinished,
     /// Nothing: the input had ended.
     Nothing,
 }
 
-/// Takes the next line of the input, with its line break, or what the input ends with.
+/// Takes the next line of the input, with its line break, or the rest of the input.
 ///
 /// # Errors
 ///
-/// `Memory` where an allocation was refused, and `Read` where a call failed, which is counted.
+/// - `Memory` if memory is refused.
+/// - `Read` if a call on the input fails; the failure is counted.
 pub fn next_line<R: BufRead + Drop>(
     input: &mut OfRead<R>,
     line: &mut Vec<u8>,
@@ -78,7 +79,7 @@ fn read_line<R: BufRead>(reader: &mut R, line: &mut Vec<u8>) -> Result<Taken, Re
     }
 }
 
-// How octets end.
+// How some bytes end.
 fn taken_of(octets: &[u8]) -> Taken
     ensures { EndsSo result octets.now }
 {

@@ -1,11 +1,11 @@
 // The lines of a batch.
 //
-// The lines of a batch are defined over whatever they are answered with (`HasServedBy`): over an open depot, as
-// `batch` sees it, and over the state that the files represent, as `serve_from` does. How a line is answered is
-// written for each of the two. Answers are held back, and flushed once a line, or once a group: standard output
-// isn't buffered, so each piece of a line would be a system call. The flush comes after the line with the status,
-// and before the next line is read, so a caller that waits for the answer has it whole. An answer of more than
-// 65,536 bytes is several writes.
+// The lines of a batch are defined for any way to answer them (`HasServedBy`): over an open depot, as `batch` sees it,
+// and over the state that the files represent, as `serve_from` does. How a line is answered is written for each of the
+// two. An answer, or the answers to a group, are printed on one page: standard output isn't buffered, so each piece of a
+// line would be a system call. The page is flushed after the line with the status, and so is the writer, before the
+// next line is read; a caller that waits for the answer has all of it. An answer of more than 65,536 bytes is several
+// writes.
 ghost use Rattle.std.specs.Prelude.{◌≡◌, ◌<◌, ◌≤◌, ◌+◌, ◌^◌, ℕ, length, true, false};
 ghost use Rattle.std.specs.List.{All, concat};
 ghost use Rattle.refusals.specs.declared.refusal.Refusal.TheVariants.{Database};
@@ -31,24 +31,22 @@ use std::io::{BufRead, Write};
 /// The status of a batch whose input has ended.
 const SUCCESS: u8 = 0;
 
-/// The status of one that ended before.
+/// The status of a batch that ended before its input.
 const REFUSED: u8 = 1;
 
-/// Serves a batch to what opening the depot in the file of this name gave, and gives the status: the
-/// commands of the lines that the input has are done, one after another. One that is done alone is
-/// answered before the next one is done. Deliveries of which the lines are there already, up to 64,
-/// are done together, in one transaction, and answered when it is committed; if one of them would be
-/// refused, or can't be read, all are done one after another. Or the line of the refusal of opening is
-/// written to `err`, with 1. What was opened stays open, for whoever closes it.
+/// Serves a batch on the result of opening the depot in the file `name`, and returns the exit status. The commands in
+/// the lines of the input are done one after another. A command that is done alone is answered before the next one is
+/// done. Deliveries whose lines are already available, up to 64, are done together in one transaction, and answered
+/// after it is committed; if one of them would be refused or can't be read, all are done one after another. If the open
+/// was refused, the line of the refusal is written to `err`, and the status is 1. A depot that was opened stays open;
+/// the caller closes it.
 ///
-/// The status is 0 at the end of the input. Where that comes within a line, the octets after the last
-/// line break are answered as what they are, no command, and whatever the input would give afterwards
-/// isn't asked for. The status is 1 after a line that is refused `Database`, since a failure may have
-/// shut the depot's store; and where the input or `out` fails, or memory is refused while a line is
-/// read, of which the line of `Read`, `Write` or `Memory` is written to `err`. Memory that is refused
-/// for what a line asks is that line's answer. A batch ends after 2^64 - 1 turns, too, where lines that
-/// are done together, or were tried together in vain, are one turn; it has answered 2^63 - 1 lines then
-/// at least.
+/// The status is 0 at the end of the input. If the input ends within a line, the bytes after the last line break are
+/// answered as no command, and nothing more is read. The status is 1 after a line that is refused with `Database`,
+/// because a failure can have shut the depot's store. It is also 1 if the input or `out` fails, or memory is refused
+/// while a line is read; then the line of `Read`, `Write` or `Memory` is written to `err`. If memory is refused for
+/// what a line asks, this is that line's answer. A batch also ends, with status 0, after 2^64 - 1 turns; lines that are
+/// done together, or were tried together without success, are one turn. It has then answered at least 2^63 - 1 lines.
 pub fn batch<S: Alter, H: Host, R: BufRead + Drop, W: Write + Drop, E: Sink>(
     alloc: Global,
     name: &str,
@@ -70,7 +68,7 @@ pub fn batch<S: Alter, H: Host, R: BufRead + Drop, W: Write + Drop, E: Sink>(
     }
 }
 
-// Does the commands of the lines that the input has, turn by turn, on a depot.
+// Does the commands in the lines of the input on a depot, turn by turn.
 fn serve_lines<S: Alter, H: Host, R: BufRead + Drop, W: Write + Drop, E: Sink>(
     alloc: Global,
     name: &str,
@@ -95,9 +93,8 @@ fn serve_lines<S: Alter, H: Host, R: BufRead + Drop, W: Write + Drop, E: Sink>(
     SUCCESS
 }
 
-// Takes a turn: does lines together that are ready and begin as deliveries do, or the next line alone,
-// where there are none, and where so many are to be done alone. Gives the status of a batch that ends
-// with this turn.
+// Takes a turn: does lines together that are ready and begin as deliveries do, or else the next line alone, also if so
+// many lines are to be done alone. Returns the status of a batch that ends with this turn.
 fn take_turn<S: Alter, H: Host, R: BufRead + Drop, W: Write + Drop, E: Sink>(
     alloc: Global,
     name: &str,
@@ -128,8 +125,13 @@ fn take_turn<S: Alter, H: Host, R: BufRead + Drop, W: Write + Drop, E: Sink>(
     }
 }
 
-// Does lines together that the input has ready, and takes them; or says that so many of them are to be
-// done alone, where nothing came of it. Gives the status of a batch that ends with them.
+// Does lines together that the input has ready, and takes them; or, if they were withdrawn, notes that so many of them
+// are to be done alone. Returns the status of a batch that ends with them.
+//
+// # Requires
+//
+// - No line is to be done alone.
+// - There are 1 to 64 lines, each whole, with fewer than 2^64 bytes together.
 fn take_together<S: Alter, H: Host, R: BufRead + Drop, W: Write + Drop, E: Sink>(
     alloc: Global,
     name: &str,
@@ -173,7 +175,7 @@ fn take_together<S: Alter, H: Host, R: BufRead + Drop, W: Write + Drop, E: Sink>
     }
 }
 
-// Does the command of the next line. Gives the status of a batch that ends with it.
+// Does the command of the next line. Returns the status of a batch that ends with it.
 fn take_alone<S: Alter, H: Host, R: BufRead + Drop, W: Write + Drop, E: Sink>(
     alloc: Global,
     name: &str,
@@ -207,7 +209,7 @@ fn take_alone<S: Alter, H: Host, R: BufRead + Drop, W: Write + Drop, E: Sink>(
     }
 }
 
-// Answers what the input ends with, in which no line break is, and gives the status.
+// Answers the rest of the input, which has no line break, and returns the status.
 fn serve_last<S: Alter, H: Host, W: Write + Drop, E: Sink>(
     alloc: Global,
     name: &str,
@@ -228,7 +230,7 @@ fn serve_last<S: Alter, H: Host, W: Write + Drop, E: Sink>(
     }
 }
 
-// Whether the depot may be shut after what came of a line.
+// Whether the depot can be shut after this outcome of a line.
 fn is_shut_by(outcome: &Outcome) -> bool
     ensures shut { result ≡ true → outcome.now ≡ Refused Database }
     ensures goes_on { result ≡ false → outcome.now ≡ Refused Database → ⊥ }

@@ -1,9 +1,9 @@
 // Lines that are done together.
 //
-// A group's files are read before its first delivery, so a file that can't be read ends the trial before the depot
-// is asked for anything. The lines are then done one by one, and read again. A file that changes in between is filed
-// as it is then, and the trial uses up a pipe. To keep what was read would avoid that, but the contract would have
-// to say, for a batch that ends at a line refused `Database`, which files of later lines it had read.
+// A group's files are read before its first delivery, so if a file can't be read, the trial ends before the depot is
+// asked for anything. The lines are then done one by one, and their files read again. A file that changes in between is
+// filed as it is then, and the trial uses up a pipe. Keeping what was read would avoid that, but then the contract
+// would have to say, for a batch that ends at a line refused with `Database`, which files of later lines it had read.
 ghost use Rattle.std.specs.Prelude.{◌<◌, ◌≡◌, ◌≤◌, ◌++◌, IfOk, IfSome, List, OnErr, IfNone, OnOk, Vec, length, map, ℕ};
 ghost use Rattle.std.specs.List.{flat_map};
 ghost use Rattle.std.specs.declared.alloc.Global.{Global};
@@ -12,39 +12,45 @@ ghost use Rattle.sqlite.specs.State.{HasCleanDisk};
 ghost use Rattle.part_store.specs.Calls.{MayCommit};
 ghost use Rattle.part_store.specs.Standing.{LeavesUnchanged};
 ghost use Rattle.encodings.specs.Device.{HasBroken, HasTaken};
+ghost use Rattle.encodings.specs.Pages.{Wrote};
 ghost use Rattle.depot_actions.specs.Deliveries.{DoesAll, MayLeaveAll, command_of as asked_of};
 ghost use Rattle.depot_actions.specs.DepotState.{Listed};
 ghost use Rattle.depot_batch.specs.Batch.{AreAnsweredBy, filed_text, most_together, depot_and_output};
 ghost use Rattle.depot_batch.specs.Private.{HasTried, command_of, filed_by, lines_of};
 
-use crate::line::{flush, status_of};
+use crate::answering::Answer;
+use crate::line::flush;
 use crate::mails::{Mail, read_mails};
-use crate::outcome::Outcome;
+use crate::report::{Report, print_report};
 use depot_actions::{Delivery, Depot};
-use depot_cli::{Reply, put_reply};
-use depot_jobs::{Host, put_line};
-use encodings::{DeviceFailed, OfWrite, Sink};
+use depot_cli::Reply;
+use depot_jobs::Host;
+use encodings::{DeviceFailed, OfWrite, Page, Sink};
 use part_store::EntryRow;
 use sqlite::Alter;
 use std::alloc::{AllocError, Global};
 use std::io::Write;
 
-/// What came of lines that were to be done together.
+/// The result of lines that were to be done together.
 #[derive(Clone, Copy)]
 pub enum Tried {
-    /// They were done, and answered.
+    /// They were done and answered.
     Done,
     /// They were withdrawn: nothing has changed.
     Withdrawn,
 }
 
-/// Does lines together, if each asks for a delivery: in one transaction, and then writes the answers.
-/// Where their messages have much more than 16 MiB, only the first of them stay, as many as have that,
-/// and are done.
+/// If each of the lines asks for a delivery, does them in one transaction, and then writes the answers. If the messages
+/// have more than 16 MiB together, only the first lines stay in `lines`, until their messages have that many bytes, and
+/// only these are done.
+///
+/// # Requires
+///
+/// There are 1 to 64 lines.
 ///
 /// # Errors
 ///
-/// The writer failed. What the commands did stands.
+/// `DeviceFailed` if the writer fails. What the commands did remains done.
 pub fn serve_together<S: Alter, H: Host, W: Write + Drop>(
     alloc: Global,
     lines: &mut Vec<Vec<u8>>,
@@ -76,8 +82,7 @@ pub fn serve_together<S: Alter, H: Host, W: Write + Drop>(
     }
 }
 
-// Delivers messages in one transaction, and gives the rows of each one's new entries; none, where they
-// were refused.
+// Delivers messages in one transaction, and returns the new entries of each; `None` if they were refused.
 fn deliver_mails<S: Alter>(
     alloc: Global,
     mails: &[Mail],
@@ -115,8 +120,8 @@ fn deliveries_of<'a>(alloc: Global, mails: &'a [Mail]) -> Result<Vec<Delivery<'a
     Ok(deliveries)
 }
 
-// Writes the answers to deliveries: the rows of each one's new entries, and what ends an answer. Then
-// has all of them written.
+// Writes the answers to deliveries: the new entries of each, and the line that ends an answer. Then makes sure that all
+// of them are written.
 fn put_filed<W: Write + Drop>(
     out: &mut OfWrite<W>,
     replies: Vec<Vec<EntryRow>>,
@@ -126,19 +131,35 @@ fn put_filed<W: Write + Drop>(
     ensures err { OnErr result (HasBroken (flat_map filed_text (map filed_by replies.items))
         (⟦<OfWrite<W> as Sink>⟧.output out.old) (⟦<OfWrite<W> as Sink>⟧.output out.new)) }
 {
-    for rows in replies {
-        put_one(out, rows)?;
-    }
+    put_all(out, replies)?;
     flush(out)
 }
 
-// Writes the answer to a delivery.
-fn put_one<O: Sink>(out: &mut O, rows: Vec<EntryRow>) -> Result<(), DeviceFailed>
-    ensures ok { OnOk result (HasTaken (filed_text (filed_by rows)) (O.output out.old)
-        (O.output out.new)) }
-    ensures err { OnErr result (HasBroken (filed_text (filed_by rows)) (O.output out.old)
-        (O.output out.new)) }
+// Writes the answers to deliveries.
+fn put_all<O: Sink>(out: &mut O, replies: Vec<Vec<EntryRow>>) -> Result<(), DeviceFailed>
+    ensures ok { OnOk result (HasTaken (flat_map filed_text (map filed_by replies.items))
+        (O.output out.old) (O.output out.new)) }
+    ensures err { OnErr result (HasBroken (flat_map filed_text (map filed_by replies.items))
+        (O.output out.old) (O.output out.new)) }
 {
-    put_reply(out, &Reply::Filed(rows))?;
-    put_line(out, status_of(&Outcome::Done))
+    let mut page = Page::new(out);
+    print_filed(&mut page, replies);
+    page.flush()
+}
+
+// Prints the answers to deliveries.
+fn print_filed<O: Sink>(page: &mut Page<'_, O>, replies: Vec<Vec<EntryRow>>)
+    ensures { Wrote (flat_map filed_text (map filed_by replies.items)) page.old page.new }
+{
+    'replies: for rows in replies {
+        print_one(page, rows);
+    }
+}
+
+// Prints the answer to a delivery.
+fn print_one<O: Sink>(page: &mut Page<'_, O>, rows: Vec<EntryRow>)
+    ensures { Wrote (filed_text (filed_by rows)) page.old page.new }
+{
+    let report = Report::Done(Answer::Replied(Reply::Filed(rows)));
+    print_report(page, &report);
 }

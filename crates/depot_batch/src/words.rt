@@ -1,8 +1,8 @@
 // The words of a line.
 //
-// A line of a batch has a grammar of its own. The command line's is built again each time that it reads words, which
-// each line would pay for. Options and help make no sense there, and no shell removes quotation marks. So a line has
-// its words with one space between them, and texts in quotation marks are written as `depot` prints them.
+// A line of a batch has a grammar of its own. The command line's grammar is built again each time that it reads words,
+// and each line would pay for that. Options and help make no sense there, and no shell removes quotation marks. So a
+// line has its words with one space between each two, and texts in quotation marks are written as `depot` prints them.
 ghost use Rattle.std.specs.Prelude.{◌≡◌, IfOk, length, ◌≤◌, map, option_map};
 ghost use Rattle.std.specs.List.{list_any};
 ghost use Rattle.depot_batch.specs.Words.{Plain, is_gap, is_quoted_after, is_quote, said_from, texts_of, word_in, words_of};
@@ -11,11 +11,13 @@ ghost use Rattle.depot_batch.specs.Private.{parted_at};
 use octets::{first, said_of};
 use std::alloc::{AllocError, Global};
 
-/// The words of a line, in their order: `None` where it isn't made of words.
+/// Returns the words of a line, in their order, or `None` if it isn't made of words. Words are separated by one space;
+/// a word in double quotes is written as `depot` prints it. For example, `deliver ann examples/invoice.eml` has three
+/// words.
 ///
 /// # Errors
 ///
-/// An allocation was refused.
+/// `AllocError` if memory is refused.
 pub fn words_of(alloc: Global, line: &[u8]) -> Result<Option<Vec<Vec<u8>>>, AllocError>
     ensures { IfOk result (λ found. option_map (λ words. map (λ w. w.items) words.items) found
         ≡ words_of line.now) }
@@ -31,7 +33,7 @@ pub fn words_of(alloc: Global, line: &[u8]) -> Result<Option<Vec<Vec<u8>>>, Allo
     Ok(Some(words))
 }
 
-// The texts between the spaces of a line that stand in no quotes.
+// The texts between the spaces of a line that aren't inside quotes.
 fn texts_of<'a>(alloc: Global, line: &'a [u8]) -> Result<Vec<&'a [u8]>, AllocError>
     ensures { IfOk result (λ texts. map (λ t. t.now) texts.items ≡ texts_of line.entry.now) }
 {
@@ -47,7 +49,7 @@ fn texts_of<'a>(alloc: Global, line: &'a [u8]) -> Result<Vec<&'a [u8]>, AllocErr
     }
 }
 
-// How many octets stand before the first space that stands in no quotes.
+// The number of bytes before the first space that isn't inside quotes.
 fn first_len(octets: &[u8]) -> usize
     ensures bound { result ≤ length octets.now }
     ensures first { texts_of octets.now ≡ parted_at result octets.now }
@@ -65,21 +67,21 @@ fn first_len(octets: &[u8]) -> usize
     len
 }
 
-// Whether an octet ends a text.
+// Whether a byte ends a text.
 fn is_gap(octet: u8, quoted: bool) -> bool
     ensures { result ≡ is_gap octet quoted }
 {
     octet == b' ' && !quoted
 }
 
-// Whether what comes after an octet stands in quotes.
+// Whether what comes after a byte is inside quotes.
 fn is_quoted_after(octet: u8, quoted: bool) -> bool
     ensures { result ≡ is_quoted_after octet quoted }
 {
     if octet == b'"' { !quoted } else { quoted }
 }
 
-// What a text says.
+// The word that a text stands for.
 fn word_in(alloc: Global, text: &[u8]) -> Result<Option<Vec<u8>>, AllocError>
     ensures { IfOk result (λ said. option_map (λ w. w.items) said ≡ word_in text.now) }
 {
@@ -91,14 +93,14 @@ fn word_in(alloc: Global, text: &[u8]) -> Result<Option<Vec<u8>>, AllocError>
     }
 }
 
-// Whether a quotation mark is among octets.
+// Whether there is a quotation mark among bytes.
 fn has_quote(octets: &[u8]) -> bool
     ensures { result ≡ list_any is_quote octets.now }
 {
     octets.iter().any(|octet| *octet == b'"')
 }
 
-// What is said up to the quotation mark that ends a text.
+// The word up to the quotation mark that ends a text.
 fn said_in(alloc: Global, octets: &[u8]) -> Result<Option<Vec<u8>>, AllocError>
     ensures { IfOk result (λ said. option_map (λ w. w.items) said ≡ said_from Plain octets.now) }
 {

@@ -13,7 +13,7 @@ use Rattle.depot_actions.specs.declared.overview.UserOverview.{UserOverview}
 use Rattle.depot_actions.specs.declared.overview.ProgramState.{ProgramState}
 use Rattle.depot_actions.specs.declared.overview.ProgramState.TheVariants.{Missing, Accepted, Refused}
 use Rattle.refusals.specs.Lines.{name_of, number_of}
-use Rattle.depot_jobs.specs.Printed.{line, quoted}
+use Rattle.printing.specs.Printed.{line, quoted}
 use Rattle.depot_cli.specs.declared.entries.Detail.{Detail}
 use Rattle.depot_cli.specs.declared.entries.Detail.TheVariants.{Brief, Full}
 use Rattle.depot_cli.specs.declared.no_depot.NoDepot.{NoDepot}
@@ -91,17 +91,14 @@ log_text (Some octets) = codes "log " ++ decimal octets ++ codes " octets"
 -- the state of a user's filter, and the end of its line
 abbrev pub state_line : ProgramState → List ℕ
 state_line Missing = line (codes "none")
-state_line (Accepted version) = codes "accepted version " ++ (decimal version ++ 10 ∷ [])
-state_line (Refused refusal) = codes "refused "
-    ++ (decimal (number_of refusal) ++ (codes " " ++ (name_of refusal ++ 10 ∷ [])))
+state_line (Accepted version) = line (codes "accepted version " ++ decimal version)
+state_line (Refused refusal) = line (codes "refused " ++ decimal (number_of refusal) ++ codes " " ++ name_of refusal)
 
 -- the numbers of a user: the last one of an entry, how many entries there are, and their octets
 abbrev pub numbers_text : UserOverview → List ℕ
 numbers_text x =
-    codes "user " ++ (quoted (string_bytes x.user)
-    ++ (codes " last " ++ (decimal x.last
-    ++ (codes " entries " ++ (decimal x.entries ++ (codes " octets " ++ (decimal x.octets
-    ++ codes " program ")))))))
+    codes "user " ++ quoted (string_bytes x.user) ++ codes " last " ++ decimal x.last ++ codes " entries "
+    ++ decimal x.entries ++ codes " octets " ++ decimal x.octets ++ codes " program "
 
 -- the line of a user: these numbers, and the state of the filter
 abbrev pub user_line : UserOverview → List ℕ
@@ -115,10 +112,7 @@ contents_text total = codes "contents " ++ decimal total.contents ++ codes " oct
 abbrev pub users_text : List UserOverview → List ℕ
 users_text users = flat_map user_line users
 
--- that it is a depot, and its log
-abbrev pub head_text : Option ℕ → List ℕ
-head_text log = line (codes "depot") ++ line (log_text log)
-
--- the lines of a depot
+-- the lines of a depot: that it is one, its log, its users and its contents
 abbrev pub overview_text : Option ℕ → Overview → List ℕ
-overview_text log x = head_text log ++ (users_text x.users.items ++ line (contents_text x.contents))
+overview_text log x =
+    line (codes "depot") ++ line (log_text log) ++ users_text x.users.items ++ line (contents_text x.contents)

@@ -8,7 +8,7 @@ use Rattle.refusals.specs.declared.refusal.Refusal.{Refusal}
 use Rattle.refusals.specs.declared.refusal.Refusal.TheVariants.{NoSuchEntry, Write}
 use Rattle.depot_jobs.specs.Host.{HasMade, HasNotMade, HostState}
 use Rattle.depot_jobs.specs.Jobs.{HasTold, HostAndOutputs}
-use Rattle.depot_jobs.specs.Printed.{line, wrote_text}
+use Rattle.printing.specs.Printed.{line, wrote_text}
 use Rattle.depot_cli.specs.Tasks.{HasRefused}
 use Rattle.depot_cli.specs.declared.saving.Saving.{Saving}
 

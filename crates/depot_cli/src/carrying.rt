@@ -1,10 +1,10 @@
-// Tasks and inspections, by what opening the file gave.
+// Tasks and inspections on the result of opening the file.
 //
-// `carry` takes what opening gave, a depot or the refusal, so that printing the refusal, performing the task once
-// and giving its status are one contract. The way from the open to the close is `carry_from` of the program, over
-// any type that represents what the files held; `main` passes the one of which nothing is known. `serve_from`,
-// `save_from` and `inspect_from` are the same for a batch, `program` and `inspect`. What is left of the files is
-// said once for the four (`EndsSo`), by how the request is answered and which state a failed close can keep.
+// `carry` takes the result of opening, a depot or the refusal, so that printing the refusal, performing the task once
+// and returning its status are one contract. The way from the open to the close is `carry_from` of the program, over
+// any type that represents what the files held; `main` passes the type about which nothing is known. `serve_from`,
+// `save_from` and `inspect_from` are the same for a batch, `program` and `inspect`. What is left of the files is stated
+// once for the four (`EndsSo`), by how the request is answered and which state a failed close can keep.
 ghost use Rattle.sqlite.specs.Held.{state};
 ghost use Rattle.depot_cli.specs.Carrying.{HasCarried, HasReported, OutlastsCarrying, OutlastsReporting};
 ghost use Rattle.depot_cli.specs.Requests.{command_of};
@@ -21,12 +21,11 @@ use refusals::Refusal;
 use sqlite::Alter;
 use std::alloc::Global;
 
-/// Carries a task to what opening its depot gave, and gives the status: the task is performed on
-/// the depot, once, as [`perform`] says; or the line of the refusal of opening is written to `err`,
-/// with 1. What was opened stays open, for whoever closes it.
+/// Carries out a task on the result of opening its depot, and returns the exit status. If the depot is open, the task
+/// is performed on it once, as [`perform`] says. If the open was refused, the line of the refusal is written to `err`,
+/// and the status is 1. A depot that was opened stays open; the caller closes it.
 ///
-/// A crash, at any moment, leaves of a depot that was opened what it could have left before, or
-/// what the command makes of it.
+/// A crash at any moment leaves what it could have left before, or what the command makes of it.
 pub fn carry<S: Alter, O: Sink, E: Sink>(
     alloc: Global,
     pending: &PendingTask<'_>,
@@ -46,9 +45,10 @@ pub fn carry<S: Alter, O: Sink, E: Sink>(
     }
 }
 
-/// Says what opening a file as it is gave, after how many octets its log had before that, and gives
-/// the status: what the depot holds, as [`inspect`] says; or why there is none, with 1, as
-/// [`tell_no_depot`] says, or with the line of `Memory` on `err`.
+/// Reports what opening a file as it is resulted in, and returns the exit status. `log` is the size of the file's log
+/// in bytes before the open, if there was one. If the file is a depot, its contents are reported, as [`inspect`] says.
+/// If it isn't, the reason is written to `out`, as [`tell_no_depot`] says, and the status is 1; if memory was refused,
+/// the line of `Memory` is written to `err`, and the status is 1.
 pub fn inspect_opened<S: Alter, O: Sink, E: Sink>(
     alloc: Global,
     log: Option<u64>,

@@ -1,49 +1,49 @@
 // Printing the entries of a depot.
-ghost use Rattle.std.specs.Prelude.{◌≡◌, map, OnErr, OnOk};
+ghost use Rattle.std.specs.Prelude.{◌≡◌, map};
+ghost use Rattle.std.specs.List.{flat_map};
 ghost use Rattle.part_store.specs.Standing.{listed};
-ghost use Rattle.encodings.specs.Device.{HasBroken, HasTaken};
-ghost use Rattle.depot_jobs.specs.Printed.{line as line_of};
+ghost use Rattle.encodings.specs.Pages.{Wrote};
+ghost use Rattle.printing.specs.Printed.{line as line_of};
 ghost use Rattle.depot_cli.specs.Printed.{entries_text, entry_text, kind_text};
 
-use depot_jobs::{Piece, put_line, put_pieces};
-use encodings::{DeviceFailed, Sink};
+use encodings::{Page, Sink};
 use part_store::{EntryRow, Kind};
+use printing::{Piece, print, print_line};
 
-/// How much of an entry is printed.
+/// How much of an entry is printed: `deliver` prints entries briefly, `list` in full.
 #[derive(Clone, Copy)]
 pub enum Detail {
-    /// Its number, its kind and its folder.
+    /// The entry's number, kind and folder.
     Brief,
-    /// The same, then its name, its media type and the number of its octets.
+    /// The same, then its name, its media type and its size in bytes.
     Full,
 }
 
-/// Writes a line for each entry, or one that there is none.
-pub fn put_entries<O: Sink>(
-    out: &mut O,
-    detail: Detail,
-    rows: &[EntryRow],
-) -> Result<(), DeviceFailed>
-    ensures ok { OnOk result (HasTaken (entries_text detail (map listed rows.now))
-        (O.output out.old) (O.output out.new)) }
-    ensures err { OnErr result (HasBroken (entries_text detail (map listed rows.now))
-        (O.output out.old) (O.output out.new)) }
+/// Prints a line for each entry, or the line `none` if there are none. For example, `1 part "Documents"` briefly, and
+/// `1 part "Documents" "rechnung-2026-0417.pdf" application/pdf 9016` in full.
+#[tactic(auto, using(crate::proofs::PrintedLemmas::some_entries))]
+pub fn print_entries<O: Sink>(page: &mut Page<'_, O>, detail: Detail, rows: &[EntryRow])
+    ensures { Wrote (entries_text detail (map listed rows.now)) page.old page.new }
 {
     if rows.is_empty() {
-        return put_line(out, "none");
+        return print_line(page, "none");
     }
-    for row in rows {
-        put_entry(out, detail, row)?;
-    }
-    Ok(())
+    print_rows(page, detail, rows);
 }
 
-// Writes the line of an entry.
-fn put_entry<O: Sink>(out: &mut O, detail: Detail, row: &EntryRow) -> Result<(), DeviceFailed>
-    ensures ok { OnOk result (HasTaken (line_of (entry_text detail (listed row.now)))
-        (O.output out.old) (O.output out.new)) }
-    ensures err { OnErr result (HasBroken (line_of (entry_text detail (listed row.now)))
-        (O.output out.old) (O.output out.new)) }
+// Prints a line for each entry.
+fn print_rows<O: Sink>(page: &mut Page<'_, O>, detail: Detail, rows: &[EntryRow])
+    ensures { Wrote (flat_map (λ e. line_of (entry_text detail e)) (map listed rows.now))
+        page.old page.new }
+{
+    'rows: for row in rows {
+        print_entry(page, detail, row);
+    }
+}
+
+// Prints the line of an entry.
+fn print_entry<O: Sink>(page: &mut Page<'_, O>, detail: Detail, row: &EntryRow)
+    ensures { Wrote (line_of (entry_text detail (listed row.now))) page.old page.new }
 {
     let number = Piece::Number(row.number as u128);
     let kind = Piece::Text(kind_name(row.kind));
@@ -51,9 +51,9 @@ fn put_entry<O: Sink>(out: &mut O, detail: Detail, row: &EntryRow) -> Result<(),
     let space = Piece::Text(" ");
     let end = Piece::Text("\n");
     match detail {
-        Detail::Brief => put_pieces(out, &[number, space, kind, space, folder, end]),
-        Detail::Full => put_pieces(
-            out,
+        Detail::Brief => print(page, &[number, space, kind, space, folder, end]),
+        Detail::Full => print(
+            page,
             &[
                 number,
                 space,

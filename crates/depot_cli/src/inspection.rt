@@ -1,26 +1,30 @@
-// What a depot holds, written line by line.
-ghost use Rattle.std.specs.Prelude.{◌≡◌, ◌++◌, OnErr, OnOk};
+// Printing what a depot holds, line by line.
+ghost use Rattle.std.specs.Prelude.{◌≡◌, OnErr, OnOk};
 ghost use Rattle.sqlite.specs.Held.{state};
 ghost use Rattle.sqlite.specs.State.{Survives};
 ghost use Rattle.encodings.specs.Device.{HasBroken, HasTaken};
+ghost use Rattle.encodings.specs.Pages.{Wrote};
+ghost use Rattle.printing.specs.Printed.{line as line_of};
+ghost use Rattle.depot_actions.specs.declared.overview.ProgramState.TheVariants.{Refused};
 ghost use Rattle.depot_cli.specs.Inspecting.{HasInspected};
-ghost use Rattle.depot_jobs.specs.Printed.{line as line_of};
-ghost use Rattle.depot_cli.specs.Printed.{contents_text, head_text, numbers_text, overview_text, state_line, user_line, users_text};
+ghost use Rattle.depot_cli.specs.Printed.{contents_text, log_text, numbers_text, overview_text, state_line, user_line, users_text};
 ghost use Rattle.depot_cli.specs.Tasks.{store_and_outputs};
 
 use crate::task::finish;
 use depot_actions::{Depot, Overview, ProgramState, UserOverview};
-use depot_jobs::{Piece, put_pieces, tell};
-use encodings::{DeviceFailed, Sink};
+use depot_jobs::tell;
+use encodings::{DeviceFailed, Page, Sink};
 use part_store::ContentTotal;
+use printing::{Piece, print, print_line};
+use refusals::Refusal;
 use sqlite::Alter;
 use std::alloc::Global;
 
-/// Writes to `out` what a depot holds, after how many octets its log had before it was opened, and
-/// gives 0; or writes the line of its refusal, `Memory` or `Database`, to `err` and gives 1.
+/// Writes to `out` what a depot holds and returns 0; or writes the line of its refusal, `Memory` or `Database`, to
+/// `err` and returns 1. `log` is the size of the depot's log in bytes before it was opened, if there was one.
 ///
-/// Writing follows the look and takes no memory. Where `out` fails, a prefix is written there, the
-/// line of `Write` to `err`, and the status is 1. The depot stays as it is.
+/// Writing begins when everything is read, and allocates no memory. If `out` fails, the beginning of the lines was
+/// written there, the line of `Write` is written to `err`, and the status is 1. The depot stays as it is.
 pub fn inspect<S: Alter, O: Sink, E: Sink>(
     alloc: Global,
     log: Option<u64>,
@@ -39,7 +43,7 @@ pub fn inspect<S: Alter, O: Sink, E: Sink>(
     }
 }
 
-// Writes the lines of a depot.
+// Writes the lines of a depot. If a call of `out` fails, the beginning of the lines was written.
 fn put_overview<O: Sink>(
     out: &mut O,
     log: Option<u64>,
@@ -50,77 +54,61 @@ fn put_overview<O: Sink>(
     ensures err { OnErr result (HasBroken (overview_text log overview.now) (O.output out.old)
         (O.output out.new)) }
 {
-    put_head(out, log)?;
-    put_contents(out, &overview.users, &overview.contents)
+    let mut page = Page::new(out);
+    print_overview(&mut page, log, overview);
+    page.flush()
 }
 
-// Writes that it is a depot, and the line of its log.
-fn put_head<O: Sink>(out: &mut O, log: Option<u64>) -> Result<(), DeviceFailed>
-    ensures ok { OnOk result (HasTaken (head_text log) (O.output out.old) (O.output out.new)) }
-    ensures err { OnErr result (HasBroken (head_text log) (O.output out.old) (O.output out.new)) }
+// Prints the lines of a depot.
+fn print_overview<O: Sink>(page: &mut Page<'_, O>, log: Option<u64>, overview: &Overview)
+    ensures { Wrote (overview_text log overview.now) page.old page.new }
+{
+    print_line(page, "depot");
+    print_log(page, log);
+    print_users(page, &overview.users);
+    print_total(page, &overview.contents);
+}
+
+// Prints the line about the log.
+fn print_log<O: Sink>(page: &mut Page<'_, O>, log: Option<u64>)
+    ensures { Wrote (line_of (log_text log)) page.old page.new }
 {
     match log {
-        Some(octets) => put_pieces(
-            out,
+        Some(octets) => print(
+            page,
             &[
-                Piece::Text("depot\nlog "),
+                Piece::Text("log "),
                 Piece::Number(octets as u128),
                 Piece::Text(" octets\n"),
             ],
         ),
-        None => put_pieces(out, &[Piece::Text("depot\nno log\n")]),
+        None => print_line(page, "no log"),
     }
 }
 
-// Writes the lines of users, and that of the contents.
-fn put_contents<O: Sink>(
-    out: &mut O,
-    users: &[UserOverview],
-    contents: &ContentTotal,
-) -> Result<(), DeviceFailed>
-    ensures ok { OnOk result (HasTaken
-        (users_text users.now ++ line_of (contents_text contents.now)) (O.output out.old)
-        (O.output out.new)) }
-    ensures err { OnErr result (HasBroken
-        (users_text users.now ++ line_of (contents_text contents.now)) (O.output out.old)
-        (O.output out.new)) }
+// Prints a line for each user.
+fn print_users<O: Sink>(page: &mut Page<'_, O>, users: &[UserOverview])
+    ensures { Wrote (users_text users.now) page.old page.new }
 {
-    put_users(out, users)?;
-    put_total(out, contents)
-}
-
-// Writes a line for each user.
-fn put_users<O: Sink>(out: &mut O, users: &[UserOverview]) -> Result<(), DeviceFailed>
-    ensures ok { OnOk result (HasTaken (users_text users.now) (O.output out.old)
-        (O.output out.new)) }
-    ensures err { OnErr result (HasBroken (users_text users.now) (O.output out.old)
-        (O.output out.new)) }
-{
-    for user in users {
-        put_user(out, user)?;
+    'users: for user in users {
+        print_user(page, user);
     }
-    Ok(())
 }
 
-// Writes the line of a user.
-fn put_user<O: Sink>(out: &mut O, user: &UserOverview) -> Result<(), DeviceFailed>
-    ensures ok { OnOk result (HasTaken (user_line user.now) (O.output out.old) (O.output out.new)) }
-    ensures err { OnErr result (HasBroken (user_line user.now) (O.output out.old)
-        (O.output out.new)) }
+// Prints the line of a user.
+fn print_user<O: Sink>(page: &mut Page<'_, O>, user: &UserOverview)
+    ensures { Wrote (user_line user.now) page.old page.new }
 {
-    put_numbers(out, user)?;
-    put_state(out, &user.program)
+    print_numbers(page, user);
+    print_state(page, &user.program);
 }
 
-// Writes the numbers of a user.
-fn put_numbers<O: Sink>(out: &mut O, user: &UserOverview) -> Result<(), DeviceFailed>
-    ensures ok { OnOk result (HasTaken (numbers_text user.now) (O.output out.old)
-        (O.output out.new)) }
-    ensures err { OnErr result (HasBroken (numbers_text user.now) (O.output out.old)
-        (O.output out.new)) }
+// Prints the numbers of a user.
+fn print_numbers<O: Sink>(page: &mut Page<'_, O>, user: &UserOverview)
+    ensures { Wrote (numbers_text user.now) page.old page.new }
 {
-    put_pieces(
-        out,
+    print(
+        page,
         &[
             Piece::Text("user "),
             Piece::Quoted(user.user.as_bytes()),
@@ -132,48 +120,49 @@ fn put_numbers<O: Sink>(out: &mut O, user: &UserOverview) -> Result<(), DeviceFa
             Piece::Number(user.octets as u128),
             Piece::Text(" program "),
         ],
-    )
+    );
 }
 
-// Writes the state of a user's filter, and the end of the line.
-fn put_state<O: Sink>(out: &mut O, program: &ProgramState) -> Result<(), DeviceFailed>
-    ensures ok { OnOk result (HasTaken (state_line program.now) (O.output out.old)
-        (O.output out.new)) }
-    ensures err { OnErr result (HasBroken (state_line program.now) (O.output out.old)
-        (O.output out.new)) }
+// Prints the state of a user's filter, and the end of the line.
+fn print_state<O: Sink>(page: &mut Page<'_, O>, program: &ProgramState)
+    ensures { Wrote (state_line program.now) page.old page.new }
 {
     match program {
-        ProgramState::Missing => put_pieces(out, &[Piece::Text("none\n")]),
-        ProgramState::Accepted(version) => put_pieces(
-            out,
+        ProgramState::Missing => print_line(page, "none"),
+        ProgramState::Accepted(version) => print(
+            page,
             &[
                 Piece::Text("accepted version "),
                 Piece::Number(*version as u128),
                 Piece::Text("\n"),
             ],
         ),
-        ProgramState::Refused(refusal) => put_pieces(
-            out,
-            &[
-                Piece::Text("refused "),
-                Piece::Number(refusal.number() as u128),
-                Piece::Text(" "),
-                Piece::Text(refusal.name()),
-                Piece::Text("\n"),
-            ],
-        ),
+        ProgramState::Refused(refusal) => print_named(page, refusal),
     }
 }
 
-// Writes the line of the contents.
-fn put_total<O: Sink>(out: &mut O, contents: &ContentTotal) -> Result<(), DeviceFailed>
-    ensures ok { OnOk result (HasTaken (line_of (contents_text contents.now)) (O.output out.old)
-        (O.output out.new)) }
-    ensures err { OnErr result (HasBroken (line_of (contents_text contents.now)) (O.output out.old)
-        (O.output out.new)) }
+// Prints the number and the name of the refusal of a filter, without its place.
+fn print_named<O: Sink>(page: &mut Page<'_, O>, refusal: &Refusal)
+    ensures { Wrote (state_line (Refused refusal.now)) page.old page.new }
 {
-    put_pieces(
-        out,
+    print(
+        page,
+        &[
+            Piece::Text("refused "),
+            Piece::Number(refusal.number() as u128),
+            Piece::Text(" "),
+            Piece::Text(refusal.name()),
+            Piece::Text("\n"),
+        ],
+    );
+}
+
+// Prints the line of the contents.
+fn print_total<O: Sink>(page: &mut Page<'_, O>, contents: &ContentTotal)
+    ensures { Wrote (line_of (contents_text contents.now)) page.old page.new }
+{
+    print(
+        page,
         &[
             Piece::Text("contents "),
             Piece::Number(contents.contents as u128),
@@ -181,5 +170,5 @@ fn put_total<O: Sink>(out: &mut O, contents: &ContentTotal) -> Result<(), Device
             Piece::Number(contents.octets as u128),
             Piece::Text("\n"),
         ],
-    )
+    );
 }

@@ -1,11 +1,71 @@
-//! The command line of `depot`: what it does with a depot, and what it prints of one.
+//! The command line of `depot`: what it does with a depot, and what it prints about one.
 //!
-//! [`run`] goes from the words to the status (`specs/Running`). What needs no depot is done by
-//! `depot_jobs`. A [`Request`](depot_jobs::Request) to a depot is a [`Task`](depot_jobs::Task) once its file is read
-//! (`specs/Requests`), which [`perform`] has the depot do: it writes exactly the reply, or the line of
-//! the refusal (`specs/Tasks`, `specs/Printed`). Whoever opened the depot's file hands the task to
-//! [`carry`] as an [`PendingTask`] (`specs/Carrying`), a program that is saved to [`save`]
-//! (`specs/Saving`), and a file that is inspected to [`inspect_opened`] (`specs/Inspecting`).
+//! [`run`] goes from the words to the status (`specs/Running`). `depot_jobs` does what needs no depot. A
+//! [`Request`](depot_jobs::Request) to a depot is a [`Task`](depot_jobs::Task) once its file is read
+//! (`specs/Requests`). [`perform`] has the depot do a task: it writes exactly the reply, or the line of the refusal
+//! (`specs/Tasks`, `specs/Printed`). The caller that opened the depot's file passes a task to [`carry`] as a
+//! [`PendingTask`] (`specs/Carrying`), a program that is saved to [`save`] (`specs/Saving`), and a file that is
+//! inspected to [`inspect_opened`] (`specs/Inspecting`).
+//!
+//! Replies and reports are printed on a [`Page`](encodings::Page), which the call that has the sink makes and flushes.
+//! So the text of up to 65,536 bytes is one write, and a longer one is written in pieces of that size. Only an export
+//! writes its text itself.
+//!
+//! Opening comes before the user's name is looked at, and makes the tables of a new file: a refused name can leave an
+//! empty depot if there was no file. A file that is no database stays as it is, but the database leaves an empty log
+//! next to it.
+//!
+//! # Promises
+//!
+//! ## From the words to the status
+//!
+//! What a command reads is read in the order of its words, then its job is answered with these bytes. A command on a
+//! depot is returned as a pending task, with the bytes that were read; one that inspects or takes a batch as the name
+//! of its file; one that saves a program as its names, with nothing done.
+//!
+//! By `run`; `carry_out`, `read_file_of` of depot_jobs.
+//!
+//! ## A task on a depot
+//!
+//! A task on a depot is one command of it. Its reply is printed whole with status 0, or breaks off with status 1 while
+//! the command stays done, if the writer fails or memory is refused for a piece of an export. Or the one line of its
+//! refusal is printed, and the depot is as it was.
+//!
+//! ### Which refusal a task reports
+//!
+//! A refusal is one that the command can get, whatever the disk does. If the disk returns what was written, an export
+//! is reported as a failed write only if the writer failed, and `Database` is reported only for a cause that the
+//! definition names ("When a command is refused").
+//!
+//! By `perform`.
+//!
+//! ## Tasks
+//!
+//! A task is carried once to the depot that was opened for it, with the status and the texts of its command; or the
+//! refusal of opening is reported, with status 1. So is an inspection, with the reason why there is no depot. The
+//! words of the process are taken as they are, all of them and in their order.
+//!
+//! By `carry`, `inspect_opened`, `NoDepot::of`; `words`, `texts` of depot_jobs.
+//!
+//! ## Saving a program
+//!
+//! A user's program is saved as it is stored, as a file that is made whole or not at all, and its length in bytes is
+//! printed; if that breaks off, the file stays and the line of `Write` is printed. Otherwise the line of the reason is
+//! printed: the depot's refusal, a missing program, a file that could not be made, or the refusal of opening. No file
+//! is made under the name of the depot with `-wal`, `-shm` or `-journal` appended, nor by an export of a batch. The
+//! depot stays as it is, also in a crash.
+//!
+//! By `save`; for an export of a batch by `answer_to` of depot_batch.
+//!
+//! ## Inspecting
+//!
+//! Inspecting a depot reports exactly the users that have a row, in the order of their names, each with the last
+//! number, the number and the bytes of the entries and the state of the filter by reading and verifying it, and the
+//! size of the contents; the depot stays as it is. The report is printed whole with status 0, or breaks off with
+//! status 1; or the line of `Memory` or `Database` is printed. The reason why a file is no depot is printed in the
+//! words of its kind, with status 1.
+//!
+//! By `inspect`, `tell_no_depot`, `NoDepot`; `Depot::inspect` of depot_actions.
 #![tactic(auto)]
 
 mod carrying;
@@ -23,4 +83,4 @@ pub use no_depot::{NoDepot, tell_no_depot};
 pub use pending_task::PendingTask;
 pub use running::{Next, run};
 pub use saving::{Saving, save};
-pub use task::{Reply, perform, put_reply, reply_to};
+pub use task::{Reply, perform, print_reply, reply_to};

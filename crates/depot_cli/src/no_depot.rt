@@ -1,51 +1,53 @@
 // Why a file is no depot.
 //
-// `inspect` reports that there is no file, also in a folder in which this user can't make one: it makes nothing, so
-// it can't know what another command would be allowed. If a file is there and the rights are the problem, or a
-// folder on the way can't be searched, it says that.
+// If there is no file, `inspect` says that, also in a folder in which this user can't make one: it makes nothing, so it
+// can't know what another command would be allowed. If a file is there and the rights are the problem, or a folder on
+// the way can't be searched, it says that.
 ghost use Rattle.std.specs.Prelude.{◌≡◌};
 ghost use Rattle.depot_cli.specs.Inspecting.{HasSaidWhy};
 ghost use Rattle.depot_cli.specs.NoDepots.{no_depot_of};
 ghost use Rattle.depot_cli.specs.Printed.{why_text};
 
-use depot_jobs::{Piece, REFUSED, put_pieces, tell};
+use depot_jobs::{REFUSED, tell};
 use encodings::{DeviceFailed, Sink};
 use part_store::Unopened;
+use printing::{Piece, put_pieces};
 use refusals::Refusal;
 
-/// Why a file is no depot.
+/// Why a file is no depot: an answer of `depot inspect`. The program finds out what it can before it opens anything;
+/// [`NoDepot::of`] converts the errors of the open.
 #[derive(Clone, Copy)]
 pub enum NoDepot {
-    /// Nothing has the name.
+    /// Nothing has this name.
     NoFile,
-    /// The folder isn't there.
+    /// The folder doesn't exist.
     NoFolder,
-    /// What should be a folder on the way to it is something else.
+    /// Something on the way to the file that should be a folder isn't one.
     NoPath,
-    /// The process has no right to it; to open a depot takes that of writing.
+    /// The process has no right to the file; opening a depot needs the right to write.
     NoRights,
     /// It is a directory.
     Directory,
     /// It is a device, a pipe or a socket.
     Special,
-    /// Another name is that of the same file.
+    /// The file has a second name.
     SecondName,
-    /// It has no octets, and no log has any. A depot is made there by any command on a depot.
+    /// The file is empty, and so is its log, if there is one. Any command on a depot makes a depot there.
     Empty,
     /// Another process has the depot open.
     Held,
-    /// A file beside it stands in the way.
+    /// The file's log or its journal can't be opened.
     Closed,
     /// It is no database, or a damaged one.
     Damaged,
-    /// It is a database with other tables, or none.
+    /// It is a database that has other tables, or none.
     OtherTables,
     /// The disk failed.
     Disk,
 }
 
 impl NoDepot {
-    /// Why what isn't opened as it is is no depot, or none where memory was refused.
+    /// Returns why a file that can't be opened as it is is no depot, or `None` if memory was refused.
     pub fn of(why: Unopened) -> Option<NoDepot>
         ensures { result ≡ no_depot_of why }
     {
@@ -60,8 +62,8 @@ impl NoDepot {
     }
 }
 
-/// Writes to `out` why a file is no depot, and gives 1, the status of a refusal. Where `out` fails,
-/// a prefix is written there, and the line of `Write` to `err`.
+/// Writes to `out` why a file is no depot, and returns 1, the status of a refusal. If `out` fails, the beginning of the
+/// line was written there, and the line of `Write` is written to `err`.
 pub fn tell_no_depot<O: Sink, E: Sink>(out: &mut O, err: &mut E, why: NoDepot) -> u8
     ensures status { result ≡ 1 }
     ensures said { HasSaidWhy why (O.output out.old) (E.output err.old) (O.output out.new)
@@ -80,7 +82,7 @@ pub fn tell_no_depot<O: Sink, E: Sink>(out: &mut O, err: &mut E, why: NoDepot) -
     }
 }
 
-// Why, in words.
+// The reason in words.
 fn words(why: NoDepot) -> &'static str
     ensures { result.now ≡ why_text why }
 {

@@ -11,29 +11,30 @@ use encodings::Sink;
 use refusals::Refusal;
 use std::alloc::Global;
 
-/// What is to be done next.
+/// What remains to be done after [`run`]. If the command needs no depot, only the exit status is left; otherwise the
+/// program opens the depot's file and continues with [`crate::carry`], [`crate::inspect_opened`], [`crate::save`] or a
+/// batch.
 #[derive(Drop)]
 pub enum Next<'a> {
-    /// To end with a status: 0 for success, 1 for a refusal or an answer that broke off, 2 for
-    /// words that aren't those of a command, and for help.
+    /// End with this status: 0 for success, 1 for a refusal or an answer that broke off, 2 for words that aren't a
+    /// command, and for help.
     Exit(u8),
-    /// To perform a task on a depot. What it reads was read, and nothing was done yet.
+    /// Perform a task on a depot. Its file was read; nothing was done with the depot.
     Perform(PendingTask<'a>),
-    /// To say what the file of this name is, and what the depot in it holds. Nothing was done yet.
+    /// Report what the file with this name is, and what the depot in it holds. Nothing was opened.
     Inspect(&'a str),
-    /// To save a user's program as a file. Nothing was done yet.
+    /// Save a user's program as a file. Nothing was opened.
     Save(Saving<'a>),
-    /// To do commands on the depot of this name, one after another. None was read yet.
+    /// Do commands on the depot in the file with this name, one after another. None was read.
     Batch(&'a str),
 }
 
-/// Carries out what the words say, of which the first is the program's name; but a command on a
-/// depot is handed back, for whoever opens the depot to perform, and so is one that inspects, that
-/// saves a program, or that takes others.
+/// Carries out what the words say; the first is the program's name. A command on a depot is handed back, so that the
+/// caller opens the depot and performs it, and so is a command that inspects, saves a program, or reads commands.
 ///
-/// What the command reads is read in the order of its words, before anything is done with it; each
-/// at most one octet past the limit. Where it can't be read, the refusal is told, and nothing after
-/// it is opened. Then the job is answered, with these octets.
+/// The files of the command are read in the order of its words, before anything is done with them, each at most one
+/// byte past the limit of 67,108,864. If one can't be read, its refusal is written to `err`, and nothing after it is
+/// opened. Then the job is answered with these bytes.
 pub fn run<'a, H: Host, O: Sink, E: Sink>(
     alloc: Global,
     words: &'a [&'a str],
@@ -79,7 +80,7 @@ fn lead<'a, H: Host, O: Sink, E: Sink>(
     }
 }
 
-// Reads the file of a request, and gives the task to the depot of this name.
+// Reads the file of a request, and makes the task for the depot with this name.
 fn prepare<'a, H: Host>(
     alloc: Global,
     name: &'a str,

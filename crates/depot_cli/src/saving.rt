@@ -1,40 +1,42 @@
-// The filter program of a user, saved as a file.
+// A user's filter program, saved as a file.
 //
-// `program` is no task on a depot: it makes a file, as `compile` does, so it gets the host; a task gets standard
-// output alone.
+// `program` is no task on a depot: it makes a file, as `compile` does, so it needs the host; a task only gets standard
+// output.
 ghost use Rattle.std.specs.Prelude.{◌≡◌, IfErr, IfOk, List, length, ℕ, OnErr, OnOk};
 ghost use Rattle.sqlite.specs.Held.{state};
 ghost use Rattle.sqlite.specs.State.{Survives};
+ghost use Rattle.encodings.specs.Device.{HasBroken, HasTaken};
+ghost use Rattle.printing.specs.Printed.{line as line_of, wrote_text};
 ghost use Rattle.depot_jobs.specs.Jobs.{host_and_outputs};
 ghost use Rattle.depot_cli.specs.Saving.{HasNotSaved, HasSaved, HasSavedFile, HasServed, IsUnsaved, OutlastsSaving};
 
 use crate::task::finish;
 use depot_actions::Depot;
-use depot_jobs::{Host, make_file, put_wrote, tell};
-use encodings::Sink;
+use depot_jobs::{Host, make_file, tell};
+use encodings::{DeviceFailed, Page, Sink};
+use printing::print_wrote;
 use refusals::Refusal;
 use sqlite::Alter;
 use std::alloc::Global;
 
-/// Whose program is to be saved, and where.
+/// A request to save a user's filter program as a file, as `depot program` says it. [`save`] carries it out.
 #[derive(Clone, Copy)]
 pub struct Saving<'a> {
     /// The name of the depot's file.
     pub name: &'a str,
     /// The name of the user.
     pub user: &'a str,
-    /// The name of the program's file.
+    /// The name of the file to be made.
     pub out: &'a str,
 }
 
-/// Asks what opening a depot gave for a user's program, makes it a file, whole or not at all,
-/// writes to `out` how many octets it has, and gives 0; or writes the line of its refusal, or of
-/// the refusal of opening, to `err`, and gives 1. The depot stays as it is, and open.
+/// Saves a user's program, read from the result of opening a depot, as a file, whole or not at all. Writes to `out` how
+/// many bytes it has and returns 0; or writes the line of its refusal, or of the open's refusal, to `err` and returns
+/// 1. The depot stays as it is, and open.
 ///
-/// It is refused as `Depot::program_of` says; with `NoSuchEntry` where the user has no program; and
-/// with `Memory` or `Write` where the file can't be made, is the depot's own, or one that the depot
-/// has beside it. Where `out` fails, the file is there, a prefix of the line is written, and the line
-/// of `Write` to `err`, and the status is 1.
+/// The refusals are those of `Depot::program_of`; `NoSuchEntry` if the user has no program; and `Memory` or `Write` if
+/// the file can't be made, is the depot's own file, or is one that the depot has next to it. If `out` fails, the file
+/// exists, the beginning of the line was written to `out` and the line of `Write` to `err`, and the status is 1.
 pub fn save<S: Alter, H: Host, O: Sink, E: Sink>(
     alloc: Global,
     saving: Saving<'_>,
@@ -57,7 +59,19 @@ pub fn save<S: Alter, H: Host, O: Sink, E: Sink>(
     }
 }
 
-// Makes the user's program a file, and gives how many octets it has.
+// Writes the line about the bytes of the file. If a call of `out` fails, the beginning of the line was written.
+fn put_wrote<O: Sink>(out: &mut O, octets: usize) -> Result<(), DeviceFailed>
+    ensures ok { OnOk result (HasTaken (line_of (wrote_text octets)) (O.output out.old)
+        (O.output out.new)) }
+    ensures err { OnErr result (HasBroken (line_of (wrote_text octets)) (O.output out.old)
+        (O.output out.new)) }
+{
+    let mut page = Page::new(out);
+    print_wrote(&mut page, octets);
+    page.flush()
+}
+
+// Saves the user's program as a file, and returns how many bytes it has.
 fn save_program<S: Alter, H: Host>(
     alloc: Global,
     saving: Saving<'_>,

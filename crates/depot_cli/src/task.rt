@@ -1,52 +1,55 @@
 // Tasks on a depot, and their replies.
 //
-// The tasks on a depot are a call of their own, `perform`, apart from `answer` with the jobs that need none: a depot
-// is generic in its store, and a job isn't.
+// The tasks on a depot have a call of their own, `perform`, apart from `answer` for the jobs that need none: a depot is
+// generic in its store, and a job isn't.
 ghost use Rattle.std.specs.Prelude.{◌≡◌, IfErr, IfOk, OnErr, OnOk};
 ghost use Rattle.sqlite.specs.Held.{state};
 ghost use Rattle.sqlite.specs.State.{Survives};
 ghost use Rattle.depot_actions.specs.Causes.{IsExport};
 ghost use Rattle.encodings.specs.Device.{HasBroken, HasTaken};
+ghost use Rattle.encodings.specs.Pages.{Wrote};
 ghost use Rattle.refusals.specs.declared.refusal.Refusal.TheVariants.{Write};
 ghost use Rattle.depot_jobs.specs.Jobs.{HasTold};
 ghost use Rattle.depot_cli.specs.Printed.{migrated_text, removed_text};
 ghost use Rattle.depot_cli.specs.Requests.{command_of};
 ghost use Rattle.depot_cli.specs.Tasks.{HasAnswered, HasPerformed, HasRefused, MayAdd, store_and_outputs, text_in};
 
-use crate::entries::{Detail, put_entries};
+use crate::entries::{Detail, print_entries};
 use depot_actions::Depot;
-use depot_jobs::{Piece, SUCCESS, Task, put_line, put_pieces, tell};
-use encodings::{DeviceFailed, Sink};
+use depot_jobs::{SUCCESS, Task, tell};
+use encodings::{DeviceFailed, Page, Sink};
 use part_store::EntryRow;
+use printing::{Piece, print, print_line};
 use refusals::Refusal;
 use sqlite::Alter;
 use std::alloc::Global;
 
-/// What a depot replies to a task that it did, but for an export, whose reply is a text.
+/// What a depot replies to a task that it has done. [`reply_to`] makes it, and [`print_reply`] prints it. An export has
+/// no such reply: its reply is the text that it writes.
 #[derive(Drop)]
 pub enum Reply {
     /// A filter was stored.
     Stored,
-    /// A message was filed: the rows of its new entries.
+    /// A message was filed: its new entries.
     Filed(Vec<EntryRow>),
-    /// The rows of a user's entries.
+    /// A user's entries.
     Listed(Vec<EntryRow>),
-    /// The entry of this number was removed.
+    /// The entry with this number was removed.
     Removed(u32),
-    /// So many filters were given the latest version.
+    /// This many filters were given the latest version.
     Migrated(usize),
 }
 
-/// Has the depot do a task: writes its reply to `out` and gives 0, or writes the line of its
-/// refusal to `err` and gives 1.
+/// Has the depot do a task: writes its reply to `out` and returns 0, or writes the line of its refusal to `err` and
+/// returns 1.
 ///
-/// Writing follows the command and takes no memory, but for the text that an export writes a piece
-/// at a time. Where `out` fails, or memory is refused for a piece, a prefix of the reply is written
-/// there, what the depot did stands, the line of `Write` or of `Memory` is written to `err`, and
-/// the status is 1. As long as the disk returns what was written, `Write` is told in no other case.
+/// Writing begins after the command is done and allocates no memory, except for the text of an export, which is written
+/// in pieces. If `out` fails, or memory is refused for a piece, the beginning of the reply was written there, what the
+/// depot did remains done, the line of `Write` or of `Memory` is written to `err`, and the status is 1. As long as the
+/// disk returns what was written, `Write` is reported in no other case.
 ///
-/// A crash, at any moment, leaves what it could have left before, or what the command makes of it,
-/// and never a part of that.
+/// A crash at any moment leaves what it could have left before, or what the command makes of it, and never a part of
+/// that.
 pub fn perform<S: Alter, O: Sink, E: Sink>(
     alloc: Global,
     task: &Task<'_>,
@@ -76,14 +79,18 @@ pub fn perform<S: Alter, O: Sink, E: Sink>(
     }
 }
 
-/// Has the depot do a task other than an export, and gives its reply.
+/// Has the depot do a task other than an export, and returns its reply. The caller prints it with [`print_reply`].
 ///
-/// A crash, at any moment, leaves what it could have left before, or what the command makes of it,
-/// and never a part of that.
+/// A crash at any moment leaves what it could have left before, or what the command makes of it, and never a part of
+/// that.
+///
+/// # Requires
+///
+/// The task isn't an export.
 ///
 /// # Errors
 ///
-/// The depot refused the command, and is as it was.
+/// The refusal of the depot's command, as [`Depot`]'s call lists it; the depot is as it was.
 pub fn reply_to<S: Alter>(
     alloc: Global,
     task: &Task<'_>,
@@ -126,19 +133,56 @@ pub fn reply_to<S: Alter>(
     }
 }
 
-/// Writes the lines of a reply.
-pub fn put_reply<O: Sink>(out: &mut O, reply: &Reply) -> Result<(), DeviceFailed>
+// Writes the lines of a reply. If a call of `out` fails, the beginning of the lines was written.
+fn put_reply<O: Sink>(out: &mut O, reply: &Reply) -> Result<(), DeviceFailed>
     ensures ok { OnOk result (HasTaken (text_in reply.now) (O.output out.old) (O.output out.new)) }
     ensures err { OnErr result (HasBroken (text_in reply.now) (O.output out.old)
         (O.output out.new)) }
 {
+    let mut page = Page::new(out);
+    print_reply(&mut page, reply);
+    page.flush()
+}
+
+/// Prints the lines of a reply. For example, `stored` for a filter, and `removed 1` for entry 1.
+pub fn print_reply<O: Sink>(page: &mut Page<'_, O>, reply: &Reply)
+    ensures { Wrote (text_in reply.now) page.old page.new }
+{
     match reply {
-        Reply::Stored => put_line(out, "stored"),
-        Reply::Filed(rows) => put_entries(out, Detail::Brief, rows),
-        Reply::Listed(rows) => put_entries(out, Detail::Full, rows),
-        Reply::Removed(number) => put_removed(out, *number),
-        Reply::Migrated(count) => put_migrated(out, *count),
+        Reply::Stored => print_line(page, "stored"),
+        Reply::Filed(rows) => print_entries(page, Detail::Brief, rows),
+        Reply::Listed(rows) => print_entries(page, Detail::Full, rows),
+        Reply::Removed(number) => print_removed(page, *number),
+        Reply::Migrated(count) => print_migrated(page, *count),
     }
+}
+
+// Prints the line of an entry that was removed.
+fn print_removed<O: Sink>(page: &mut Page<'_, O>, number: u32)
+    ensures { Wrote (removed_text number) page.old page.new }
+{
+    print(
+        page,
+        &[
+            Piece::Text("removed "),
+            Piece::Number(number as u128),
+            Piece::Text("\n"),
+        ],
+    );
+}
+
+// Prints how many filters were given the latest version.
+fn print_migrated<O: Sink>(page: &mut Page<'_, O>, count: usize)
+    ensures { Wrote (migrated_text count) page.old page.new }
+{
+    print(
+        page,
+        &[
+            Piece::Text("migrated "),
+            Piece::Number(count as u128),
+            Piece::Text("\n"),
+        ],
+    );
 }
 
 // The status of a command that was done, whose reply was written or broke off.
@@ -151,38 +195,4 @@ pub(crate) fn finish<E: Sink>(err: &mut E, written: Result<(), DeviceFailed>) ->
         Ok(()) => SUCCESS,
         Err(DeviceFailed) => tell(err, &Refusal::Write),
     }
-}
-
-// Writes the line of an entry that was removed.
-fn put_removed<O: Sink>(out: &mut O, number: u32) -> Result<(), DeviceFailed>
-    ensures ok { OnOk result (HasTaken (removed_text number) (O.output out.old)
-        (O.output out.new)) }
-    ensures err { OnErr result (HasBroken (removed_text number) (O.output out.old)
-        (O.output out.new)) }
-{
-    put_pieces(
-        out,
-        &[
-            Piece::Text("removed "),
-            Piece::Number(number as u128),
-            Piece::Text("\n"),
-        ],
-    )
-}
-
-// Writes how many filters were given the latest version.
-fn put_migrated<O: Sink>(out: &mut O, count: usize) -> Result<(), DeviceFailed>
-    ensures ok { OnOk result (HasTaken (migrated_text count) (O.output out.old)
-        (O.output out.new)) }
-    ensures err { OnErr result (HasBroken (migrated_text count) (O.output out.old)
-        (O.output out.new)) }
-{
-    put_pieces(
-        out,
-        &[
-            Piece::Text("migrated "),
-            Piece::Number(count as u128),
-            Piece::Text("\n"),
-        ],
-    )
 }

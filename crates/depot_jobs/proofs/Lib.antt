@@ -1,7 +1,5 @@
 pub mod ListingLemmas
 pub mod NameLemmas
-pub mod OutputLemmas
-pub mod PrintedLemmas
 pub mod SaidLemmas
 pub mod WorkingLemmas
 pub mod SupplyLemmas

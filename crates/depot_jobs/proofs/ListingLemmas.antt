@@ -6,7 +6,8 @@ use Rattle.mime_tree.specs.PartTree as tree
 use Rattle.mime_decode.specs.Mail.{Mail, Part, mail_of, part_of}
 use Rattle.mime_decode.proofs.MailLemmas.{at_mapped, parts_are}
 use Rattle.mime_params.specs.declared.media.MediaType.{MediaType}
-use Rattle.depot_jobs.specs.Printed.{line, part_text, parts_text_from}
+use Rattle.depot_jobs.specs.Printed.{part_text, parts_text_from}
+use Rattle.printing.specs.Printed.{line}
 
 -- the parts of a mail are those of its tree
 pub parts_of_tree : {mail : Mail} (octets : List ℕ) → mail ≡ mail_of octets → mail.parts ≡ map part_of (tree.tree_of octets)

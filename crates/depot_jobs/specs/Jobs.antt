@@ -22,7 +22,8 @@ use Rattle.sieve_explain.specs.Explaining.{Explains, IsRemarked, listing_told}
 use Rattle.mime_decode.specs.Mail.{IsReadable, mail_of}
 use Rattle.depot_jobs.specs.Host.{HasMade, HasNotMade, HostState}
 use Rattle.depot_jobs.specs.Limit.{limit_text}
-use Rattle.depot_jobs.specs.Printed.{line, ok_text, parts_text, refusal_line, report_text, wrote_text}
+use Rattle.depot_jobs.specs.Printed.{ok_text, parts_text}
+use Rattle.printing.specs.Printed.{line, refusal_line, report_text, wrote_text}
 use Rattle.depot_jobs.specs.Tracing.{IsTraceRefusal, IsTraced, is_program}
 use Rattle.refusals.specs.Causes.{of_verifier}
 use Rattle.refusals.specs.Scripts.{IsScriptRefusal}

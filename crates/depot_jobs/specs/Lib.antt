@@ -11,10 +11,7 @@ pub mod Requests
 pub mod Inputs
 pub mod Working
 pub mod Usage
--- what lines are made of
-pub mod Pieces
 -- where names of files lead
 pub mod Files
 -- private: how the code goes; no public contract names these
-pub mod Gathering
 pub mod Private

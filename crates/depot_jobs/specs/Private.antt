@@ -5,7 +5,8 @@ use Rattle.depot_jobs.specs.Host.{Origin, origin_of}
 use Rattle.depot_jobs.specs.declared.inputs.Inputs.{Inputs}
 use Rattle.depot_jobs.specs.declared.inputs.Inputs.TheVariants.{One, Two}
 use Rattle.depot_jobs.specs.Jobs.{GoesOutAsMade, commented}
-use Rattle.depot_jobs.specs.Printed.{line, ok_text, refusal_line, report_text, wrote_text}
+use Rattle.depot_jobs.specs.Printed.{ok_text}
+use Rattle.printing.specs.Printed.{line, refusal_line, report_text, wrote_text}
 use Rattle.refusals.specs.declared.refusal.Refusal.{Refusal}
 use Rattle.depot_jobs.specs.declared.job.JobAnswer.{JobAnswer}
 use Rattle.depot_jobs.specs.declared.job.JobAnswer.TheVariants as answers

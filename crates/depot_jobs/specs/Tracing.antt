@@ -13,7 +13,7 @@ use Rattle.sieve_lexer.specs.declared.token.Token.{Token}
 use Rattle.sieve_trace.specs.Places.{places_of}
 use Rattle.sieve_trace.specs.Printed.{sheet}
 use Rattle.sieve_trace.specs.Written.{trace_text}
-use Rattle.depot_jobs.specs.Printed.{report_text}
+use Rattle.printing.specs.Printed.{report_text}
 
 -- whether octets are taken for a program: they begin as every program does
 abbrev pub is_program : List ℕ → Bool

@@ -5,7 +5,7 @@ use Rattle.depot_words.specs.Commands.{IsDepot}
 use Rattle.encodings.specs.Device.{HasBroken, HasTaken, Output}
 use Rattle.refusals.specs.declared.refusal.Refusal.TheVariants.{Memory}
 use Rattle.depot_jobs.specs.Jobs.{HasTold, HostAndOutputs}
-use Rattle.depot_jobs.specs.Printed.{shown}
+use Rattle.printing.specs.Printed.{shown}
 use Rattle.depot_jobs.specs.Statuses.{refused, usage}
 
 -- the words aren't those of a command

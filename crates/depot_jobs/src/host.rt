@@ -1,4 +1,4 @@
-// What the program's surroundings give to it.
+// What the surroundings give to the program.
 ghost use Rattle.std.specs.Prelude.{◌≡◌, false, suc, IfErr, IfOk, OnErr, OnOk};
 ghost use Rattle.depot_jobs.specs.Host.{HasKept, HasNotMade, HasNotOpened, HostState, IsFreshOutput, IsFreshSupply, is_beside, makes, opens, origin_of, with_call, with_faults, with_supply};
 
@@ -6,26 +6,26 @@ use encodings::{DeviceFailed, Sink, Source};
 use refusals::Refusal;
 use std::alloc::Global;
 
-/// What gives octets to a command.
+/// Where a command reads bytes from.
 #[derive(Clone, Copy)]
 pub enum Input<'a> {
     /// Standard input.
     Standard,
-    /// The file of this name.
+    /// The file with this name.
     File(&'a str),
 }
 
-/// What opens and makes files.
+/// What opens and makes files for a command: [`crate::System`] in the program, a shelf of texts in tests. Commands that
+/// read or make files take one.
 ///
-/// A contract sees what is read from where, as far as that is told; what the host was asked for, in
-/// turn, where that is told; how many octets it gave; and how many calls have failed, those of its
-/// readers and writers among them, once they are given back. They have to be: neither type may be
-/// dropped.
+/// A contract sees what is read from where, if that is observable; what the host was asked for, in order, if that is
+/// observable; how many bytes it gave; and how many calls have failed, including those of its readers and writers after
+/// they are given back. They have to be given back: neither type can be dropped.
 pub trait Host {
-    /// What gives the octets of a file, or of standard input.
+    /// Gives the bytes of a file, or of standard input.
     type Reader: Source;
 
-    /// What takes the octets of a file that is being made.
+    /// Takes the bytes of a file that is being made.
     type Writer: Sink;
 
     ghost state: { Self → HostState };
@@ -34,7 +34,8 @@ pub trait Host {
     ///
     /// # Errors
     ///
-    /// `Memory` where an allocation was refused, `Read` where it can't be opened.
+    /// - `Memory` if memory is refused.
+    /// - `Read` if it can't be opened.
     fn open(&mut self, input: Input<'_>) -> Result<Self::Reader, Refusal>
         ensures fresh { IfOk result (λ reader. IsFreshSupply
             ((state self.old).contents (origin_of input.entry)) (Self.Reader.supply reader)) }
@@ -43,18 +44,18 @@ pub trait Host {
         ensures err { IfErr result (λ e. HasNotOpened e (origin_of input.entry) (state self.old)
             (state self.new)) };
 
-    /// Takes back what gave octets.
+    /// Takes a reader back.
     fn close(&mut self, reader: Self::Reader)
         ensures { state self.new ≡ with_supply (Self.Reader.supply reader) (state self.old) };
 
-    /// Makes a file that is to have this name. Until it is kept, the file that has the name stays
-    /// as it is; a device or a pipe of that name is written as it is.
+    /// Starts making a file that is to have this name. Until it is kept, the file with that name stays as it is; a
+    /// device or a pipe with that name is written directly.
     ///
     /// # Errors
     ///
-    /// `Memory` where an allocation was refused, `Write` where no file can be made, and where that
-    /// name is the file of `script`, or one that a database of that name has beside it. That is what
-    /// the new file is made of, be it a script, a listing or a depot.
+    /// - `Memory` if memory is refused.
+    /// - `Write` if no file can be made; or if `name` is the file `script` itself, or a file that a database called
+    ///   `script` has next to its own. `script` is what the new file is made from: a script, a listing or a depot.
     fn create(&mut self, alloc: Global, name: &str, script: &str) -> Result<Self::Writer, Refusal>
         ensures apart { OnOk result (is_beside script.now name.now ≡ false) }
         ensures fresh { IfOk result (λ writer. IsFreshOutput (state self.old)
@@ -64,18 +65,18 @@ pub trait Host {
         ensures err { IfErr result (λ e. HasNotMade e name.now script.now (state self.old)
             (state self.new)) };
 
-    /// Gives its name to a file that was made.
+    /// Gives a file that was made its name.
     ///
     /// # Errors
     ///
-    /// It can't have the name. The file is gone, and one that had the name stays as it is.
+    /// `DeviceFailed` if it can't have the name. The new file is gone, and the file that had the name stays as it is.
     fn persist(&mut self, writer: Self::Writer) -> Result<(), DeviceFailed>
         ensures ok { OnOk result (HasKept (Self.Writer.output writer) (state self.old)
             (state self.new)) }
         ensures err { OnErr result (state self.new
             ≡ with_faults (suc (Self.Writer.output writer).faults) (state self.old)) };
 
-    /// Takes away a file that was made. One that has its name stays as it is.
+    /// Removes a file that was made. The file that has its name stays as it is.
     fn discard(&mut self, writer: Self::Writer)
         ensures { state self.new ≡ with_faults (Self.Writer.output writer).faults
             (state self.old) };

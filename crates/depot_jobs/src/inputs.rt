@@ -1,7 +1,7 @@
-// What is read: by work and by requests, of files and of standard input.
+// What work and requests read: files and standard input.
 //
-// A listing can have as many bytes as any file that is read, 67,108,864, and is refused `2 MessageTooLarge` above
-// that.
+// A listing can be as long as any file that is read, 67,108,864 bytes; a longer one is refused with
+// `2 MessageTooLarge`.
 ghost use Rattle.std.specs.Prelude.{◌≡◌, List, ℕ, IfErr, IfOk};
 ghost use Rattle.depot_jobs.specs.Host.{origin_of};
 ghost use Rattle.depot_jobs.specs.Inputs.{HasNotRead, HasNotReadFile, HasRead, HasReadFile, HaveNotRead, HaveRead, file_of, input, origins_of};
@@ -18,9 +18,9 @@ use std::alloc::Global;
 /// What work reads, in the order of its words.
 #[derive(Clone, Copy)]
 pub enum Inputs<'a> {
-    /// The octets of one file, or of standard input.
+    /// One file, or standard input.
     One(Input<'a>),
-    /// Those of two.
+    /// Two files.
     Two(Input<'a>, Input<'a>),
 }
 
@@ -44,11 +44,11 @@ pub fn inputs_of<'a>(work: Work<'a>) -> Inputs<'a>
     }
 }
 
-/// The octets of what work reads, the second ones empty where it reads once.
+/// Reads what work reads. If it reads one input, the second bytes are empty.
 ///
 /// # Errors
 ///
-/// The first that can't be read is refused as [`read_input`] says, and nothing after it is opened.
+/// Those of [`read_input`], for the first input that can't be read. Nothing after it is opened.
 pub fn read_inputs<H: Host>(
     alloc: Global,
     inputs: Inputs<'_>,
@@ -70,12 +70,13 @@ pub fn read_inputs<H: Host>(
     }
 }
 
-/// The octets of a file, or of standard input: at most 64 MiB of them.
+/// Reads a file or standard input: at most 67,108,864 bytes.
 ///
 /// # Errors
 ///
-/// `MessageTooLarge` where there are more, of which one was read; `Read` where it can't be opened
-/// or read; `Memory` where an allocation was refused.
+/// - `MessageTooLarge` if there are more bytes; one more was read.
+/// - `Read` if it can't be opened or read.
+/// - `Memory` if memory is refused.
 pub fn read_input<H: Host>(
     alloc: Global,
     input: Input<'_>,
@@ -92,12 +93,13 @@ pub fn read_input<H: Host>(
     octets
 }
 
-/// The octets of the file of a request, none where it has none.
+/// Reads the file of a request. A request without a file has no bytes.
 ///
 /// # Errors
 ///
-/// `MessageTooLarge` where the file has more than 64 MiB, of which one octet more was read; `Read`
-/// where it can't be opened or read; `Memory` where an allocation was refused.
+/// - `MessageTooLarge` if the file has more than 67,108,864 bytes; one more was read.
+/// - `Read` if it can't be opened or read.
+/// - `Memory` if memory is refused.
 pub fn read_file_of<H: Host>(
     alloc: Global,
     request: Request<'_>,

@@ -17,46 +17,49 @@ ghost use Rattle.refusals.specs.declared.refusal.Refusal.TheVariants.{Listing, M
 ghost use Rattle.sieve_engine.specs.Execution.{IsChecked, IsProgramRefusal};
 ghost use Rattle.depot_jobs.specs.Host.{HasMade, HasNotMade};
 ghost use Rattle.encodings.specs.Device.{HasBroken, HasTaken};
+ghost use Rattle.encodings.specs.Pages.{Wrote};
 ghost use Rattle.depot_jobs.specs.Jobs.{HasAnswered, HasFound, HasLongProgram, HasLongScript, HasRefused, HasStopped, HasTold, IsFaultless, IsJobRefusal, IsListing, IsShown, IsUnspelled, commented, host_and_outputs};
 ghost use Rattle.depot_jobs.specs.Private.{IsAnswerOf, answer_refusal, answer_text, lines_text, refusal_in, verdict_line};
-ghost use Rattle.depot_jobs.specs.Printed.{line, ok_text, refusal_line, wrote_text};
+ghost use Rattle.depot_jobs.specs.Printed.{ok_text};
+ghost use Rattle.printing.specs.Printed.{line, refusal_line, wrote_text};
 
 use crate::host::Host;
 use crate::limit::limit_lines;
 use crate::listing::parts_lines;
 use crate::making::make_file;
-use crate::printing::{put_line, put_refusal, put_report, put_wrote};
 use crate::tracing::{Traced, put_traced, trace_of};
 use bytecode_format::Program;
 use bytecode_listing::{ListingError, assemble, disassemble_accepted, disassemble_refused};
 use bytecode_verifier::{Refusal as BrokenRule, Verified, verify};
-use encodings::{DeviceFailed, Encoding, Sink, decode, encode, put};
+use encodings::{DeviceFailed, Encoding, Page, Sink, decode, encode};
+use printing::{print_line, print_refusal, print_run, print_wrote, put_refusal};
 use refusals::Refusal;
 use sieve_check::laws::faultless_scripts_have_a_form;
 use sieve_engine::{Report, check_program, check_script, code_octets, evaluate, execute};
 use sieve_explain::{explain, listing_explanation, remarks_on};
 use std::alloc::Global;
 
-/// The status of a command that was done and whose answer was written whole.
+/// The status of a command that was done and whose answer was written completely.
 pub const SUCCESS: u8 = 0;
 
 /// The status of a command that was refused, or whose answer broke off.
 pub const REFUSED: u8 = 1;
 
-/// A command with the octets of its files.
+/// A command that needs no depot, with the bytes of its files. [`crate::carry_out`] makes it from [`crate::Work`], and
+/// [`answer`] carries it out.
 #[derive(Clone, Copy)]
 pub enum Job<'a> {
-    /// Whether a script has a fault.
+    /// Check whether a script has a fault.
     Check {
         script: &'a [u8],
     },
-    /// Whether a script has a fault, and what it is, in words.
+    /// Check whether a script has a fault, and describe it in words.
     Explain {
         script: &'a [u8],
         /// The name of the script's file.
         name: &'a str,
     },
-    /// A script as a program, into a file.
+    /// Compile a script and write its program to a file.
     Compile {
         script: &'a [u8],
         /// The name of the script's file.
@@ -64,26 +67,26 @@ pub enum Job<'a> {
         /// The name of the program's file.
         out: &'a str,
     },
-    /// Whether a program is accepted, and what it may charge.
+    /// Check whether a program is accepted, and print its budget.
     Verify {
         program: &'a [u8],
     },
-    /// How much a program may charge and file, where messages have at most so many octets and parts.
+    /// Print how much a program can charge and file at most for messages with at most `octets` bytes and `parts` parts.
     Limit {
         program: &'a [u8],
         octets: u32,
         parts: u32,
     },
-    /// What a program does with a message.
+    /// Run a program on a message.
     Run {
         program: &'a [u8],
         message: &'a [u8],
     },
-    /// The listing of a program, and what the verifier says of it.
+    /// Print the listing of a program, and the verdict of the verifier.
     Disassemble {
         program: &'a [u8],
     },
-    /// A listing as a program, into a file.
+    /// Assemble a listing and write its program to a file.
     Assemble {
         listing: &'a [u8],
         /// The name of the listing's file.
@@ -91,90 +94,92 @@ pub enum Job<'a> {
         /// The name of the program's file.
         out: &'a str,
     },
-    /// What a script does with a message.
+    /// Evaluate a script on a message.
     Eval {
         script: &'a [u8],
         message: &'a [u8],
     },
-    /// What a script or a program does with a message, step by step.
+    /// Trace a script or a program on a message, step by step.
     Trace {
-        /// The octets of the script or the program.
+        /// The bytes of the script or the program.
         octets: &'a [u8],
         /// The name of their file.
         name: &'a str,
         message: &'a [u8],
     },
-    /// The parts of a message.
+    /// List the parts of a message.
     Parts {
         message: &'a [u8],
     },
-    /// The text of octets in an encoding.
+    /// Encode bytes.
     Encode {
         encoding: Encoding,
         octets: &'a [u8],
     },
-    /// The octets that a text in an encoding reads as.
+    /// Decode a text.
     Decode {
         encoding: Encoding,
         text: &'a [u8],
     },
 }
 
-/// What the verifier says of a program.
+/// The verdict of the verifier on a program; a listing ends with it.
 #[derive(Drop)]
 pub enum Verdict {
-    /// It is accepted, with a budget of this text.
+    /// The program is accepted; this is the text of its budget.
     Accepted(String),
-    /// It is refused.
+    /// The program is refused.
     Refused(Refusal),
 }
 
-/// What a job's answer is made of, when all of it is there.
+/// The content of a job's answer, complete before any of it is written. Each case becomes one or more printed lines,
+/// except `Octets`.
 #[derive(Drop)]
 pub enum Lines {
     /// A script has no fault.
     NoFault,
-    /// A script has no fault, and what is remarked of it.
+    /// A script has no fault; these are the notes on it.
     Remarks(Vec<u8>),
-    /// The fault of a script, or of a listing, in words, and its refusal.
+    /// The fault of a script or of a listing, in words, and its refusal.
     Fault(Vec<u8>, Refusal),
-    /// So many octets were written to a file.
+    /// This many bytes were written to a file.
     Wrote(usize),
-    /// The text of an accepted program's budget, or of what that comes to.
+    /// The text of an accepted program's budget, or of its limits.
     Budget(String),
-    /// The listing of a program, and what the verifier says of it.
+    /// The listing of a program, and the verdict of the verifier.
     Listing(Vec<u8>, Verdict),
     /// The report of a run.
     Report(Report),
-    /// Octets, as they are.
+    /// Bytes, unchanged.
     Octets(Vec<u8>),
 }
 
-/// A job's answer.
+/// A job's answer, before it is written.
 #[derive(Drop)]
 pub enum JobAnswer<'a> {
-    /// One that is there.
+    /// An answer that is complete.
     Lines(Lines),
-    /// A trace, which is made as it is written.
+    /// A trace, which is made while it is written.
     Trace(Traced<'a>),
 }
 
-/// Carries out a job: writes its answer to `out` and gives 0, or writes the line of its refusal to
-/// `err` and gives 1.
+/// Carries out a job, and returns the exit status: it writes the answer to `out` and returns 0, or writes the line of
+/// the refusal to `err` and returns 1. For example, the job `Check` of the script `keep; discard; stop;` writes `ok` to
+/// `out`.
 ///
-/// What is wrong with a script that is to be explained, or with a listing, goes to `out`, and then
-/// the line of its refusal to `err`, with 1.
+/// If a script that is to be explained, or a listing, has a mistake, the description goes to `out`, then the line of
+/// the refusal to `err`, and the status is 1.
 ///
-/// Writing follows the job and takes no memory, but for a trace, of which each line is written as it
-/// is made. Where `out` fails, or memory is refused for a line of a trace, a prefix of the answer is
-/// written there, what the job did stands, the line of `Write` or of `Memory` is written to `err`,
-/// and the status is 1. Where `err` fails, a prefix of the line is written there.
+/// Writing begins after the job is done and allocates no memory, except for a trace, whose lines are written as they
+/// are made. If `out` fails, or memory is refused for a line of a trace, the beginning of the answer was written there,
+/// what the job did remains done, the line of `Write` or of `Memory` is written to `err`, and the status is 1. If `err`
+/// fails, the beginning of the line was written there.
 ///
-/// A script or a program above its limit is refused as such, without taking memory; but to explain
-/// a script takes memory.
+/// A script or a program above its limit is refused for that without allocating memory, except that explaining a script
+/// allocates memory.
 ///
-/// The jobs of compile and assemble are refused with `Write` only where a call on the file failed,
-/// and then no file is kept.
+/// The jobs of compile and assemble are refused with `Write` only if a call on the file failed, and then no file is
+/// kept.
 pub fn answer<H: Host, O: Sink, E: Sink>(
     alloc: Global,
     job: Job<'_>,
@@ -216,7 +221,7 @@ pub fn answer<H: Host, O: Sink, E: Sink>(
     }
 }
 
-// Tells the refusal that goes with lines, where there is one, and gives the status.
+// Writes the line of the refusal that belongs to lines, if there is one, and returns the status.
 fn tell_found<E: Sink>(err: &mut E, lines: &Lines) -> u8
     ensures { MatchOption (refusal_in lines.now)
         ((result ≡ 0) × (err.new ≡ err.old))
@@ -234,7 +239,7 @@ fn tell_found<E: Sink>(err: &mut E, lines: &Lines) -> u8
     }
 }
 
-/// Writes the line of a refusal, and gives the status of one.
+/// Writes the line of a refusal to `err`, and returns 1, the status of a refusal.
 pub fn tell<E: Sink>(err: &mut E, refusal: &Refusal) -> u8
     ensures status { result ≡ 1 }
     ensures told { HasTold refusal.now (E.output err.old) (E.output err.new) }
@@ -243,7 +248,7 @@ pub fn tell<E: Sink>(err: &mut E, refusal: &Refusal) -> u8
     REFUSED
 }
 
-// What the job comes to, with all that its answer is made of.
+// Does the job, and makes everything that its answer consists of.
 fn carry_out<'a, H: Host>(
     alloc: Global,
     job: Job<'a>,
@@ -313,7 +318,7 @@ fn carry_out<'a, H: Host>(
     }
 }
 
-// Whether a script has a fault, and what it is, in words; or what is remarked of it.
+// Whether a script has a fault, and its description in words; or the notes on it.
 fn explain_script(alloc: Global, script: &[u8], name: &str) -> Result<Lines, Refusal>
     ensures shown { IfOk result (λ lines. MatchOption (refusal_in lines)
         ((form : CommandForms) × IsScript script.now form
@@ -342,7 +347,7 @@ fn budget_line(alloc: Global, program: &[u8]) -> Result<String, Refusal>
     Ok(format!(in alloc; "{}", verified.budget())?)
 }
 
-// The listing of a program, and what the verifier says of it.
+// The listing of a program, and the verdict of the verifier.
 fn list_program(alloc: Global, program: &[u8]) -> Result<Lines, Refusal>
     ensures listed { IfOk result (λ lines. (refusal_in lines ≡ None)
         × IsListing program.now (lines_text lines)) }
@@ -382,8 +387,7 @@ fn list_refused(alloc: Global, program: &Program, rule: BrokenRule) -> Result<Li
     Ok(Lines::Listing(listing, Verdict::Refused(Refusal::from(rule))))
 }
 
-// Makes the file of the program that a listing says; or says in words what is wrong with the
-// listing.
+// Makes the file of the program that a listing describes; or describes the mistake in the listing.
 fn assemble_program<H: Host>(
     alloc: Global,
     listing: &[u8],
@@ -416,67 +420,60 @@ fn assemble_program<H: Host>(
     }
 }
 
-// Writes the lines.
+// Writes the lines, on one page.
 fn put_lines<O: Sink>(out: &mut O, lines: &Lines) -> Result<(), DeviceFailed>
     ensures ok { OnOk result (HasTaken (lines_text lines.now) (O.output out.old)
         (O.output out.new)) }
     ensures err { OnErr result (HasBroken (lines_text lines.now) (O.output out.old)
         (O.output out.new)) }
 {
+    let mut page = Page::new(out);
+    print_lines(&mut page, lines);
+    page.flush()
+}
+
+// Prints the lines.
+fn print_lines<O: Sink>(page: &mut Page<'_, O>, lines: &Lines)
+    ensures { Wrote (lines_text lines.now) page.old page.new }
+{
     match lines {
-        Lines::NoFault => put_line(out, "ok"),
-        Lines::Remarks(text) => put_remarks(out, text),
-        Lines::Fault(text, _) => put(out, text),
-        Lines::Wrote(octets) => put_wrote(out, *octets),
-        Lines::Budget(text) => put_line(out, text.as_str()),
-        Lines::Listing(listing, verdict) => put_listing(out, listing, verdict),
-        Lines::Report(report) => put_report(out, report),
-        Lines::Octets(octets) => put(out, octets),
+        Lines::NoFault => print_line(page, "ok"),
+        Lines::Remarks(text) => print_remarks(page, text),
+        Lines::Fault(text, _) => page.write(text),
+        Lines::Wrote(octets) => print_wrote(page, *octets),
+        Lines::Budget(text) => print_line(page, text.as_str()),
+        Lines::Listing(listing, verdict) => print_listing(page, listing, verdict),
+        Lines::Report(report) => {
+            let outcome = &report.outcome;
+            print_run(page, &outcome.actions, outcome.charged, report.limit);
+        }
+        Lines::Octets(octets) => page.write(octets),
     }
 }
 
-// Writes that a script has no fault, and what is remarked of it.
-fn put_remarks<O: Sink>(out: &mut O, text: &[u8]) -> Result<(), DeviceFailed>
-    ensures ok { OnOk result (HasTaken (line ok_text ++ text.now) (O.output out.old)
-        (O.output out.new)) }
-    ensures err { OnErr result (HasBroken (line ok_text ++ text.now) (O.output out.old)
-        (O.output out.new)) }
+// Prints that a script has no fault, and the notes on it.
+fn print_remarks<O: Sink>(page: &mut Page<'_, O>, text: &[u8])
+    ensures { Wrote (line ok_text ++ text.now) page.old page.new }
 {
-    put_line(out, "ok")?;
-    put(out, text)
+    print_line(page, "ok");
+    page.write(text);
 }
 
-// Writes a listing, and behind it as a comment what the verifier says of its program.
-fn put_listing<O: Sink>(out: &mut O, listing: &[u8], verdict: &Verdict) -> Result<(), DeviceFailed>
-    ensures ok { OnOk result (HasTaken (listing.now ++ commented (verdict_line verdict.now))
-        (O.output out.old) (O.output out.new)) }
-    ensures err { OnErr result (HasBroken (listing.now ++ commented (verdict_line verdict.now))
-        (O.output out.old) (O.output out.new)) }
+// Prints a listing, and after it the verdict of the verifier as a comment.
+fn print_listing<O: Sink>(page: &mut Page<'_, O>, listing: &[u8], verdict: &Verdict)
+    ensures { Wrote (listing.now ++ commented (verdict_line verdict.now)) page.old page.new }
 {
-    put(out, listing)?;
-    put_commented(out, verdict)
+    page.write(listing);
+    page.write(b"; ");
+    print_verdict(page, verdict);
 }
 
-// Writes what the verifier says of a program, as a comment.
-fn put_commented<O: Sink>(out: &mut O, verdict: &Verdict) -> Result<(), DeviceFailed>
-    ensures ok { OnOk result (HasTaken (commented (verdict_line verdict.now)) (O.output out.old)
-        (O.output out.new)) }
-    ensures err { OnErr result (HasBroken (commented (verdict_line verdict.now)) (O.output out.old)
-        (O.output out.new)) }
-{
-    put(out, b"; ")?;
-    put_verdict(out, verdict)
-}
-
-// Writes the line of what the verifier says of a program.
-fn put_verdict<O: Sink>(out: &mut O, verdict: &Verdict) -> Result<(), DeviceFailed>
-    ensures ok { OnOk result (HasTaken (verdict_line verdict.now) (O.output out.old)
-        (O.output out.new)) }
-    ensures err { OnErr result (HasBroken (verdict_line verdict.now) (O.output out.old)
-        (O.output out.new)) }
+// Prints the line of the verdict of the verifier.
+fn print_verdict<O: Sink>(page: &mut Page<'_, O>, verdict: &Verdict)
+    ensures { Wrote (verdict_line verdict.now) page.old page.new }
 {
     match verdict {
-        Verdict::Accepted(budget) => put_line(out, budget.as_str()),
-        Verdict::Refused(refusal) => put_refusal(out, refusal),
+        Verdict::Accepted(budget) => print_line(page, budget.as_str()),
+        Verdict::Refused(refusal) => print_refusal(page, refusal),
     }
 }

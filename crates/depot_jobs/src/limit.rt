@@ -1,4 +1,4 @@
-// How much a program may charge and file.
+// How much a program can charge and file.
 ghost use Rattle.std.specs.Prelude.{◌≡◌, ◌<◌, ◌≤◌, IfErr, IfOk, IsErrAnd, Some, length, string_bytes};
 ghost use Rattle.octets.specs.Limits.{max_message, max_parts, max_program};
 ghost use Rattle.bytecode_format.specs.Code.{Code};
@@ -13,8 +13,13 @@ use sieve_engine::check_program;
 use std::alloc::{AllocError, Global};
 use std::fmt::{self, Display};
 
-/// The lines that say how much an accepted program may charge, and how many entries and octets a
-/// delivery to it files, where messages have at most so many octets and parts.
+/// The lines that say how much an accepted program can charge at most, and how many entries and bytes a delivery to it
+/// can file at most, for messages with at most `octets` bytes and `parts` parts.
+///
+/// # Errors
+///
+/// - What `sieve_engine::check_program` refuses the program for.
+/// - `Memory` if memory is refused.
 pub(crate) fn limit_lines(
     alloc: Global,
     program: &[u8],
@@ -33,7 +38,7 @@ pub(crate) fn limit_lines(
     Ok(text)
 }
 
-// The lines of an accepted program at messages of so many octets and parts.
+// The lines of an accepted program for messages with so many bytes and parts.
 fn limits_at(
     alloc: Global,
     program: &Verified,
@@ -52,7 +57,7 @@ fn limits_at(
     format!(in alloc; "{limits}")
 }
 
-// The three numbers.
+// The three limits that are printed.
 #[derive(Drop)]
 struct Limits {
     charge: u128,

@@ -1,7 +1,7 @@
-// What the words of the command line say.
+// What the words of the command line ask for.
 //
-// The names that clap checks are borrowed texts, and its rule has the place where they are kept. So `line_of` is
-// about a command line whose encodings are these names, wherever they are kept (`IsDepot`).
+// The names that clap checks are borrowed texts, and its rule has the place where they are stored. So `line_of` is
+// about a command line whose encodings are these names, wherever they are stored (`IsDepot`).
 ghost use Rattle.std.specs.Prelude.{◌≡◌, IfOk, IfErr, MatchOption, Some, map, true};
 ghost use Rattle.clap.specs.Words.{App, FailsBy, fault_of, found_of, kind_of, rows_of, subcommand_rows_of, takes};
 ghost use Rattle.clap.specs.declared.error.kind.ErrorKind.TheVariants.{OutOfMemory};
@@ -15,27 +15,28 @@ use depot_words::depot_command;
 use encodings::Encoding;
 use std::alloc::Global;
 
-/// What a command line says.
+/// A command with its arguments, as the words of a command line say it. [`line_of`] makes it; every argument is there,
+/// and in its range.
 #[derive(Clone, Copy)]
 pub enum CommandLine<'a> {
     /// A command that needs no depot.
     Alone(Work<'a>),
-    /// A command on the depot of a file.
+    /// A command on the depot in a file.
     OnDepot {
         depot: &'a str,
         request: Request<'a>,
     },
-    /// A user's filter program, into a file.
+    /// Save a user's filter program as a file.
     Program {
         depot: &'a str,
         user: &'a str,
         out: &'a str,
     },
-    /// What a file is, and what the depot in it holds.
+    /// Report what a file is, and what the depot in it holds.
     Inspect {
         depot: &'a str,
     },
-    /// Commands on a depot, from the lines of standard input.
+    /// Do the commands in the lines of standard input on a depot.
     Batch {
         depot: &'a str,
     },
@@ -52,10 +53,13 @@ const ENCODINGS: &[&str] = &[
     "qp",
 ];
 
-/// What the words say, of which the first is the program's name. Each argument of the command is
-/// there, and in its range.
+/// Reads the words of a command line; the first is the program's name. Each argument of the returned command is there,
+/// and in its range.
 ///
-/// Where the words aren't those of a command, or ask for help, the error has the text for the user.
+/// # Errors
+///
+/// An error of clap, whose kind is `OutOfMemory` if memory is refused. Otherwise the words aren't a command, or they
+/// ask for help; then the error has the text for the user.
 pub fn line_of<'a>(alloc: Global, words: &'a [&'a str]) -> Result<CommandLine<'a>, Error>
     ensures says { IfOk result (IsLine (map (λ w. w.now) words.entry.now)) }
     ensures taken { IfErr result (λ e. (app : App) × IsDepot app
@@ -78,7 +82,7 @@ fn line_in<'a>(matches: &ArgMatches<'a>) -> CommandLine<'a>
     }
 }
 
-// What the matches of a command say. An argument that the command hasn't is empty.
+// What the matches of a command say. An argument that the command doesn't have is empty.
 fn command_in<'a>(name: &str, found: &ArgMatches<'a>) -> CommandLine<'a>
     ensures { Says result (Some (name.now, rows_of (found_of found.now))) }
 {
@@ -88,7 +92,7 @@ fn command_in<'a>(name: &str, found: &ArgMatches<'a>) -> CommandLine<'a>
     }
 }
 
-// The work that the matches of a command say, if it needs no depot.
+// The work that the matches of a command ask for, if it needs no depot.
 fn work_in<'a>(name: &str, found: &ArgMatches<'a>) -> Option<Work<'a>>
     ensures { MatchOption result (IsNoWork name.now)
         (λ work. SaysWork work (Some (name.now, rows_of (found_of found.now)))) }
@@ -147,7 +151,7 @@ fn depot_line_in<'a>(name: &str, found: &ArgMatches<'a>) -> CommandLine<'a>
     }
 }
 
-// The request that the matches of a command say, if it makes one of its depot.
+// The request that the matches of a command make to their depot, if they make one.
 fn request_in<'a>(name: &str, found: &ArgMatches<'a>) -> Option<Request<'a>>
     ensures { MatchOption result (IsNoRequest name.now)
         (λ request. SaysRequest request (Some (name.now, rows_of (found_of found.now)))
@@ -182,7 +186,7 @@ fn request_in<'a>(name: &str, found: &ArgMatches<'a>) -> Option<Request<'a>>
     }
 }
 
-// The number that a text is. Only numbers of entries, and those of octets and parts, come here.
+// The number that a text spells. Only numbers of entries, and numbers of bytes and parts, come here.
 fn number(text: &str) -> u32
     ensures { IsNumber text.now result }
 {
@@ -192,14 +196,14 @@ fn number(text: &str) -> u32
     }
 }
 
-// The text of an argument. It has one, since each is required.
+// The text of an argument. There is one, because each argument is required.
 fn argument<'a>(matches: &ArgMatches<'a>, name: &str) -> &'a str
     ensures { result.now ≡ text_of name.now (rows_of (found_of matches.now)) }
 {
     matches.get_str(name).unwrap_or("")
 }
 
-// The encoding of this name. Only names of encodings come here.
+// The encoding with this name. Only names of encodings come here.
 fn encoding_named(name: &str) -> Encoding
     ensures { result ≡ encoding_named name.now }
 {

@@ -6,7 +6,8 @@ ghost use Rattle.mime_decode.specs.Content.{digest_of};
 ghost use Rattle.mime_decode.specs.Mail.{IsReadable, mail_of};
 ghost use Rattle.sieve_engine.specs.Execution.{IsUnread};
 ghost use Rattle.mime_params.specs.MediaValue.{media_text};
-ghost use Rattle.depot_jobs.specs.Printed.{line, part_text, parts_text};
+ghost use Rattle.depot_jobs.specs.Printed.{part_text, parts_text};
+ghost use Rattle.printing.specs.Printed.{line};
 
 use itoa::Buffer;
 use mime_decode::{Message, digest_of};
@@ -14,8 +15,13 @@ use mime_params::MediaType;
 use refusals::Refusal;
 use std::alloc::{AllocError, Global};
 
-/// A line for each part of the message that the octets are. One content is decoded at a time, and
-/// each once.
+/// Returns a line for each part of the message, as `depot parts` prints it. Contents are decoded one at a time, each
+/// once.
+///
+/// # Errors
+///
+/// - `MessageTooLarge` or `TooManyParts` if the message is too long or has too many parts.
+/// - `Memory` if memory is refused.
 pub fn parts_lines(alloc: Global, octets: &[u8]) -> Result<Vec<u8>, Refusal>
     ensures lines { IfOk result (λ text. IsReadable octets.now
         × (text.items ≡ parts_text (mail_of octets.now).parts)) }

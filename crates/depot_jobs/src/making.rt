@@ -7,14 +7,15 @@ use encodings::{DeviceFailed, put};
 use refusals::Refusal;
 use std::alloc::Global;
 
-/// Makes the file of a name from these octets, unless it is the script's own file, or one that a
-/// database of the script's name has beside it.
+/// Makes the file `name` from these bytes, whole or not at all. The name must not lead to the file `script`, or to a
+/// file that a database called `script` has next to its own.
 ///
 /// # Errors
 ///
-/// `Memory` where an allocation was refused before the file was made, `Write` where a call failed.
-/// A file that has the name stays as it is; but a device or a pipe may have got a prefix of the
-/// octets.
+/// The file that has the name stays as it is; but a device or a pipe can have taken the beginning of the bytes.
+///
+/// - `Memory` if memory is refused before the file is made.
+/// - `Write` if a call on the file fails, or the name isn't allowed.
 pub fn make_file<H: Host>(
     alloc: Global,
     host: &mut H,

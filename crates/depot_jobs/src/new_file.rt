@@ -1,10 +1,9 @@
-// A file that is being made, beside the one whose name it is to have.
+// A file that is being made, next to the file whose name it is to have.
 //
-// A compiled program is made whole or not at all: it is written next to the file whose name it is to have, and gets
-// the name at the end. If that fails, the old file stays. A device or a pipe can't be replaced, so it is written as
-// it is. The program's bytes are made before the file is, so a refused script never makes one. The script's own file
-// is never written over, also under another name or by a link; nor is a listing's by `assemble`, nor a depot's by
-// `program`.
+// A compiled program is made whole or not at all: it is written next to the file whose name it is to have, and gets the
+// name at the end. If that fails, the old file stays. A device or a pipe can't be replaced, so it is written directly.
+// The program's bytes are made before the file is, so a refused script never makes a file. The script's own file is
+// never overwritten, also under another name or by a link; nor is a listing by `assemble`, nor a depot by `program`.
 ghost use Rattle.std.specs.Prelude.{◌≡◌, false, IfOk, IfSome, OnOk};
 ghost use Rattle.std.specs.Path.{path_buf_bytes, path_with_file_name};
 ghost use Rattle.depot_jobs.specs.Files.{IsReached};
@@ -21,29 +20,29 @@ use std::os::fd::AsFd;
 use std::os::unix::fs::{MetadataExt, OpenOptionsExt, PermissionsExt, fchown};
 use std::path::PathBuf;
 
-/// How many symbolic links are followed, one from the other: as many as Linux follows.
+/// How many symbolic links are followed one after another: as many as Linux follows.
 const MAX_LINKS: u32 = 40;
 
-/// How many names are tried for a new file, where others have them.
+/// How many names are tried for a new file, if other files have them.
 const MAX_NAMES: u32 = 100;
 
-/// The permissions of a file that takes no other's place, as far as the process grants them.
+/// The permissions of a file that replaces no other, as far as the process grants them.
 const NEW_FILE: u32 = 0o666;
 
-/// A file that is being made.
+/// A file that is being made. [`begin`] makes it; [`persist`] gives it its name, and [`discard`] removes it.
 pub struct NewFile<F: Write + Drop> {
-    /// What takes its octets.
+    /// What takes the file's bytes.
     pub sink: OfWrite<F>,
-    /// Where it stands and is to stand; nothing where the file of its name is written in its place.
+    /// Where the file is and where it is to be; `None` if an existing device or pipe is written directly.
     pub paths: Option<Paths>,
 }
 
-/// Where a file that is being made stands, and where it is to stand.
+/// Where a file that is being made is, and where it is to be.
 #[derive(Drop)]
 pub struct Paths {
-    /// Where it stands.
+    /// Where the file is while it is being made.
     pub made: PathBuf,
-    /// Where it is to stand. This is no symbolic link.
+    /// Where the file is to be. This is no symbolic link.
     pub kept: PathBuf,
 }
 
@@ -55,14 +54,15 @@ impl<F: Write + Drop> Sink for NewFile<F> {
     }
 }
 
-/// Makes a file that is to have this name. Where a regular file has it, or none, that stays as it
-/// is, and the new file stands beside it; symbolic links are followed first. Where a device or a
-/// pipe has it, that is what is written.
+/// Starts making a file that is to have this name. If a regular file has the name, or none, that stays as it is, and
+/// the new file is made next to it; symbolic links are followed first. If a device or a pipe has the name, that is
+/// written.
 ///
 /// # Errors
 ///
-/// The file can't be made, the one that has the name can't be written, or it is the script's own
-/// file, or one that a database of the script's name has beside it.
+/// - A fault of the system if the file can't be made, or the one with that name can't be written.
+/// - A fault if the name leads to the script's own file, or to a file that a database with the script's name has next
+///   to its own.
 pub fn begin<R: Files>(
     rt: &R,
     alloc: Global,
@@ -101,7 +101,7 @@ where
     }
 }
 
-// Makes a file that is to take the place of a regular one, with its permissions and its owner.
+// Makes a file that is to replace a regular one, with the permissions and the owner of that one.
 fn begin_in_place_of<R: Files>(
     rt: &R,
     alloc: Global,
@@ -131,20 +131,19 @@ where
     }
 }
 
-// Gives a file the permissions of another, and its owner and group where the process may. It is the
-// open file that gets them, whatever has its name by now.
+// Gives a file the permissions of another, and its owner and group if the process has the right. This applies to the
+// open file, whatever has its name by then.
 fn take_after<F: OpenFile + AsFd>(file: &F, old: &Metadata) -> io::Result<()> {
     let _ = fchown(file, Some(old.uid()), Some(old.gid()));
     file.set_permissions(old.permissions())
 }
 
-// Refuses a path that leads to a file which the database of a name has beside its own, by whatever
-// names and links.
+// Refuses a path that leads, by whatever names and links, to a file that the database with a name has next to its own.
 fn stay_apart<R: Files>(rt: &R, alloc: Global, script: &str, kept: &PathBuf) -> io::Result<()> {
     let real = match rt.canonicalize(alloc, script) {
         Ok(real) => real,
         Err(fault) if fault.kind() == ErrorKind::OutOfMemory => return Err(fault),
-        // what has no path, as a pipe, is no database
+        // something without a path, such as a pipe, is no database
         Err(_) => return Ok(()),
     };
     if are_beside(rt, &real, kept) {
@@ -153,7 +152,7 @@ fn stay_apart<R: Files>(rt: &R, alloc: Global, script: &str, kept: &PathBuf) -> 
     Ok(())
 }
 
-// Whether a path is that of a file which a database of another path has beside its own.
+// Whether a path leads to a file that the database at another path has next to its own.
 fn are_beside<R: Files>(rt: &R, database: &PathBuf, path: &PathBuf) -> bool {
     match (database.file_name(), path.file_name()) {
         (Some(base), Some(name)) => is_beside(base, name) && is_same_folder(rt, database, path),
@@ -161,7 +160,7 @@ fn are_beside<R: Files>(rt: &R, database: &PathBuf, path: &PathBuf) -> bool {
     }
 }
 
-// Whether two paths are of one folder.
+// Whether two paths are in the same folder.
 fn is_same_folder<R: Files>(rt: &R, first: &PathBuf, second: &PathBuf) -> bool {
     match rt.metadata(folder_of(first)) {
         Ok(folder) => is_same_file(rt, folder_of(second), &folder),
@@ -169,7 +168,7 @@ fn is_same_folder<R: Files>(rt: &R, first: &PathBuf, second: &PathBuf) -> bool {
     }
 }
 
-// The folder of a path, which is the current one where the path names none.
+// The folder of a path; the current folder if the path names none.
 fn folder_of(path: &PathBuf) -> &str {
     match path.parent() {
         Some(folder) if !folder.as_str().is_empty() => folder.as_str(),
@@ -177,7 +176,7 @@ fn folder_of(path: &PathBuf) -> &str {
     }
 }
 
-// Makes a file in the folder of the one that it is to be, under a name that no other has there.
+// Makes a file in the folder in which it is to be, with a name that no other file has there.
 fn begin_beside<R: Files>(
     rt: &R,
     alloc: Global,
@@ -205,7 +204,7 @@ fn begin_beside<R: Files>(
     Err(Error::from(ErrorKind::AlreadyExists))
 }
 
-// Makes a file where there is none.
+// Makes a file if there is none.
 fn create_new<R: Files>(rt: &R, path: &str, mode: u32) -> io::Result<R::File> {
     OpenOptions::new()
         .write(true)
@@ -223,7 +222,7 @@ fn path_beside(alloc: Global, kept: &PathBuf, number: u32, n: u32) -> Result<Pat
     kept.with_file_name(alloc, name.as_str())
 }
 
-// The path of what a name stands for after symbolic links, also where there is no such file.
+// The path that a name leads to after symbolic links, also if there is no such file.
 fn without_links<R: Files>(rt: &R, alloc: Global, name: &str) -> io::Result<PathBuf>
     ensures { IfOk result (λ path. IsReached name.now (path_buf_bytes path)) }
 {
@@ -231,7 +230,7 @@ fn without_links<R: Files>(rt: &R, alloc: Global, name: &str) -> io::Result<Path
     for _ in 0..MAX_LINKS {
         match rt.read_link(alloc, path.as_str()) {
             Ok(link) => path = path.with_file_name(alloc, link.as_str())?,
-            // no link, or nothing of that name
+            // no link, or nothing with that name
             Err(fault) if matches!(fault.kind(), ErrorKind::InvalidInput | ErrorKind::NotFound) => {
                 return Ok(path);
             }
@@ -241,7 +240,7 @@ fn without_links<R: Files>(rt: &R, alloc: Global, name: &str) -> io::Result<Path
     Err(Error::from(ErrorKind::FilesystemLoop))
 }
 
-// Whether a name stands for this file.
+// Whether a name leads to this file.
 fn is_same_file<R: Files>(rt: &R, name: &str, file: &Metadata) -> bool {
     match rt.metadata(name) {
         Ok(other) => other.dev() == file.dev() && other.ino() == file.ino(),
@@ -249,11 +248,12 @@ fn is_same_file<R: Files>(rt: &R, name: &str, file: &Metadata) -> bool {
     }
 }
 
-/// Gives its name to a file that was made, once the system has taken its octets.
+/// Gives a file that was made its name, after the system has stored its bytes.
 ///
 /// # Errors
 ///
-/// It can't have the name. The file is gone, and one that had the name stays as it is.
+/// A fault of the system if the file can't have the name. The new file is gone, and the file that had the name stays as
+/// it is.
 pub fn persist<R: Files>(rt: &R, file: NewFile<R::File>) -> io::Result<()> {
     let NewFile { sink, paths } = file;
     let Some(Paths { made, kept }) = paths else {
@@ -269,7 +269,7 @@ pub fn persist<R: Files>(rt: &R, file: NewFile<R::File>) -> io::Result<()> {
     kept
 }
 
-/// Takes away a file that was made.
+/// Removes a file that was made.
 pub fn discard<R: Files>(rt: &R, file: NewFile<R::File>) {
     let NewFile { sink: _, paths } = file;
     if let Some(Paths { made, kept: _ }) = paths {

@@ -1,6 +1,6 @@
 // The words of a process.
 //
-// A word that isn't UTF-8 is a fault of the command line, status 2.
+// A word that isn't UTF-8 is a mistake in the command line: status 2.
 ghost use Rattle.std.specs.Prelude.{◌≡◌, ◌≢◌, IfOk, codes, map, string_bytes};
 ghost use Rattle.std.specs.IoError.{error_kind};
 ghost use Rattle.std.specs.Vec.Iter.{into_iter_items};
@@ -18,11 +18,11 @@ use std::alloc::{AllocError, Global};
 use std::env::Args;
 use std::io::{self, ErrorKind};
 
-/// The words of a process, all of them and in their order.
+/// Returns all words of a process, in their order.
 ///
 /// # Errors
 ///
-/// An allocation was refused.
+/// `AllocError` if memory is refused.
 pub fn words(alloc: Global, args: Args) -> Result<Vec<String>, AllocError>
     ensures { IfOk result (λ words. words.items ≡ into_iter_items args) }
 {
@@ -33,11 +33,11 @@ pub fn words(alloc: Global, args: Args) -> Result<Vec<String>, AllocError>
     Ok(words)
 }
 
-/// Words as texts, all of them and in their order.
+/// Returns all words as texts, in their order.
 ///
 /// # Errors
 ///
-/// An allocation was refused.
+/// `AllocError` if memory is refused.
 pub fn texts<'a>(alloc: Global, words: &'a [String]) -> Result<Vec<&'a str>, AllocError>
     ensures { IfOk result (λ texts. map (λ text. text.now) texts.items
         ≡ map string_bytes words.entry.now) }
@@ -49,8 +49,8 @@ pub fn texts<'a>(alloc: Global, words: &'a [String]) -> Result<Vec<&'a str>, All
     Ok(texts)
 }
 
-/// Tells why the words of a process can't be had, and gives the status: 1 and the line of `Memory`
-/// where an allocation was refused, else 2 and that a word isn't UTF-8.
+/// Reports why the words of a process can't be read, and returns the status: 1 with the line of `Memory` if memory was
+/// refused, otherwise 2 with the line `error: a word isn't UTF-8`.
 pub fn tell_no_words<E: Sink>(err: &mut E, fault: &io::Error) -> u8
     ensures memory { error_kind fault.now ≡ OutOfMemory
         → (result ≡ refused) × HasTold Memory (E.output err.old) (E.output err.new) }

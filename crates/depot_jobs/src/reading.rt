@@ -7,17 +7,20 @@ use encodings::{DeviceFailed, Source};
 use refusals::Refusal;
 use std::alloc::{AllocError, Global};
 
-/// How many octets are asked for first. Most messages are no longer.
+/// How many bytes are asked for first. Most messages aren't longer.
 const FIRST_PIECE: usize = 4_096;
 
-/// How many octets are asked for at most at a time.
+/// The most bytes that are asked for at a time.
 const PIECE: usize = 65_536;
 
-/// All octets of a source, if they are no more than the limit.
+/// Reads all bytes of a source, up to its end, if there are at most `limit`.
 ///
-/// At most one octet more than the limit is taken, also from a source that never ends; then the
-/// answer is `MessageTooLarge`, and it is in no other case. `Read` comes only where the source
-/// failed, and no other error but `Memory`. Else the source has met its end.
+/// # Errors
+///
+/// - `MessageTooLarge` only if the source gives more than `limit` bytes. At most one more than `limit` is read, also
+///   from a source that never ends.
+/// - `Read` if the source fails.
+/// - `Memory` if memory is refused.
 pub fn read_limited<R: Source>(
     alloc: Global,
     source: &mut R,
@@ -48,8 +51,8 @@ pub fn read_limited<R: Source>(
     }
 }
 
-// Makes room after the octets that are filled: for a piece, as much again as there is, or for one
-// octet more than the limit. So no octet is taken that memory is refused for.
+// Makes room after the bytes that are filled: for a piece, for as much again as there is, or for one byte more than the
+// limit. So no byte is read for which memory is refused.
 fn make_room(octets: &mut Vec<u8>, filled: usize, limit: usize) -> Result<(), AllocError>
     requires filled { filled ≤ vec_len octets.old }
     requires more { filled ≤ limit }
@@ -66,7 +69,7 @@ fn make_room(octets: &mut Vec<u8>, filled: usize, limit: usize) -> Result<(), Al
     Ok(())
 }
 
-// One read into the room after the octets that are filled.
+// One read into the room after the bytes that are filled.
 fn read_from<R: Source>(
     source: &mut R,
     octets: &mut Vec<u8>,

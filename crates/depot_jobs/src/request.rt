@@ -5,52 +5,52 @@ ghost use Rattle.depot_jobs.specs.Requests.{with_file};
 
 use encodings::Encoding;
 
-/// A command on a depot, with what stands for its file, where it has one: the file's name, or its
-/// octets.
+/// A command on a depot. The type `F` stands for the command's file, if it has one: in a [`Request`], which
+/// [`crate::line_of`] makes, it is the file's name; in a [`Task`], which the depot does, it is the file's bytes.
 #[derive(Clone, Copy, Drop)]
 pub enum OnDepot<'a, F> {
-    /// A script's code as the user's filter.
+    /// Compile a script and store its program as the user's filter.
     Script {
         user: &'a str,
         script: F,
     },
-    /// A program as the user's filter.
+    /// Store a program as the user's filter.
     Code {
         user: &'a str,
         program: F,
     },
-    /// A message, filed as the user's filter says.
+    /// File a message as the user's filter says.
     Deliver {
         user: &'a str,
         message: F,
     },
-    /// The user's entries.
+    /// List the user's entries.
     List {
         user: &'a str,
     },
-    /// The octets of the user's entry in an encoding.
+    /// Write the bytes of the user's entry in an encoding.
     Export {
         user: &'a str,
         number: u32,
         encoding: Encoding,
     },
-    /// The user's entry, taken away.
+    /// Remove the user's entry.
     Remove {
         user: &'a str,
         number: u32,
     },
-    /// All users' filters, given the latest version.
+    /// Give all users' filters the latest version of the bytecode.
     Migrate,
 }
 
 /// A command on a depot, with the name of its file.
 pub type Request<'a> = OnDepot<'a, &'a str>;
 
-/// A command on a depot, with the octets of its file.
+/// A command on a depot, with the bytes of its file.
 pub type Task<'a> = OnDepot<'a, Vec<u8>>;
 
 impl<'a> Request<'a> {
-    /// The name of the file that it reads.
+    /// Returns the name of the file that the command reads, if it reads one.
     pub fn file(self) -> Option<&'a str>
         ensures { option_map (λ file. file.now) result ≡ file_of self.entry }
     {
@@ -65,7 +65,7 @@ impl<'a> Request<'a> {
         }
     }
 
-    /// The same command, with the octets of its file; one that has no file doesn't look at them.
+    /// Returns the same command with the bytes of its file. A command without a file ignores them.
     pub fn with_octets(self, octets: Vec<u8>) -> Task<'a>
         ensures { result ≡ with_file octets self.entry }
     {

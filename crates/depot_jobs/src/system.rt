@@ -16,12 +16,12 @@ use std::io::{ErrorKind, Read};
 use std::os::fd::AsFd;
 use std::{fs, io};
 
-/// The files and the standard input of a system. A contract is told nothing of what they hold.
+/// The files and the standard input of a real system; `main` makes one. A contract knows nothing about what they hold.
 #[derive(Drop)]
 pub struct System<'a, R: Files + io::Input> {
     rt: &'a R,
     number: u32,
-    /// How many octets were read, at most 2^64 - 1.
+    /// How many bytes were read, at most 2^64 - 1.
     pub given: u64,
     /// How many calls have failed, at most 2^64 - 1.
     pub faults: u64,
@@ -30,7 +30,9 @@ pub struct System<'a, R: Files + io::Input> {
 /// An open file, or standard input.
 #[derive(Drop)]
 pub enum Stream<F, I> {
+    /// An open file.
     File(F),
+    /// Standard input.
     Input(I),
 }
 
@@ -44,8 +46,8 @@ impl<F: Read, I: Read> Read for Stream<F, I> {
 }
 
 impl<'a, R: Files + io::Input> System<'a, R> {
-    /// The system of a runtime, of which nothing was asked so far. The number, as that of the
-    /// process, is in the names of files that are being made.
+    /// Makes the host of a runtime; nothing was asked of it. The number, that of the process, becomes part of the names
+    /// of files that are being made.
     pub fn new(rt: &'a R, number: u32) -> System<'a, R>
         ensures given { result.given ≡ 0 }
         ensures faults { result.faults ≡ 0 }
@@ -58,7 +60,7 @@ impl<'a, R: Files + io::Input> System<'a, R> {
         }
     }
 
-    // The refusal of a fault: want of memory, or this one, which counts as a failed call.
+    // The refusal of a fault: `Memory` if memory was refused, otherwise `other`, and the call counts as failed.
     fn refusal(&mut self, fault: &io::Error, other: Refusal) -> Refusal
         ensures { ((result ≡ Memory) × (self.new ≡ self.old))
             ⊎ ((result ≡ other) × (self.new

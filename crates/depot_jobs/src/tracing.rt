@@ -1,7 +1,8 @@
 // Traces of scripts and of programs.
-ghost use Rattle.std.specs.Prelude.{◌≡◌, ◌<◌, true, false, List, IfErr, IfOk, IsErrAnd, OnOk, length};
+ghost use Rattle.std.specs.Prelude.{◌≡◌, ◌<◌, true, false, List, IfErr, IfOk, IsErrAnd, OnErr, OnOk, length};
 ghost use Rattle.octets.specs.Limits.{max_program, max_script};
-ghost use Rattle.encodings.specs.Device.{HasStopped, HasTaken};
+ghost use Rattle.encodings.specs.Device.{HasBroken, HasStopped, HasTaken};
+ghost use Rattle.printing.specs.Printed.{report_text};
 ghost use Rattle.refusals.specs.Scripts.{IsScriptRefusal};
 ghost use Rattle.refusals.specs.declared.refusal.Refusal.TheVariants.{ScriptTooLong, Spelling};
 ghost use Rattle.sieve_engine.specs.Evaluation.{IsEvaluationRefusal};
@@ -12,10 +13,10 @@ ghost use Rattle.sieve_trace.specs.Places.{places_of};
 ghost use Rattle.depot_jobs.specs.Private.{program_text, script_text, traced_text};
 ghost use Rattle.depot_jobs.specs.Tracing.{IsTraceRefusal, IsTraced, IsTracedProgram, IsTracedScript, is_program};
 
-use crate::printing::put_report;
 use bytecode_verifier::Verified;
-use encodings::{DeviceFailed, Sink};
+use encodings::{DeviceFailed, Page, Sink};
 use mime_decode::Message;
+use printing::print_run;
 use refusals::Refusal;
 use sieve_check::Checked;
 use sieve_engine::{Report, check_program, check_script, evaluate, execute};
@@ -23,12 +24,12 @@ use sieve_parser::ParseError;
 use sieve_trace::{Places, TraceError, token_places};
 use std::alloc::Global;
 
-/// What a trace is made of.
+/// Everything that a trace is made from. [`trace_of`] makes it, and [`put_traced`] writes the trace.
 #[derive(Drop)]
 pub enum Traced<'a> {
-    /// That of a script.
+    /// The trace of a script.
     Script(TracedScript<'a>),
-    /// That of a program.
+    /// The trace of a program.
     Program(TracedProgram<'a>),
 }
 
@@ -37,13 +38,13 @@ pub enum Traced<'a> {
 pub struct TracedScript<'a> {
     /// The name of the script's file.
     pub name: &'a str,
-    /// Where the script's tokens stand.
+    /// The places of the script's tokens in the file.
     pub places: Places,
     /// The script.
     pub checked: Checked,
     /// The message.
     pub message: Message<'a>,
-    /// What the run of the script's program came to.
+    /// The report of the run of the script's program.
     pub report: Report,
 }
 
@@ -54,16 +55,19 @@ pub struct TracedProgram<'a> {
     pub verified: Verified,
     /// The message.
     pub message: Message<'a>,
-    /// What its run came to.
+    /// The report of its run.
     pub report: Report,
 }
 
-/// What the trace of a script or of a program on a message is made of, by the name of their file. Octets that begin as a program's
-/// do are taken for one.
+/// Prepares the trace of a script or a program on a message; `name` is the name of its file. Bytes that begin as a
+/// program does, with `SVBC`, are taken for a program.
 ///
 /// # Errors
 ///
-/// The first refusal of the script or of the program, then of the message.
+/// - The first refusal of the script or of the program, as `sieve_engine::check_script` and `check_program` list them.
+/// - If the script or the program is accepted: `MessageTooLarge` or `TooManyParts` if the message is too long or has
+///   too many parts.
+/// - `Memory` if memory is refused.
 pub fn trace_of<'a>(
     alloc: Global,
     name: &'a str,
@@ -84,14 +88,14 @@ pub fn trace_of<'a>(
     Ok(Traced::Script(script_trace(alloc, name, octets, message)?))
 }
 
-// Whether octets are taken for a program.
+// Whether bytes are taken for a program.
 fn is_program(octets: &[u8]) -> bool
     ensures { result ≡ is_program octets.now }
 {
     octets.starts_with(b"SVBC")
 }
 
-// What the trace of a program is made of.
+// Everything that the trace of a program is made from.
 fn program_trace<'a>(
     alloc: Global,
     octets: &[u8],
@@ -112,7 +116,7 @@ fn program_trace<'a>(
     })
 }
 
-// What the trace of a script is made of.
+// Everything that the trace of a script is made from.
 fn script_trace<'a>(
     alloc: Global,
     name: &'a str,
@@ -153,7 +157,10 @@ fn places_in(alloc: Global, script: &[u8]) -> Result<Places, Refusal>
 ///
 /// # Errors
 ///
-/// `Write` where the sink failed, `Memory` where an allocation was refused. A prefix was written.
+/// The beginning of the text was written then.
+///
+/// - `Write` if a call of `out` fails.
+/// - `Memory` if memory is refused.
 pub fn put_traced<O: Sink>(alloc: Global, out: &mut O, traced: &Traced<'_>) -> Result<(), Refusal>
     ensures ok { OnOk result (HasTaken (traced_text traced.now) (O.output out.old)
         (O.output out.new)) }
@@ -204,4 +211,19 @@ fn put_program<O: Sink>(
 {
     bytecode_trace::trace(alloc, &traced.verified, &traced.message, out)?;
     Ok(put_report(out, &traced.report)?)
+}
+
+// Writes the lines of a run in one piece.
+fn put_report<O: Sink>(out: &mut O, report: &Report) -> Result<(), DeviceFailed>
+    ensures ok { OnOk result (HasTaken
+        (report_text report.now.outcome.actions.items report.now.outcome.charged report.now.limit)
+        (O.output out.old) (O.output out.new)) }
+    ensures err { OnErr result (HasBroken
+        (report_text report.now.outcome.actions.items report.now.outcome.charged report.now.limit)
+        (O.output out.old) (O.output out.new)) }
+{
+    let outcome = &report.outcome;
+    let mut page = Page::new(out);
+    print_run(&mut page, &outcome.actions, outcome.charged, report.limit);
+    page.flush()
 }

@@ -1,7 +1,7 @@
 // From work to its status.
 //
-// `disassemble` answers 0 also for a program that isn't accepted, because its listing is what was asked for. The
-// line of the verifier is the last one, a comment.
+// `disassemble` returns 0 also for a program that isn't accepted, because its listing is what was asked for. The line
+// of the verifier is the last one, a comment.
 ghost use Rattle.std.specs.Prelude.{◌≡◌, ◌⊎◌, List, ℕ};
 ghost use Rattle.bytecode_format.specs.Spelling.{spelling};
 ghost use Rattle.depot_jobs.specs.Jobs.{host_and_outputs};
@@ -24,8 +24,9 @@ const KEEPS_ALL: &[u8] = &[
     0x01, 0, 0, 0, 0, 0, 0, 0, // halt
 ];
 
-/// Reads what work reads, in the order of its words, and answers its job; gives the status. Where
-/// something can't be read, the refusal is told, and nothing after it is opened.
+/// Reads what the work reads, in the order of its words, answers its job with [`crate::answer`], and returns the exit
+/// status. If something can't be read, the line of its refusal is written to `err`, nothing after it is opened, and the
+/// status is 1.
 pub fn carry_out<H: Host, O: Sink, E: Sink>(
     alloc: Global,
     work: Work<'_>,
@@ -49,7 +50,7 @@ pub fn carry_out<H: Host, O: Sink, E: Sink>(
     }
 }
 
-// The job that work is, with the octets that it reads, the second ones empty where it reads once.
+// The job of this work, with the bytes that it reads. The second bytes are empty if it reads one input.
 fn job_of<'a>(work: Work<'a>, first: &'a [u8], second: &'a [u8]) -> Job<'a>
     ensures { (inputs : List (List ℕ)) → first.entry.now ≡ input inputs 0
         → second.entry.now ≡ input inputs 1 → IsJobOf work.entry inputs result }

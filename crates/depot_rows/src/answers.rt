@@ -41,7 +41,7 @@ fn each_line_is_one_call(rt: HostRuntime) {
     let script = b"keep; discard;";
     assert!(rt; is_answered_by(&rt, Job::Check { script }, &[3]));
     let message = b"";
-    assert!(rt; is_answered_by(&rt, Job::Eval { script, message }, &[5, 15]));
+    assert!(rt; is_answered_by(&rt, Job::Eval { script, message }, &[20]));
 }
 
 // Whether a job is refused with this line alone, in one call.

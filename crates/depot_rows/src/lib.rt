@@ -1,4 +1,5 @@
-//! Tests of commands over their public calls, and a host whose files are known: what a contract is told of a host can be told.
+//! Tests of commands over their public calls, and a host with known files, so that the premises of contracts about a
+//! host hold.
 #![tactic(auto)]
 
 #[cfg(test)]

@@ -1,7 +1,7 @@
 // The arguments of the commands.
 //
-// A number of an entry is read as clap reads it: also with a plus sign and leading zeros. If clap's rules exclude a
-// case, the code still has an arm: a missing required argument reads as the empty text, an unknown name of an
+// The number of an entry is read as clap reads it: also with a plus sign and leading zeros. If clap's rules exclude a
+// case, the code still has an arm for it: a missing required argument reads as the empty text, an unknown name of an
 // encoding as raw, an unknown command as no words. Cases show that clap lets none through (`cases/words.t`).
 ghost use Rattle.std.specs.Prelude.{◌≡◌, codes, false};
 ghost use Rattle.clap.specs.Words.{rule_of};
@@ -10,27 +10,27 @@ ghost use Rattle.depot_words.specs.Commands.{encoding_rule, number_rule, require
 use clap::{Arg, value_parser};
 use std::alloc::Global;
 
-/// The argument DB.
+/// The argument DB: the depot's file, which is made if it doesn't exist.
 pub fn depot_file<'a>(alloc: Global) -> Arg<'a>
     ensures rule { rule_of result ≡ required_rule (codes "DB") }
     ensures local { result.global ≡ false }
 {
     Arg::new(alloc, "DB")
         .required(true)
-        .help("The file of the depot, which is made if it isn't there")
+        .help("The file of the depot; it is made if it is missing")
 }
 
-/// The argument DB of a command that only looks.
+/// The argument DB of a command that only reads: any file.
 pub fn any_file<'a>(alloc: Global) -> Arg<'a>
     ensures rule { rule_of result ≡ required_rule (codes "DB") }
     ensures local { result.global ≡ false }
 {
     Arg::new(alloc, "DB")
         .required(true)
-        .help("The file of a depot, or whatever has its name")
+        .help("The file of a depot, or any other file")
 }
 
-/// The argument USER.
+/// The argument USER: a user name.
 pub fn user_name<'a>(alloc: Global) -> Arg<'a>
     ensures rule { rule_of result ≡ required_rule (codes "USER") }
     ensures local { result.global ≡ false }
@@ -40,7 +40,7 @@ pub fn user_name<'a>(alloc: Global) -> Arg<'a>
     )
 }
 
-/// The argument NUMBER.
+/// The argument NUMBER: the number of an entry, from 1 to 4,294,967,295.
 pub fn entry_number<'a>(alloc: Global) -> Arg<'a>
     ensures rule { rule_of result ≡ number_rule }
     ensures local { result.global ≡ false }
@@ -48,10 +48,10 @@ pub fn entry_number<'a>(alloc: Global) -> Arg<'a>
     Arg::new(alloc, "NUMBER")
         .required(true)
         .value_parser(value_parser!(u32).range(1..))
-        .help("The number of an entry")
+        .help("The number of an entry, as `list` prints it")
 }
 
-/// The argument ENCODING.
+/// The argument ENCODING: one of these names.
 pub fn encoding_name<'a>(alloc: Global, names: &'a [&'a str]) -> Arg<'a>
     ensures rule { rule_of result ≡ encoding_rule names.entry }
     ensures local { result.global ≡ false }
@@ -59,10 +59,10 @@ pub fn encoding_name<'a>(alloc: Global, names: &'a [&'a str]) -> Arg<'a>
     Arg::new(alloc, "ENCODING")
         .required(true)
         .value_parser(names)
-        .help("How the text stands for octets")
+        .help("The encoding")
 }
 
-/// The argument SCRIPT.
+/// The argument SCRIPT: the file of a Sieve script.
 pub fn script_file<'a>(alloc: Global) -> Arg<'a>
     ensures rule { rule_of result ≡ required_rule (codes "SCRIPT") }
     ensures local { result.global ≡ false }
@@ -72,7 +72,7 @@ pub fn script_file<'a>(alloc: Global) -> Arg<'a>
         .help("The file of a Sieve script")
 }
 
-/// The argument FILE: a script or a program.
+/// The argument FILE: the file of a script or a program.
 pub fn filter_file<'a>(alloc: Global) -> Arg<'a>
     ensures rule { rule_of result ≡ required_rule (codes "FILE") }
     ensures local { result.global ≡ false }
@@ -82,17 +82,17 @@ pub fn filter_file<'a>(alloc: Global) -> Arg<'a>
     )
 }
 
-/// The argument OUT.
+/// The argument OUT: the file to be made.
 pub fn out_file<'a>(alloc: Global) -> Arg<'a>
     ensures rule { rule_of result ≡ required_rule (codes "OUT") }
     ensures local { result.global ≡ false }
 {
     Arg::new(alloc, "OUT")
         .required(true)
-        .help("The file that the filter program is written to")
+        .help("The file to write the filter program to")
 }
 
-/// The argument PROGRAM.
+/// The argument PROGRAM: the file of a program (bytecode).
 pub fn program_file<'a>(alloc: Global) -> Arg<'a>
     ensures rule { rule_of result ≡ required_rule (codes "PROGRAM") }
     ensures local { result.global ≡ false }
@@ -102,22 +102,22 @@ pub fn program_file<'a>(alloc: Global) -> Arg<'a>
         .help("The file of a filter program (bytecode)")
 }
 
-/// The argument LISTING.
+/// The argument LISTING: the file of a program's listing.
 pub fn listing_file<'a>(alloc: Global) -> Arg<'a>
     ensures rule { rule_of result ≡ required_rule (codes "LISTING") }
     ensures local { result.global ≡ false }
 {
     Arg::new(alloc, "LISTING")
         .required(true)
-        .help("The file of a filter program's listing")
+        .help("The file of a listing of a filter program")
 }
 
-/// The argument MESSAGE.
+/// The argument MESSAGE: the file of a message.
 pub fn message_file<'a>(alloc: Global) -> Arg<'a>
     ensures rule { rule_of result ≡ required_rule (codes "MESSAGE") }
     ensures local { result.global ≡ false }
 {
     Arg::new(alloc, "MESSAGE")
         .required(true)
-        .help("The file of a mail message, as mail servers hold it")
+        .help("The file of one mail message (RFC 5322)")
 }

@@ -1,4 +1,4 @@
-// The program with its commands, as it is told to clap.
+// The program with its commands, as described to clap.
 ghost use Rattle.std.specs.Prelude.{◌≡◌, IfOk, codes, false};
 ghost use Rattle.clap.specs.Words.{app_of, new_app, with_subcommand};
 ghost use Rattle.clap.specs.declared.builder.command.Command.TheViews.{out-Command as fields_of};
@@ -13,7 +13,11 @@ use crate::limit::limit_command;
 use clap::Command;
 use std::alloc::{AllocError, Global};
 
-/// The program with its commands.
+/// Describes the program with its commands to clap. `names` are the names of the encodings, which clap checks.
+///
+/// # Errors
+///
+/// `AllocError` if memory is refused.
 pub fn depot_command<'a>(alloc: Global, names: &'a [&'a str]) -> Result<Command<'a>, AllocError>
     ensures app { IfOk result (λ c. app_of c ≡ depot_app names.entry) }
     ensures local { IfOk result (λ c. (fields_of c).has_globals ≡ false) }
@@ -21,7 +25,7 @@ pub fn depot_command<'a>(alloc: Global, names: &'a [&'a str]) -> Result<Command<
     keeper_command(alloc, names)?.subcommand(batch_command(alloc)?)
 }
 
-// The program with all commands but the one that takes others.
+// The program with all commands except `batch`.
 fn keeper_command<'a>(alloc: Global, names: &'a [&'a str]) -> Result<Command<'a>, AllocError>
     ensures app { IfOk result (λ c. app_of c ≡ keeper_app names.entry) }
     ensures local { IfOk result (λ c. (fields_of c).has_globals ≡ false) }
@@ -29,7 +33,7 @@ fn keeper_command<'a>(alloc: Global, names: &'a [&'a str]) -> Result<Command<'a>
     with_migrate(alloc, names)?.subcommand(inspect_command(alloc)?)
 }
 
-// The program as far as the command migrate.
+// The program up to the command migrate.
 fn with_migrate<'a>(alloc: Global, names: &'a [&'a str]) -> Result<Command<'a>, AllocError>
     ensures app { IfOk result (λ c. app_of c
         ≡ with_subcommand (entries_app names.entry) migrate_app.top) }
@@ -46,7 +50,7 @@ fn entries_command<'a>(alloc: Global, names: &'a [&'a str]) -> Result<Command<'a
     with_export(alloc, names)?.subcommand(remove_command(alloc)?)
 }
 
-// The program as far as the command export.
+// The program up to the command export.
 fn with_export<'a>(alloc: Global, names: &'a [&'a str]) -> Result<Command<'a>, AllocError>
     ensures app { IfOk result (λ c. app_of c
         ≡ with_subcommand (delivery_app names.entry) (export_app names.entry).top) }
@@ -55,7 +59,7 @@ fn with_export<'a>(alloc: Global, names: &'a [&'a str]) -> Result<Command<'a>, A
     delivery_command(alloc, names)?.subcommand(export_command(alloc, names)?)
 }
 
-// The program with all commands but those on entries that are there.
+// The program up to the command list.
 fn delivery_command<'a>(alloc: Global, names: &'a [&'a str]) -> Result<Command<'a>, AllocError>
     ensures app { IfOk result (λ c. app_of c ≡ delivery_app names.entry) }
     ensures local { IfOk result (λ c. (fields_of c).has_globals ≡ false) }
@@ -63,7 +67,7 @@ fn delivery_command<'a>(alloc: Global, names: &'a [&'a str]) -> Result<Command<'
     with_deliver(alloc, names)?.subcommand(list_command(alloc)?)
 }
 
-// The program as far as the command deliver.
+// The program up to the command deliver.
 fn with_deliver<'a>(alloc: Global, names: &'a [&'a str]) -> Result<Command<'a>, AllocError>
     ensures app { IfOk result (λ c. app_of c
         ≡ with_subcommand (keeping_app names.entry) deliver_app.top) }
@@ -88,7 +92,7 @@ fn filing_command<'a>(alloc: Global, names: &'a [&'a str]) -> Result<Command<'a>
     with_script(alloc, names)?.subcommand(code_command(alloc)?)
 }
 
-// The program as far as the command script.
+// The program up to the command script.
 fn with_script<'a>(alloc: Global, names: &'a [&'a str]) -> Result<Command<'a>, AllocError>
     ensures app { IfOk result (λ c. app_of c
         ≡ with_subcommand (codecs_app names.entry) script_app.top) }
@@ -105,7 +109,7 @@ fn codecs_command<'a>(alloc: Global, names: &'a [&'a str]) -> Result<Command<'a>
     with_encode(alloc, names)?.subcommand(decode_command(alloc, names)?)
 }
 
-// The program as far as the command encode.
+// The program up to the command encode.
 fn with_encode<'a>(alloc: Global, names: &'a [&'a str]) -> Result<Command<'a>, AllocError>
     ensures app { IfOk result (λ c. app_of c
         ≡ with_subcommand mail_app (encode_app names.entry).top) }
@@ -130,7 +134,7 @@ fn runs_command<'a>(alloc: Global) -> Result<Command<'a>, AllocError>
     with_eval(alloc)?.subcommand(trace_command(alloc)?)
 }
 
-// The program as far as the command eval.
+// The program up to the command eval.
 fn with_eval<'a>(alloc: Global) -> Result<Command<'a>, AllocError>
     ensures app { IfOk result (λ c. app_of c
         ≡ with_subcommand listings_app eval_app.top) }
@@ -139,7 +143,7 @@ fn with_eval<'a>(alloc: Global) -> Result<Command<'a>, AllocError>
     listings_command(alloc)?.subcommand(eval_command(alloc)?)
 }
 
-// The program with the commands that take a script alone, a filter program, or its listing.
+// The program with the commands that take only a script, a filter program, or its listing.
 fn listings_command<'a>(alloc: Global) -> Result<Command<'a>, AllocError>
     ensures app { IfOk result (λ c. app_of c ≡ listings_app) }
     ensures local { IfOk result (λ c. (fields_of c).has_globals ≡ false) }
@@ -147,7 +151,7 @@ fn listings_command<'a>(alloc: Global) -> Result<Command<'a>, AllocError>
     with_disassemble(alloc)?.subcommand(assemble_command(alloc)?)
 }
 
-// The program as far as the command disassemble.
+// The program up to the command disassemble.
 fn with_disassemble<'a>(alloc: Global) -> Result<Command<'a>, AllocError>
     ensures app { IfOk result (λ c. app_of c
         ≡ with_subcommand filters_app disassemble_app.top) }
@@ -156,7 +160,7 @@ fn with_disassemble<'a>(alloc: Global) -> Result<Command<'a>, AllocError>
     filters_command(alloc)?.subcommand(disassemble_command(alloc)?)
 }
 
-// The program with the commands that take a script alone, or a filter program.
+// The program with the commands that take only a script, or a filter program.
 fn filters_command<'a>(alloc: Global) -> Result<Command<'a>, AllocError>
     ensures app { IfOk result (λ c. app_of c ≡ filters_app) }
     ensures local { IfOk result (λ c. (fields_of c).has_globals ≡ false) }
@@ -164,7 +168,7 @@ fn filters_command<'a>(alloc: Global) -> Result<Command<'a>, AllocError>
     bounds_command(alloc)?.subcommand(run_command(alloc)?)
 }
 
-// The program with the commands that take a script alone, or a filter program alone.
+// The program with the commands that take only a script, or only a filter program.
 fn bounds_command<'a>(alloc: Global) -> Result<Command<'a>, AllocError>
     ensures app { IfOk result (λ c. app_of c ≡ bounds_app) }
     ensures local { IfOk result (λ c. (fields_of c).has_globals ≡ false) }
@@ -172,7 +176,7 @@ fn bounds_command<'a>(alloc: Global) -> Result<Command<'a>, AllocError>
     with_verify(alloc)?.subcommand(limit_command(alloc)?)
 }
 
-// The program as far as the command verify.
+// The program up to the command verify.
 fn with_verify<'a>(alloc: Global) -> Result<Command<'a>, AllocError>
     ensures app { IfOk result (λ c. app_of c
         ≡ with_subcommand scripts_app verify_app.top) }
@@ -181,7 +185,7 @@ fn with_verify<'a>(alloc: Global) -> Result<Command<'a>, AllocError>
     scripts_command(alloc)?.subcommand(verify_command(alloc)?)
 }
 
-// The program with the commands that take a script alone.
+// The program with the commands that take only a script.
 fn scripts_command<'a>(alloc: Global) -> Result<Command<'a>, AllocError>
     ensures app { IfOk result (λ c. app_of c ≡ scripts_app) }
     ensures local { IfOk result (λ c. (fields_of c).has_globals ≡ false) }
@@ -197,16 +201,14 @@ fn checks_command<'a>(alloc: Global) -> Result<Command<'a>, AllocError>
     with_check(alloc)?.subcommand(explain_command(alloc)?)
 }
 
-// The program as far as the command check.
+// The program up to the command check.
 fn with_check<'a>(alloc: Global) -> Result<Command<'a>, AllocError>
     ensures app { IfOk result (λ c. app_of c
         ≡ with_subcommand (new_app (codes "depot")) check_app.top) }
     ensures local { IfOk result (λ c. (fields_of c).has_globals ≡ false) }
 {
     Command::new(alloc, "depot")
-        .about(
-            "Verified mail filters: checks and compiles Sieve scripts, files mail messages as they say, and gives back what was filed.",
-        )
+        .about("File mail and its parts by Sieve filters whose behaviour is proved")
         .after_help(help::ALL)
         .subcommand(check_command(alloc)?)
 }
@@ -217,7 +219,7 @@ fn check_command<'a>(alloc: Global) -> Result<Command<'a>, AllocError>
     ensures local { IfOk result (λ c. (fields_of c).has_globals ≡ false) }
 {
     Command::new(alloc, "check")
-        .about("Says whether a Sieve script has a fault, and where")
+        .about("Check a Sieve script for mistakes")
         .after_help(help::CHECK)
         .arg(script_file(alloc))
 }
@@ -228,7 +230,7 @@ fn explain_command<'a>(alloc: Global) -> Result<Command<'a>, AllocError>
     ensures local { IfOk result (λ c. (fields_of c).has_globals ≡ false) }
 {
     Command::new(alloc, "explain")
-        .about("Says in words what the fault of a Sieve script is, and shows its line")
+        .about("Describe the mistakes in a Sieve script, and show their lines")
         .after_help(help::EXPLAIN)
         .arg(script_file(alloc))
 }
@@ -239,7 +241,7 @@ fn compile_command<'a>(alloc: Global) -> Result<Command<'a>, AllocError>
     ensures local { IfOk result (λ c. (fields_of c).has_globals ≡ false) }
 {
     Command::new(alloc, "compile")
-        .about("Writes a Sieve script as a filter program (bytecode)")
+        .about("Compile a Sieve script to a filter program (bytecode)")
         .after_help(help::COMPILE)
         .arg(script_file(alloc))?
         .arg(out_file(alloc))
@@ -251,7 +253,7 @@ fn eval_command<'a>(alloc: Global) -> Result<Command<'a>, AllocError>
     ensures local { IfOk result (λ c. (fields_of c).has_globals ≡ false) }
 {
     Command::new(alloc, "eval")
-        .about("Runs a Sieve script on a message, and prints what it does with it")
+        .about("Run a Sieve script on a message, and print its actions and cost")
         .after_help(help::EVAL)
         .arg(script_file(alloc))?
         .arg(message_file(alloc))
@@ -263,9 +265,7 @@ fn trace_command<'a>(alloc: Global) -> Result<Command<'a>, AllocError>
     ensures local { IfOk result (λ c. (fields_of c).has_globals ≡ false) }
 {
     Command::new(alloc, "trace")
-        .about(
-            "Runs a Sieve script or a filter program on a message, and prints what it does, step by step",
-        )
+        .about("Run a Sieve script or a filter program on a message, and print each step")
         .after_help(help::TRACE)
         .arg(filter_file(alloc))?
         .arg(message_file(alloc))
@@ -277,9 +277,7 @@ fn parts_command<'a>(alloc: Global) -> Result<Command<'a>, AllocError>
     ensures local { IfOk result (λ c. (fields_of c).has_globals ≡ false) }
 {
     Command::new(alloc, "parts")
-        .about(
-            "Lists the parts of a message: place, depth, media type, length and digest of the content",
-        )
+        .about("List the parts of a message, with number, depth, media type, length and SHA-256")
         .after_help(help::PARTS)
         .arg(message_file(alloc))
 }
@@ -290,7 +288,7 @@ fn verify_command<'a>(alloc: Global) -> Result<Command<'a>, AllocError>
     ensures local { IfOk result (λ c. (fields_of c).has_globals ≡ false) }
 {
     Command::new(alloc, "verify")
-        .about("Says whether a filter program is safe to run, and what it may charge")
+        .about("Check that a filter program is safe to run, and print the most that it can cost")
         .after_help(help::VERIFY)
         .arg(program_file(alloc))
 }
@@ -301,7 +299,7 @@ fn run_command<'a>(alloc: Global) -> Result<Command<'a>, AllocError>
     ensures local { IfOk result (λ c. (fields_of c).has_globals ≡ false) }
 {
     Command::new(alloc, "run")
-        .about("Runs a filter program on a message, and prints what it does with it")
+        .about("Run a filter program on a message, and print its actions and cost")
         .after_help(help::RUN)
         .arg(program_file(alloc))?
         .arg(message_file(alloc))
@@ -313,9 +311,7 @@ fn disassemble_command<'a>(alloc: Global) -> Result<Command<'a>, AllocError>
     ensures local { IfOk result (λ c. (fields_of c).has_globals ≡ false) }
 {
     Command::new(alloc, "disassemble")
-        .about(
-            "Lists a filter program, an instruction a line, and says what the verifier says of it",
-        )
+        .about("Print a filter program as a listing, an instruction a line")
         .after_help(help::DISASSEMBLE)
         .arg(program_file(alloc))
 }
@@ -326,7 +322,7 @@ fn assemble_command<'a>(alloc: Global) -> Result<Command<'a>, AllocError>
     ensures local { IfOk result (λ c. (fields_of c).has_globals ≡ false) }
 {
     Command::new(alloc, "assemble")
-        .about("Writes the filter program (bytecode) that a listing says")
+        .about("Assemble a listing to a filter program (bytecode)")
         .after_help(help::ASSEMBLE)
         .arg(listing_file(alloc))?
         .arg(out_file(alloc))
@@ -338,7 +334,7 @@ fn encode_command<'a>(alloc: Global, names: &'a [&'a str]) -> Result<Command<'a>
     ensures local { IfOk result (λ c. (fields_of c).has_globals ≡ false) }
 {
     Command::new(alloc, "encode")
-        .about("Writes the octets of standard input as a text")
+        .about("Encode the bytes of standard input as a text")
         .after_help(help::ENCODE)
         .arg(encoding_name(alloc, names))
 }
@@ -349,12 +345,12 @@ fn decode_command<'a>(alloc: Global, names: &'a [&'a str]) -> Result<Command<'a>
     ensures local { IfOk result (λ c. (fields_of c).has_globals ≡ false) }
 {
     Command::new(alloc, "decode")
-        .about("Writes the octets that the text on standard input stands for")
+        .about("Decode the text on standard input to bytes")
         .after_help(help::DECODE)
         .arg(encoding_name(alloc, names))
 }
 
-// A command on the depot of a user, with the end of its help.
+// A command on a user's depot; `ending` is the end of its help.
 fn user_command<'a>(
     alloc: Global,
     name: &'static str,
@@ -379,7 +375,7 @@ fn script_command<'a>(alloc: Global) -> Result<Command<'a>, AllocError>
     user_command(
         alloc,
         "script",
-        "Stores a Sieve script, compiled, as the filter of a user",
+        "Compile a Sieve script, and store it as the filter of a user",
         help::SCRIPT,
     )?
     .arg(script_file(alloc))
@@ -393,7 +389,7 @@ fn code_command<'a>(alloc: Global) -> Result<Command<'a>, AllocError>
     user_command(
         alloc,
         "code",
-        "Stores a filter program (bytecode) as the filter of a user",
+        "Store a filter program (bytecode) as the filter of a user",
         help::CODE,
     )?
     .arg(program_file(alloc))
@@ -407,7 +403,7 @@ fn program_command<'a>(alloc: Global) -> Result<Command<'a>, AllocError>
     user_command(
         alloc,
         "program",
-        "Writes the filter program (bytecode) of a user to a file",
+        "Write the filter of a user to a file, as a filter program (bytecode)",
         help::PROGRAM,
     )?
     .arg(out_file(alloc))
@@ -421,7 +417,7 @@ fn deliver_command<'a>(alloc: Global) -> Result<Command<'a>, AllocError>
     user_command(
         alloc,
         "deliver",
-        "Files a message, or parts of it, as the filter of a user says",
+        "Run the filter of a user on a message, and file the result",
         help::DELIVER,
     )?
     .arg(message_file(alloc))
@@ -432,7 +428,7 @@ fn list_command<'a>(alloc: Global) -> Result<Command<'a>, AllocError>
     ensures app { IfOk result (λ c. app_of c ≡ list_app) }
     ensures local { IfOk result (λ c. (fields_of c).has_globals ≡ false) }
 {
-    user_command(alloc, "list", "Lists the entries of a user", help::LIST)
+    user_command(alloc, "list", "List the entries of a user", help::LIST)
 }
 
 // The command export.
@@ -443,7 +439,7 @@ fn export_command<'a>(alloc: Global, names: &'a [&'a str]) -> Result<Command<'a>
     user_command(
         alloc,
         "export",
-        "Writes the octets of an entry as a text",
+        "Write the bytes of an entry to standard output, in an encoding",
         help::EXPORT,
     )?
     .arg(entry_number(alloc))?
@@ -455,7 +451,9 @@ fn remove_command<'a>(alloc: Global) -> Result<Command<'a>, AllocError>
     ensures app { IfOk result (λ c. app_of c ≡ remove_app) }
     ensures local { IfOk result (λ c. (fields_of c).has_globals ≡ false) }
 {
-    user_command(alloc, "remove", "Removes an entry", help::REMOVE)?.arg(entry_number(alloc))
+    user_command(alloc, "remove", "Remove an entry of a user", help::REMOVE)?.arg(entry_number(
+        alloc,
+    ))
 }
 
 // The command migrate.
@@ -464,7 +462,7 @@ fn migrate_command<'a>(alloc: Global) -> Result<Command<'a>, AllocError>
     ensures local { IfOk result (λ c. (fields_of c).has_globals ≡ false) }
 {
     Command::new(alloc, "migrate")
-        .about("Gives the filters of all users the latest version of the bytecode")
+        .about("Convert the filters of all users to the latest version of the bytecode")
         .after_help(help::MIGRATE)
         .arg(depot_file(alloc))
 }
@@ -475,7 +473,7 @@ fn inspect_command<'a>(alloc: Global) -> Result<Command<'a>, AllocError>
     ensures local { IfOk result (λ c. (fields_of c).has_globals ≡ false) }
 {
     Command::new(alloc, "inspect")
-        .about("Says what a file is, and what the depot in it holds; changes nothing")
+        .about("Report whether a file is a depot, and what it holds")
         .after_help(help::INSPECT)
         .arg(any_file(alloc))
 }
@@ -486,7 +484,7 @@ fn batch_command<'a>(alloc: Global) -> Result<Command<'a>, AllocError>
     ensures local { IfOk result (λ c. (fields_of c).has_globals ≡ false) }
 {
     Command::new(alloc, "batch")
-        .about("Does commands on a depot, one a line of standard input, and answers each")
+        .about("Run the commands on standard input, one a line, on a depot")
         .after_help(help::BATCH)
         .arg(depot_file(alloc))
 }

@@ -1,9 +1,21 @@
 //! The words of a command line: which commands there are, which arguments they take, and their help.
 //!
-//! [`depot_command`] tells that to clap. `specs/Commands` says it, too, and the contract that both
-//! are the same: what clap takes and refuses is defined over that. What the words then ask for is
-//! said above this crate. [`asked_text`] has the version, and what each refusal means, for words that
-//! ask for these and are no command.
+//! [`depot_command`] describes the commands to clap, and `specs/Commands` describes them to contracts; the contract
+//! says that both are the same. What clap takes and refuses is defined from that description. The crates above define
+//! what the words ask for. [`asked_text`] has the version, and what each refusal means, for words that ask for these
+//! and are no command.
+//!
+//! The built app equals its definition by computation on literals, with at most two `.subcommand(..)` in a function.
+//!
+//! # Promises
+//!
+//! ## Arguments of commands
+//!
+//! The command line follows the definition of the commands. If `clap` takes words as those of a command, each argument
+//! of the command is there and in its range: NUMBER is the number of an entry, OCTETS and PARTS are as many as a
+//! message can have, and ENCODING is the name of an encoding.
+//!
+//! By `depot_command`; law `arguments_are_in_range`.
 #![tactic(auto)]
 
 mod arguments;

@@ -10,13 +10,17 @@ use crate::help;
 use clap::{Arg, Command, value_parser};
 use std::alloc::{AllocError, Global};
 
-/// The command limit.
+/// The command limit, with its arguments PROGRAM, OCTETS and PARTS, for clap.
+///
+/// # Errors
+///
+/// `AllocError` if memory is refused.
 pub fn limit_command<'a>(alloc: Global) -> Result<Command<'a>, AllocError>
     ensures app { IfOk result (λ c. app_of c ≡ limit_app) }
     ensures local { IfOk result (λ c. (fields_of c).has_globals ≡ false) }
 {
     Command::new(alloc, "limit")
-        .about("Says how much a filter program may charge and file, for messages up to a size")
+        .about("Print the most that a filter program can cost and file, for messages up to a size")
         .after_help(help::LIMIT)
         .arg(program_file(alloc))?
         .arg(message_octets(alloc))?
@@ -31,7 +35,7 @@ fn message_octets<'a>(alloc: Global) -> Arg<'a>
     Arg::new(alloc, "OCTETS")
         .required(true)
         .value_parser(value_parser!(u64).range(0..=67_108_864))
-        .help("How many octets a message has at most: 0 to 67108864")
+        .help("The most bytes that a message has: 0 to 67108864")
 }
 
 // The argument PARTS.
@@ -42,5 +46,5 @@ fn message_parts<'a>(alloc: Global) -> Arg<'a>
     Arg::new(alloc, "PARTS")
         .required(true)
         .value_parser(value_parser!(u64).range(1..=4096))
-        .help("How many parts it has at most, itself among them: 1 to 4096")
+        .help("The most parts that it has, with the message itself: 1 to 4096")
 }

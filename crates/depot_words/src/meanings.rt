@@ -1,13 +1,13 @@
-// What each refusal means, and what to do, for whoever met it: the table of docs/SPECIFICATION.md in
-// short, which says more.
+// What each refusal means and what to do, for users who get one: a short form of the table of refusals in
+// docs/INTERFACE.md.
 
-/// What is said of a refusal.
+/// The text of `depot help` for one refusal.
 struct Meaning {
-    /// Its number, in digits.
+    /// The refusal's number, in digits.
     number: &'static str,
-    /// Its name.
+    /// The refusal's name.
     name: &'static str,
-    /// When it comes, and what to do.
+    /// When the refusal comes, and what to do.
     text: &'static str,
 }
 
@@ -28,185 +28,244 @@ const MEANINGS: &[Meaning] = &[
     meaning!(
         "1",
         "Memory",
-        "An allocation was refused. Of an export a prefix may be written; else nothing was done.",
-        "Free memory, or raise the limit of the process."
+        "An allocation failed. The command changed nothing in a depot; earlier lines of a batch are done. An\n\
+         export or a trace can have written a part of its answer.",
+        "Free memory, or raise the memory limit of the process."
     ),
     meaning!(
         "2",
         "MessageTooLarge",
-        "A file or standard input has more than 67,108,864 octets.",
-        "Split the message, or archive it elsewhere. Of several files it is the first of the command's\nwords that is so large: `ls -l` shows which."
+        "A file or standard input has more than 67,108,864 bytes.",
+        "Split the message, or archive it elsewhere. If the command reads several files, it is the first one\n\
+         that is too large, in the order of the words: `ls -l` shows which."
     ),
     meaning!(
         "3",
         "TooManyParts",
         "The message has more than 4,096 parts.",
-        "It is mostly a bounce of a mailer gone wrong. Archive it unfiltered."
+        "Often it is a bounce from a broken mail program. Archive it elsewhere: a depot can't take it."
     ),
     meaning!(
         "10",
         "NotCanonical",
-        "The text isn't what the encoder of this encoding writes.",
-        "Often it ends with a line break, or is broken into lines: take the breaks out, or decode base64\nas base64-mime."
+        "The text on standard input is not in this encoding, exactly as `depot encode` writes it. (base16 can\n\
+         have digits in lower case. base64-mime, qp and raw are never refused.)",
+        "Remove line breaks, also the one at the end, or decode base64 as base64-mime."
     ),
     meaning!(
         "11",
         "Lexical",
-        "At this octet of the script, counted from 0, no token begins; or a string or comment that begins\nthere is never closed, or a number is too large.",
-        "`depot explain SCRIPT` shows the place. At 0 it is often a byte order mark: save the script\nwithout one. Where the file is a mail or a program, the words are in the wrong order: the script\ncomes first, and `run` takes programs."
+        "At this byte of the script, counted from 0, no token begins; or a string or comment that begins\n\
+         there is never closed; or a number there is too large.",
+        "`depot explain SCRIPT` shows the place. At 0 it is often a byte order mark: save the script without\n\
+         one. If the file is a message, the words are in the wrong order: SCRIPT comes before MESSAGE. If it\n\
+         is a program, use `depot run`."
     ),
     meaning!(
         "12",
         "ScriptTooLong",
-        "The script has more than 65,536 octets.",
-        "Make it shorter: a test takes lists of up to 512 strings."
+        "The script has more than 65,536 bytes.",
+        "Make it shorter. The lists of one test can have up to 512 strings."
     ),
     meaning!(
         "13",
         "Syntax",
-        "At this token of the script, counted from 0, it stops being one.",
+        "The script has a syntax error at this token, counted from 0.",
         "`depot explain SCRIPT` shows the place. Often a `;` or a bracket is missing before it."
     ),
     meaning!(
         "14",
         "TooDeep",
-        "More than 32 braces and test names enclose this token of the script.",
-        "Use elsif, allof and anyof in place of nesting. `depot explain SCRIPT` shows the place."
+        "More than 32 braces and test names enclose this token of the script, counted from 0.",
+        "`depot explain SCRIPT` shows the place. Use elsif, allof and anyof instead of nesting."
     ),
     meaning!(
         "15",
         "UnknownCommand",
-        "The command or test at this token of the script isn't known here.",
-        "`depot explain SCRIPT` shows it, and says what is meant, or what stands in its place.\ndocs/GALLERY.md says what to write for address, envelope, redirect and others."
+        "At this token of the script, counted from 0, is an unknown command or test, a command where a test\n\
+         is needed, or a test where a command is needed.",
+        "`depot explain SCRIPT` shows the place, and what to write instead. docs/GALLERY.md has a table of\n\
+         what to write for address, envelope, redirect and others."
     ),
     meaning!(
         "16",
         "MissingCapability",
-        "The command or test at this token of the script needs a `require` before it.",
-        "`depot explain SCRIPT` says which. Add it to a `require` at the start of the script."
+        "The command or test at this token of the script, counted from 0, needs a `require` before it.",
+        "`depot explain SCRIPT` shows which. Add it to a `require` at the start of the script."
     ),
     meaning!(
         "17",
         "UnknownCapability",
-        "This `require` of the script names what isn't here.",
-        "`depot explain SCRIPT` says which it is, and what stands in its place."
+        "The `require` at this token of the script, counted from 0, names a capability that depot doesn't\n\
+         have.",
+        "`depot explain SCRIPT` shows which, and what to write instead."
     ),
     meaning!(
         "18",
         "BadArguments",
-        "The command or test at this token of the script has other arguments, tests or another end than it\ntakes, or is at a wrong place; or a reference in one of its strings can't be.",
-        "`depot explain SCRIPT` shows it, and says what it takes."
+        "The command or test at this token of the script, counted from 0, is in a wrong place, or has\n\
+         arguments, tests or an end that it doesn't take; or one of its strings has a reference that isn't\n\
+         possible.",
+        "`depot explain SCRIPT` shows the place, and what it takes."
     ),
     meaning!(
         "19",
         "Limit",
-        "The command or test at this token of the script exceeds a limit: 16,384 octets of a string, 512\nstrings of a test, 256 pieces of a string, 32 octets of a variable's name, 128 variables, or 3\nloops in one another.",
-        "`depot explain SCRIPT` says which. Make several tests in an anyof or allof of one; use a variable\nagain."
+        "The command or test at this token of the script, counted from 0, exceeds a limit: 16,384 bytes in a\n\
+         string, 256 segments in a string (references, and the texts between them), 512 strings in the lists\n\
+         of a test, 32 bytes in a variable's name, 128 variables, or 3 nested loops.",
+        "`depot explain SCRIPT` shows which. Split a test into several in an anyof or allof; use a variable\n\
+         again; one loop visits parts of all depths."
     ),
     meaning!(
         "20",
         "Spelling",
-        "The file is no filter program (bytecode), or it was cut.",
-        "Compile or copy it again. A script is for check, compile and eval, and in run the program comes\nbefore the message."
+        "The file is not a filter program (bytecode), is only a part of one, or has more than 4,194,304\n\
+         bytes.",
+        "Compile or copy it again. A script is for check, compile and eval. In run the program comes before\n\
+         the message."
     ),
     meaning!(
         "21",
         "Index",
-        "This instruction of the program, counted from 0, names a number, a string or a variable that it\nhasn't.",
-        "`depot disassemble PROGRAM` shows the place. Correct the instruction, or the table."
+        "This instruction of the program, counted from 0, names a number, a string or a variable that isn't\n\
+         there.",
+        "`depot disassemble PROGRAM` shows the place. Correct the instruction or the table."
     ),
     meaning!(
         "22",
         "Form",
-        "This instruction of the program is no operation, or has a field out of its range.",
-        "`depot disassemble PROGRAM` shows the place. docs/BYTECODE.md has the fields."
+        "This instruction of the program, counted from 0, has an unknown operation or a field out of range.",
+        "`depot disassemble PROGRAM` shows the place. docs/BYTECODE.md has the range of each field."
     ),
     meaning!(
         "23",
         "End",
-        "The program's last instruction, at this place, isn't HALT.",
+        "The last instruction of the program, at this place counted from 0, isn't HALT.",
         "Add a HALT."
     ),
     meaning!(
         "24",
         "Loop",
-        "At this instruction of the program an EACH and a NEXT aren't each other's, more than 3 loops are\nin one another, or a BREAK leaves more loops than are open.",
-        "`depot disassemble PROGRAM` shows the place. Correct the pair, or the number."
+        "At this instruction of the program, counted from 0, is an EACH or a NEXT without its counterpart, a\n\
+         fourth nested loop, or a BREAK out of more loops than are open.",
+        "`depot disassemble PROGRAM` shows the place. Correct the pair, or the number of loops."
     ),
     meaning!(
         "25",
         "Jump",
-        "The jump at this instruction of the program isn't forward, leaves the program, or leaves or enters\na loop.",
-        "`depot disassemble PROGRAM` shows the place. Jumps go forward, within their loop."
+        "The jump at this instruction of the program, counted from 0, isn't forward, leaves the program, or\n\
+         enters or leaves a loop.",
+        "`depot disassemble PROGRAM` shows the place. Jump forward, within the loop."
     ),
     meaning!(
         "26",
         "NoPart",
-        "This instruction of the program is about the current part, and is in no loop.",
-        "`depot disassemble PROGRAM` shows the place. Put it into a loop."
+        "This instruction of the program, counted from 0, is about the current part, but is outside all\n\
+         loops.",
+        "`depot disassemble PROGRAM` shows the place. Put the instruction into a loop."
     ),
     meaning!(
         "27",
         "Stack",
-        "The entries on the stack don't fit this instruction of the program.",
-        "`depot disassemble PROGRAM` shows the place. The stack is empty at jumps and where they lead."
+        "The entries on the stack don't fit this instruction of the program, counted from 0.",
+        "`depot disassemble PROGRAM` shows the place. Leave the stack empty at jumps and their targets."
     ),
     meaning!(
         "28",
         "Listing",
-        "At this octet of the listing, counted from 0, is what can't be there; or its program exceeds a\nlimit.",
-        "`depot assemble LISTING OUT` shows the place, and says what is wrong there."
+        "At this byte of the listing, counted from 0, is something that can't be there, or a label that is\n\
+         defined again or missing; or, at the end of the listing, its program exceeds a limit.",
+        "`depot assemble LISTING OUT` shows the place and describes the mistake."
     ),
     meaning!(
         "40",
         "NoSuchEntry",
-        "The user has no entry of this number; of `program`, no filter of his own.",
-        "`depot list DB USER` shows the entries. A removed number doesn't come back. Where the user should\nhave entries: is it the right file? First comes the file, then the user."
+        "The user has no entry of this number; or, for `program`, no filter.",
+        "`depot list DB USER` shows the entries. The number of a removed entry is not used again. If entries\n\
+         are missing, look at the order of the words: DB comes first, then USER."
     ),
     meaning!(
         "41",
         "NumberFull",
-        "The numbers that the user has left, up to 4,294,967,295, don't suffice for the entries.",
+        "The user has too few numbers left for the new entries: the last one is 4,294,967,295.",
         "Deliver to another user."
     ),
     meaning!(
         "42",
         "Collision",
-        "Other octets have the same SHA-256 as what is to be filed.",
-        "Deliver the message into another depot, and report it: nobody has seen this yet."
+        "The depot has another content with the same SHA-256 as one that is to be filed.",
+        "Almost certainly the disk changed the stored content: docs/OPERATING.md shows how to find out, under\n\
+         \"Bytes that changed on the disk\". Deliver the message into another depot."
     ),
     meaning!(
         "43",
         "Database",
-        "The depot's file can't be opened or made, is held by another process, is no depot, or failed; or a\nstored filter is no accepted program any more.",
-        "`depot inspect DB` says which, and changes nothing. Where it says `depot`, another process may\nhave held it before: try again; or its disk is full. A user's `program refused` there wants his\nfilter stored again. Where it says that there is no such file, look at the rights of the folder.\nThe depot is as it was; only where the disk failed at the end it may be as after the command."
+        "The file DB can't be opened or made, is no depot, or stayed open in another process for ten seconds;\n\
+         its disk is full or failed; a stored filter is no longer an accepted program; or the content that is\n\
+         to be exported was altered: its bytes no longer have the SHA-256 under which they are stored.",
+        "`depot inspect DB` reports which; it makes no depot. If it prints `depot`, another process kept the\n\
+         file open, so try again, or the disk is full. If it prints `program refused` for a user, store this\n\
+         user's filter again. If it prints that there is no such file, look at the rights of the folder.\n\
+         It doesn't report an altered content. An entry that has it can't be exported, and nothing of it is\n\
+         written: see \"Bytes that changed on the disk\" in docs/OPERATING.md.\n\
+         The command changed nothing in the depot, unless the disk failed at the last moment: then it can be\n\
+         done. A batch ends with this refusal; its earlier lines are done."
     ),
     meaning!(
         "44",
         "UserName",
-        "This is no name of a user.",
-        "It is 1 to 64 of a to z (small letters), 0 to 9, dot, underscore and hyphen: no @. First comes the\nfile of the depot, then the user."
+        "This is not the name of a user.",
+        "A name is 1 to 64 characters from a to z (lower case), 0 to 9, dot, underscore and hyphen; it has\n\
+         no @. DB comes first, then USER."
     ),
     meaning!(
         "45",
         "Write",
-        "The file to be written couldn't be, or standard output failed. A file that had the name is as it\nwas.",
-        "Which: where the command has a word OUT or FILE, look at its folder, the rights and the room on\nthe disk (`df`): the file is made new beside that name. It may not be the file that is read, nor\nthe depot, nor have the name of either with -wal, -shm or -journal behind it. Else it is standard\noutput: a full disk, or a program behind the pipe that ended early. What the command did in a\ndepot is done: don't do it again."
+        "OUT or FILE couldn't be written, and a regular file of this name is as it was; or standard output\n\
+         failed, and everything except the answer is done.",
+        "If the command has OUT or FILE, look at the rights of its folder and the room on its disk (`df`),\n\
+         because a new file is written there and renamed. It can't be the file that is read, nor the depot,\n\
+         nor have one of their names with -wal, -shm or -journal appended. Otherwise it is standard output:\n\
+         its disk is full, or the program that reads it has ended. Don't repeat a command that changes a\n\
+         depot: it is done. Of a batch the last lines can be done: look before you repeat them."
     ),
     meaning!(
         "46",
         "Read",
-        "A file or standard input couldn't be read. Nothing was done, but for earlier lines of a batch.",
-        "Which: the files are read in the order of the words, and it is the first that can't be. `cat`\nwith the same names, its output to /dev/null, says which and why. A folder can't be read, and - is\nthe name of a file: standard input is /dev/stdin."
+        "A file or standard input couldn't be read. Nothing was done, except by earlier lines of a batch.",
+        "It is the first file that can't be read, in the order of the words: `cat FILE .. > /dev/null` with\n\
+         the same files says which, and why. A folder can't be read. `-` is an ordinary file name; standard\n\
+         input is /dev/stdin."
     ),
 ];
 
-/// What the refusal of this number or name means, and what to do, where it is one.
+/// The text of `depot help` for a number that no refusal has.
+const NO_REFUSAL: &str =
+    "No refusal has this number. The numbers are 1 to 3, 10 to 28 and 40 to 46.\n";
+
+/// Returns what the refusal with this number or name means and what to do; a name can have letters of either case. For
+/// another number the text says that no refusal has it. `None` if the word is neither a number nor a name.
 pub fn meaning_of(word: &str) -> Option<&'static str> {
-    for meaning in MEANINGS {
-        if word == meaning.number || word == meaning.name {
-            return Some(meaning.text);
-        }
+    if is_number(word) {
+        return Some(meaning_of_number(word.trim_start_matches('0')));
     }
-    None
+    let named = MEANINGS.iter().find(|meaning| is_name(word, meaning.name));
+    named.map(|meaning| meaning.text)
+}
+
+// Returns the text for a number in digits, without zeros before it.
+fn meaning_of_number(digits: &str) -> &'static str {
+    let numbered = MEANINGS.iter().find(|meaning| meaning.number == digits);
+    numbered.map_or(NO_REFUSAL, |meaning| meaning.text)
+}
+
+// Returns whether a word is a number in decimal digits.
+fn is_number(word: &str) -> bool {
+    !word.is_empty() && word.bytes().all(|octet| octet.is_ascii_digit())
+}
+
+// Returns whether a word is this name of a refusal. `limit` is a command, which has a help of its own.
+fn is_name(word: &str, name: &str) -> bool {
+    word != "limit" && word.eq_ignore_ascii_case(name)
 }

@@ -3,3 +3,4 @@ pub mod Readings
 pub mod ReadBack
 pub mod Outputs
 pub mod Pieces
+pub mod PageLemmas

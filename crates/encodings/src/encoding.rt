@@ -1,7 +1,7 @@
-// Octets as texts, and texts as octets.
+// Bytes as texts, and texts as bytes.
 //
-// Base16 is read and written by `hex`, base64 by `base64`. The depot's own codecs are those without a library in the
-// kit.
+// Base16 is read and written by `hex`, base64 by `base64`. The depot's own codecs are those for which the toolchain has
+// no library.
 ghost use Rattle.std.specs.Prelude.{◌≡◌, IfOk, IfErr};
 ghost use Rattle.octet_lanes.specs.Encoding.{IsOctets};
 ghost use Rattle.encodings.specs.Texts.{IsUnread, Reads, text_of};
@@ -13,30 +13,34 @@ use quoted_printable::{decode_qp, encode_qp};
 use refusals::Refusal;
 use std::alloc::{AllocError, Global};
 
-/// How octets are written as a text.
+/// How bytes are written as a text. [`Encoding::named`] finds one by the name that users write; [`encode`], [`decode`]
+/// and [`put_text`] use it.
 #[derive(Clone, Copy, Drop)]
 pub enum Encoding {
-    /// The octets themselves.
+    /// The bytes themselves, unchanged.
     Raw,
     /// Base64 with its padding (RFC 4648, section 4).
     Base64,
-    /// Base64 in lines of 76 characters, read past whatever is no symbol (RFC 2045, section 6.8).
+    /// Base64 in lines of 76 characters (RFC 2045, section 6.8). The reader skips whatever isn't a symbol of the
+    /// alphabet.
     Base64Mime,
     /// Base32 with its padding (RFC 4648, section 6).
     Base32,
     /// Base32 in the alphabet that keeps the order, with its padding (RFC 4648, section 7).
     Base32Hex,
-    /// Two hexadecimal digits an octet, written in upper case and read in either (RFC 4648, section 8).
+    /// Two hexadecimal digits for each byte, written in upper case and read in either case (RFC 4648, section 8).
     Base16,
-    /// Quoted-printable (RFC 2045, section 6.7). Any text is read.
+    /// Quoted-printable (RFC 2045, section 6.7). Every text can be read.
     Qp,
 }
 
-/// The text of `octets`.
+/// Returns the text of `octets` in the encoding.
+///
+/// For example, `foobar` is `MZXW6YTBOI======` in base32.
 ///
 /// # Errors
 ///
-/// An allocation was refused.
+/// `AllocError` if memory is refused.
 pub fn encode(alloc: Global, encoding: Encoding, octets: &[u8]) -> Result<Vec<u8>, AllocError>
     ensures { IfOk result (λ text. text.items ≡ text_of encoding octets.now) }
 {
@@ -51,13 +55,16 @@ pub fn encode(alloc: Global, encoding: Encoding, octets: &[u8]) -> Result<Vec<u8
     }
 }
 
-/// The octets that `text` reads as.
+/// Returns the bytes that `text` reads as.
+///
+/// For example, `MZXW6YTBOI======` reads as `foobar` in base32.
 ///
 /// # Errors
 ///
-/// `NotCanonical` where the text reads as no octets. That can't be of raw octets, of MIME base64, whose reader
-/// passes over what is no symbol, nor of quoted-printable, which has a reading of any text; the other encodings
-/// read what `encode` writes and nothing else, base16 also in lower case. `Memory` where an allocation was refused.
+/// - `NotCanonical` if the text reads as no bytes. This never happens for raw bytes, for MIME base64, whose reader
+///   skips what isn't a symbol, or for quoted-printable, which reads every text. The other encodings read what
+///   [`encode`] writes and nothing else; base16 is also read in lower case.
+/// - `Memory` if memory is refused.
 pub fn decode(alloc: Global, encoding: Encoding, text: &[u8]) -> Result<Vec<u8>, Refusal>
     ensures read { IfOk result (λ octets. Reads encoding text.now octets.items) }
     ensures octets { IfOk result (λ octets. IsOctets octets.items) }
@@ -68,7 +75,7 @@ pub fn decode(alloc: Global, encoding: Encoding, text: &[u8]) -> Result<Vec<u8>,
     Ok(octets)
 }
 
-// The octets that a text reads as.
+// The bytes that a text reads as.
 fn read(alloc: Global, encoding: Encoding, text: &[u8]) -> Result<Vec<u8>, Refusal>
     ensures octets { IfOk result (λ octets. Reads encoding text.now octets.items) }
     ensures refused { IfErr result (λ e. IsUnread encoding text.now e) }
@@ -84,7 +91,7 @@ fn read(alloc: Global, encoding: Encoding, text: &[u8]) -> Result<Vec<u8>, Refus
     }
 }
 
-// To a contract octets are numbers: this says that each is below 256.
+// For a contract, bytes are numbers; this says that each is below 256.
 fn know_octets(_octets: &[u8])
     ensures { IsOctets _octets.now }
 {}

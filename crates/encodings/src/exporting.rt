@@ -1,4 +1,4 @@
-// Writing octets and their texts to a sink.
+// Writing bytes and their texts to a sink.
 //
 // An export is encoded and written in pieces of 4,560 bytes, a multiple of 3, 5 and 57, so that the texts of the
 // pieces, one after another, are the text of the whole. In quoted-printable a piece is a line, and because standard
@@ -15,18 +15,18 @@ use quoted_printable::encode_qp_line;
 use refusals::Refusal;
 use std::alloc::{AllocError, Global};
 
-/// How many octets are encoded and written together: 80 lines of MIME base64 with 57 octets each, 1,520 groups of 3 octets or 912 of 5. So the texts
-/// of such pieces, one after another, are the text of the whole.
+/// How many bytes are encoded and written together: 80 lines of MIME base64 with 57 bytes each, 1,520 groups of 3 bytes
+/// or 912 groups of 5. So the texts of such pieces, one after another, are the text of the whole.
 const PIECE_OCTETS: usize = 4_560;
 
-/// The octets of the longest line of quoted-printable, with its soft break.
+/// The length in bytes of the longest line of quoted-printable, with its soft line break.
 const LINE_OCTETS: usize = 78;
 
-/// Writes the octets, as they are, in as few calls as the sink takes them.
+/// Writes all of the bytes, unchanged, in as few calls as the sink takes them.
 ///
 /// # Errors
 ///
-/// A call of the sink failed; the first of the octets were written.
+/// `DeviceFailed` if a call of the sink fails; the sink has taken the first of the bytes.
 pub fn put<W: Sink>(writer: &mut W, octets: &[u8]) -> Result<(), DeviceFailed>
     ensures ok { OnOk result (HasTaken octets.now (W.output writer.old) (W.output writer.new)) }
     ensures err { OnErr result (HasBroken octets.now (W.output writer.old) (W.output writer.new)) }
@@ -38,12 +38,15 @@ pub fn put<W: Sink>(writer: &mut W, octets: &[u8]) -> Result<(), DeviceFailed>
     Ok(())
 }
 
-/// Writes the text of the octets, of which no more is made at a time than that of a piece: a piece of [`PIECE_OCTETS`], or a line of quoted-printable.
+/// Writes the text of the bytes. At most the text of one piece is in memory: a piece of [`PIECE_OCTETS`] bytes, or a
+/// line of quoted-printable.
 ///
 /// # Errors
 ///
-/// `Write` where a call of the sink failed, and `Memory` where an allocation was refused, which raw octets need none of; the first of the text
-/// was written.
+/// The sink has then taken the first of the text.
+///
+/// - `Write` if a call of the sink fails.
+/// - `Memory` if memory is refused; this never happens for [`Encoding::Raw`].
 pub fn put_text<W: Sink>(
     alloc: Global,
     encoding: Encoding,
@@ -63,7 +66,7 @@ pub fn put_text<W: Sink>(
     }
 }
 
-// Writes the octets as they are, a piece at a time.
+// Writes the bytes unchanged, piece by piece.
 fn put_pieces<W: Sink>(octets: &[u8], writer: &mut W) -> Result<(), DeviceFailed>
     ensures ok { OnOk result (HasTaken octets.now (W.output writer.old) (W.output writer.new)) }
     ensures err { OnErr result (HasBroken octets.now (W.output writer.old) (W.output writer.new)) }
@@ -77,7 +80,7 @@ fn put_pieces<W: Sink>(octets: &[u8], writer: &mut W) -> Result<(), DeviceFailed
     Ok(())
 }
 
-// Writes the quoted-printable text of the octets, a line at a time.
+// Writes the quoted-printable text of the bytes, line by line.
 fn put_lines<W: Sink>(alloc: Global, octets: &[u8], writer: &mut W) -> Result<(), Refusal>
     ensures ok { OnOk result (HasTaken (text_of Qp octets.now) (W.output writer.old)
         (W.output writer.new)) }
@@ -96,7 +99,7 @@ fn put_lines<W: Sink>(alloc: Global, octets: &[u8], writer: &mut W) -> Result<()
     Ok(())
 }
 
-// Writes the text of the octets in another encoding, that of a piece at a time.
+// Writes the text of the bytes in an encoding other than quoted-printable, piece by piece.
 fn put_groups<W: Sink>(
     alloc: Global,
     encoding: Encoding,
@@ -118,7 +121,7 @@ fn put_groups<W: Sink>(
     Ok(())
 }
 
-// The text of the first piece of the octets, and the octets after it.
+// The text of the first piece of the bytes, and the bytes after it. The encoding isn't quoted-printable.
 fn first_groups<'a>(
     alloc: Global,
     encoding: Encoding,

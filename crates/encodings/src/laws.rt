@@ -1,10 +1,10 @@
-//! What holds of the encodings alone.
+//! Laws about the encodings: no call is made.
 ghost use Rattle.std.specs.Prelude.{◌≡◌, ◌++◌, ℕ, List};
 ghost use Rattle.octet_lanes.specs.Encoding.{IsOctets};
 ghost use Rattle.encodings.specs.Texts.{IsPiece, Reads, text_of};
 ghost use Rattle.encodings.specs.declared.encoding.Encoding.{Encoding};
 
-/// Each text reads as one list of octets at most.
+/// Each text reads as at most one list of bytes.
 pub fn reads_at_most_one()
     ensures { (encoding : Encoding) (text x y : List ℕ) → IsOctets x → IsOctets y
         → Reads encoding text x → Reads encoding text y → x ≡ y }
@@ -16,7 +16,7 @@ pub fn reads_what_was_written()
         → Reads encoding (text_of encoding octets) octets }
 {}
 
-/// The text of octets is that of a piece of them, then that of the others.
+/// The text of bytes is the text of their first piece followed by the text of the rest.
 pub fn text_is_the_texts_of_its_pieces()
     ensures { (encoding : Encoding) (piece rest : List ℕ) → IsPiece encoding piece
         → text_of encoding (piece ++ rest) ≡ text_of encoding piece ++ text_of encoding rest }

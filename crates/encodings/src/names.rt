@@ -5,8 +5,8 @@ ghost use Rattle.encodings.specs.Names.{encoding_of};
 use crate::encoding::Encoding;
 
 impl Encoding {
-    /// The encoding of this name, if it is one's: `raw`, `base64`, `base64-mime`, `base32`, `base32hex`,
-    /// `base16` or `qp`.
+    /// Returns the encoding with this name, if there is one: `raw`, `base64`, `base64-mime`, `base32`, `base32hex`,
+    /// `base16` or `qp`. Case matters.
     pub fn named(name: &str) -> Option<Encoding>
         ensures { result ≡ encoding_of name.now }
     {

@@ -1,4 +1,4 @@
-// Sinks, and a writer as one.
+// Sinks, and a writer as a sink.
 ghost use Rattle.std.specs.Prelude.{◌≡◌, ◌<◌, ◌≤◌, length, take, IfOk, OnErr};
 ghost use Rattle.std.specs.Io.KnownBytes.{Appends, Keeps};
 ghost use Rattle.encodings.specs.Device.{HasFailed, HasTaken, Output};
@@ -6,7 +6,7 @@ ghost use Rattle.encodings.specs.Device.{HasFailed, HasTaken, Output};
 use refusals::Refusal;
 use std::io::{ErrorKind, Write};
 
-/// A device refused what it was asked for.
+/// The error of a sink or a source: its device refused a call. Converted, it is [`Refusal::Write`].
 #[derive(Drop)]
 pub struct DeviceFailed;
 
@@ -21,17 +21,18 @@ impl From<DeviceFailed> for Refusal {
     }
 }
 
-/// What takes octets.
+/// Something that takes bytes: standard output, a file, or a buffer in a test. The crates above write to a sink, and
+/// their contracts say what it took.
 ///
-/// A contract sees the octets that it took, where they are told, and the number of its calls that have failed.
+/// A contract knows the bytes that it took, if they are observable, and how many of its calls have failed.
 pub trait Sink {
     ghost output: { Self → Output };
 
-    /// Takes the first of the octets, at least one unless there is none, and answers how many.
+    /// Takes the first of the bytes, at least one if there is one, and returns how many it took.
     ///
     /// # Errors
     ///
-    /// The device failed. Nothing was taken, and the failure is counted.
+    /// `DeviceFailed` if the device fails. Then nothing was taken, and the failure is counted.
     fn write(&mut self, octets: &[u8]) -> Result<usize, DeviceFailed>
         ensures bound { IfOk result (λ n. n ≤ length octets.now) }
         ensures some { IfOk result (λ n. 0 < length octets.now → 0 < n) }
@@ -43,19 +44,20 @@ pub trait Sink {
 /// How often a call is made that signals interrupt, before it counts as failed.
 pub const MAX_TRIES: u32 = 16;
 
-/// A writer as a sink.
+/// A writer as a sink, made by [`OfWrite::new`].
 ///
-/// A call that a signal interrupts is made again, up to [`MAX_TRIES`] times in all. That the writer takes nothing of octets is a failure.
+/// A call that a signal interrupts is made again, up to [`MAX_TRIES`] times in all. If the writer takes none of some
+/// bytes, this is a failure.
 #[derive(Drop)]
 pub struct OfWrite<W: Write + Drop> {
-    /// The writer.
+    /// The writer that takes the bytes.
     pub inner: W,
     /// How many calls have failed, at most 2^64 - 1.
     pub faults: u64,
 }
 
 impl<W: Write + Drop> OfWrite<W> {
-    /// The writer, of whose calls none has failed. The octets that it holds count as taken.
+    /// Makes a sink of a writer. No call has failed, and the bytes that the writer already holds count as taken.
     pub fn new(inner: W) -> OfWrite<W>
         ensures fields { result ≡ record { inner = inner; faults = 0 } }
         ensures output { ⟦<OfWrite<W> as Sink>⟧.output result
@@ -77,7 +79,7 @@ impl<W: Write + Drop> Sink for OfWrite<W> {
     }
 }
 
-// One write, made again where a signal interrupts it.
+// One write, made again if a signal interrupts it.
 fn write_some<W: Write>(writer: &mut W, octets: &[u8]) -> Result<usize, DeviceFailed>
     ensures bound { IfOk result (λ n. n ≤ length octets.now) }
     ensures some { IfOk result (λ n. 0 < length octets.now → 0 < n) }

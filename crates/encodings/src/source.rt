@@ -1,4 +1,4 @@
-// Sources, and a reader as one.
+// Sources, and a reader as a source.
 ghost use Rattle.std.specs.Prelude.{◌≡◌, ◌<◌, ◌≤◌, false, length, take, IfOk, OnErr, OnOk};
 ghost use Rattle.std.specs.Io.KnownBytes.{Consumes, IsAtEnd, Keeps};
 ghost use Rattle.encodings.specs.Supply.{HasEnded, HasFailedToGive, HasGiven, Supply};
@@ -6,19 +6,20 @@ ghost use Rattle.encodings.specs.Supply.{HasEnded, HasFailedToGive, HasGiven, Su
 use crate::sink::{DeviceFailed, MAX_TRIES};
 use std::io::{ErrorKind, Read};
 
-/// What gives octets.
+/// Something that gives bytes: standard input, a file, or a text in a test. The crates above read from a source, and
+/// their contracts say what it gave.
 ///
-/// A contract sees the octets that are left, where they are told, how many it gave, whether the
-/// last read met the end, and the number of reads that have failed.
+/// A contract knows the bytes that are left, if they are observable, how many it gave, whether the last read met the
+/// end, and how many reads have failed.
 pub trait Source {
     ghost supply: { Self → Supply };
 
-    /// Gives the next octets into the start of the room, and answers how many: none only at the
-    /// end, or where there is no room. Where there is none, the end isn't met.
+    /// Puts the next bytes at the start of `room` and returns how many they are: 0 only at the end, or if `room` is
+    /// empty. If `room` is empty, the end isn't met.
     ///
     /// # Errors
     ///
-    /// The device failed. Nothing was given, and the failure is counted.
+    /// `DeviceFailed` if the device fails. Then nothing was given, and the failure is counted.
     fn read(&mut self, room: &mut [u8]) -> Result<usize, DeviceFailed>
         ensures bound { IfOk result (λ n. n ≤ length room.new) }
         ensures ok { IfOk result (λ n. HasGiven (take n room.new) (supply self.old)
@@ -31,14 +32,14 @@ pub trait Source {
         ensures err { OnErr result (HasFailedToGive (supply self.old) (supply self.new)) };
 }
 
-/// A reader as a source.
+/// A reader as a source, made by [`OfRead::new`].
 ///
 /// A call that a signal interrupts is made again, up to [`MAX_TRIES`] times in all.
 #[derive(Drop)]
 pub struct OfRead<R: Read + Drop> {
-    /// The reader.
+    /// The reader that gives the bytes.
     pub inner: R,
-    /// How many octets it gave, at most 2^64 - 1.
+    /// How many bytes it gave, at most 2^64 - 1.
     pub given: u64,
     /// Whether the last read met the end.
     pub has_ended: bool,
@@ -47,7 +48,7 @@ pub struct OfRead<R: Read + Drop> {
 }
 
 impl<R: Read + Drop> OfRead<R> {
-    /// The reader, of which nothing was read so far.
+    /// Makes a source of a reader from which nothing was read.
     pub fn new(inner: R) -> OfRead<R>
         ensures fields { result ≡ record {
           inner = inner;
@@ -92,7 +93,7 @@ impl<R: Read + Drop> Source for OfRead<R> {
     }
 }
 
-// One read, made again where a signal interrupts it.
+// One read, made again if a signal interrupts it.
 fn read_some<R: Read>(reader: &mut R, room: &mut [u8]) -> Result<usize, DeviceFailed>
     ensures bound { IfOk result (λ n. n ≤ length room.new) }
     ensures ok { IfOk result (λ n. Consumes (R.remaining reader.old) (R.remaining reader.new)

@@ -1,4 +1,4 @@
-// What the wildcards of a key stand for.
+// The stretches of a value that the wildcards of a key match.
 //
 // `stretches` gives the places of any captures. That those of `matches` are the stretches of the wildcards, and are
 // within the value, is its clause and a law. That captures are lent isn't stated: contracts see ten texts. That no
@@ -17,18 +17,23 @@ use std::marker::Model;
 /// How many captures there are at most: the whole value, and the first nine wildcards (RFC 5229, section 3.2).
 pub const MAX_CAPTURES: usize = 10;
 
-/// How many octets of a capture are kept.
+/// How many bytes of a capture are kept.
 pub const MAX_CAPTURE: usize = 4096;
 
-/// The octets of a value from `start` up to `end`.
+/// The bytes of a value from `start` up to, but not including, `end`. Both are counted in bytes from 0.
 #[derive(Clone, Copy, Default, Drop)]
 pub struct Stretch {
+    /// The place of the first byte.
     pub start: usize,
+    /// The place after the last byte.
     pub end: usize,
 }
 
-/// The captures of a value that fits a key, as stretches of the value: the whole value, then those of the first nine
-/// wildcards, each cut to [`MAX_CAPTURE`] octets. A contract sees the list of the stretches.
+/// The captures of a value that matches a key, as stretches of the value: the whole value first, then the first nine
+/// wildcards, each cut to [`MAX_CAPTURE`] bytes.
+///
+/// [`crate::matches`] makes it. It doesn't keep the value, so pass the same value to [`Captures::text`]. A contract
+/// sees the list of the stretches.
 #[derive(Drop)]
 pub struct Captures {
     stretches: ArrayVec<Stretch, MAX_CAPTURES>,
@@ -72,14 +77,15 @@ impl Captures {
         }
     }
 
-    /// The captures, that of the whole value first.
+    /// Returns the captures, first that of the whole value.
     pub fn stretches(&self) -> &[Stretch]
         ensures { result.now ≡ self.now }
     {
         self.stretches.as_slice()
     }
 
-    /// The text of a capture of `value`, 0 for the whole one; empty where there is no such capture.
+    /// Returns the text of the capture `number` of `value`, which is 0 for the whole value. It is empty if there is
+    /// no such capture.
     pub fn text<'v>(&self, value: &'v [u8], number: usize) -> &'v [u8]
         ensures { result.now ≡ slice_index_or (texts value.now self.now) number [] }
     {
@@ -92,12 +98,12 @@ impl Captures {
         }
     }
 
-    /// What is captured of `value`, without the rest of it: the texts of the captures, one after the other, and where each of them
-    /// stands there.
+    /// Copies the captured bytes of `value`, without the rest of it: returns the texts of the captures, one after the
+    /// other, and the captures by their places in this copy.
     ///
     /// # Errors
     ///
-    /// An allocation was refused.
+    /// `AllocError` if memory is refused.
     pub fn gathered(&self, alloc: Global, value: &[u8]) -> Result<(Vec<u8>, Captures), AllocError>
         ensures octets { IfOk result (λ gathered. gathered.0.items
             ≡ concat (texts value.now self.now)) }
@@ -114,7 +120,7 @@ impl Captures {
         Ok((octets, captures))
     }
 
-    // Puts a text after the octets in which the captures stand, and adds its capture.
+    // Appends a text to the bytes that the captures refer to, and adds its capture.
     fn add_text(&mut self, octets: &mut Vec<u8>, text: &[u8]) -> Result<(), AllocError>
         requires room { length self.old < max_captures }
         requires within { LieWithin (length octets.old.items) self.old }

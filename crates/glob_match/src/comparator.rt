@@ -1,7 +1,7 @@
 ghost use Rattle.std.specs.Prelude.{◌≡◌};
 ghost use Rattle.glob_match.specs.Comparison.{compared_octet, same_octet};
 
-/// How octets are compared (RFC 4790, sections 9.2 and 9.3).
+/// How bytes are compared (RFC 4790, sections 9.2 and 9.3).
 #[derive(Clone, Copy, PartialEq, Eq, Drop)]
 pub enum Comparator {
     /// `i;octet`: as they are.
@@ -11,7 +11,7 @@ pub enum Comparator {
 }
 
 impl Comparator {
-    /// The octet that is compared in place of an octet.
+    /// The byte that is compared instead of a byte.
     #[inline(always)]
     pub(crate) fn compared(self, octet: u8) -> u8
         ensures { result ≡ compared_octet self octet }
@@ -22,7 +22,7 @@ impl Comparator {
         }
     }
 
-    /// Whether the octets are equal.
+    /// Whether the bytes are equal.
     #[inline(always)]
     pub(crate) fn same(self, a: u8, b: u8) -> bool
         ensures { result ≡ same_octet self a b }

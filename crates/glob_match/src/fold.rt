@@ -7,7 +7,7 @@ ghost use Rattle.glob_match.specs.declared.comparator.Comparator.TheVariants.{Ca
 use crate::comparator::Comparator;
 use octet_lanes::ascii_upper_lanes;
 
-/// How many octets are folded at once.
+/// How many bytes are folded at once.
 pub(crate) const BLOCK: usize = 32;
 
 /// Writes the text with `a` to `z` as `A` to `Z`.
@@ -24,7 +24,7 @@ pub(crate) fn fold(text: &[u8], folded: &mut [u8])
     folded[place..].copy_from_slice(&fold_block(rest)[..rest.len()]);
 }
 
-/// Whether texts of one length are equal with `a` to `z` as `A` to `Z`.
+/// Whether texts of the same length are equal with `a` to `z` as `A` to `Z`.
 pub(crate) fn equal_folded(value: &[u8], key: &[u8]) -> bool
     requires { length value.now ≡ length key.now }
     ensures { result ≡ is_match Casemap value.now key.now }
@@ -39,11 +39,11 @@ pub(crate) fn equal_folded(value: &[u8], key: &[u8]) -> bool
         }
         place += 32;
     }
-    // what is left, with octets that were compared
+    // the rest, with bytes that were compared before
     begins_with_block(&key[key.len() - 32..], last)
 }
 
-/// The same of texts that aren't empty, most of which differ in their first octet.
+/// The same for texts that aren't empty, most of which differ in their first byte.
 #[inline(always)]
 pub(crate) fn equal_from_first(value: &[u8], key: &[u8]) -> bool
     requires long { length value.now ≡ length key.now }
@@ -67,7 +67,7 @@ fn begins_with_block(text: &[u8], lanes: &[u8; 32]) -> bool
     }
 }
 
-// Less than a block and zeros after it, in upper case.
+// Fewer than 32 bytes and zeros after them, in upper case.
 #[inline(always)]
 fn fold_block(text: &[u8]) -> [u8; 32]
     requires { length text.now < 32 }

@@ -12,7 +12,7 @@ use crate::token::{Token, first_token};
 use octet_lanes::ascii_upper_lanes;
 use std::simd::prelude::*;
 
-/// How many of the first 32 places of the value come before the first from which on it begins with the segment.
+/// How many of the first 32 places of the value come before the first place from which on it begins with the segment.
 pub(crate) fn places_before(value: &[u8], segment: &[u8], comparator: Comparator) -> usize
     requires room { 31 + length (tokens_of segment.now) ≤ length value.now }
     requires no_star { NoStar (tokens_of segment.now) }
@@ -22,7 +22,7 @@ pub(crate) fn places_before(value: &[u8], segment: &[u8], comparator: Comparator
     ensures there { result < 32 → begins_with comparator (tokens_of segment.now)
         (drop result value.now) ≡ true }
 {
-    // 255 for the places that fit so far
+    // 255 for the places that fit the tokens before this one
     let mut kept = u8x32::splat(255);
     let mut octets = value;
     let mut tokens = segment;
@@ -38,7 +38,7 @@ pub(crate) fn places_before(value: &[u8], segment: &[u8], comparator: Comparator
     before_kept(kept)
 }
 
-// What is kept in the lanes whose octet the token stands for, and 0 in the others.
+// What is kept in the lanes whose byte the token matches, and 0 in the others.
 #[inline(always)]
 fn kept_by(token: Token, octets: &[u8], comparator: Comparator, kept: u8x32) -> u8x32
     requires room { 32 ≤ length octets.now }
@@ -61,7 +61,7 @@ fn kept_by(token: Token, octets: &[u8], comparator: Comparator, kept: u8x32) -> 
     )
 }
 
-// What is compared in place of the octets.
+// The bytes that are compared instead of these.
 #[inline(always)]
 fn compared_lanes(octets: &[u8; 32], comparator: Comparator) -> u8x32
     ensures { result ≡ map (compared_octet comparator) octets.now }
@@ -72,7 +72,7 @@ fn compared_lanes(octets: &[u8; 32], comparator: Comparator) -> u8x32
     }
 }
 
-// What is kept in the lanes that are the octet, and 0 in the others.
+// What is kept in the lanes that are equal to the byte, and 0 in the others.
 #[inline(always)]
 fn kept_where(lanes: u8x32, octet: u8, kept: u8x32) -> u8x32
     ensures { result ≡ zip2 (kept_if octet) lanes kept }

@@ -7,7 +7,7 @@ ghost use Rattle.glob_match.specs.Comparison.{compared, is_match};
 ghost use Rattle.glob_match.specs.Containment.{HasStretch, contains_match};
 ghost use Rattle.glob_match.specs.Matching.{Captured, Fits, IsLeastFit, captures_of, least_fit, match_of};
 
-/// The function that goes over the tokens gives the least list of stretches that the value fits with.
+/// The function that goes over the tokens gives the least list of stretches with which the value fits.
 pub fn least_fit_is_the_least()
     ensures { (comparator : Comparator) (key : List Token) (value : List ℕ)
         (stretches : List (List ℕ))
@@ -15,7 +15,7 @@ pub fn least_fit_is_the_least()
         ↔ IsLeastFit comparator key value stretches }
 {}
 
-/// It gives none exactly where the value fits with none.
+/// It gives none exactly if there is no list of stretches with which the value fits.
 pub fn none_where_nothing_fits()
     ensures { (comparator : Comparator) (key : List Token) (value : List ℕ)
         → (least_fit comparator key value ≡ None) ↔ ((stretches : List (List ℕ))
@@ -28,14 +28,14 @@ pub fn match_is_captured()
         → (match_of comparator value key ≡ Some captures) ↔ Captured comparator value key captures }
 {}
 
-/// A value and a key have one list of captures at most.
+/// A value and a key have at most one list of captures.
 pub fn captures_are_unique()
     ensures { (comparator : Comparator) (value key : List ℕ) (captures others : List (List ℕ))
         → Captured comparator value key captures → Captured comparator value key others
         → captures ≡ others }
 {}
 
-/// The captures of a value that fits stand within it, and what stands there is their texts.
+/// The captures of a value that fits are within it, and the bytes at their places are their texts.
 pub fn captures_stand_in_the_value()
     ensures within { (comparator : Comparator) (value : List ℕ) (key : List Token)
         (stretches : List (List ℕ))
@@ -47,14 +47,14 @@ pub fn captures_stand_in_the_value()
         ≡ captures_of value stretches }
 {}
 
-/// `:is` is equality of what is compared.
+/// `:is` means that the compared bytes are equal.
 pub fn is_means_equal()
     ensures { (comparator : Comparator) (value key : List ℕ)
         → IsTrue (is_match comparator value key)
         ↔ (compared comparator value ≡ compared comparator key) }
 {}
 
-/// `:contains` is that an equal stretch exists.
+/// `:contains` means that a stretch of the value is equal to the key.
 pub fn contains_means_a_stretch()
     ensures { (comparator : Comparator) (value key : List ℕ)
         → IsTrue (contains_match comparator value key) ↔ HasStretch comparator value key }

@@ -1,8 +1,23 @@
 //! Matching of a text with a key under a comparator (RFC 5228, sections 2.7.1 and 2.7.3; RFC 5229, section 3.2).
 //!
-//! [`is`] and [`contains`] answer whether the text is the key or has a stretch that is, [`matches`] whether it fits a key
-//! with wildcards, and which stretches of it the wildcards stand for. What fits, and which of several lists of stretches
-//! is taken, stands in `specs/Matching`. No call takes memory but [`Captures::gathered`], and the others succeed outright.
+//! [`is`] answers whether the text is the key, [`contains`] whether a stretch of it is, and [`matches`] whether it
+//! fits a key with wildcards, and which stretches the wildcards matched. `specs/Matching` defines what fits, and which
+//! of several lists of stretches is taken. Only [`Captures::gathered`] takes memory; the other calls can't fail.
+//!
+//! # Promises
+//!
+//! ## Matching
+//!
+//! Equality, containment and wildcards are their definitions under both comparators. If the wildcards of a key can
+//! match in several ways, the one whose stretches have the least lengths, compared from the left, is taken. The number
+//! in the answer estimates the work: it is at most the product of the two lengths, each plus 1, and, if the key fits,
+//! at least the number of bytes that the key spells. Capture 0 is the value, and captures 1 to 9 are the stretches of
+//! the first nine wildcards, at their places, each cut off as a variable is. Captures can be gathered as their texts,
+//! one after another, with their places.
+//!
+//! By `is`, `contains`, `matches`, `Captures`; laws `least_fit_is_the_least`, `none_where_nothing_fits`,
+//! `match_is_captured`, `captures_are_unique`, `captures_stand_in_the_value`, `is_means_equal`,
+//! `contains_means_a_stretch`.
 #![tactic(auto)]
 
 mod captures;

@@ -1,4 +1,4 @@
-// What a test asks of a value and a key.
+// How a test matches a value with a key.
 use crate::comparator::Comparator;
 
 /// How a value is matched with a key (RFC 5228, section 2.7.1).
@@ -12,9 +12,12 @@ pub enum MatchType {
     Matches,
 }
 
-/// What a test asks of a value and a key: how they are matched, and how their octets are compared.
+/// How a test matches values with keys. A script's match type and comparator make it, and each comparison of the test
+/// uses it.
 #[derive(Clone, Copy, Drop)]
 pub struct Match {
+    /// How a value is matched with a key.
     pub kind: MatchType,
+    /// How bytes are compared.
     pub comparator: Comparator,
 }

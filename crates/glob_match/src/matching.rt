@@ -1,8 +1,8 @@
 // Matching with wildcards.
 //
-// The number that comes with an answer is a bound made of lengths, not a count. For `is` it is the key's length, or
-// 0 if the lengths differ. For a stretch that is searched it is the lengths of value and key; if each place has to
-// be tried (a `?`, or more than 16,384 bytes, that doesn't stand near) it is their product.
+// The number that comes with an answer is a bound made of lengths, not a count. For `is` it is the key's length, or 0
+// if the lengths differ. For a search of a stretch it is the sum of the lengths of value and key; if each place has
+// to be tried (the stretch isn't found nearby, and has a `?` or more than 16,384 bytes) it is their product.
 ghost use Rattle.std.specs.Prelude.{◌≡◌, ◌+◌, ◌*◌, ◌-◌, ◌≤◌, ◌<◌, ◌^◌, ◌∷◌, IsTrue, OnSome, length};
 ghost use Rattle.std.specs.Bool.{then_some};
 ghost use Rattle.std.specs.Option.{option_map};
@@ -16,12 +16,20 @@ use crate::comparator::Comparator;
 use crate::placement::find_segment;
 use crate::segment::{begins_with, push_any_octets, split_segment, width};
 
-/// Whether the value fits the key, with its captures where it does (RFC 5228, section 2.7.1; RFC 5229, section 3.2), and an estimate of
-/// the work, made from the lengths: at most their product, each plus 1, and where the value fits at least the octets that the key spells.
+/// Returns the captures if the value fits the key (RFC 5228, section 2.7.1; RFC 5229, section 3.2), and an estimate
+/// of the work.
 ///
-/// In the key `*` stands for any stretch, `?` for one octet, and a backslash makes a literal of the octet after it. Of all
-/// stretches that fit, those of the least lengths are taken, compared from the left. Each capture stands where its wildcard stands
-/// for it: it begins where what stands before the wildcard in the key ends in the value.
+/// In the key `*` matches any stretch, `?` matches one byte, and a backslash makes the next byte literal. If several
+/// lists of stretches fit, the one whose lengths are least, compared from the left, is taken. For example, `aXbXb`
+/// fits `*X*b` with the captures `a` and `bX`, and it doesn't fit `*X`. A capture is at the place of its wildcard: it
+/// begins where the match of the key before that wildcard ends.
+///
+/// The estimate is made from the lengths. It is at most the product of the two lengths, each plus 1, and at least the
+/// number of the key's literal bytes if the value fits.
+///
+/// # Requires
+///
+/// The product of the lengths, each plus 1, is less than 2^64.
 pub fn matches(value: &[u8], key: &[u8], comparator: Comparator) -> (Option<Captures>, u64)
     requires { (length value.now + 1) * (length key.now + 1) < 2 ^ 64 }
     ensures captures { option_map (texts value.now) result.0
@@ -61,7 +69,8 @@ fn match_segments(value: &[u8], key: &[u8], comparator: Comparator) -> (Option<C
     }
 }
 
-// Whether the value from `start` on fits a star and what follows it in a key. The captures are added to those that are given.
+// Whether the value from `start` on fits a star and the rest of a key after it. Its captures are added to the given
+// ones.
 fn match_after_star(
     value: &[u8],
     start: usize,
@@ -97,7 +106,7 @@ fn match_after_star(
     }
 }
 
-// The same where no star follows.
+// The same if no star follows.
 fn match_end(
     value: &[u8],
     start: usize,
@@ -123,7 +132,7 @@ fn match_end(
     true
 }
 
-// Adds the captures of a star from `start` on and of the segment after it, whose first octet stands at `place`.
+// Adds the captures of a star from `start` on and of the segment after it, whose first byte is at `place`.
 fn push_placed(captures: &mut Captures, segment: &[u8], start: usize, place: usize)
     requires few { length captures.old ≤ max_captures }
     requires from { start ≤ place }

@@ -1,4 +1,4 @@
-// Where a segment of a key stands first in a value.
+// The first place of a key's segment in a value.
 //
 // Wildcards are placed as early as possible, segment by segment, and the last segment is compared with the value's
 // end. There is no backtracking. That this gives the least lengths is proved.
@@ -50,7 +50,8 @@ pub(crate) fn find_segment(
     }
 }
 
-// The first place, where it is near and the segment short: most segments of a key with many wildcards stand there.
+// The first place, if it is near and the segment is short: most segments of a key with many wildcards are found this
+// way.
 fn find_near(value: &[u8], segment: &[u8], comparator: Comparator) -> Option<usize>
     requires { NoStar (tokens_of segment.now) }
     ensures { IfSome result (λ place. Some place ≡ first_place (begins_with comparator
@@ -71,7 +72,7 @@ fn find_near(value: &[u8], segment: &[u8], comparator: Comparator) -> Option<usi
     None
 }
 
-// Whether an octet of the segment doesn't stand for itself.
+// Whether a byte of the segment doesn't mean itself.
 fn has_special(segment: &[u8]) -> bool
     ensures { result ≡ list_any (λ octet. (octet == question_mark)
         || (octet == backslash)) segment.now }
@@ -81,7 +82,7 @@ fn has_special(segment: &[u8]) -> bool
         .any(|octet| *octet == b'?' || *octet == b'\\')
 }
 
-// The same by a search for the text that the segment spells, where it has no wildcard.
+// The same by a search for the text that the segment spells, if it has no wildcard.
 #[inline(never)]
 fn find_unescaped<const TEXT: usize>(
     value: &[u8],
@@ -107,7 +108,7 @@ fn find_unescaped<const TEXT: usize>(
     }
 }
 
-// Writes the text that the segment spells, and gives its length, unless there is a wildcard.
+// Writes the text that the segment spells, and returns its length, unless there is a wildcard.
 fn unescape(segment: &[u8], text: &mut [u8]) -> Option<usize>
     requires { length (tokens_of segment.now) ≤ length text.old }
     ensures text { IfSome result (λ len. map Literal (take len text.new) ≡ tokens_of segment.now) }
@@ -153,7 +154,7 @@ fn find_by_tokens(value: &[u8], segment: &[u8], comparator: Comparator) -> (Opti
 }
 
 // How many of the first places come before the first from which on the value begins with the segment, and how many
-// places that is true of.
+// places were tried.
 fn places_tried(
     value: &[u8],
     segment: &[u8],

@@ -1,7 +1,7 @@
 // The first place of a literal text in a value.
 //
 // Keys are searched by `memmem`, without case in windows whose letters are made upper case; windows overlap by the
-// key's length less one. Segments with `?` are tried at 32 places at a time; place by place was 20 to 40 times
+// key's length less one. Segments with `?` are tried at 32 places at a time; trying place by place was 20 to 40 times
 // slower on long values. A key of more than 16,384 bytes with letters costs the product of the lengths without case;
 // a string has at most 16,384 bytes.
 ghost use Rattle.std.specs.Prelude.{◌≡◌, ◌+◌, ◌*◌, ◌≤◌, ◌<◌, ◌^◌, length, map};
@@ -17,20 +17,20 @@ use crate::comparator::Comparator;
 use crate::fold::{BLOCK, equal_from_first, fold};
 use memchr::memmem::{self, Finder};
 
-/// Up to this length a value is searched as one window.
+/// A value of at most this length is searched as one window.
 pub(crate) const SHORT: usize = 256;
 
-/// Up to this length a text needs no large arrays.
+/// A text of at most this length needs no large arrays.
 const MEDIUM: usize = 1024;
 
 const MEDIUM_WINDOW: usize = 8 * MEDIUM;
 
-/// Up to this length, which that of a script's strings doesn't exceed, a text is searched in time linear in value and text.
+/// A text of at most this length is searched in time linear in value and text. A script's strings are never longer.
 pub(crate) const LONG: usize = 16_384;
 
 const LONG_WINDOW: usize = 3 * LONG;
 
-/// The first place of the value at which the text stands under the comparator, and an estimate of the work.
+/// The first place of the value at which the text is found under the comparator, and an estimate of the work.
 pub(crate) fn find(value: &[u8], text: &[u8], comparator: Comparator) -> (Option<usize>, u64)
     requires { (length value.now + 1) * (length text.now + 1) < 2 ^ 64 }
     ensures place { result.0 ≡ first_place (begins_with comparator
@@ -56,7 +56,7 @@ pub(crate) fn linear_bound(value: &[u8], key: &[u8]) -> u64
     (value.len() + key.len()) as u64
 }
 
-/// An estimate of the work of a search which tries each place.
+/// An estimate of the work of a search that tries each place.
 pub(crate) fn product_bound(value: &[u8], key: &[u8]) -> u64
     requires { (length value.now + 1) * (length key.now + 1) < 2 ^ 64 }
     ensures most { result ≤ (length value.now + 1) * (length key.now + 1) }
@@ -65,7 +65,7 @@ pub(crate) fn product_bound(value: &[u8], key: &[u8]) -> u64
     (value.len() as u64 + 1) * key.len() as u64
 }
 
-// The first place where the octets stand as they are.
+// The first place at which the bytes are found as they are.
 fn find_octets(value: &[u8], text: &[u8]) -> Option<usize>
     ensures { FindsNeedle value.now text.now 0 result }
 {
@@ -84,7 +84,7 @@ fn find_casemap(value: &[u8], text: &[u8]) -> (Option<usize>, u64)
     if !has_letter(text) {
         (find_octets(value, text), gone_over)
     } else if value.len() < BLOCK {
-        // making a searcher would take longer than the search
+        // to make a searcher would take longer than the search
         (find_by_octets(value, text), gone_over)
     } else if value.len() <= SHORT {
         (find_folded::<SHORT, SHORT>(value, text), gone_over)
@@ -119,7 +119,7 @@ fn find_folded<const TEXT: usize, const WINDOW: usize>(value: &[u8], text: &[u8]
     find_in_windows(&finder, text.len(), value, &mut window)
 }
 
-// Windows overlap by one octet less than the text has. The first one is small, since a text is often found at once.
+// Windows overlap by one byte less than the text has. The first one is small, because a text is often found at once.
 fn find_in_windows(finder: &Finder, len: usize, value: &[u8], window: &mut [u8]) -> Option<usize>
     requires text { length finder.now ≡ len }
     requires window { len ≤ length window.old }

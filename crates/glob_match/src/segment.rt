@@ -1,4 +1,4 @@
-// Stretches of a key without stars. Each token of one stands for one octet.
+// Stretches of a key without stars. Each token of a segment matches one byte.
 ghost use Rattle.std.specs.Prelude.{◌≡◌, ◌∷◌, ◌++◌, ◌+◌, ◌≤◌, MatchOption, length, ◌<◌, ◌^◌};
 ghost use Rattle.glob_match.specs.Containment.{begins_with};
 ghost use Rattle.glob_match.specs.Matching.{max_captures};
@@ -10,7 +10,7 @@ use crate::captures::Captures;
 use crate::comparator::Comparator;
 use crate::token::{Token, first_token};
 
-/// The key up to its first star, and what follows that star.
+/// The key up to its first star, and the rest after that star.
 pub(crate) fn split_segment(key: &[u8]) -> (&[u8], Option<&[u8]>)
     ensures tokens { MatchOption result.1 (tokens_of key.now ≡ tokens_of result.0.now)
         (λ rest. tokens_of key.now ≡ tokens_of result.0.now ++ Star ∷ tokens_of rest.now) }
@@ -29,7 +29,7 @@ pub(crate) fn split_segment(key: &[u8]) -> (&[u8], Option<&[u8]>)
     (key, None)
 }
 
-/// How many octets the segment stands for.
+/// How many bytes the segment matches.
 pub(crate) fn width(segment: &[u8]) -> usize
     ensures { result ≡ length (tokens_of segment.now) }
 {
@@ -42,7 +42,7 @@ pub(crate) fn width(segment: &[u8]) -> usize
     width
 }
 
-/// Whether the value begins with octets that the segment stands for.
+/// Whether the value begins with bytes that the segment matches.
 pub(crate) fn begins_with(value: &[u8], segment: &[u8], comparator: Comparator) -> bool
     ensures { result ≡ begins_with comparator (tokens_of segment.now) value.now }
 {
@@ -61,7 +61,7 @@ pub(crate) fn begins_with(value: &[u8], segment: &[u8], comparator: Comparator) 
     true
 }
 
-/// Adds the captures of a segment's wildcards, where its first octet stands at `start` of the value.
+/// Adds the captures of a segment's wildcards, if its first byte is at `start` of the value.
 pub(crate) fn push_any_octets(captures: &mut Captures, segment: &[u8], start: usize)
     requires few { length captures.old ≤ max_captures }
     requires room { start + length (tokens_of segment.now) < 2 ^ 64 }

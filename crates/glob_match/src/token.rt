@@ -1,23 +1,23 @@
-// What a key consists of.
+// The tokens of a key.
 ghost use Rattle.std.specs.Prelude.{◌≡◌, ◌∷◌, ◌<◌, [], IfSome, MatchOption, length};
 ghost use Rattle.glob_match.specs.Containment.{takes};
 ghost use Rattle.glob_match.specs.Tokens.{tokens_of};
 
 use crate::comparator::Comparator;
 
-/// A literal octet or a wildcard of a key (RFC 5228, section 2.7.1).
+/// A literal byte or a wildcard of a key (RFC 5228, section 2.7.1).
 #[derive(Clone, Copy, Drop)]
 pub enum Token {
-    /// An octet, which may have a backslash before it.
+    /// A byte, possibly with a backslash before it.
     Literal(u8),
-    /// `?`, which stands for one octet.
+    /// `?`, which matches one byte.
     AnyOctet,
-    /// `*`, which stands for any stretch.
+    /// `*`, which matches any stretch.
     Star,
 }
 
 impl Token {
-    /// Whether the token stands for the octet; a star doesn't.
+    /// Whether the token matches the byte; a star doesn't.
     #[inline(always)]
     pub(crate) fn takes(self, octet: u8, comparator: Comparator) -> bool
         ensures { result ≡ takes comparator self octet }
@@ -30,7 +30,7 @@ impl Token {
     }
 }
 
-/// The first token of a key, and what follows it.
+/// The first token of a key, and the rest after it.
 #[inline(always)]
 pub(crate) fn first_token(key: &[u8]) -> Option<(Token, &[u8])>
     ensures tokens { MatchOption result (key.now ≡ []) (λ read. tokens_of key.now

@@ -1,7 +1,7 @@
 -- The parts of a field line.
 use Rattle.std.proofs.Common.{◌≡◌, ℕ, ◌+◌, ◌-◌, ◌≤◌, true, false, List, [], ◌∷◌, ◌++◌, refl, sym, ◌∙◌, ap, arith, length, take, drop, inl, inr, ◌&&◌, nat_lt, Bool, cond, suc}
 use Rattle.std.specs.List.{slice_range, prefix_len}
-use Rattle.std.proofs.lemmas.Bool.{cases_Bool, ltb-true, true≢false}
+use Rattle.std.proofs.lemmas.Bool.{cases_Bool, ltb-true, lt-ltb, le-ltb, true≢false}
 use Rattle.std.proofs.lemmas.List.{take-append-drop, append_assoc, length-append, length-drop}
 use Rattle.std.proofs.lemmas.List.Prefix.{end_rest}
 use Rattle.std.proofs.lemmas.List.Folds.{length-prefix_len}
@@ -72,20 +72,45 @@ field_line_longer line is =
 
 -- ---- a name of a length
 
-name_cons : (x : ℕ) (xs : List ℕ) → is_name_octet x ≡ true → name_of (x ∷ xs) ≡ x ∷ name_of xs
+pub name_cons : (x : ℕ) (xs : List ℕ) → is_name_octet x ≡ true → name_of (x ∷ xs) ≡ x ∷ name_of xs
 name_cons x xs e = take_while-cons is_name_octet x xs ∙ ap (λ b. cond b (x ∷ name_of xs) []) e
 
-name_none : (x : ℕ) (xs : List ℕ) → is_name_octet x ≡ false → name_of (x ∷ xs) ≡ []
+pub name_none : (x : ℕ) (xs : List ℕ) → is_name_octet x ≡ false → name_of (x ∷ xs) ≡ []
 name_none x xs e = take_while-cons is_name_octet x xs ∙ ap (λ b. cond b (x ∷ name_of xs) []) e
 
-after_cons : (x : ℕ) (xs : List ℕ) → is_name_octet x ≡ true → after_name (x ∷ xs) ≡ after_name xs
-after_cons x xs e =
+-- what follows a name
+pub rest_cons : (x : ℕ) (xs : List ℕ) → is_name_octet x ≡ true → drop (prefix_len is_name_octet (x ∷ xs)) (x ∷ xs) ≡ drop (prefix_len is_name_octet xs) xs
+rest_cons x xs e =
     let n = prefix_len is_name_octet xs in
     let one : prefix_len is_name_octet (x ∷ xs) ≡ suc n = ap (λ b. cond b (1 + n) 0) e ∙ omega arith in
-    ap (λ k. without_leading_blanks (drop k (x ∷ xs))) one
+    ap (λ k. drop k (x ∷ xs)) one
+
+pub rest_none : (x : ℕ) (xs : List ℕ) → is_name_octet x ≡ false → drop (prefix_len is_name_octet (x ∷ xs)) (x ∷ xs) ≡ x ∷ xs
+rest_none x xs e = ap (λ b. drop (cond b (1 + prefix_len is_name_octet xs) 0) (x ∷ xs)) e
+
+after_cons : (x : ℕ) (xs : List ℕ) → is_name_octet x ≡ true → after_name (x ∷ xs) ≡ after_name xs
+after_cons x xs e = ap without_leading_blanks (rest_cons x xs e)
 
 after_none : (x : ℕ) (xs : List ℕ) → is_name_octet x ≡ false → after_name (x ∷ xs) ≡ without_leading_blanks (x ∷ xs)
-after_none x xs e = ap (λ b. without_leading_blanks (drop (cond b (1 + prefix_len is_name_octet xs) 0) (x ∷ xs))) e
+after_none x xs e = ap without_leading_blanks (rest_none x xs e)
+
+-- a line is longer than what follows its name exactly if it has one
+named_longer : (line : List ℕ) → nat_lt (length (drop (prefix_len is_name_octet line) line)) (length line) ≡ nat_lt 0 (length (name_of line))
+named_longer [] = refl
+named_longer (x ∷ xs) =
+    let rest = length-drop (prefix_len is_name_octet xs) xs in
+    elim (cases_Bool (is_name_octet x)) [
+      | inl passes ↦
+          lt-ltb _ _ (omega (arith, ap length (rest_cons x xs passes), rest)) ∙ sym (lt-ltb _ _ (omega (arith, ap length (name_cons x xs passes))))
+      | inr fails ↦ le-ltb _ _ (omega (arith, ap length (rest_none x xs fails))) ∙ sym (le-ltb _ _ (omega (arith, ap length (name_none x xs fails))))
+    ]
+
+-- whether a line is a field line, by what follows its name
+pub field_line_by : (line after : List ℕ) → after ≡ drop (prefix_len is_name_octet line) line
+    → (nat_lt (length after) (length line) && begins_with_colon (without_leading_blanks after)) ≡ is_field_line line
+field_line_by line after is =
+    ap (λ a. nat_lt (length a) (length line) && begins_with_colon (without_leading_blanks a)) is
+    ∙ ap (λ b. b && begins_with_colon (after_name line)) (named_longer line)
 
 pub named_whole : (xs ys : List ℕ) → length xs ≤ length (name_of xs) → begins_with_name ys ≡ false → name_of (xs ++ ys) ≡ xs
 named_whole [] [] long none = refl

@@ -8,4 +8,5 @@ pub mod Measuring
 pub mod Alone
 pub mod Starts
 pub mod FirstNamed
+pub mod Hashing
 mod Examples

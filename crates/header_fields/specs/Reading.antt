@@ -1,10 +1,12 @@
 -- Private: a header that is read field by field.
-use Rattle.std.specs.Prelude.{◌≡◌, ℕ, ◌+◌, ◌-◌, ◌≤◌, Bool, List, [], ◌∷◌, ◌++◌, ◌||◌, length, drop, slice_range, true, false, Option, MatchOption}
+use Rattle.std.specs.Prelude.{if◌then◌else◌, ◌≡◌, ℕ, ◌+◌, ◌-◌, ◌≤◌, Bool, List, [], ◌∷◌, ◌++◌, ◌||◌, length, drop, slice_range, true, false, Option, MatchOption}
+use Rattle.std.specs.Char.{to_ascii_lowercase}
 use Rattle.octets.specs.Blank.{without_outer_blanks}
 use Rattle.text_lines.specs.Unread.{Unread}
 use Rattle.text_lines.specs.Lines.{lines_left, IsFirstLine}
 use Rattle.text_lines.specs.declared.line.Line.{Line}
 use Rattle.header_fields.specs.Fields.{Field}
+use Rattle.header_fields.specs.Hashes.{hash_of}
 use Rattle.header_fields.specs.Header.{begins_blank, is_field_line, is_name_octet, name_of, after_colon, fields_in, header_lines, header_length, continuation, has_feed, is_continued, without_breaks}
 
 -- the fields of the header's lines that weren't given yet
@@ -47,19 +49,27 @@ pub record IsContinued (text : List ℕ) (line : Line) (old : Unread) (end : ℕ
   pub so_far : IsContinuing text line old end new
   pub none_left : continuation (lines_left new) ≡ []
 
--- the field of a line and of the lines that continue it, of which the last ends at this place, if it is a field line
-abbrev pub IsFieldAt : List ℕ → Line → ℕ → Option Field → Type 0
+-- the field of a line and of the lines that continue it, of which the last ends at this place, and its name's hash, if it is a field line
+abbrev pub IsFieldAt : List ℕ → Line → ℕ → Option (Field × ℕ) → Type 0
 IsFieldAt text line end answer =
     let content = slice_range text line.start line.end in
     let after = slice_range text (line.end - length (after_colon content)) end in
     MatchOption answer (is_field_line content ≡ false)
-    (λ field. (is_field_line content ≡ true) × (field ≡ record {
+    (λ read. ((is_field_line content ≡ true) × (read.0 ≡ record {
       name = name_of content;
       value = without_outer_blanks (without_breaks after);
       folded = has_feed after;
-    }))
+    })) × (read.1 ≡ hash_of (name_of content)))
 
 -- a text begins with an octet of a name
 abbrev pub begins_with_name : List ℕ → Bool
 begins_with_name [] = false
 begins_with_name (octet ∷ rest) = is_name_octet octet
+
+-- an octet of a name as a small letter, and 0 for any other
+abbrev pub name_octet : ℕ → ℕ
+name_octet octet = if is_name_octet octet then to_ascii_lowercase octet else 0
+
+-- the hash of the name of a line, if it is a field line
+abbrev pub GivesNameHash : List ℕ → Option ℕ → Type 0
+GivesNameHash line answer = MatchOption answer (is_field_line line ≡ false) (λ hash. (is_field_line line ≡ true) × (hash ≡ hash_of (name_of line)))

@@ -16,12 +16,14 @@ use std::borrow::CowSlice;
 use std::marker::Model;
 use text_lines::Lines;
 
-/// A field of a header, over octets that are lent: nothing is copied.
+/// A field of a header, over bytes that are lent: nothing is copied.
 ///
-/// A contract sees the record of its name, its value, and whether that is folded.
+/// [`crate::Header::read`] makes it; [`unfold`] gives its value. A contract sees the record of its name, its value,
+/// and whether that is folded.
 #[derive(Drop)]
 pub struct Field<'a> {
-    // Its lines with their breaks but the last. Where its name ends isn't kept: a message may have millions of fields.
+    // Its lines with their breaks, except the last break. The end of its name isn't kept: a message can have millions
+    // of fields.
     lines: &'a [u8],
 }
 
@@ -35,22 +37,22 @@ impl<'a> Model for Field<'a> {
 }
 
 impl<'a> Field<'a> {
-    // The field of its lines, with their breaks but the last.
+    // The field of its lines, with their breaks except the last.
     pub(crate) fn new(lines: &'a [u8]) -> Field<'a>
         ensures { result ≡ field_written lines.now }
     {
         Field { lines }
     }
 
-    /// Its name, as it was written: octets from 33 to 126 without a colon, at least one.
+    /// Returns the field's name, as it is written: at least one byte, from 33 to 126 and not a colon.
     pub fn name(&self) -> &'a [u8]
         ensures { result.now ≡ self.now.name }
     {
         self.lines.split_at(name_length(self.lines)).0
     }
 
-    /// How many octets its lines have, its name and the breaks between them counted: no fewer than its value has. It is known
-    /// without a look at them.
+    /// Returns how many bytes the field's lines have, including its name and the breaks between them. The value is
+    /// never longer. It takes constant time.
     pub fn extent(&self) -> usize
         ensures { length self.now.value ≤ result }
     {
@@ -58,7 +60,7 @@ impl<'a> Field<'a> {
     }
 }
 
-/// Whether the field has this name. ASCII case is ignored (RFC 5322, section 1.2.2).
+/// Returns whether the field has this name. ASCII case is ignored (RFC 5322, section 1.2.2).
 pub fn name_is(field: &Field, name: &[u8]) -> bool
     ensures { IsTrue result ↔ EqualIgnoringCase field.now.name name.now }
 {
@@ -68,10 +70,15 @@ pub fn name_is(field: &Field, name: &[u8]) -> bool
     equal_ignoring_case(start, name) && has_name_of_length(field.lines, name.len())
 }
 
-/// The field's value: what follows its colon, unfolded, without outer SP and TAB (RFC 5322, section 2.2.3).
+/// Returns the field's value: the text after its colon, unfolded, without spaces and tabs at its ends (RFC 5322,
+/// section 2.2.3).
 ///
-/// Unfolding takes the line breaks away and nothing else. A value that isn't folded is lent, and takes no memory.
-/// An error comes only where memory was refused.
+/// Unfolding removes the line breaks and nothing else. A value that isn't folded is lent, and takes no memory. For
+/// example, the value of the field `a:b:c` is `b:c`.
+///
+/// # Errors
+///
+/// `AllocError` if memory is refused; never if the value isn't folded.
 pub fn unfold<'a>(alloc: Global, field: &Field<'a>) -> Result<CowSlice<'a, u8>, AllocError>
     ensures value { IfOk result (λ value. cow_slice_items value ≡ field.now.value) }
     ensures lent { field.now.folded ≡ false → IfOk result (λ value. IsBorrowedSlice value) }
@@ -80,10 +87,14 @@ pub fn unfold<'a>(alloc: Global, field: &Field<'a>) -> Result<CowSlice<'a, u8>, 
     unfold_start(alloc, field, field.lines.len())
 }
 
-/// The first octets of the field's value, unfolded: so many, or all where it has fewer, without the SP and TAB that they end
-/// with. No line is gone over that begins after them.
+/// Returns the first `most` bytes of the field's value, unfolded, without the spaces and tabs at their end; the whole
+/// value if it is shorter. Lines that begin after these bytes aren't read.
 ///
-/// Where the value isn't folded they are lent, and take no memory. An error comes only where memory was refused.
+/// If the value isn't folded, the bytes are lent, and take no memory.
+///
+/// # Errors
+///
+/// `AllocError` if memory is refused; never if the value isn't folded.
 pub fn unfold_start<'a>(
     alloc: Global,
     field: &Field<'a>,
@@ -105,14 +116,14 @@ pub fn unfold_start<'a>(
     }
 }
 
-/// How many octets the field's value has. It takes no memory.
+/// Returns how many bytes the field's unfolded value has. It takes no memory.
 pub fn unfolded_length(field: &Field) -> usize
     ensures { result ≡ length field.now.value }
 {
     joined_length(after_colon(field.lines))
 }
 
-// The first octets of the text without its line breaks and outer blanks: so many, without the blanks that they end with.
+// The first bytes of the text without its line breaks and outer blanks: so many, without the blanks at their end.
 fn joined(alloc: Global, text: &[u8], most: usize) -> Result<Vec<u8>, AllocError>
     ensures { IfOk result (λ start. start.items ≡ beginning_of most (without_outer_blanks
         (without_breaks text.now))) }
@@ -134,7 +145,7 @@ fn joined(alloc: Global, text: &[u8], most: usize) -> Result<Vec<u8>, AllocError
     Ok(without_last_blanks(start))
 }
 
-// The octets without the blanks that they end with.
+// The bytes without the blanks at their end.
 fn without_last_blanks(mut octets: Vec<u8>) -> Vec<u8>
     ensures { result.items ≡ without_trailing_blanks octets.items }
 {
@@ -143,7 +154,7 @@ fn without_last_blanks(mut octets: Vec<u8>) -> Vec<u8>
     octets
 }
 
-// The first octets of the text: so many, without the blanks that they end with.
+// The first bytes of the text: so many, without the blanks at their end.
 fn beginning(text: &[u8], most: usize) -> &[u8]
     ensures { result.now ≡ beginning_of most text.now }
 {

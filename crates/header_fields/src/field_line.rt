@@ -1,20 +1,23 @@
 // The line that begins a field.
-ghost use Rattle.std.specs.Prelude.{◌≡◌, ◌↔◌, IsTrue, length};
-ghost use Rattle.header_fields.specs.Header.{after_colon, begins_with_colon, is_field_line, is_name_octet, name_of};
-ghost use Rattle.header_fields.specs.Reading.{begins_with_name};
+ghost use Rattle.std.specs.Prelude.{◌≡◌, ◌↔◌, ◌==◌, IsTrue, drop, length, not};
+ghost use Rattle.std.specs.List.{prefix_len};
+ghost use Rattle.header_fields.specs.Hashes.{hash_of};
+ghost use Rattle.header_fields.specs.Header.{after_colon, begins_with_colon, is_name_octet, name_of};
+ghost use Rattle.header_fields.specs.Reading.{GivesNameHash, begins_with_name, name_octet};
 
-use octets::trim_leading_blanks;
+use crate::name::hash_more;
+use octets::{first, trim_leading_blanks};
 
-// 1 for each octet that may stand in a field's name, and 0 for any other.
+// Each byte that is allowed in a field's name, as a small letter if it is a capital one, and 0 for any other byte.
 static NAME_OCTETS: [u8; 256] = *b"\
     \x00\x00\x00\x00\x00\x00\x00\x00\x00\x00\x00\x00\x00\x00\x00\x00\
     \x00\x00\x00\x00\x00\x00\x00\x00\x00\x00\x00\x00\x00\x00\x00\x00\
-    \x00\x01\x01\x01\x01\x01\x01\x01\x01\x01\x01\x01\x01\x01\x01\x01\
-    \x01\x01\x01\x01\x01\x01\x01\x01\x01\x01\x00\x01\x01\x01\x01\x01\
-    \x01\x01\x01\x01\x01\x01\x01\x01\x01\x01\x01\x01\x01\x01\x01\x01\
-    \x01\x01\x01\x01\x01\x01\x01\x01\x01\x01\x01\x01\x01\x01\x01\x01\
-    \x01\x01\x01\x01\x01\x01\x01\x01\x01\x01\x01\x01\x01\x01\x01\x01\
-    \x01\x01\x01\x01\x01\x01\x01\x01\x01\x01\x01\x01\x01\x01\x01\x00\
+    \x00!\"#$%&'()*+,-./\
+    0123456789\x00;<=>?\
+    @abcdefghijklmno\
+    pqrstuvwxyz[\\]^_\
+    `abcdefghijklmno\
+    pqrstuvwxyz{|}~\x00\
     \x00\x00\x00\x00\x00\x00\x00\x00\x00\x00\x00\x00\x00\x00\x00\x00\
     \x00\x00\x00\x00\x00\x00\x00\x00\x00\x00\x00\x00\x00\x00\x00\x00\
     \x00\x00\x00\x00\x00\x00\x00\x00\x00\x00\x00\x00\x00\x00\x00\x00\
@@ -24,14 +27,23 @@ static NAME_OCTETS: [u8; 256] = *b"\
     \x00\x00\x00\x00\x00\x00\x00\x00\x00\x00\x00\x00\x00\x00\x00\x00\
     \x00\x00\x00\x00\x00\x00\x00\x00\x00\x00\x00\x00\x00\x00\x00\x00";
 
-// Whether the octet may stand in a field's name.
+// The byte as a small letter if it is a capital one; 0 if it isn't allowed in a field's name.
+#[inline(always)]
+fn name_octet(octet: u8) -> u8
+    ensures folded { result ≡ name_octet octet }
+    ensures kept { not (result == 0) ≡ is_name_octet octet }
+{
+    NAME_OCTETS[octet as usize]
+}
+
+// Whether the byte is allowed in a field's name.
 fn is_name_octet(octet: u8) -> bool
     ensures { result ≡ is_name_octet octet }
 {
-    NAME_OCTETS[octet as usize] == 1
+    name_octet(octet) != 0
 }
 
-/// How many octets the name has that the line begins with.
+/// How many bytes the name at the start of the line has.
 pub(crate) fn name_length(line: &[u8]) -> usize
     ensures { result ≡ length (name_of line.now) }
 {
@@ -40,7 +52,7 @@ pub(crate) fn name_length(line: &[u8]) -> usize
         .count()
 }
 
-/// Whether the name that the line begins with has this length. No more octets are looked at than one beyond it.
+/// Whether the name at the start of the line has this length. At most one byte beyond it is read.
 pub(crate) fn has_name_of_length(line: &[u8], len: usize) -> bool
     ensures { IsTrue result ↔ (length (name_of line.now) ≡ len) }
 {
@@ -51,7 +63,7 @@ pub(crate) fn has_name_of_length(line: &[u8], len: usize) -> bool
     !begins_with_name(after) && name_length(start) >= len
 }
 
-// Whether the text begins with an octet that may stand in a field's name.
+// Whether the text begins with a byte that is allowed in a field's name.
 fn begins_with_name(text: &[u8]) -> bool
     ensures { result ≡ begins_with_name text.now }
 {
@@ -61,12 +73,33 @@ fn begins_with_name(text: &[u8]) -> bool
     }
 }
 
-/// Whether the line is a field line.
-pub(crate) fn is_field_line(line: &[u8]) -> bool
-    ensures { result ≡ is_field_line line.now }
+/// The hash of the line's name if it is a field line.
+pub(crate) fn field_name_hash(line: &[u8]) -> Option<u32>
+    ensures { GivesNameHash line.now result }
 {
-    let (name, after) = line.split_at(name_length(line));
-    !name.is_empty() && begins_with_colon(trim_leading_blanks(after))
+    let (hash, after) = split_name(line);
+    if after.len() < line.len() && begins_with_colon(trim_leading_blanks(after)) {
+        Some(hash)
+    } else {
+        None
+    }
+}
+
+// The hash of the name at the start of the line, and the text after the name.
+fn split_name(line: &[u8]) -> (u32, &[u8])
+    ensures { (result.0 ≡ hash_of (name_of line.now)) × (result.1.now ≡ drop (prefix_len is_name_octet line.now) line.now) }
+{
+    let mut hash = 0;
+    let mut rest = line;
+    'octets: while let Some((octet, after)) = first(rest) {
+        let folded = name_octet(octet);
+        if folded == 0 {
+            return (hash, rest);
+        }
+        hash = hash_more(hash, folded);
+        rest = after;
+    }
+    (hash, rest)
 }
 
 // Whether the text begins with a colon.
@@ -76,7 +109,7 @@ fn begins_with_colon(text: &[u8]) -> bool
     matches!(text, [b':', ..])
 }
 
-/// What follows the colon of the lines of a field.
+/// The text after the colon of the lines of a field.
 pub(crate) fn after_colon(lines: &[u8]) -> &[u8]
     ensures { result.now ≡ after_colon lines.now }
 {

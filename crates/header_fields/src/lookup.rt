@@ -4,7 +4,7 @@ ghost use Rattle.header_fields.specs.Fields.{first_value};
 
 use crate::field::{Field, name_is};
 
-/// The first field of this name, if there is one. ASCII case is ignored (RFC 5322, section 1.2.2).
+/// Returns the first field with this name; `None` if there is none. ASCII case is ignored (RFC 5322, section 1.2.2).
 pub fn first_named<'f, 'a>(fields: &'f [Field<'a>], name: &[u8]) -> Option<&'f Field<'a>>
     ensures { MatchOption result (first_value name.now fields.now ≡ None)
         (λ field. first_value name.now fields.now ≡ Some field.now.value) }

@@ -6,7 +6,7 @@ ghost use Rattle.header_fields.specs.Header.{without_breaks};
 use octets::{trim_leading_blanks, trim_trailing_blanks};
 use text_lines::Lines;
 
-/// How many octets the text has without its line breaks, and then without outer blanks.
+/// How many bytes the text has without its line breaks, and then without outer blanks.
 pub(crate) fn joined_length(text: &[u8]) -> usize
     ensures { result ≡ length (without_outer_blanks (without_breaks text.now)) }
 {

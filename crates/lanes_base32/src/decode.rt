@@ -1,6 +1,6 @@
-// Strict base32 reads a block with more after it at once, and refuses it if it has a stray character. The last
-// block, of at most 32 characters, is read, written again and compared, without memory. So strictness is defined by
-// what the encoder writes, and costs nothing a block.
+// Strict base32 reads a block with more after it at once, and refuses it if it has a stray character. The last block,
+// of at most 32 characters, is read, written again and compared, without memory. So strictness is defined by what the
+// encoder writes, and needs no time for each block.
 ghost use Rattle.std.specs.Prelude.{◌≡◌, ℕ, ◌+◌, ◌*◌, ◌++◌, ◌<◌, ◌≤◌, List, IfErr, IfOk, MatchOption, OnOk, drop, length, take};
 ghost use Rattle.octet_lanes.specs.Encoding.{IsOctets, Spells, width};
 ghost use Rattle.octet_lanes.specs.declared.alphabet.Alphabet.TheVariants.{Base32, Base32Hex};
@@ -10,13 +10,16 @@ use crate::error::Refusal;
 use octet_lanes::{Alphabet, PADDING, block_octets, block_text, classify, has_stray, join};
 use std::alloc::Global;
 
-/// The octets that a base32 text spells (RFC 4648, section 6).
+/// Returns the bytes that a base32 text spells (RFC 4648, section 6): exactly those whose encoding is the text.
+///
+/// For example, `MZXW6===` is read as `foo`.
 ///
 /// # Errors
 ///
-/// `NotCanonical` where the text spells no octets: a length that is no multiple of 8, an octet outside of the alphabet,
-/// also a lower-case letter, a padding that is missing or too long, a bit that isn't zero after the last octet.
-/// `Memory` where memory ran out.
+/// - `Refusal::NotCanonical` if the text spells no bytes: its length isn't a multiple of 8, a character isn't in the
+///   alphabet (lower-case letters aren't), the padding is missing or too long, or a bit after the last byte isn't
+///   zero.
+/// - `Refusal::Memory` if memory is refused.
 pub fn decode32(alloc: Global, text: &[u8]) -> Result<Vec<u8>, Refusal>
     ensures octets { IfOk result (λ octets. Spells Base32 text.now octets.items) }
     ensures refused { IfErr result
@@ -26,11 +29,14 @@ pub fn decode32(alloc: Global, text: &[u8]) -> Result<Vec<u8>, Refusal>
     decode(alloc, text, Alphabet::Base32)
 }
 
-/// The octets that a base32hex text spells (RFC 4648, section 7).
+/// Returns the bytes that a base32hex text spells (RFC 4648, section 7): exactly those whose encoding is the text.
+///
+/// For example, `CPNMU===` is read as `foo`.
 ///
 /// # Errors
 ///
-/// As `decode32`, in the alphabet of base32hex.
+/// - `Refusal::NotCanonical` if the text spells no bytes, as for [`decode32`].
+/// - `Refusal::Memory` if memory is refused.
 pub fn decode32hex(alloc: Global, text: &[u8]) -> Result<Vec<u8>, Refusal>
     ensures octets { IfOk result (λ octets. Spells Base32Hex text.now octets.items) }
     ensures refused { IfErr result
@@ -40,8 +46,8 @@ pub fn decode32hex(alloc: Global, text: &[u8]) -> Result<Vec<u8>, Refusal>
     decode(alloc, text, Alphabet::Base32Hex)
 }
 
-// Whole blocks are read as they stand, and the last one is written again: a text spells octets just where it is the text
-// of the octets that it reads as.
+// Whole blocks are read as they are, and the last one is written again: a text spells bytes exactly if it is the text
+// of the bytes that it reads as.
 #[inline(always)]
 fn decode(alloc: Global, text: &[u8], alphabet: Alphabet) -> Result<Vec<u8>, Refusal>
     ensures octets { IfOk result (λ octets. Spells alphabet text.now octets.items) }
@@ -59,7 +65,7 @@ fn decode(alloc: Global, text: &[u8], alphabet: Alphabet) -> Result<Vec<u8>, Ref
     Ok(out)
 }
 
-// The number of the octets that a text spells, if it spells any, and never more than its own.
+// The number of the bytes that a text spells, if it spells any, and at most its own length.
 fn octets_len(text: &[u8], alphabet: Alphabet) -> usize
     ensures { result ≤ length text.now }
 {
@@ -72,7 +78,7 @@ fn octets_len(text: &[u8], alphabet: Alphabet) -> usize
         .saturating_add(symbols % 8 * alphabet.width() / 8)
 }
 
-// The first block and what follows it, where something does.
+// The first block and the text after it, if there is some.
 #[inline(always)]
 fn first_block(text: &[u8]) -> Option<(&[u8; 32], &[u8])>
     ensures { MatchOption result (length text.now ≤ 32)
@@ -85,7 +91,7 @@ fn first_block(text: &[u8]) -> Option<(&[u8; 32], &[u8])>
     text.split_first_chunk::<32>()
 }
 
-// Appends the octets of a block, all of whose octets have to be symbols.
+// Appends the bytes of a block, in which each character has to be a symbol.
 #[inline(always)]
 fn append_block(block: &[u8; 32], alphabet: Alphabet, out: &mut Vec<u8>) -> Result<(), Refusal>
     ensures octets { OnOk result
@@ -103,7 +109,7 @@ fn append_block(block: &[u8; 32], alphabet: Alphabet, out: &mut Vec<u8>) -> Resu
     Ok(())
 }
 
-// Appends the octets of the last block, which may be shorter and padded.
+// Appends the bytes of the last block, which can be shorter and padded.
 fn append_last(text: &[u8], alphabet: Alphabet, out: &mut Vec<u8>) -> Result<(), Refusal>
     requires { length text.now ≤ 32 }
     ensures octets { OnOk result

@@ -4,10 +4,10 @@ ghost use Rattle.lanes_base32.specs.declared.error.Refusal.TheVariants.{Memory};
 use std::alloc::AllocError;
 use thiserror::Error;
 
-/// Why no octets are given.
+/// Why a text isn't decoded.
 #[derive(Debug, Drop, PartialEq, Eq, Error)]
 pub enum Refusal {
-    /// An allocation was refused.
+    /// Memory is refused, so there is no result.
     #[error("an allocation was refused")]
     Memory,
     /// The text isn't one that the encoder writes.

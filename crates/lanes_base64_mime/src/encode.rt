@@ -9,23 +9,25 @@ use octet_lanes::{Alphabet, append_encoding, block_symbols};
 use std::alloc::{AllocError, Global};
 use std::simd::prelude::*;
 
-/// The octets of a line's 76 characters.
+/// How many bytes a line of 76 characters has.
 const LINE_OCTETS: usize = 57;
 
 const LINE_BREAK: &[u8; 2] = b"\r\n";
 
-/// How many octets a line's three blocks read: the third one starts after 48, and has 32 lanes.
+/// How many bytes the three blocks of a line read: the third one starts after 48 bytes, and has 32 lanes.
 const LANES: usize = 80;
 
-/// A whole line with its break.
+/// The length of a whole line with its break, in bytes.
 const LINE_LEN: usize = 78;
 
-/// The MIME base64 text of `octets`: lines of 76 characters, the last one of at most 76, each with its CRLF; no line for
-/// no octets.
+/// Returns the MIME base64 text of `octets` (RFC 2045, section 6.8): lines of 76 characters, the last one possibly
+/// shorter, each with its CRLF. There are no lines if there are no bytes.
+///
+/// For example, `foo` becomes `Zm9v` and CRLF.
 ///
 /// # Errors
 ///
-/// Memory ran out.
+/// `AllocError` if memory is refused.
 pub fn encode_mime(alloc: Global, octets: &[u8]) -> Result<Vec<u8>, AllocError>
     ensures { IfOk result (λ text. text.items ≡ mime_encoding_of octets.now) }
 {
@@ -53,7 +55,7 @@ fn append_line(octets: &[u8], out: &mut Vec<u8>) -> Result<(), AllocError>
     out.extend_from_slice(LINE_BREAK)
 }
 
-// Appends a line of 57 octets: two blocks of 24, and the prefix of a third one.
+// Appends a line of 57 bytes: two blocks of 24, and the start of a third one.
 #[inline(always)]
 fn append_whole_line(octets: &[u8; LANES], out: &mut Vec<u8>) -> Result<(), AllocError>
     ensures { OnOk result (out.new.items ≡ out.old.items ++ (encoding_of Base64 (take 57 octets.now)
@@ -65,7 +67,7 @@ fn append_whole_line(octets: &[u8; LANES], out: &mut Vec<u8>) -> Result<(), Allo
     out.extend_from_slice(LINE_BREAK)
 }
 
-// The text of the 24 octets from a place on.
+// The text of the 24 bytes from a place on.
 #[inline(always)]
 fn symbols_at(octets: &[u8; LANES], at: usize) -> [u8; 32]
     requires { at ≤ 48 }
@@ -75,7 +77,7 @@ fn symbols_at(octets: &[u8; LANES], at: usize) -> [u8; 32]
     block_symbols(&lanes.to_array(), Alphabet::Base64)
 }
 
-// Room for the text of octets: a whole line for each 57 of them, and one more.
+// Room for the text of bytes: a whole line for each 57 of them, and one more.
 fn text_room(octets: &[u8]) -> usize
     ensures enough { length (mime_encoding_of octets.now) ≤ result }
     ensures few { result ≤ 2 * length octets.now + 78 }

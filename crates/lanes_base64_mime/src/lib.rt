@@ -1,6 +1,14 @@
-//! MIME base64 (RFC 2045, section 6.8): lines of 76 characters, and a reader that passes over what is no symbol.
+//! MIME base64 (RFC 2045, section 6.8): lines of 76 characters, and a reader that skips characters that are no symbol.
 //!
-//! What is written is the definition's text, what is read is the definition's octets, and what was written is read back.
+//! # Promises
+//!
+//! ## MIME base64
+//!
+//! MIME base64 is written in lines and read over stray characters by its definition, whole or in any pieces. A refused
+//! piece leaves decoder and output as they were. What was written is read back. The room that is asked for is enough
+//! for the whole; to decode, it is at most 6 bytes more than the text has.
+//!
+//! By `encode_mime`, `decode_mime`, `decoding_room`, `Decoder`; laws `reads_what_was_written`, `pieces_are_the_text`.
 #![tactic(auto)]
 
 mod decode;

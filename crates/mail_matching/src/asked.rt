@@ -1,8 +1,7 @@
 // The parameters that a test asks for, found in one pass over those of a value.
 //
-// What a question asks of a message is a list of values, or a truth value. Whether it is true, what it finds and
-// what comparing costs follow from that for every question, so the meaning, its trace and the machine have no case
-// by question.
+// A question on a message is a list of values, or a truth value. Whether it is true, what it finds and what comparing
+// costs follow from that for every question, so the meaning, its trace and the machine have no case by question.
 ghost use Rattle.std.specs.Prelude.{◌≡◌, IfOk, MatchOption, None, Some};
 ghost use Rattle.mime_params.specs.MediaValue.{value_named};
 ghost use Rattle.octets.specs.Ascii.{is_word};
@@ -13,10 +12,12 @@ use mime_params::{LentParameter, LentParameters};
 use octets::{Octets, equal_ignoring_case, is_word};
 use std::alloc::{AllocError, Global};
 
-/// The first of the parameters of each of the names, in their own order. The value is gone over once, however many names
-/// there are.
+/// The first of the parameters with each of the names, in the order of the parameters. The value is read once,
+/// however many names there are.
 ///
-/// An error comes only where memory was refused.
+/// # Errors
+///
+/// `AllocError` if memory is refused.
 pub(crate) fn asked_params<'v, P: Texts>(
     alloc: Global,
     params: LentParameters<'v>,
@@ -33,9 +34,11 @@ pub(crate) fn asked_params<'v, P: Texts>(
     Ok(found)
 }
 
-/// The value of the first of these parameters that has the name.
+/// The value of the first of these parameters with the name.
 ///
-/// An error comes only where memory was refused.
+/// # Errors
+///
+/// `AllocError` if memory is refused.
 pub(crate) fn asked_value(
     alloc: Global,
     found: &[LentParameter],
@@ -49,14 +52,14 @@ pub(crate) fn asked_value(
     }
 }
 
-// Whether a parameter of this name is asked for, and none was found.
+// Whether a parameter with this name is asked for, and none has been found.
 fn is_wanted<P: Texts>(names: &P, found: &[LentParameter], name: &[u8]) -> bool
     ensures { result ≡ is_wanted (P.texts names.now) found.now name.now }
 {
     is_asked(names, name) && first_named(found, name).is_none()
 }
 
-// Whether one of the names is this, but for ASCII case.
+// Whether one of the names is this one; ASCII case is ignored.
 fn is_asked<P: Texts>(names: &P, name: &[u8]) -> bool
     ensures { result ≡ is_asked (P.texts names.now) name.now }
 {
@@ -68,7 +71,7 @@ fn is_asked<P: Texts>(names: &P, name: &[u8]) -> bool
     false
 }
 
-// The first of the parameters that has the name.
+// The first of the parameters with the name.
 fn first_named<'f, 'v>(
     params: &'f [LentParameter<'v>],
     name: &[u8],

@@ -16,21 +16,24 @@ use glob_match::{Captures, Match, MatchType, contains, is, matches};
 use std::alloc::{AllocError, Global};
 use std::borrow::CowSlice;
 
-/// How a value compares with keys.
+/// The result of comparing a value with keys.
 #[derive(Drop)]
 pub(crate) enum Compared<'k> {
     /// It matches none.
     Differs,
-    /// It matches this one, and no captures are set.
+    /// It matches this key, and sets no captures.
     Matches(&'k [u8]),
-    /// It matches this one, and these stretches of it are the captures.
+    /// It matches this key, and these stretches of it are the captures.
     Sets(&'k [u8], Captures),
 }
 
-/// What comparing a value with each key in order comes to, up to the first that it matches; and tells it. The outcome is set
-/// where it stands, and only where the value matches.
+/// Compares a value with each key in order, up to the first that it matches, and reports it to `told`. The outcome is
+/// set in place, and only if the value matches.
 ///
-/// An error comes only where memory was refused: where the value is owned and sets captures, these are copied.
+/// # Errors
+///
+/// `AllocError` if memory is refused. It is taken for the captures of a value that is owned, which are copied, and by
+/// the listener.
 #[inline(always)]
 pub(crate) fn first_key<'a, K: Texts, T: Telling>(
     alloc: Global,
@@ -68,9 +71,11 @@ pub(crate) fn first_key<'a, K: Texts, T: Telling>(
     Ok(())
 }
 
-/// The same of a value that is lent for now: what is captured of it is copied.
+/// The same for a value that isn't lent for as long as the message: its captures are copied.
 ///
-/// An error comes only where memory was refused.
+/// # Errors
+///
+/// `AllocError` if memory is refused.
 #[inline(always)]
 pub(crate) fn first_key_of_lent<'a, K: Texts, T: Telling>(
     alloc: Global,
@@ -105,7 +110,7 @@ pub(crate) fn first_key_of_lent<'a, K: Texts, T: Telling>(
     Ok(())
 }
 
-/// How a value compares with the first of the keys that it matches.
+/// The result of comparing a value with the keys, up to the first that it matches.
 #[inline(always)]
 pub(crate) fn first_comparison<'k, K: Texts>(value: &[u8], keys: &'k K, how: Match) -> Compared<'k>
     requires value { length value.now ≤ max_message }
@@ -124,7 +129,7 @@ pub(crate) fn first_comparison<'k, K: Texts>(value: &[u8], keys: &'k K, how: Mat
     Compared::Differs
 }
 
-// The answer of a comparison that sets no captures.
+// The result of a comparison that sets no captures.
 fn matched(value_is_key: bool, key: &[u8]) -> Compared<'_>
     ensures captures { (value : List ℕ) (captures : List (List ℕ))
         → after_compared value result captures ≡ (if value_is_key then Some captures else None) }

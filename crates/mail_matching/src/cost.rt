@@ -1,4 +1,4 @@
-// What comparing costs.
+// The cost of comparing.
 ghost use Rattle.std.specs.Prelude.{◌≡◌, ◌+◌, ◌*◌, ◌≤◌};
 ghost use Rattle.octets.specs.Limits.{max_message};
 ghost use Rattle.mail_matching.specs.Costs.{extent_of};
@@ -6,7 +6,7 @@ ghost use Rattle.mail_matching.specs.Texts.{AreTexts};
 
 use crate::texts::Texts;
 
-/// How many octets the texts have, and one more for each.
+/// How many bytes the texts have, and one more for each.
 pub(crate) fn extent_of<T: Texts>(texts: &T) -> u64
     requires { AreTexts (T.texts texts.now) }
     ensures { result ≡ extent_of (T.texts texts.now) }
@@ -27,7 +27,7 @@ pub(crate) fn names_cost<N: Texts>(fields: usize, names: &N) -> u64
     (fields as u64 + 1) * extent_of(names)
 }
 
-/// The cost of comparing values of so many octets, and one more for each, with keys of so many.
+/// The cost of comparing values of so many bytes, and one more for each, with keys of so many.
 pub(crate) fn product(values: u64, keys: u64) -> u128
     ensures { result ≡ values * keys }
 {

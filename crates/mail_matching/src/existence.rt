@@ -1,7 +1,6 @@
 // The test `exists`.
 ghost use Rattle.std.specs.Prelude.{◌≡◌, ◌<◌, IfSome, length};
 ghost use Rattle.std.specs.List.{list_all};
-ghost use Rattle.octets.specs.Ascii.{is_word};
 ghost use Rattle.mail_matching.specs.Costs.{names_cost};
 ghost use Rattle.mail_matching.specs.Headers.{all_fields};
 ghost use Rattle.mail_matching.specs.HeaderTests.{exists_in, fields_in_scope, has_field};
@@ -10,10 +9,11 @@ ghost use Rattle.mail_matching.specs.Texts.{AreTexts};
 use crate::cost::names_cost;
 use crate::headers::{Headers, Reach, fields_number};
 use crate::texts::Texts;
-use header_fields::{Field, name_is};
+use header_fields::{Name, NamedFields};
 use mime_decode::Message;
 
-/// Whether each name is that of a field of the parts in scope, but for ASCII case, and what looking for them costs.
+/// Whether there is a field with each name in the parts in scope, ignoring ASCII case, and the cost of looking for
+/// them.
 #[inline(always)]
 pub(crate) fn exists<N: Texts>(message: &Message, reach: Reach, names: &N) -> (bool, u64)
     requires current { IfSome reach.current (λ current. current < length message.now.parts) }
@@ -28,12 +28,12 @@ pub(crate) fn exists<N: Texts>(message: &Message, reach: Reach, names: &N) -> (b
     (have_fields(&headers, names), cost)
 }
 
-// Whether each name is that of a field.
+// Whether there is a field with each name.
 fn have_fields<N: Texts>(headers: &Headers, names: &N) -> bool
     ensures { result ≡ list_all (has_field (all_fields headers.now)) (N.texts names.now) }
 {
     for place in 0..names.count() {
-        if !any_has_field(headers, names.text(place)) {
+        if !any_has_field(headers, &Name::new(names.text(place))) {
             return false;
         }
     }
@@ -41,7 +41,7 @@ fn have_fields<N: Texts>(headers: &Headers, names: &N) -> bool
 }
 
 // Whether a field of one of the headers has the name.
-fn any_has_field(headers: &Headers, name: &[u8]) -> bool
+fn any_has_field(headers: &Headers, name: &Name) -> bool
     ensures { result ≡ has_field (all_fields headers.now) name.now }
 {
     for place in 0..headers.count() {
@@ -53,15 +53,13 @@ fn any_has_field(headers: &Headers, name: &[u8]) -> bool
 }
 
 // Whether a field has the name.
-fn has_field(fields: &[Field], name: &[u8]) -> bool
+fn has_field(fields: &NamedFields, name: &Name) -> bool
     ensures { result ≡ has_field fields.now name.now }
 {
-    fields.iter().any(|field| is_named(field, name))
-}
-
-/// Whether the field has the name, but for ASCII case.
-pub(crate) fn is_named(field: &Field, name: &[u8]) -> bool
-    ensures { result ≡ is_word field.now.name name.now }
-{
-    name_is(field, name)
+    for place in 0..fields.as_slice().len() {
+        if fields.at(place).is_named(name) {
+            return true;
+        }
+    }
+    false
 }

@@ -1,4 +1,4 @@
-// What a test finds, and whom it tells.
+// What a test finds, and who learns of it.
 ghost use Rattle.std.specs.Prelude.{◌≡◌, ◌+◌, ℕ, IfOk, IsOk, OnOk, take};
 ghost use Rattle.mail_matching.specs.Private.{IsCounted};
 ghost use Rattle.mail_matching.specs.declared.finding.Finding.{Finding};
@@ -7,38 +7,42 @@ ghost use Rattle.mail_matching.specs.declared.finding.Finding.TheVariants.{Pair,
 use octets::Octets;
 use std::alloc::{AllocError, Global};
 
-/// What a test finds that compares values with keys.
+/// What a test that compares values with keys finds. [`crate::ask_and_find`] returns it; a trace shows it.
 #[derive(Drop)]
 pub enum Finding {
-    /// The first value that matches a key, and the first key that it matches: the first octets of each.
+    /// The first value that matches a key, and the first key that it matches: the first bytes of each.
     Pair { value: Octets, key: Octets },
-    /// No value matches a key. There are so many values.
+    /// No value matches a key. The number is how many values there are.
     NoneOf(u64),
 }
 
-/// Who is told of each value that is compared, up to the first that matches a key.
+/// A listener to a test: it learns of each value that is compared, up to the first that matches a key.
+///
+/// A run uses [`Nobody`]; a trace keeps what it learns, to show it.
 pub trait Telling: Drop {
-    // It knows what the values so far come to, of which it keeps so many octets.
+    // It knows the result for the values before, and keeps at most so many bytes of them.
     ghost knows: { ℕ → Self → Finding → Type 0 };
 
     // It takes no memory.
     ghost is_free: { Type 0 };
 
-    /// A value matches none of the keys.
+    /// Is called for a value that matches none of the keys.
     fn missed(&mut self)
         ensures { (most number : ℕ) → knows most self.old (NoneOf number)
             → knows most self.new (NoneOf (number + 1)) };
 
-    /// A value matches a key.
+    /// Is called for the first value that matches a key, with the first key that it matches.
     ///
-    /// An error comes only where memory was refused.
+    /// # Errors
+    ///
+    /// `AllocError` if memory is refused.
     fn matched(&mut self, alloc: Global, value: &[u8], key: &[u8]) -> Result<(), AllocError>
         ensures knows { (most number : ℕ) → knows most self.old (NoneOf number)
             → OnOk result (knows most self.new (Pair value.now key.now)) }
         ensures free { is_free → IsOk result };
 }
 
-/// Nobody is told. That takes no memory.
+/// A listener that keeps nothing, and takes no memory.
 #[derive(Drop)]
 pub struct Nobody;
 
@@ -54,7 +58,7 @@ impl Telling for Nobody {
     }
 }
 
-/// What was found so far, of which the first octets are kept, at most so many of the value and of the key.
+/// A listener that keeps what was found: at most so many first bytes of the value and of the key.
 #[derive(Drop)]
 pub(crate) struct Found {
     pub most: usize,
@@ -62,7 +66,7 @@ pub(crate) struct Found {
 }
 
 impl Found {
-    /// Nothing yet.
+    /// Before the first value.
     #[inline(always)]
     pub(crate) fn new(most: usize) -> Found
         ensures { result ≡ record { most = most; finding = NoneOf 0 } }
@@ -74,7 +78,7 @@ impl Found {
     }
 }
 
-// The first octets of a text, at most so many.
+// The first bytes of a text, at most so many.
 fn start(alloc: Global, text: &[u8], most: usize) -> Result<Octets, AllocError>
     ensures { IfOk result (λ octets. octets ≡ take most text.now) }
 {
@@ -88,7 +92,7 @@ impl Telling for Found {
     ghost is_free = { ⊥ };
 
     fn missed(&mut self) {
-        // No memory holds so many values that the count would stop.
+        // There is no memory for so many values that the count would overflow.
         if let Finding::NoneOf(number) = &mut self.finding {
             *number = number.saturating_add(1);
         }

@@ -1,9 +1,9 @@
 // The test `header`.
 //
-// The parameters of one test are found together: one pass over the field keeps the first of each name, over the
-// bytes that it is written in; then they are compared in the order of the names. The first match is defined on lists
-// of values and keys, and the code goes field by field. Each name goes over all fields of the header, so a test
-// takes time in the product of names and fields; that is what E charges.
+// The parameters of one test are found together: one pass over the field keeps the first of each name, over the bytes
+// that it is written in; then they are compared in the order of the names. The first match is defined on lists of
+// values and keys, and the code goes field by field. Each name goes over all fields of the header, so a test takes
+// time in the product of names and fields; that is what E charges.
 ghost use Rattle.std.specs.Prelude.{◌≡◌, ◌<◌, ◌^◌, All, IfOk, IfSome, IsOk, OnOk, length};
 ghost use Rattle.mail_matching.specs.Headers.{selected_in_all};
 ghost use Rattle.mail_matching.specs.Costs.{extent_of as extent_of_texts, names_cost};
@@ -25,10 +25,13 @@ use bytecode_format::FieldTest;
 use mime_decode::Message;
 use std::alloc::{AllocError, Global};
 
-/// Compares the values selected in the parts in scope with the keys, up to the first that matches one, and says what that costs.
+/// Compares the values selected in the parts in scope with the keys, up to the first that matches one, and returns
+/// the cost.
 ///
-/// An error comes only where memory was refused; none is taken but for values that are folded, for types and parameters, and
-/// for what is captured of these.
+/// # Errors
+///
+/// `AllocError` if memory is refused. It is taken only for values that are folded, for types and parameters, for the
+/// captures of these, and by the listener.
 #[inline(always)]
 pub(crate) fn header<'m, N: Texts, P: Texts, K: Texts, T: Telling>(
     alloc: Global,

@@ -12,15 +12,15 @@ ghost use Rattle.mail_matching.specs.HeaderTests.{headers_in_scope};
 
 use crate::typed::TypedFields;
 use bytecode_format::Scope;
-use header_fields::Field;
+use header_fields::NamedFields;
 use mime_decode::Message;
 use std::marker::Model;
 
-/// Where a test looks: the parts in scope, as they are seen from the current part.
+/// Where a test looks: the parts in scope, as seen from the current part.
 #[derive(Clone, Copy)]
 pub(crate) struct Reach {
     pub scope: Scope,
-    /// The current part, or `None` where no loop is open.
+    /// The current part, or `None` if no loop is open.
     pub current: Option<usize>,
 }
 
@@ -62,7 +62,7 @@ impl<'a, 'm> Headers<'a, 'm> {
         }
     }
 
-    /// How many there are.
+    /// How many headers there are.
     pub(crate) fn count(&self) -> usize
         ensures count { result ≡ length self.now }
         ensures few { sum_by fields_extent self.now ≤ max_message }
@@ -70,12 +70,12 @@ impl<'a, 'm> Headers<'a, 'm> {
         self.number
     }
 
-    /// The fields of the header at a place, from 0.
-    pub(crate) fn fields(&self, place: usize) -> &'a [Field<'m>]
+    /// The fields of the header at a place, counted from 0, to be looked up by name.
+    pub(crate) fn fields(&self, place: usize) -> &'a NamedFields<'m>
         requires { place < length self.now }
         ensures { result.now ≡ slice_index_or self.now place [] }
     {
-        self.message.tree().header(self.first + place).fields()
+        self.message.tree().header(self.first + place).by_name()
     }
 
     /// The same with what is kept of their types.
@@ -85,7 +85,7 @@ impl<'a, 'm> Headers<'a, 'm> {
     {
         let tree = self.message.tree();
         let part = self.first + place;
-        TypedFields::new(tree.header(part).fields(), tree.type_texts(part))
+        TypedFields::new(tree.header(part).by_name(), tree.type_texts(part))
     }
 }
 
@@ -114,7 +114,7 @@ pub(crate) fn fields_number(headers: &Headers) -> usize
 {
     let mut number = 0;
     for place in 0..headers.count() {
-        number += headers.fields(place).len();
+        number += headers.fields(place).as_slice().len();
     }
     number
 }

@@ -1,4 +1,4 @@
-//! The laws of questions: how much asking costs at most, and which captures are left.
+//! The laws of questions: how much they cost at most, and which captures they leave.
 ghost use Rattle.std.specs.Prelude.{◌≡◌, ◌+◌, ◌*◌, ◌≤◌, ◌∷◌, [], ℕ, List, Option, Some, is_some, length};
 ghost use Rattle.glob_match.specs.Matching.{max_captures};
 ghost use Rattle.glob_match.specs.declared.match_type.Match.{Match};
@@ -16,9 +16,9 @@ ghost use Rattle.mail_matching.specs.QuestionCosts.{AreWithin, value_of};
 ghost use Rattle.mail_matching.specs.Questions.{Texts, answer, question_cost};
 ghost use Rattle.mail_matching.specs.Selection.{selected_values};
 
-/// Asking costs no more than this, where the texts are no larger: for names, for each octet of the message, what the names have; for
-/// what they select, that many times what the keys have, and that for each value that may be selected of a field; for a part's
-/// content, what the keys have for each octet of the message.
+/// A question costs no more than this, if the texts are no larger: for names, what the names have for each byte of
+/// the message; for the values that they select, that many times what the keys have, once for each value that can be
+/// selected in a field; for a part's content, what the keys have for each byte of the message.
 pub fn question_cost_is_within_the_message()
     ensures { (mail : Mail) → IsMail mail
         → (current : Option ℕ) (question : Question) (texts : Texts) (sizes : Sizes)
@@ -32,8 +32,8 @@ pub fn values_cost_is_a_product()
         → values_cost values keys ≡ extent_of values * extent_of keys }
 {}
 
-/// Comparing what is selected of fields costs at most the product of four numbers: the names, the values that may be selected of one
-/// field, the octets of the message, and what the keys come to.
+/// Comparing the selected values of fields costs at most the product of four numbers: the names, the values that can
+/// be selected in one field, the bytes of the message, and the extent of the keys.
 pub fn values_cost_is_within_the_message()
     ensures { (mail : Mail) → IsMail mail
         → (scope : Scope) (current : Option ℕ) (selector : Selector)
@@ -42,7 +42,7 @@ pub fn values_cost_is_within_the_message()
         ≤ length names * values_of_a_field selector params * size_of mail * extent_of keys }
 {}
 
-/// Comparing the digest of a part's content costs as much for any content.
+/// Comparing the digest of a part's content costs the same for any content.
 pub fn digest_cost_is_fixed()
     ensures { (part : Part) (keys : List (List ℕ))
         → values_cost (digest_of part.content ∷ []) keys
@@ -57,7 +57,7 @@ pub fn captures_stay_ten()
         → length after ≡ max_captures }
 {}
 
-/// A test holds exactly where a value and a key match.
+/// A test holds exactly if a value and a key match.
 pub fn a_pair_is_found_where_a_test_holds()
     ensures { (how : Match) (values keys captures : List (List ℕ))
         → is_some (first_match how values keys captures) ≡ is_some (first_pair how values keys) }

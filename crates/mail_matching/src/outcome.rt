@@ -1,4 +1,4 @@
-// What a test comes to.
+// The outcome of a test.
 //
 // The result of a test is one of three: it fails, it holds, or it holds with captures. So captures of a failed test
 // can't be written down.
@@ -9,16 +9,17 @@ use std::alloc::{AllocError, Global};
 use std::borrow::CowSlice;
 use std::marker::Model;
 
-/// The captures that a value sets: itself, and what the first nine wildcards of the key stand for (RFC 5229, section 3.2).
+/// The captures that a matching value sets: the value itself, and the texts that match the first nine wildcards of
+/// the key (RFC 5229, section 3.2).
 ///
-/// A value that is lent stays where it is. Of any other what is captured is copied, and no more of it: at most ten texts of
-/// [`MAX_CAPTURE`](glob_match::MAX_CAPTURE) octets. A contract sees ten texts, of which those are empty that the key has no wildcard
-/// for.
+/// A value that the message lends isn't copied. Of any other value only the captures are copied: at most ten texts of
+/// [`MAX_CAPTURE`](glob_match::MAX_CAPTURE) bytes. [`Captured::text`] gives one. A contract sees ten texts, which are
+/// empty if the key has no such wildcard.
 #[derive(Drop)]
 pub struct Captured<'a> {
-    // The value that is lent, or copies of what is captured, one after the other.
+    // The value that is lent, or copies of the captures, one after the other.
     octets: CowSlice<'a, u8>,
-    // Where the captures stand there.
+    // The places of the captures there.
     stretches: Captures,
 }
 
@@ -43,7 +44,7 @@ impl<'a> Captured<'a> {
 
     // The captures of a value, by their stretches of it.
     //
-    // An error comes only where memory was refused.
+    // The only error is a refusal of memory.
     #[inline(always)]
     pub(crate) fn new(
         alloc: Global,
@@ -63,9 +64,9 @@ impl<'a> Captured<'a> {
         }
     }
 
-    // The same of a value that is lent for now, of which what is captured is copied.
+    // The same for a value that isn't lent for as long as the message: its captures are copied.
     //
-    // An error comes only where memory was refused.
+    // The only error is a refusal of memory.
     pub(crate) fn copied(
         alloc: Global,
         value: &[u8],
@@ -80,7 +81,8 @@ impl<'a> Captured<'a> {
         })
     }
 
-    /// The capture of this number: 0 is the whole value, 1 to 9 are the wildcards'. It is empty where there is none.
+    /// Returns the capture with this number: 0 is the whole value, 1 to 9 are those of the wildcards. It is empty if
+    /// there is none.
     pub fn text(&self, number: usize) -> &[u8]
         ensures { result.now ≡ slice_index_or self.now number [] }
     {
@@ -88,21 +90,21 @@ impl<'a> Captured<'a> {
     }
 }
 
-/// What comparing values with keys comes to.
+/// The outcome of comparing values with keys. A [`crate::Progress`] has it after [`crate::ask`].
 #[derive(Drop)]
 pub enum Outcome<'a> {
     /// No value matches a key.
     Fails,
     /// A value matches a key, and the captures stay as they are.
     Holds,
-    /// A value matches a key by `:matches`, and these are the captures from then on.
+    /// A value matches a key by `:matches`, and these are the captures after that.
     Captures(Captured<'a>),
 }
 
 impl<'a> Outcome<'a> {
     ghost use Rattle.mail_matching.specs.Outcomes.{holds};
 
-    /// Whether a value matches a key.
+    /// Returns whether a value matches a key.
     pub fn holds(&self) -> bool
         ensures { result ≡ holds self.now }
     {
@@ -110,10 +112,12 @@ impl<'a> Outcome<'a> {
     }
 }
 
-/// What a test comes to, and what it costs.
+/// The outcome and the cost of a test, as [`crate::ask_and_find`] returns them.
 #[derive(Drop)]
 pub struct Answer<'m> {
+    /// Whether the test holds, and which captures it sets.
     pub outcome: Outcome<'m>,
-    /// Of all names and fields, and of all values and keys, whichever were compared.
+    /// The cost in charges. It counts all names and fields, and all values and keys, even those that weren't
+    /// compared.
     pub cost: u128,
 }

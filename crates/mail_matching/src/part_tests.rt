@@ -1,5 +1,5 @@
-// The tests of the current part: of its content's size, of its content, and of that one's digest. Outside of loops, where no
-// checked script asks them, they fail.
+// The tests of the current part: of its content's size, of its content, and of the content's digest. Outside of
+// loops, where no checked script asks them, they fail.
 ghost use Rattle.std.specs.Prelude.{◌≡◌, ◌⊎◌, ◌≤◌, ◌∷◌, [], Option, IfOk, IsOk, length};
 ghost use Rattle.std.specs.Cow.{IsBorrowedSlice, cow_slice_items};
 ghost use Rattle.octets.specs.Limits.{max_message};
@@ -22,7 +22,7 @@ use glob_match::{Comparator, Match, MatchType};
 use std::alloc::{AllocError, Global};
 use std::borrow::CowSlice;
 
-/// Whether so many octets are over or under the number.
+/// Whether so many bytes are over or under the number.
 #[inline(always)]
 pub(crate) fn is_size(order: Order, number: u64, octets: u64) -> bool
     ensures { result ≡ is_size order number octets }
@@ -33,7 +33,7 @@ pub(crate) fn is_size(order: Order, number: u64, octets: u64) -> bool
     }
 }
 
-/// Whether the current part's content is over or under the number of octets.
+/// Whether the current part's content is over or under the number of bytes.
 #[inline(always)]
 pub(crate) fn part_is_size(order: Order, number: u64, shown: Shown) -> bool
     ensures { (part : Option Part) → IsShown need.Length part shown.entry
@@ -45,9 +45,11 @@ pub(crate) fn part_is_size(order: Order, number: u64, shown: Shown) -> bool
     }
 }
 
-/// Compares the current part's content with the keys, and says what that costs.
+/// Compares the current part's content with the keys, and returns the cost.
 ///
-/// An error comes only where memory was refused.
+/// # Errors
+///
+/// `AllocError` if memory is refused.
 #[inline(always)]
 pub(crate) fn part_body<'m, K: Texts, T: Telling>(
     alloc: Global,
@@ -72,10 +74,10 @@ pub(crate) fn part_body<'m, K: Texts, T: Telling>(
     }
 }
 
-// Compares content with the keys, and says what that costs.
+// Compares content with the keys, and returns the cost.
 //
-// An error comes only where memory was refused; none is taken but where the content is owned and sets captures: what is
-// captured is copied.
+// The only error is a refusal of memory, which is taken only by the listener, and if the content is owned and sets
+// captures: these are copied.
 #[inline(always)]
 fn body<'m, K: Texts, T: Telling>(
     alloc: Global,
@@ -97,9 +99,11 @@ fn body<'m, K: Texts, T: Telling>(
     Ok(product(progress.extent, extent_of(keys)))
 }
 
-/// Compares the digest of the current part's content with the keys, octet by octet, and says what that costs.
+/// Compares the digest of the current part's content with the keys, byte by byte, and returns the cost.
 ///
-/// An error comes only where memory was refused.
+/// # Errors
+///
+/// `AllocError` if memory is refused.
 #[inline(always)]
 pub(crate) fn part_digest<'m, K: Texts, T: Telling>(
     alloc: Global,
@@ -120,10 +124,10 @@ pub(crate) fn part_digest<'m, K: Texts, T: Telling>(
     }
 }
 
-// Compares a digest with the keys, octet by octet, and says what that costs. No captures are set, and nobody who isn't told
-// takes memory for it.
+// Compares a digest with the keys, byte by byte, and returns the cost. It sets no captures, and takes no memory
+// unless the listener does.
 //
-// An error comes only where memory was refused.
+// The only error is a refusal of memory.
 #[inline(always)]
 fn digest<'m, K: Texts, T: Telling>(
     alloc: Global,

@@ -17,7 +17,6 @@ ghost use Rattle.bytecode_format.specs.declared.selection.Selector.TheVariants.{
 
 use crate::asked::{asked_params, asked_value};
 use crate::comparing::{first_key, first_key_of_lent};
-use crate::existence::is_named;
 use crate::finding::Telling;
 use crate::outcome::Outcome;
 use crate::reading::{content_type_of, main_of, params_in, sub_of, type_text};
@@ -25,7 +24,7 @@ use crate::texts::Texts;
 use crate::typed::{TypedField, TypedFields};
 use bytecode_format::Selector;
 use glob_match::Match;
-use header_fields::{Field, unfold, unfolded_length};
+use header_fields::{Field, Name, unfold, unfolded_length};
 use octets::Octets;
 use std::alloc::{AllocError, Global};
 use std::borrow::CowSlice;
@@ -39,19 +38,20 @@ pub(crate) struct Comparison<'t, P, K> {
     pub how: Match,
 }
 
-/// What a question comes to so far. It stays where it is, since captures are large: what is asked is answered in it.
+/// The state of a question that is being asked. Make one with [`Progress::new`] for each question, and give it to
+/// [`crate::ask`], which writes the outcome into it. It isn't moved, because captures are large.
 #[derive(Drop)]
 pub struct Progress<'m, T> {
-    /// What comparing the values so far comes to.
+    /// The outcome for the values that have been compared.
     pub outcome: Outcome<'m>,
-    /// How many octets they have, and one more for each.
+    /// How many bytes these values have, and one more for each.
     pub(crate) extent: u64,
-    /// Who is told of them.
+    /// The listener that learns of them.
     pub told: T,
 }
 
 impl<'m, T: Telling> Progress<'m, T> {
-    /// Nothing was asked yet.
+    /// Returns the state before a question is asked.
     #[inline(always)]
     pub fn new(told: T) -> Progress<'m, T>
         ensures { result ≡ record { outcome = Fails; extent = 0; told = told } }
@@ -63,7 +63,7 @@ impl<'m, T: Telling> Progress<'m, T> {
         }
     }
 
-    /// Takes what is decided without keys. Says what that costs: what it cost to find it out.
+    /// Takes the answer of a question without keys. Returns the cost, which is that of finding the answer.
     #[inline(always)]
     pub(crate) fn decide(&mut self, value: bool, looked: u64) -> u128
         requires { IsFresh self.old }
@@ -76,7 +76,7 @@ impl<'m, T: Telling> Progress<'m, T> {
         looked as u128
     }
 
-    /// Goes on with what is selected in a header, name by name.
+    /// Continues with what is selected in a header, name by name.
     #[inline(always)]
     pub(crate) fn take_header<N: Texts, P: Texts, K: Texts>(
         &mut self,
@@ -101,18 +101,18 @@ impl<'m, T: Telling> Progress<'m, T> {
             return Ok(());
         }
         for place in 0..names.count() {
-            self.take_named(alloc, fields, names.text(place), test)?;
+            self.take_named(alloc, fields, &Name::new(names.text(place)), test)?;
         }
         Ok(())
     }
 
-    // Goes on with what is selected of the fields of a name.
+    // Continues with what is selected in the fields of a name.
     #[inline(always)]
     fn take_named<P: Texts, K: Texts>(
         &mut self,
         alloc: Global,
         fields: &TypedFields<'_, 'm>,
-        name: &[u8],
+        name: &Name,
         test: &Comparison<'_, P, K>,
     ) -> Result<(), AllocError>
         requires params { AreTexts (P.texts test.now.params.now) }
@@ -133,13 +133,13 @@ impl<'m, T: Telling> Progress<'m, T> {
         Ok(())
     }
 
-    // Goes on with what is selected of a field, where it has the name.
+    // Continues with what is selected in a field, if it has the name.
     #[inline(always)]
     fn take_where_named<P: Texts, K: Texts>(
         &mut self,
         alloc: Global,
         field: &TypedField<'_, 'm>,
-        name: &[u8],
+        name: &Name,
         test: &Comparison<'_, P, K>,
     ) -> Result<(), AllocError>
         requires params { AreTexts (P.texts test.now.params.now) }
@@ -153,13 +153,13 @@ impl<'m, T: Telling> Progress<'m, T> {
             (field.now ∷ []) name.now) (K.texts test.now.keys.now) self.old self.new) }
         ensures no_memory { T.is_free → test.now.selector ≡ Value → IsUnfolded name.now field.now → IsOk result }
     {
-        if is_named(field.field(), name) {
+        if field.is_named(name) {
             self.take_field(alloc, field, test)?;
         }
         Ok(())
     }
 
-    // Goes on with what is selected of a field.
+    // Continues with what is selected in a field.
     #[inline(always)]
     fn take_field<P: Texts, K: Texts>(
         &mut self,
@@ -200,7 +200,7 @@ impl<'m, T: Telling> Progress<'m, T> {
         }
     }
 
-    // Goes on with the value of a field. After a match it is only measured.
+    // Continues with the value of a field. After a match it is only measured.
     fn take_value<K: Texts>(
         &mut self,
         alloc: Global,
@@ -225,7 +225,7 @@ impl<'m, T: Telling> Progress<'m, T> {
         Ok(())
     }
 
-    // Goes on with the values of the parameters of the given names in the field's value.
+    // Continues with the values of the parameters with the given names in the field's value.
     fn take_params<P: Texts, K: Texts>(
         &mut self,
         alloc: Global,
@@ -252,7 +252,7 @@ impl<'m, T: Telling> Progress<'m, T> {
         Ok(())
     }
 
-    // Goes on with the value of a parameter, if there is one.
+    // Continues with the value of a parameter, if there is one.
     fn take_param<K: Texts>(
         &mut self,
         alloc: Global,
@@ -271,7 +271,7 @@ impl<'m, T: Telling> Progress<'m, T> {
         }
     }
 
-    /// Goes on with a value.
+    /// Continues with a value.
     #[inline(always)]
     pub(crate) fn take<K: Texts>(
         &mut self,
@@ -298,7 +298,7 @@ impl<'m, T: Telling> Progress<'m, T> {
         Ok(())
     }
 
-    /// Goes on with a value that is lent for now: what is captured of it is copied.
+    /// Continues with a value that isn't lent for as long as the message: its captures are copied.
     #[inline(always)]
     pub(crate) fn take_lent<K: Texts>(
         &mut self,

@@ -1,8 +1,8 @@
-// Questions, asked.
+// How questions are asked.
 //
 // A question gets from its caller what it needs of the current part (`Need` and `Shown`): nothing, the length of its
-// content, the content, or its digest. The machine keeps the content with its loop, the meaning decodes it each
-// time, and neither knows why it is needed.
+// content, the content, or its digest. The machine keeps the content with its loop, the meaning decodes it each time,
+// and neither knows why it is needed.
 ghost use Rattle.std.specs.Prelude.{◌≡◌, ◌<◌, ℕ, List, Option, IfOk, IfSome, IsOk, is_some, length, not, option_map};
 ghost use Rattle.bytecode_format.specs.Questions.{row_of};
 ghost use Rattle.mail_matching.specs.Findings.{shortened};
@@ -25,29 +25,30 @@ use mime_decode::Message;
 use std::alloc::{AllocError, Global};
 use std::borrow::CowSlice;
 
-/// What a question needs to know of the current part's content.
+/// What a question needs to know of the current part's content. [`Need::of`] gives it; the caller of [`ask`] finds it
+/// and passes it on as a [`Shown`].
 #[derive(Clone, Copy)]
 pub enum Need {
-    /// Nothing.
+    /// Nothing: the question isn't about the content.
     Nothing,
-    /// How many octets it has.
+    /// How many bytes the content has.
     Length,
-    /// All of it.
+    /// The whole content, decoded.
     Content,
-    /// Its digest.
+    /// The digest of the content.
     Digest,
 }
 
-/// What is known of the current part's content, as far as a question needs it.
+/// What the caller of [`ask`] knows of the current part's content, as far as the question needs it.
 #[derive(Clone, Copy)]
 pub enum Shown<'c, 'm> {
     /// Nothing is needed, or there is no current part.
     Nothing,
-    /// How many octets it has.
+    /// How many bytes the content has.
     Length(u64),
-    /// All of it.
+    /// The whole content, decoded.
     Content(&'c CowSlice<'m, u8>),
-    /// Its SHA-256 digest in hexadecimal digits.
+    /// The SHA-256 digest of the content, in hexadecimal digits.
     Digest(&'c [u8; 64]),
 }
 
@@ -55,7 +56,7 @@ impl Need {
     ghost use Rattle.std.specs.Prelude.{◌≡◌};
     ghost use Rattle.mail_matching.specs.Questions.{need_of};
 
-    /// What the question needs.
+    /// Returns what the question needs to know.
     #[inline(always)]
     pub fn of(question: Question) -> Need
         ensures { result ≡ need_of question }
@@ -73,8 +74,16 @@ impl Need {
     }
 }
 
-/// Whether the question is true, if it compares no values with keys; and what finding that out costs. `None` exactly where it takes
-/// keys. It takes no memory. `current` and `shown` are as for [`ask`], and `names` are the names of the test.
+/// Decides a question that takes no keys: returns whether it is true, and the cost. The result is `None` exactly if
+/// the question takes keys. It takes no memory.
+///
+/// `current` and `shown` are as for [`ask`], and `names` are the names of the test.
+///
+/// # Requires
+///
+/// - The current part, if there is one, is in the message: its number is less than `message.parts()`.
+/// - `shown` is what [`Need::of`] the question demands of the current part, or [`Shown::Nothing`] if there is none.
+/// - There are at most 1,024 names, each of at most 16,384 bytes.
 #[inline(always)]
 pub fn decide<N: Texts>(
     message: &Message,
@@ -104,28 +113,41 @@ pub fn decide<N: Texts>(
 /// The texts of a test, lent: its names or sources, the names of parameters, and its keys.
 #[derive(Clone, Copy)]
 pub struct TestTexts<'t, N: Texts, P: Texts, K: Texts> {
+    /// The names of fields, or the sources of `string`.
     pub names: &'t N,
+    /// The names of parameters.
     pub params: &'t P,
+    /// The keys that values are compared with.
     pub keys: &'t K,
 }
 
-/// Asks the question of the message, and says what that costs. What it comes to is the outcome of the progress then, which is given
-/// fresh; and who is told there knows what was found. `current` is the current part, by its number, or `None` outside of loops;
-/// `shown` is what the question needs of its content.
+/// Asks a question on the message, and returns the cost. The outcome is in `progress` afterwards, and the listener in
+/// `progress` has learned what was found.
 ///
-/// Values are compared in order, and each with the keys in order, up to the first that matches. Those of fields are taken part by
-/// part, in each name by name, for each field by field, and for each parameter name by name. A field's value is unfolded at most once
-/// for each name that selects it, and none after the one that matches, but where its type or its parameters have to be read: of a
-/// type's value 128 octets at first, and all where these don't settle it; a longer field's type is kept with the message then, and
-/// isn't read again. The parameters of a value are gone over once, however many are asked for.
+/// `current` is the number of the current part, or `None` outside of loops; `shown` is what the question needs of its
+/// content.
 ///
-/// The cost counts all values and keys, and all names and fields, whichever were compared. That of 1,024 names, 1,024 parameters and
-/// 1,024 keys of 16,384 octets in the largest message is below 2^71.
+/// Values are compared in order, and each with the keys in order, up to the first match. Values of fields are taken
+/// part by part, in each part name by name, for each name field by field, and for each field parameter name by
+/// parameter name. A field's value is unfolded at most once for each name that selects it, and not after the match,
+/// unless its type or its parameters have to be read. For a type 128 bytes are read first, and the rest only if these
+/// don't settle it; the type of such a longer field is kept with the message, and isn't read again. The parameters of
+/// a value are read once, however many are asked for.
+///
+/// The cost counts all names and fields, and all values and keys, even those that weren't compared. For 1,024 names,
+/// 1,024 parameters and 1,024 keys of 16,384 bytes on the largest message it is below 2^71.
+///
+/// # Requires
+///
+/// - The current part, if there is one, is in the message: its number is less than `message.parts()`.
+/// - `shown` is what [`Need::of`] the question demands of the current part, or [`Shown::Nothing`] if there is none.
+/// - There are at most 1,024 names, parameters and keys each, and each has at most 16,384 bytes.
+/// - `progress` is new: no question was asked with it.
 ///
 /// # Errors
 ///
-/// An allocation was refused; none is made but for values that are folded, for types and parameters, for what is captured of a value
-/// that the message doesn't lend, and by who is told.
+/// `AllocError` if memory is refused. It is taken only for values that are folded, for types and parameters, for the
+/// captures of a value that the message doesn't lend, and by the listener.
 #[inline(always)]
 pub fn ask<'m, N: Texts, P: Texts, K: Texts, T: Telling>(
     alloc: Global,
@@ -172,12 +194,20 @@ pub fn ask<'m, N: Texts, P: Texts, K: Texts, T: Telling>(
     }
 }
 
-/// What the question comes to and costs, and what it finds, if it compares values with keys: the first value that matches a key and
-/// that key, each up to so many octets; or how many values there are.
+/// Asks a question on the message, and returns its outcome, its cost and what it found. If it compares values with
+/// keys, that is the first value that matches a key and that key, each cut to `most` bytes, or how many values there
+/// are; otherwise `None`.
+///
+/// # Requires
+///
+/// - The current part, if there is one, is in the message: its number is less than `message.parts()`.
+/// - `shown` is what [`Need::of`] the question demands of the current part, or [`Shown::Nothing`] if there is none.
+/// - There are at most 1,024 names, parameters and keys each, and each has at most 16,384 bytes.
 ///
 /// # Errors
 ///
-/// An allocation was refused. Where a value matches, some are made for what is kept of it and of the key, too.
+/// `AllocError` if memory is refused. If a value matches, memory is also taken for the bytes that are kept of it and
+/// of the key.
 #[inline(always)]
 pub fn ask_and_find<'m, N: Texts, P: Texts, K: Texts>(
     alloc: Global,
@@ -222,7 +252,8 @@ pub fn ask_and_find<'m, N: Texts, P: Texts, K: Texts>(
     Ok((answer, found))
 }
 
-// Whether the question compares values with keys. Those of the current part compare none, where there is no such part.
+// Whether the question compares values with keys. Questions on the current part compare none if there is no such
+// part.
 #[inline(always)]
 fn compares(question: Question, shown: Shown) -> bool
     ensures { (mail : Mail) (part : Option ℕ) (texts : TextsOf)

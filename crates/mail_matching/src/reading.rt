@@ -1,4 +1,4 @@
-// What a field's value is read as: no more of it is than is asked for.
+// Readings of a field's value: no more of it is read than is asked for.
 ghost use Rattle.std.specs.Prelude.{◌≡◌, IfOk, codes};
 ghost use Rattle.std.specs.Cow.{cow_slice_items};
 ghost use Rattle.mime_params.specs.MediaValue.{disposition_name, disposition_of, media_type_of, type_names};
@@ -6,9 +6,8 @@ ghost use Rattle.octets.specs.Ascii.{is_word};
 ghost use Rattle.mail_matching.specs.Selection.{as_disposition, as_media, content_type_of, main_of, params_of, reading_of, sub_of};
 ghost use Rattle.mime_tree.specs.TypeTexts.{IsTypeText};
 
-use crate::existence::is_named;
 use crate::typed::TypedField;
-use header_fields::{Field, unfold, unfold_start};
+use header_fields::{Field, name_is, unfold, unfold_start};
 use mime_params::{
     LentParameters, disposition_name, settles_disposition, settles_type, type_names,
 };
@@ -16,10 +15,12 @@ use mime_tree::TYPE_START;
 use std::alloc::{AllocError, Global};
 use std::borrow::CowSlice;
 
-/// A text that the field's type is read in: the short one that is kept of a long field, a beginning of its value that settles it, or
-/// the whole of it; an empty one if the field is none of the two that have a type.
+/// A text that the field's type can be read in: the short one that is kept for a long field, a start of its value
+/// that settles it, or the whole value. It is empty if the field isn't one of the two that have a type.
 ///
-/// An error comes only where memory was refused.
+/// # Errors
+///
+/// `AllocError` if memory is refused.
 pub(crate) fn type_text<'a>(
     alloc: Global,
     field: &TypedField<'a, '_>,
@@ -38,7 +39,7 @@ pub(crate) fn type_text<'a>(
     }
 }
 
-// A text with the type and the subtype of the field's value, as that of a Content-Type.
+// A text with the type and the subtype of the value of a Content-Type.
 fn media_text<'a>(alloc: Global, field: &Field<'a>) -> Result<CowSlice<'a, u8>, AllocError>
     ensures { IfOk result (λ text. type_names (cow_slice_items text) ≡ type_names field.now.value) }
 {
@@ -49,7 +50,7 @@ fn media_text<'a>(alloc: Global, field: &Field<'a>) -> Result<CowSlice<'a, u8>, 
     Ok(unfold(alloc, field)?)
 }
 
-// A text with the disposition of the field's value, as that of a Content-Disposition.
+// A text with the disposition of the value of a Content-Disposition.
 fn disposition_text<'a>(alloc: Global, field: &Field<'a>) -> Result<CowSlice<'a, u8>, AllocError>
     ensures { IfOk result (λ text. disposition_name (cow_slice_items text)
         ≡ disposition_name field.now.value) }
@@ -61,7 +62,7 @@ fn disposition_text<'a>(alloc: Global, field: &Field<'a>) -> Result<CowSlice<'a,
     Ok(unfold(alloc, field)?)
 }
 
-/// The type, or the disposition, that stands in the text; an empty one where there is none.
+/// The type, or the disposition, in the text; empty if there is none.
 pub(crate) fn main_of<'t>(field: &TypedField, text: &'t [u8]) -> &'t [u8]
     requires { IsTypeText field.now text.now }
     ensures { result.now ≡ main_of (reading_of field.now) }
@@ -75,7 +76,7 @@ pub(crate) fn main_of<'t>(field: &TypedField, text: &'t [u8]) -> &'t [u8]
     }
 }
 
-/// The subtype that stands in the text; an empty one where there is none.
+/// The subtype in the text; empty if there is none.
 pub(crate) fn sub_of<'t>(field: &TypedField, text: &'t [u8]) -> &'t [u8]
     requires { IsTypeText field.now text.now }
     ensures { result.now ≡ sub_of (reading_of field.now) }
@@ -86,9 +87,11 @@ pub(crate) fn sub_of<'t>(field: &TypedField, text: &'t [u8]) -> &'t [u8]
     sub_in(text)
 }
 
-/// The type, a slash and the subtype, or the disposition, that stand in the text; an empty one where there are none.
+/// The type, a slash and the subtype, or the disposition, in the text; empty if there are none.
 ///
-/// An error comes only where memory was refused.
+/// # Errors
+///
+/// `AllocError` if memory is refused.
 pub(crate) fn content_type_of<'v>(
     alloc: Global,
     field: &TypedField,
@@ -163,11 +166,11 @@ fn disposition_in(text: &[u8]) -> &[u8]
 fn is_content_type(field: &TypedField) -> bool
     ensures { result ≡ is_word field.now.name (codes "Content-Type") }
 {
-    is_named(field.field(), b"Content-Type")
+    name_is(field.field(), b"Content-Type")
 }
 
 fn is_content_disposition(field: &TypedField) -> bool
     ensures { result ≡ is_word field.now.name (codes "Content-Disposition") }
 {
-    is_named(field.field(), b"Content-Disposition")
+    name_is(field.field(), b"Content-Disposition")
 }

@@ -12,9 +12,12 @@ use crate::texts::Texts;
 use glob_match::Match;
 use std::alloc::{AllocError, Global};
 
-/// Compares the sources with the keys, up to the first that matches one, and says what that costs.
+/// Compares the sources with the keys, up to the first that matches one, and returns the cost.
 ///
-/// An error comes only where memory was refused; none is taken but for a source that sets captures: what is captured is copied.
+/// # Errors
+///
+/// `AllocError` if memory is refused. It is taken only for a source that sets captures, which are copied, and by the
+/// listener.
 #[inline(always)]
 pub(crate) fn string<'m, S: Texts, K: Texts, T: Telling>(
     alloc: Global,

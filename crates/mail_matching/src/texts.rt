@@ -4,19 +4,24 @@
 // list.
 use octets::Octets;
 
-/// Texts that a test is made of: header names or keys, wherever they stand.
+/// The texts of a test: header names, sources or keys, wherever they are kept.
 ///
-/// A contract sees the list of them.
+/// The machine implements it for texts on its stack, and it is implemented for a vector of texts. A contract sees the
+/// list of them.
 pub trait Texts {
     ghost use Rattle.std.specs.Prelude.{◌≡◌, ◌<◌, ℕ, [], List, length, slice_index_or};
 
     ghost texts: { Self → List (List ℕ) };
 
-    /// How many there are.
+    /// Returns how many texts there are.
     fn count(&self) -> usize
         ensures { result ≡ length (texts self.now) };
 
-    /// The text at a place, from 0.
+    /// Returns the text at a place, counted from 0.
+    ///
+    /// # Requires
+    ///
+    /// The place is in range: `place < count()`.
     fn text(&self, place: usize) -> &[u8]
         requires { place < length (texts self.now) }
         ensures { result.now ≡ slice_index_or (texts self.now) place [] };

@@ -1,4 +1,5 @@
-//! Tests of the mail crates and of matching, over their public calls: all small inputs, compared with plain definitions, and what is lent.
+//! Tests of the mail crates and of matching, over their public calls: all small inputs, compared with plain
+//! definitions, and what is lent.
 #![tactic(auto)]
 
 #[cfg(test)]

@@ -1,4 +1,4 @@
-// What the body of a part stands for, and its digest.
+// The content of a part, and its digest.
 //
 // A body in base64 is decoded line by line, each line with its break. Longer pieces would be faster, and give the
 // same by a law of the decoder. A body in quoted-printable is one text, which `decode_qp` reads by its lines, so it
@@ -18,7 +18,7 @@ use std::alloc::{AllocError, Global};
 use std::borrow::CowSlice;
 use text_lines::Lines;
 
-/// The octets that a body in this encoding stands for. One that isn't decoded is lent, and takes no memory.
+/// The content of a body in this encoding. One that isn't decoded is lent, and takes no memory.
 pub(crate) fn decoded<'a>(
     alloc: Global,
     encoding: TransferEncoding,
@@ -39,7 +39,7 @@ pub(crate) fn decoded<'a>(
     }
 }
 
-// The octets of a body in base64, which is fed line by line, each with its break.
+// The content of a body in base64, which is fed line by line, each with its break.
 fn decoded_base64(alloc: Global, body: &[u8]) -> Result<Vec<u8>, AllocError>
     ensures { IfOk result (λ octets. octets.items ≡ mime_decoding_of body.now) }
 {
@@ -52,9 +52,11 @@ fn decoded_base64(alloc: Global, body: &[u8]) -> Result<Vec<u8>, AllocError>
     Ok(octets)
 }
 
-/// The digest of octets: their SHA-256 in hexadecimal digits of lower case (FIPS 180-4; RFC 4648, section 8).
+/// Returns the digest of bytes: their SHA-256 as 64 hexadecimal digits in lower case (FIPS 180-4; RFC 4648, section
+/// 8).
 ///
-/// It takes no memory. Whoever has a part's content gets by it what [`Message::digest`](crate::Message::digest) gives.
+/// It takes no memory. For the content of a part it is what [`Message::digest`](crate::Message::digest) returns. For
+/// example, the digest of `abc` begins with `ba7816bf`.
 pub fn digest_of(octets: &[u8]) -> [u8; 64]
     ensures { result ≡ digest_of octets.now }
 {

@@ -21,9 +21,10 @@ use std::borrow::CowSlice;
 use std::marker::Model;
 use std::ops::Range;
 
-/// A message, over octets that are lent: bodies aren't copied, and nothing is decoded before it is asked for.
+/// A mail message, over bytes that are lent: bodies aren't copied, and a content is decoded when it is asked for.
 ///
-/// A contract sees the mail of the definition.
+/// [`Message::read`] makes it. A run of a program takes it, and so does a delivery, which stores the contents of its
+/// parts. Parts are numbered from 0; part 0 is the message itself. A contract sees the mail of the definition.
 #[derive(Drop)]
 pub struct Message<'a> {
     octets: &'a [u8],
@@ -43,11 +44,18 @@ impl<'a> Model for Message<'a> {
 }
 
 impl<'a> Message<'a> {
-    /// The message that the octets are.
+    /// Reads bytes as a message. All bytes are a message, unless there are too many of them or of its parts.
     ///
-    /// [`MessageError::MessageTooLarge`] comes exactly where they are more than [`MAX_MESSAGE`](crate::MAX_MESSAGE),
-    /// [`MessageError::TooManyParts`] where they aren't and the parts are more than [`MAX_PARTS`](crate::MAX_PARTS).
-    /// [`MessageError::Memory`] comes only where memory was refused.
+    /// For example, `Content-Transfer-Encoding: base64`, an empty line, `Zm9v` and `YmFy` are a message with one
+    /// part, whose content is `foobar`.
+    ///
+    /// # Errors
+    ///
+    /// - `MessageError::MessageTooLarge` if there are more than [`MAX_MESSAGE`](crate::MAX_MESSAGE) bytes, whatever
+    ///   memory there is.
+    /// - `MessageError::TooManyParts` if there aren't, and the message has more than [`MAX_PARTS`](crate::MAX_PARTS)
+    ///   parts.
+    /// - `MessageError::Memory` if memory is refused.
     pub fn read(alloc: Global, octets: &'a [u8]) -> Result<Message<'a>, MessageError>
         ensures read { IfOk result (λ m. IsReadable octets.now × (m ≡ mail_of octets.now)) }
         ensures mail { IfOk result (λ m. IsMail m) }
@@ -59,7 +67,7 @@ impl<'a> Message<'a> {
         Ok(Message { octets, tree })
     }
 
-    /// The tree of its parts.
+    /// Returns the tree of the message's parts.
     pub fn tree(&self) -> &Tree<'a>
         ensures tree { result.now ≡ tree_of self.now.octets }
         ensures mail { self.now ≡ mail_of self.now.octets }
@@ -67,7 +75,7 @@ impl<'a> Message<'a> {
         &self.tree
     }
 
-    /// The number of its octets, at most [`MAX_MESSAGE`](crate::MAX_MESSAGE).
+    /// Returns the number of bytes, at most [`MAX_MESSAGE`](crate::MAX_MESSAGE).
     pub fn size(&self) -> usize
         ensures value { result ≡ size_of self.now }
         ensures mail { IsMail self.now }
@@ -75,7 +83,7 @@ impl<'a> Message<'a> {
         self.octets.len()
     }
 
-    /// The number of its parts: 1 to [`MAX_PARTS`](crate::MAX_PARTS).
+    /// Returns the number of parts, from 1 to [`MAX_PARTS`](crate::MAX_PARTS).
     pub fn parts(&self) -> usize
         ensures value { result ≡ length self.now.parts }
         ensures mail { IsMail self.now }
@@ -83,8 +91,12 @@ impl<'a> Message<'a> {
         self.tree.parts()
     }
 
-    /// The parts that a loop visits which begins on this part, by their numbers: those below it; all,
-    /// where it begins outside of loops (RFC 5703, section 3).
+    /// Returns the numbers of the parts that a loop visits: the parts below `part`, or all parts if `part` is `None`,
+    /// which means that the loop isn't inside another one (RFC 5703, section 3).
+    ///
+    /// # Requires
+    ///
+    /// The part, if there is one, is in the message: `part < parts()`.
     pub fn visited(&self, part: Option<usize>) -> Range<usize>
         requires { IfSome part (λ part. part < length self.now.parts) }
         ensures parts { numbers_from result.start (result.end - result.start)
@@ -102,7 +114,11 @@ impl<'a> Message<'a> {
         }
     }
 
-    /// How the body of a part is encoded (RFC 2045, section 6.1).
+    /// Returns how the body of a part is encoded (RFC 2045, section 6.1).
+    ///
+    /// # Requires
+    ///
+    /// The part is in the message: `part < parts()`.
     pub fn encoding(&self, part: usize) -> TransferEncoding
         requires { part < length self.now.parts }
         ensures { HoldsAt (λ p. result ≡ p.encoding) self.now.parts part }
@@ -110,13 +126,17 @@ impl<'a> Message<'a> {
         self.tree.encoding(part)
     }
 
-    /// The content of a part: what its body stands for in its encoding (RFC 2045, section 6).
+    /// Returns the content of a part: its body, decoded (RFC 2045, section 6).
     ///
     /// A body that isn't in base64 or quoted-printable is lent, and takes no memory.
     ///
+    /// # Requires
+    ///
+    /// The part is in the message: `part < parts()`.
+    ///
     /// # Errors
     ///
-    /// An allocation was refused.
+    /// `AllocError` if memory is refused; never if the body isn't in base64 or quoted-printable.
     pub fn content(&self, alloc: Global, part: usize) -> Result<CowSlice<'a, u8>, AllocError>
         requires { part < length self.now.parts }
         ensures content { HoldsAt (λ p. IfOk result (λ content. cow_slice_items content
@@ -129,11 +149,16 @@ impl<'a> Message<'a> {
         decoded(alloc, self.tree.encoding(part), self.tree.body(part))
     }
 
-    /// The digest of a part's content: its SHA-256 in hexadecimal digits of lower case (FIPS 180-4; RFC 4648, section 8).
+    /// Returns the digest of a part's content: its SHA-256 as 64 hexadecimal digits in lower case (FIPS 180-4; RFC
+    /// 4648, section 8).
+    ///
+    /// # Requires
+    ///
+    /// The part is in the message: `part < parts()`.
     ///
     /// # Errors
     ///
-    /// An allocation was refused; where the body isn't decoded, none is made.
+    /// `AllocError` if memory is refused; never if the body isn't in base64 or quoted-printable.
     pub fn digest(&self, alloc: Global, part: usize) -> Result<[u8; 64], AllocError>
         requires { part < length self.now.parts }
         ensures digest { HoldsAt (λ p. IfOk result (λ digest. digest ≡ digest_of p.content))

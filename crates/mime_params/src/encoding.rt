@@ -11,23 +11,23 @@ use octets::{is_word, trim_blanks};
 /// How the body of a part is encoded for transfer (RFC 2045, section 6.1).
 #[derive(Clone, Copy)]
 pub enum TransferEncoding {
-    /// Lines of ASCII, as they stand.
+    /// `7bit`: lines of ASCII, as they are.
     SevenBit,
-    /// Lines of octets, as they stand.
+    /// `8bit`: lines of bytes, as they are.
     EightBit,
-    /// Octets, as they stand.
+    /// `binary`: bytes, as they are.
     Binary,
-    /// RFC 2045, section 6.7.
+    /// `quoted-printable` (RFC 2045, section 6.7).
     QuotedPrintable,
-    /// RFC 2045, section 6.8.
+    /// `base64` (RFC 2045, section 6.8).
     Base64,
-    /// One that isn't known: the body stands for itself, and has no parts.
+    /// An unknown encoding: the content is the body as it is, and the part has no parts below it.
     Unknown,
 }
 
 impl TransferEncoding {
-    /// The encoding that the value of a Content-Transfer-Encoding names: what stands before a semicolon or an opening
-    /// bracket, without outer blanks and without ASCII case. An empty name is 7bit.
+    /// Returns the encoding that the value of a Content-Transfer-Encoding names: the text before a semicolon or an
+    /// opening parenthesis, without spaces and tabs at its ends. ASCII case is ignored. An empty name means 7bit.
     pub fn of(value: &[u8]) -> TransferEncoding
         ensures { result ≡ encoding_of value.now }
     {
@@ -54,7 +54,7 @@ fn encoding_named(name: &[u8]) -> TransferEncoding
     }
 }
 
-// Where the name ends: at a semicolon or an opening bracket.
+// Where the name ends: at a semicolon or an opening parenthesis.
 fn name_end(value: &[u8]) -> usize
     ensures { result ≡ length (take_while (λ c. not ((c == 59) || (c == 40))) value.now) }
 {

@@ -4,7 +4,7 @@ ghost use Rattle.mime_params.specs.Gaps.{after_comment, after_gap};
 
 use octets::first;
 
-/// What follows the run of SP, TAB and comments that the text begins with.
+/// The text after the run of spaces, tabs and comments at its start.
 pub fn after_gap(text: &[u8]) -> &[u8]
     ensures { result.now ≡ after_gap text.now }
 {
@@ -22,7 +22,7 @@ pub fn after_gap(text: &[u8]) -> &[u8]
     rest
 }
 
-// What follows a comment, after its opening bracket; nothing where it isn't closed.
+// The text after a comment, whose opening parenthesis was read before; `None` if it isn't closed.
 fn after_comment(text: &[u8]) -> Option<&[u8]>
     ensures { MatchOption result (after_comment 0 text.now ≡ None)
         (λ after. after_comment 0 text.now ≡ Some after.now) }

@@ -11,9 +11,9 @@ use std::alloc::{AllocError, Global};
 use std::iter::FusedIterator;
 use std::marker::Model;
 
-/// A parameter of a value, over the octets that it is written in: nothing is copied.
+/// A parameter of a value, over the bytes in which it is written: nothing is copied.
 ///
-/// A contract sees it as it is read.
+/// [`LentParameters`] makes it. A contract sees it as it is read.
 #[derive(Drop)]
 pub struct LentParameter<'t> {
     name: &'t [u8],
@@ -36,16 +36,18 @@ impl<'t> Model for LentParameter<'t> {
 impl<'t> LentParameter<'t> {
     ghost use Rattle.std.specs.Prelude.{IfOk};
 
-    /// Its name, as it is written.
+    /// Returns the parameter's name, as it is written.
     pub fn name(&self) -> &'t [u8]
         ensures { result.now ≡ self.now.name }
     {
         self.name
     }
 
-    /// Its value, without quotes and the backslashes in them.
+    /// Returns a copy of the parameter's value, without the quotes and the backslashes in them.
     ///
-    /// An error comes only where memory was refused.
+    /// # Errors
+    ///
+    /// `AllocError` if memory is refused.
     pub fn value(&self, alloc: Global) -> Result<Octets, AllocError>
         ensures { IfOk result (λ octets. octets ≡ self.now.value) }
     {
@@ -56,10 +58,10 @@ impl<'t> LentParameter<'t> {
     }
 }
 
-/// The parameters of a value, one after the other, up to the first that is malformed. No step takes memory, and all together
-/// they go over the value once.
+/// An iterator over the parameters of a value, up to the first that is malformed. It takes no memory, and all steps
+/// together read the value once.
 ///
-/// A contract sees the list of those that weren't given yet.
+/// A contract sees the list of the parameters that haven't been returned.
 #[derive(Drop)]
 pub struct LentParameters<'t> {
     text: &'t [u8],
@@ -76,14 +78,14 @@ impl<'t> Model for LentParameters<'t> {
 }
 
 impl<'t> LentParameters<'t> {
-    // Those that the text begins with.
+    // The parameters at the start of the text.
     pub(crate) fn at(text: &'t [u8]) -> LentParameters<'t>
         ensures { result ≡ params_in text.now }
     {
         LentParameters { text }
     }
 
-    /// Those of the value of a Content-Type; none where it has no reading.
+    /// Returns the parameters of the value of a Content-Type; none if the value has no reading.
     pub fn of_type(text: &'t [u8]) -> LentParameters<'t>
         ensures { result ≡ type_params text.now }
     {
@@ -93,7 +95,7 @@ impl<'t> LentParameters<'t> {
         }
     }
 
-    /// Those of the value of a Content-Disposition; none where it has no reading.
+    /// Returns the parameters of the value of a Content-Disposition; none if the value has no reading.
     pub fn of_disposition(text: &'t [u8]) -> LentParameters<'t>
         ensures { result ≡ disposition_params text.now }
     {
@@ -103,7 +105,7 @@ impl<'t> LentParameters<'t> {
         }
     }
 
-    /// Those of any field's value, from its first semicolon on, wherever that stands.
+    /// Returns the parameters of any field's value, from its first semicolon on, even one in quotes or in a comment.
     pub fn of(text: &'t [u8]) -> LentParameters<'t>
         ensures { result ≡ parameters_of text.now }
     {
@@ -131,7 +133,7 @@ impl<'t> Iterator for LentParameters<'t> {
 
 impl<'t> FusedIterator for LentParameters<'t> {}
 
-// The first of the parameters that the text begins with, and the text that the others begin.
+// The first of the parameters at the start of the text, and the text with the others.
 fn first_param(text: &[u8]) -> Option<(LentParameter<'_>, &[u8])>
     ensures { MatchOption result (params_in text.now ≡ []) (λ read. params_in text.now
         ≡ read.0 ∷ params_in read.1.now) }
@@ -152,7 +154,7 @@ fn first_param(text: &[u8]) -> Option<(LentParameter<'_>, &[u8])>
     None
 }
 
-// The parameter that the text begins with, and what follows it; nothing where it is malformed.
+// The parameter at the start of the text, and the text after it; `None` if it is malformed.
 #[tactic(auto, unfolding(crate::specs::MediaValue::param_at))]
 fn param_at(text: &[u8]) -> Option<(LentParameter<'_>, &[u8])>
     ensures { MatchOption result (param_at text.now ≡ None) (λ read. param_at text.now

@@ -1,4 +1,4 @@
-// One parameter of a value by its name: the others are passed over, and take no memory.
+// One parameter of a value by its name: the others are skipped, and take no memory.
 ghost use Rattle.std.specs.Prelude.{◌≡◌, IfOk, IsOk, None};
 ghost use Rattle.mime_params.specs.MediaValue.{value_named};
 
@@ -6,7 +6,7 @@ use crate::lent::LentParameters;
 use octets::{Octets, equal_ignoring_case};
 use std::alloc::{AllocError, Global};
 
-/// The value of the first of the parameters of this name. No other is kept.
+/// The value of the first of the parameters with this name. No other is kept.
 pub(crate) fn first_named(
     alloc: Global,
     params: LentParameters,

@@ -12,13 +12,15 @@ use crate::words::token;
 use octets::{Octets, first};
 use std::alloc::{AllocError, Global};
 
-/// A media type with its parameters (RFC 2045, section 5.1), as it is written.
+/// A media type with its parameters (RFC 2045, section 5.1), as it is written. [`read_type`] makes it of a field's
+/// value.
 #[derive(Drop)]
 pub struct MediaType {
-    /// What stands before the slash.
+    /// The type: the text before the slash.
     pub main: Octets,
-    /// What stands after it.
+    /// The subtype: the text after the slash.
     pub sub: Octets,
+    /// The parameters, in order.
     pub params: Params,
 }
 
@@ -28,7 +30,9 @@ impl MediaType {
 
     /// Appends the type and the subtype in lower case, with a slash between them.
     ///
-    /// An error comes only where memory was refused.
+    /// # Errors
+    ///
+    /// `AllocError` if memory is refused.
     pub fn append_text(&self, text: &mut Vec<u8>) -> Result<(), AllocError>
         ensures { OnOk result (text.new.items ≡ text.old.items ++ media_text self.now) }
     {
@@ -48,16 +52,24 @@ fn append_lowercase(text: &mut Vec<u8>, word: &[u8]) -> Result<(), AllocError>
     Ok(())
 }
 
-/// A disposition with its parameters (RFC 2183, section 2), as it is written.
+/// A disposition with its parameters (RFC 2183, section 2), as it is written. [`read_disposition`] makes it of a
+/// field's value.
 #[derive(Drop)]
 pub struct Disposition {
+    /// The disposition itself, for example `attachment`.
     pub main: Octets,
+    /// The parameters, in order.
     pub params: Params,
 }
 
-/// The media type that the value of a Content-Type has, or nothing where it has no reading.
+/// Returns the media type in the value of a Content-Type; `None` if the value has no reading.
 ///
-/// An error comes only where memory was refused, which is never asked for where there is no reading.
+/// For example, `text/plain; charset=UTF-8` is the type `text`, the subtype `plain`, and a parameter with the name
+/// `charset` and the value `UTF-8`; `text` alone has no reading.
+///
+/// # Errors
+///
+/// `AllocError` if memory is refused; never if the value has no reading.
 pub fn read_type(alloc: Global, text: &[u8]) -> Result<Option<MediaType>, AllocError>
     ensures read { IfOk result (λ read. read ≡ media_type_of text.now) }
     ensures without { media_type_of text.now ≡ None → IsOk result }
@@ -72,8 +84,9 @@ pub fn read_type(alloc: Global, text: &[u8]) -> Result<Option<MediaType>, AllocE
     }))
 }
 
-/// The type and the subtype that the value of a Content-Type has, or nothing where it has no reading. Its parameters aren't
-/// read, since it has its type whatever they are. Takes no memory.
+/// Returns the type and the subtype in the value of a Content-Type; `None` if the value has no reading.
+///
+/// The parameters aren't read, because they don't change the type. It takes no memory.
 pub fn type_names(text: &[u8]) -> Option<(&[u8], &[u8])>
     ensures { MatchOption result (type_names text.now ≡ None) (λ names. type_names text.now
         ≡ Some (names.0.now, names.1.now)) }
@@ -82,9 +95,12 @@ pub fn type_names(text: &[u8]) -> Option<(&[u8], &[u8])>
     Some((main, sub))
 }
 
-/// The value of the first parameter of this name, without ASCII case, that the value of a Content-Type has. No other is kept.
+/// Returns the value of the first parameter with this name in the value of a Content-Type; `None` if there is none.
+/// ASCII case of the name is ignored. Other parameters aren't kept.
 ///
-/// An error comes only where memory was refused, which is never asked for where there is no such parameter.
+/// # Errors
+///
+/// `AllocError` if memory is refused; never if there is no such parameter.
 pub fn type_param(alloc: Global, text: &[u8], name: &[u8]) -> Result<Option<Octets>, AllocError>
     ensures read { IfOk result (λ value. value ≡ type_param name.now text.now) }
     ensures without { type_param name.now text.now ≡ None → IsOk result }
@@ -92,7 +108,7 @@ pub fn type_param(alloc: Global, text: &[u8], name: &[u8]) -> Result<Option<Octe
     first_named(alloc, LentParameters::of_type(text), name)
 }
 
-/// The type and the subtype that the value of a Content-Type has, and what follows them.
+/// The type and the subtype in the value of a Content-Type, and the text after them.
 #[tactic(auto, unfolding(crate::specs::MediaValue::media_type_of))]
 pub(crate) fn names_at(text: &[u8]) -> Option<(&[u8], &[u8], &[u8])>
     ensures { MatchOption result (media_type_of text.now ≡ None)
@@ -112,9 +128,11 @@ pub(crate) fn names_at(text: &[u8]) -> Option<(&[u8], &[u8], &[u8])>
     Some((main, sub, after))
 }
 
-/// The disposition that the value of a Content-Disposition has, or nothing where it has no reading.
+/// Returns the disposition in the value of a Content-Disposition; `None` if the value has no reading.
 ///
-/// An error comes only where memory was refused, which is never asked for where there is no reading.
+/// # Errors
+///
+/// `AllocError` if memory is refused; never if the value has no reading.
 pub fn read_disposition(alloc: Global, text: &[u8]) -> Result<Option<Disposition>, AllocError>
     ensures read { IfOk result (λ read. read ≡ disposition_of text.now) }
     ensures without { disposition_of text.now ≡ None → IsOk result }
@@ -128,8 +146,8 @@ pub fn read_disposition(alloc: Global, text: &[u8]) -> Result<Option<Disposition
     }))
 }
 
-/// The disposition that the value of a Content-Disposition has, without its parameters, which aren't read; or nothing where it
-/// has no reading. Takes no memory.
+/// Returns the disposition in the value of a Content-Disposition, without its parameters, which aren't read; `None`
+/// if the value has no reading. It takes no memory.
 pub fn disposition_name(text: &[u8]) -> Option<&[u8]>
     ensures { MatchOption result (disposition_name text.now ≡ None)
         (λ name. disposition_name text.now ≡ Some name.now) }
@@ -138,10 +156,12 @@ pub fn disposition_name(text: &[u8]) -> Option<&[u8]>
     Some(main)
 }
 
-/// The value of the first parameter of this name, without ASCII case, that the value of a Content-Disposition has. No other is
-/// kept.
+/// Returns the value of the first parameter with this name in the value of a Content-Disposition; `None` if there is
+/// none. ASCII case of the name is ignored. Other parameters aren't kept.
 ///
-/// An error comes only where memory was refused, which is never asked for where there is no such parameter.
+/// # Errors
+///
+/// `AllocError` if memory is refused; never if there is no such parameter.
 pub fn disposition_param(
     alloc: Global,
     text: &[u8],
@@ -153,7 +173,7 @@ pub fn disposition_param(
     first_named(alloc, LentParameters::of_disposition(text), name)
 }
 
-/// The disposition that a value has, and what follows it.
+/// The disposition of a value, and the text after it.
 #[tactic(auto, unfolding(crate::specs::MediaValue::disposition_of))]
 pub(crate) fn disposition_at(text: &[u8]) -> Option<(&[u8], &[u8])>
     ensures { MatchOption result (disposition_of text.now ≡ None)

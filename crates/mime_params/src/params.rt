@@ -15,13 +15,14 @@ use std::marker::Model;
 /// A parameter of a value (RFC 2045, section 5.1).
 #[derive(Drop)]
 pub struct Parameter {
-    /// Its name, as it is written.
+    /// The parameter's name, as it is written.
     pub name: Octets,
-    /// Its value, without quotes and the backslashes in them.
+    /// The parameter's value, without the quotes and the backslashes in them.
     pub value: Octets,
 }
 
-/// The parameters of a value, in order. A contract sees their list.
+/// The parameters of a value, in order. [`parameters_of`] reads them, and [`param`] finds one. A contract sees their
+/// list.
 #[derive(Drop)]
 pub struct Params {
     items: Vec<Parameter>,
@@ -39,7 +40,7 @@ impl Model for Params {
 impl Params {
     ghost use Rattle.std.specs.Prelude.{[]};
 
-    /// No parameters.
+    /// Returns a list of no parameters.
     pub fn none(alloc: Global) -> Params
         ensures { result ≡ [] }
     {
@@ -48,7 +49,7 @@ impl Params {
         }
     }
 
-    /// The parameters.
+    /// Returns the parameters, in order.
     pub fn as_slice(&self) -> &[Parameter]
         ensures { result.now ≡ self.now }
     {
@@ -56,16 +57,20 @@ impl Params {
     }
 }
 
-/// The parameters of a field's value, from its first semicolon on, wherever that stands.
+/// Returns the parameters of any field's value, from its first semicolon on, even one in quotes or in a comment, up to
+/// the first that is malformed.
 ///
-/// They are read up to the first that is malformed. An error comes only where memory was refused.
+/// # Errors
+///
+/// `AllocError` if memory is refused.
 pub fn parameters_of(alloc: Global, text: &[u8]) -> Result<Params, AllocError>
     ensures { IfOk result (λ params. params ≡ parameters_of text.now) }
 {
     Ok(read_params(alloc, &text[semicolon_at(text)..])?)
 }
 
-/// The value of the first parameter of this name, without ASCII case. Takes no memory.
+/// Returns the value of the first parameter with this name; `None` if there is none. ASCII case is ignored. It takes
+/// no memory.
 pub fn param<'a>(params: &'a Params, name: &[u8]) -> Option<&'a [u8]>
     ensures { MatchOption result (value_named name.now params.now ≡ None)
         (λ value. value_named name.now params.now ≡ Some value.now) }
@@ -78,14 +83,14 @@ pub fn param<'a>(params: &'a Params, name: &[u8]) -> Option<&'a [u8]>
     None
 }
 
-/// Where the first semicolon stands, or the text ends.
+/// The place of the first semicolon, or the end of the text.
 pub(crate) fn semicolon_at(text: &[u8]) -> usize
     ensures { result ≡ length (take_while (λ c. not (c == 59)) text.now) }
 {
     text.iter().take_while(|octet| **octet != b';').count()
 }
 
-/// The parameters that the text begins with.
+/// The parameters at the start of the text.
 pub(crate) fn read_params(alloc: Global, text: &[u8]) -> Result<Params, AllocError>
     ensures { IfOk result (λ params. params ≡ params_in text.now) }
 {
@@ -116,7 +121,7 @@ pub(crate) fn is_empty_param(body: &[u8]) -> bool
     matches!(body, [] | [b';', ..])
 }
 
-// The parameter that the text begins with, and what follows it; nothing where it is malformed.
+// The parameter at the start of the text, and the text after it; `None` if it is malformed.
 #[tactic(auto, unfolding(crate::specs::MediaValue::param_at))]
 fn param_at(alloc: Global, text: &[u8]) -> Result<Option<(Parameter, &[u8])>, AllocError>
     ensures { IfOk result (λ read. MatchOption read (param_at text.now ≡ None)

@@ -6,10 +6,12 @@ use crate::media::{disposition_name, type_names};
 use octets::Octets;
 use std::alloc::{AllocError, Global};
 
-/// A text with the type and the subtype of the value of a Content-Type, and nothing that stands before, between or after them; an
-/// empty one where the value has no reading.
+/// Returns a short text with the type and the subtype of the value of a Content-Type, and without the comments and
+/// blanks around them. It is empty if the value has no reading.
 ///
-/// An error comes only where memory was refused.
+/// # Errors
+///
+/// `AllocError` if memory is refused.
 pub fn type_text(alloc: Global, text: &[u8]) -> Result<Octets, AllocError>
     ensures { IfOk result (λ short. type_names short ≡ type_names text.now) }
 {
@@ -23,9 +25,12 @@ pub fn type_text(alloc: Global, text: &[u8]) -> Result<Octets, AllocError>
     Ok(Octets::from_vec(short))
 }
 
-/// The same of the value of a Content-Disposition: a text with its disposition alone.
+/// Returns a short text with the disposition of the value of a Content-Disposition, and nothing else. It is empty if
+/// the value has no reading.
 ///
-/// An error comes only where memory was refused.
+/// # Errors
+///
+/// `AllocError` if memory is refused.
 pub fn disposition_text(alloc: Global, text: &[u8]) -> Result<Octets, AllocError>
     ensures { IfOk result (λ short. disposition_name short ≡ disposition_name text.now) }
 {

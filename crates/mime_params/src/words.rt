@@ -8,28 +8,28 @@ ghost use Rattle.mime_params.specs.MediaValue.{token};
 use octets::{Octets, first};
 use std::alloc::{AllocError, Global};
 
-// Whether the octet is one of ()<>@,;:\"/[]?=
+// Whether the byte is one of ()<>@,;:\"/[]?=
 fn is_special(octet: u8) -> bool
     ensures { result ≡ is_special octet }
 {
     b"()<>@,;:\\\"/[]?=".contains(&octet)
 }
 
-// Whether the octet may stand in a token.
+// Whether the byte is allowed in a token.
 fn is_token_octet(octet: u8) -> bool
     ensures { result ≡ is_token_octet octet }
 {
     octet.is_ascii_graphic() && !is_special(octet)
 }
 
-// Whether the octet may stand in a value without quotes.
+// Whether the byte is allowed in a value without quotes.
 fn is_value_octet(octet: u8) -> bool
     ensures { result ≡ is_value_octet octet }
 {
     !matches!(octet, b' ' | b'\t' | b';' | b'"' | b'(')
 }
 
-// How many octets of a token the text begins with.
+// How many bytes of a token come first in the text.
 fn token_len(text: &[u8]) -> usize
     ensures { result ≡ length (take_while is_token_octet text.now) }
 {
@@ -38,7 +38,7 @@ fn token_len(text: &[u8]) -> usize
         .count()
 }
 
-// How many octets of a value without quotes the text begins with.
+// How many bytes of a value without quotes come first in the text.
 fn plain_len(text: &[u8]) -> usize
     ensures { result ≡ length (take_while is_value_octet text.now) }
 {
@@ -47,7 +47,7 @@ fn plain_len(text: &[u8]) -> usize
         .count()
 }
 
-/// The token that the text begins with, and what follows it.
+/// The token at the start of the text, and the text after it.
 pub fn token(text: &[u8]) -> Option<(&[u8], &[u8])>
     ensures { MatchOption result (token text.now ≡ None) (λ read. token text.now
         ≡ Some (record { octets = read.0.now; rest = read.1.now })) }
@@ -59,7 +59,7 @@ pub fn token(text: &[u8]) -> Option<(&[u8], &[u8])>
     Some((octets, rest))
 }
 
-// The value without quotes that the text begins with, and what follows it.
+// The value without quotes at the start of the text, and the text after it.
 fn plain(text: &[u8]) -> Option<(&[u8], &[u8])>
     ensures { MatchOption result (word is_value_octet text.now ≡ None)
         (λ read. word is_value_octet text.now
@@ -72,7 +72,8 @@ fn plain(text: &[u8]) -> Option<(&[u8], &[u8])>
     Some((octets, rest))
 }
 
-// What a quoted string stands for, after its opening quote, and what follows it; nothing where it isn't closed.
+// The value of a quoted string, whose opening quote was read before, and the text after it; `None` if it isn't
+// closed.
 fn quoted(alloc: Global, text: &[u8]) -> Result<Option<(Octets, &[u8])>, AllocError>
     ensures { IfOk result (λ read. GivesWord (quoted text.now) read) }
 {
@@ -96,7 +97,7 @@ fn quoted(alloc: Global, text: &[u8]) -> Result<Option<(Octets, &[u8])>, AllocEr
     Ok(None)
 }
 
-// What follows a quoted string, after its opening quote; nothing where it isn't closed.
+// The text after a quoted string, whose opening quote was read before; `None` if it isn't closed.
 fn after_quoted(text: &[u8]) -> Option<&[u8]>
     ensures { MatchOption result (after_word (quoted text.now) ≡ None) (λ after. after_word
         (quoted text.now) ≡ Some after.now) }
@@ -116,7 +117,7 @@ fn after_quoted(text: &[u8]) -> Option<&[u8]>
     None
 }
 
-/// What follows the value that the text begins with. Takes no memory.
+/// The text after the value at its start. It takes no memory.
 pub fn after_value(text: &[u8]) -> Option<&[u8]>
     ensures { MatchOption result (after_word (value text.now) ≡ None) (λ after. after_word
         (value text.now) ≡ Some after.now) }
@@ -128,7 +129,11 @@ pub fn after_value(text: &[u8]) -> Option<&[u8]>
     Some(rest)
 }
 
-/// The value that the text begins with, and what follows it.
+/// The value at the start of the text, and the text after it.
+///
+/// # Errors
+///
+/// `AllocError` if memory is refused.
 pub fn value(alloc: Global, text: &[u8]) -> Result<Option<(Octets, &[u8])>, AllocError>
     ensures { IfOk result (λ read. GivesWord (value text.now) read) }
 {

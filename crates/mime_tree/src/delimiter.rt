@@ -1,14 +1,14 @@
-// The lines that stand between the parts of a multipart.
+// The lines between the parts of a multipart.
 //
-// A line is compared with a boundary only if its length is right: that of the boundary, or two more for the dashes
-// of a closing line. With many open boundaries the length rules out most of them.
+// A line is compared with a boundary only if its length is right: that of the boundary, or two more for the dashes of
+// a closing line. With many open boundaries the length rules out most of them.
 ghost use Rattle.std.specs.Prelude.{◌≡◌, ◌≢◌, ◌∷◌, MatchOption, List, ℕ};
 ghost use Rattle.std.specs.Option.{option_copied};
 ghost use Rattle.mime_tree.specs.Reading.{NamesOctets, mark_of};
 
 use octets::trim_trailing_blanks;
 
-/// What a line is to a multipart.
+/// The meaning of a line for a multipart.
 #[derive(Clone, Copy)]
 pub(crate) enum Mark {
     /// A line before another child.
@@ -17,7 +17,7 @@ pub(crate) enum Mark {
     Closing,
 }
 
-/// What a line names: the octets between the two dashes that it begins with and the blanks that it ends with.
+/// The name in a delimiter: the bytes between the two dashes at its start and the blanks at its end.
 #[inline]
 pub(crate) fn name_of(line: &[u8]) -> Option<&[u8]>
     ensures { NamesOctets line.now (option_copied result) }
@@ -28,12 +28,13 @@ pub(crate) fn name_of(line: &[u8]) -> Option<&[u8]>
     Some(trim_trailing_blanks(after))
 }
 
-/// What a line of this name is to the multipart of this boundary. Before its first delimiter a multipart has no closing line.
+/// The meaning of a line with this name for the multipart with this boundary. A multipart has no closing line before
+/// its first delimiter.
 #[inline]
 pub(crate) fn mark_of(name: &[u8], boundary: &[u8], preamble: bool) -> Option<Mark>
     ensures { result ≡ mark_of preamble boundary.now name.now }
 {
-    // where many are open, most are told apart by their lengths
+    // if many are open, their lengths rule out most
     if name.len() != boundary.len() && name.len() != boundary.len() + 2 {
         return None;
     }
@@ -49,7 +50,7 @@ pub(crate) fn mark_of(name: &[u8], boundary: &[u8], preamble: bool) -> Option<Ma
     }
 }
 
-/// What follows the two dashes that a line begins with.
+/// The text after the two dashes at the start of a line.
 #[inline]
 pub(crate) fn after_dashes(line: &[u8]) -> Option<&[u8]>
     ensures { MatchOption result ((rest : List ℕ) → line.now ≢ 45 ∷ 45 ∷ rest) (λ after. line.now

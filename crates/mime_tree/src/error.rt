@@ -1,22 +1,22 @@
-// Why octets can't be read as a message.
+// Why bytes can't be read as a message.
 //
-// A message and the tree of its parts are refused by one type, `MessageError`.
+// One type, `MessageError`, is the error of a message and of the tree of its parts.
 ghost use Rattle.std.specs.Prelude.{◌≡◌};
 ghost use Rattle.mime_tree.specs.declared.error.MessageError.TheVariants.{Memory};
 
 use std::alloc::{AllocError, AllocFailed};
 use thiserror::Error;
 
-/// Why octets can't be read as a message, which is a tree of parts.
+/// Why bytes can't be read as a message, or as the tree of its parts. [`crate::Tree::read`] returns it.
 #[derive(Debug, Drop, Error)]
 pub enum MessageError {
-    /// An allocation was refused.
+    /// Memory is refused, so there is no result.
     #[error("an allocation was refused")]
     Memory,
-    /// More octets than [`MAX_MESSAGE`](crate::MAX_MESSAGE).
+    /// There are more than [`MAX_MESSAGE`](crate::MAX_MESSAGE) bytes.
     #[error("the message is longer than a message may be")]
     MessageTooLarge,
-    /// More parts than [`MAX_PARTS`](crate::MAX_PARTS).
+    /// There are more than [`MAX_PARTS`](crate::MAX_PARTS) parts.
     #[error("the message has more parts than a message may have")]
     TooManyParts,
 }

@@ -12,12 +12,12 @@ use crate::open_part::OpenPart;
 use crate::run::Runs;
 use text_lines::{Line, Lines};
 
-/// An open part, and what a line is to it.
+/// An open part, and the meaning of a line for it.
 #[derive(Clone, Copy)]
 pub(crate) struct Met {
     /// Its place among the open parts.
     pub(crate) place: usize,
-    /// What the line is.
+    /// The meaning of the line.
     pub(crate) mark: Mark,
 }
 
@@ -28,12 +28,12 @@ pub(crate) struct Hit {
     pub(crate) end: usize,
     /// The line.
     pub(crate) line: Line,
-    /// Whose line it is.
+    /// The part whose line it is.
     pub(crate) met: Met,
 }
 
-/// The outermost of the open parts, with boundaries of these lengths, whose delimiter or closing line this is. The last of them may
-/// not have come to its first delimiter yet.
+/// The outermost of the open parts whose delimiter or closing line this is; their boundaries have these lengths. The
+/// last of them can be before its first delimiter.
 #[inline]
 pub(crate) fn part_met(
     opened: &[OpenPart],
@@ -73,7 +73,8 @@ pub(crate) fn first_ends(opened: &[OpenPart], text: &[u8]) -> bool
     }
 }
 
-/// Where the header ends that a text begins with: after its first empty line, or where a line ends a child of any of these parts.
+/// The end of the header at the start of a text: after its first empty line, or where a line ends a child of any of
+/// these parts.
 pub(crate) fn header_end(opened: &[OpenPart], text: &[u8]) -> usize
     ensures { result ≡ header_length (cut (boundaries_in [] opened.now) (lines_of text.now)) }
 {
@@ -96,7 +97,8 @@ pub(crate) fn header_end(opened: &[OpenPart], text: &[u8]) -> usize
     text.len()
 }
 
-/// The next line from a place on that is a delimiter or closing line of any open part. The lines before that place end where it is said.
+/// The next line from a place on that is a delimiter or closing line of any open part. The lines before that place
+/// end at `end`.
 pub(crate) fn next_hit(
     opened: &[OpenPart],
     text: &[u8],

@@ -1,10 +1,10 @@
-// The lengths of boundaries, by which most lines that begin as a delimiter does are told from one.
+// The lengths of boundaries, which rule out most lines that begin as a delimiter does.
 ghost use Rattle.std.specs.Prelude.{◌≡◌, ◌+◌, ◌<◌, ◌≤◌, ◌⊎◌, false, true};
 ghost use Rattle.mime_tree.specs.Reading.{AreWithin, IsWithin};
 
 use crate::open_part::OpenPart;
 
-/// Between which lengths the boundaries of open parts are.
+/// The least and the greatest length of the boundaries of open parts.
 #[derive(Clone, Copy)]
 pub(crate) struct BoundaryLengths {
     least: usize,
@@ -12,7 +12,7 @@ pub(crate) struct BoundaryLengths {
 }
 
 impl BoundaryLengths {
-    /// Those of these parts. Where none has a boundary the least is above the most.
+    /// The lengths for these parts. If none has a boundary, the least is greater than the greatest.
     pub(crate) fn of(opened: &[OpenPart]) -> BoundaryLengths
         ensures { AreWithin result opened.now }
     {
@@ -26,7 +26,7 @@ impl BoundaryLengths {
         lengths
     }
 
-    // Those of one more part.
+    // The lengths with one more part.
     #[inline]
     fn with(self, part: &OpenPart) -> BoundaryLengths
         ensures least { result.least ≤ self.least }
@@ -49,7 +49,8 @@ impl BoundaryLengths {
         self.most < self.least
     }
 
-    /// Whether the name of a delimiter or closing line may have this length: that of a closing line has two dashes more.
+    /// Whether the name of a delimiter or closing line can have this length: the name of a closing line has two
+    /// dashes more.
     #[inline]
     pub(crate) fn allow(self, length: usize) -> bool
         ensures { result ≡ false → (length < self.least) ⊎ (self.most + 2 < length) }

@@ -27,7 +27,9 @@ pub(crate) enum DefaultType {
 impl DefaultType {
     /// The media type.
     ///
-    /// An error comes only where memory was refused.
+    /// # Errors
+    ///
+    /// `AllocError` if memory is refused.
     pub(crate) fn media(self, alloc: Global) -> Result<MediaType, AllocError>
         ensures { IfOk result (λ media. media ≡ default_media self) }
     {
@@ -38,7 +40,7 @@ impl DefaultType {
     }
 }
 
-/// The type of a part that has this one, or else its default.
+/// The type of a part: that of the names, or its default.
 pub(crate) fn main_of(names: &Option<MediaType>, default: DefaultType) -> &[u8]
     ensures { result.now ≡ (unwrap_or names.now (default_media default)).main }
 {
@@ -51,7 +53,7 @@ pub(crate) fn main_of(names: &Option<MediaType>, default: DefaultType) -> &[u8]
     }
 }
 
-/// The same of the subtype.
+/// The subtype of a part: that of the names, or its default.
 pub(crate) fn sub_of(names: &Option<MediaType>, default: DefaultType) -> &[u8]
     ensures { result.now ≡ (unwrap_or names.now (default_media default)).sub }
 {
@@ -76,8 +78,8 @@ fn without_params(alloc: Global, main: &[u8], sub: &[u8]) -> Result<MediaType, A
     })
 }
 
-/// The media type that the fields of a header give: that of the first Content-Type, which is `text/plain` where it has no
-/// reading (RFC 2045, section 5.2).
+/// The media type from the fields of a header: that of the first Content-Type, which is `text/plain` if the field has
+/// no reading (RFC 2045, section 5.2).
 pub(crate) fn media_of(
     alloc: Global,
     fields: &[Field],
@@ -95,9 +97,12 @@ pub(crate) fn media_of(
     }
 }
 
-/// That media type without its parameters, which aren't read; nothing where the default stands, since no field gives another.
+/// That media type without its parameters, which aren't read; `None` if the default applies, because no field gives
+/// another.
 ///
-/// An error comes only where memory was refused.
+/// # Errors
+///
+/// `AllocError` if memory is refused.
 pub(crate) fn media_without_params(
     alloc: Global,
     fields: &[Field],
@@ -115,7 +120,7 @@ pub(crate) fn media_without_params(
     }
 }
 
-/// The value of the first parameter of this name that the first Content-Type has. No other is kept; a default has none.
+/// The value of the first parameter with this name in the first Content-Type. No other is kept; a default has none.
 pub(crate) fn media_param(
     alloc: Global,
     fields: &[Field],
@@ -130,7 +135,8 @@ pub(crate) fn media_param(
     }
 }
 
-/// The encoding that the fields of a header give: that of the first Content-Transfer-Encoding, or 7bit (RFC 2045, section 6.1).
+/// The encoding from the fields of a header: that of the first Content-Transfer-Encoding, or 7bit (RFC 2045, section
+/// 6.1).
 pub(crate) fn encoding_of(alloc: Global, fields: &[Field]) -> Result<TransferEncoding, MessageError>
     ensures encoding { IfOk result (λ encoding. encoding ≡ encoding_or_7bit
         (first_value (codes "Content-Transfer-Encoding") fields.now)) }
@@ -142,7 +148,7 @@ pub(crate) fn encoding_of(alloc: Global, fields: &[Field]) -> Result<TransferEnc
     }
 }
 
-// The value of the first field of this name.
+// The value of the first field with this name.
 fn first_value<'a>(
     alloc: Global,
     fields: &[Field<'a>],
@@ -157,7 +163,7 @@ fn first_value<'a>(
     }
 }
 
-/// Whether the body stands as it is written, so that it may have parts.
+/// Whether the body is written as it is, so that it can have parts.
 pub(crate) fn is_plain(encoding: TransferEncoding) -> bool
     ensures { result ≡ is_plain encoding }
 {

@@ -1,4 +1,4 @@
-// The parts that haven't ended where the reader of a message stands.
+// The parts that are open at the reader's place in a message.
 ghost use Rattle.std.specs.Prelude.{◌≡◌, ◌<◌, IfOk, length, option_map};
 ghost use Rattle.octets.specs.Limits.{max_depth};
 ghost use Rattle.mime_tree.specs.OpenParts.{opening};
@@ -16,11 +16,11 @@ use std::marker::Model;
 pub(crate) struct OpenPart {
     // Its place among the parts.
     at: usize,
-    // How many levels of parts may be below its children.
+    // How many levels of parts there can be below its children.
     levels: usize,
     // The media type of a child that has no Content-Type.
     default: DefaultType,
-    // The boundary between its children, if more of them may come.
+    // The boundary between its children, if more of them can come.
     boundary: Option<Vec<u8>>,
 }
 
@@ -45,7 +45,7 @@ impl Model for OpenPart {
 }
 
 impl OpenPart {
-    /// A part that was read and has this place among the parts, where so many levels of parts may be below it.
+    /// A part that was read and has this place among the parts, with at most so many levels of parts below it.
     pub(crate) fn new(
         alloc: Global,
         part: &Part,
@@ -78,7 +78,7 @@ impl OpenPart {
         self.at
     }
 
-    /// How many levels of parts may be below its children.
+    /// How many levels of parts there can be below its children.
     pub(crate) fn levels(&self) -> usize
         ensures levels { result ≡ self.now.levels }
         ensures few { result < max_depth }
@@ -93,7 +93,7 @@ impl OpenPart {
         self.default
     }
 
-    /// How many octets the boundary between its children has, if more of them may come.
+    /// How many bytes the boundary between its children has, if more of them can come.
     pub(crate) fn boundary_length(&self) -> Option<usize>
         ensures { result ≡ option_map length self.now.boundary }
     {
@@ -103,7 +103,7 @@ impl OpenPart {
         }
     }
 
-    /// What a line of this name is to it, whose first delimiter may not have come yet.
+    /// The meaning of a line with this name for the part, which can be before its first delimiter.
     #[inline]
     pub(crate) fn mark(&self, name: &[u8], preamble: bool) -> Option<Mark>
         ensures { result ≡ mark_in preamble self.now.boundary name.now }
@@ -114,7 +114,7 @@ impl OpenPart {
         }
     }
 
-    /// No more children come.
+    /// Ends its children.
     pub(crate) fn close(&mut self)
         ensures { self.new ≡ record self.old { boundary = None } }
     {

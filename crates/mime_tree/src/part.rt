@@ -22,7 +22,7 @@ use octets::{Octets, is_word, trim_trailing_blanks};
 use std::alloc::{AllocError, Global};
 use std::marker::Model;
 
-/// A part of a message, over octets that are lent.
+/// A part of a message, over bytes that are lent.
 ///
 /// A contract sees the part of the definition.
 #[derive(Drop)]
@@ -32,12 +32,12 @@ pub(crate) struct Part<'a> {
     place: usize,
     raw: &'a [u8],
     header: Header<'a>,
-    // The type that it has without a Content-Type.
+    // The type of a part without a Content-Type.
     default: DefaultType,
-    // Its media type without the parameters, which may be millions and are read where they are asked for. Where it is the default,
-    // nothing is kept.
+    // Its media type without the parameters, which can be millions and are read when they are asked for. If it is the
+    // default, nothing is kept.
     names: Option<MediaType>,
-    // Its long fields' types.
+    // The types of its long fields.
     types: TypeTexts,
     encoding: TransferEncoding,
 }
@@ -70,10 +70,10 @@ impl<'a> Model for Part<'a> {
 }
 
 impl<'a> Part<'a> {
-    /// The part of this depth that begins at this place with these octets, of which so many are its header's. It isn't known yet
-    /// where it ends, nor how many parts are below it.
+    /// The part of this depth that begins at this place with these bytes, so many of which are its header's. Its end,
+    /// and how many parts are below it, aren't known here.
     ///
-    /// `Memory` comes only where memory was refused.
+    /// The only error is `Memory`, if memory is refused.
     pub(crate) fn read(
         alloc: Global,
         depth: usize,
@@ -117,7 +117,7 @@ impl<'a> Part<'a> {
         self.below = below;
     }
 
-    /// Its depth, the message's own being 1.
+    /// Its depth, where the message itself has depth 1.
     pub(crate) fn depth(&self) -> usize
         ensures { result ≡ self.now.depth }
     {
@@ -169,14 +169,14 @@ impl<'a> Part<'a> {
         }
     }
 
-    /// Its octets.
+    /// Its bytes.
     pub(crate) fn raw(&self) -> &'a [u8]
         ensures { result.now ≡ self.now.raw }
     {
         self.raw
     }
 
-    /// Its octets after its header.
+    /// Its bytes after its header.
     pub(crate) fn body(&self) -> &'a [u8]
         requires { self.now.header.body_start ≤ length self.now.raw }
         ensures { result.now ≡ body_of self.now }
@@ -191,7 +191,8 @@ impl<'a> Part<'a> {
         &self.header
     }
 
-    /// Its media type without the parameters: what its header gives, or one of these two, which a part without a Content-Type has.
+    /// Its media type without the parameters: the one in its header, or one of these two, which a part without a
+    /// Content-Type has.
     pub(crate) fn media_without_params<'s>(
         &'s self,
         text: &'s MediaType,
@@ -238,7 +239,7 @@ impl<'a> Part<'a> {
         media_of(alloc, self.header.fields(), self.default)
     }
 
-    /// The value of the first parameter of this name that its media type has.
+    /// The value of the first parameter of its media type with this name.
     pub(crate) fn media_param(
         &self,
         alloc: Global,

@@ -19,8 +19,8 @@ use crate::part::Part;
 use crate::{MAX_DEPTH, MAX_PARTS};
 use std::alloc::Global;
 
-// Where a part begins, where the line before it ends, how many levels of parts may be below it, and its media type where it has
-// no Content-Type.
+// Where a part begins, where the line before it ends, how many levels of parts there can be below it, and its media
+// type if it has no Content-Type.
 #[derive(Clone, Copy)]
 struct Beginning {
     place: usize,
@@ -31,7 +31,7 @@ struct Beginning {
 
 /// The parts of a message.
 ///
-/// `TooManyParts` comes only where they are more than [`MAX_PARTS`], and `Memory` only where memory was refused.
+/// The error is `TooManyParts` only if there are more than [`MAX_PARTS`], and `Memory` only if memory is refused.
 pub(crate) fn message_parts<'a>(
     alloc: Global,
     text: &'a [u8],
@@ -92,7 +92,7 @@ fn read_part<'a>(
     Ok(next_part(text, body, beginning.end, parts, opened))
 }
 
-// The part that begins here, and how many octets its header has.
+// The part that begins here, and how many bytes its header has.
 fn read_header<'a>(
     alloc: Global,
     text: &'a [u8],
@@ -120,7 +120,7 @@ fn read_header<'a>(
     Ok((part, header))
 }
 
-// Appends a part that was read, and opens it. Whether its body is its only child.
+// Appends a part that was read, and opens it. Returns whether its body is its only child.
 fn add_part<'a>(
     alloc: Global,
     part: Part<'a>,
@@ -142,7 +142,8 @@ fn add_part<'a>(
     Ok(holds_message)
 }
 
-// Goes over the lines from this place on, up to the next that begins a part. Parts end on the way: where there is no such line, all.
+// Goes over the lines from this place on, up to the next that begins a part, and ends parts on the way; if there is
+// no such line, all of them.
 fn next_part(
     text: &[u8],
     place: usize,
@@ -176,8 +177,8 @@ fn next_part(
     None
 }
 
-// The child that begins after a delimiter line of this open part. It begins before the line's break where the next line ends a
-// part around its multipart, since that break isn't the multipart's either.
+// The child that begins after a delimiter line of this open part. It begins before the line's break if the next line
+// ends a part around its multipart, because that break isn't the multipart's either.
 fn child_after(text: &[u8], hit: &Hit, opened: &[OpenPart]) -> Beginning
     requires place { hit.now.met.place < length opened.now }
     requires line { hit.now.line.stop ≤ length text.now }

@@ -1,4 +1,4 @@
-// The lines of a text in runs, so that lines which can be no delimiter are passed over together.
+// The lines of a text in runs, so that lines which can't be a delimiter are skipped together.
 ghost use Rattle.std.specs.Prelude.{◌≡◌, ◌<◌, length};
 ghost use Rattle.mime_tree.specs.Runs.{BeginsOtherwise, GivesFirstRun, IsBeforeBreak};
 
@@ -7,10 +7,10 @@ use memchr::memmem;
 use std::marker::Model;
 use text_lines::{Line, Lines};
 
-/// The lines of a text from the first to the last, in runs: each line that begins with two dashes alone, and those between two of
-/// them together. No step takes memory.
+/// The lines of a text from the first to the last, in runs: each line that begins with two dashes is one, and the
+/// lines between two of them are one together. It takes no memory.
 ///
-/// A contract sees the text and the place up to which its lines were given.
+/// A contract sees the text and the place up to which its lines have been returned.
 #[derive(Drop)]
 pub(crate) struct Runs<'a> {
     text: &'a [u8],
@@ -89,7 +89,7 @@ fn quiet_run(text: &[u8]) -> Option<Line>
     })
 }
 
-// Where the octets before an LF end.
+// Where the bytes before an LF end.
 fn before_break(text: &[u8], feed: usize) -> usize
     requires { feed < length text.now }
     ensures { IsBeforeBreak text.now feed result }

@@ -2,9 +2,9 @@
 //
 // `Tree::media` takes memory, because the tree has no parameters: each call reads the type again, with all of them.
 // `Tree::media_param` reads one by its name; `Tree::media_without_params` lends what the tree keeps, and can't fail.
-// To lend a whole media type the tree would have to keep the parameters. A mail of 64 MiB can have 16,777,211 of
-// four bytes (`;a=b`): by calculation 4.5 times the mail in one buffer with four places of 32 bits each, and 28
-// times as an owned answer; the mail and its tree are 1.04 times the mail, measured.
+// To lend a whole media type the tree would have to keep the parameters. A mail of 64 MiB can have 16,777,211 of four
+// bytes (`;a=b`): by calculation 4.5 times the mail in one buffer with four places of 32 bits each, and 28 times as
+// an owned answer; the mail and its tree are 1.04 times the mail, measured.
 ghost use Rattle.std.specs.Prelude.{◌≡◌, ◌<◌, length, IfOk, IfErr, IsErrAnd};
 ghost use Rattle.std.specs.List.{HoldsAt};
 ghost use Rattle.octets.specs.Limits.{max_message};
@@ -27,10 +27,11 @@ use octets::Octets;
 use std::alloc::{AllocError, Global};
 use std::marker::Model;
 
-/// The tree of a message's parts (RFC 2046, section 5), over octets that are lent: headers and
-/// bodies aren't copied, types, subtypes and boundaries are. Parameters aren't kept.
+/// The tree of a message's parts (RFC 2046, section 5), over bytes that are lent: it copies types, subtypes and
+/// boundaries, but no headers or bodies. Parameters aren't kept.
 ///
-/// Parts are numbered from 0, each before those below it. A contract sees the list of the definition's parts.
+/// [`Tree::read`] makes it. Parts are numbered from 0, each before the parts below it; part 0 is the message itself.
+/// A contract sees the list of the definition's parts.
 #[derive(Drop)]
 pub struct Tree<'a> {
     parts: Vec<Part<'a>>,
@@ -56,10 +57,17 @@ impl<'a> Model for Tree<'a> {
 }
 
 impl<'a> Tree<'a> {
-    /// The tree of the message that the octets are.
+    /// Reads a message as a tree of parts.
     ///
-    /// [`MessageError::MessageTooLarge`] comes exactly where they are more than [`MAX_MESSAGE`], [`MessageError::TooManyParts`] where
-    /// they aren't and the parts are more than [`MAX_PARTS`]. [`MessageError::Memory`] comes only where memory was refused.
+    /// For example, if the header has the type `multipart/mixed; boundary=b` and the lines of the body are `--b`,
+    /// `--b` and `--b--`, there are three parts: part 0 is the message, and parts 1 and 2 are its empty children.
+    ///
+    /// # Errors
+    ///
+    /// - `MessageError::MessageTooLarge` if the message has more than [`MAX_MESSAGE`] bytes, whatever memory there
+    ///   is.
+    /// - `MessageError::TooManyParts` if it isn't too large and has more than [`MAX_PARTS`] parts.
+    /// - `MessageError::Memory` if memory is refused.
     pub fn read(alloc: Global, octets: &'a [u8]) -> Result<Tree<'a>, MessageError>
         ensures read { IfOk result (λ tree. IsReadable octets.now × (tree ≡ tree_of octets.now)) }
         ensures refused { IfErr result (λ e. IsTreeRefusal octets.now e) }
@@ -77,7 +85,7 @@ impl<'a> Tree<'a> {
         })
     }
 
-    /// The number of its parts: 1 to [`MAX_PARTS`].
+    /// Returns the number of parts, from 1 to [`MAX_PARTS`].
     pub fn parts(&self) -> usize
         ensures parts { result ≡ length self.now }
         ensures tree { IsTree self.now }
@@ -85,7 +93,11 @@ impl<'a> Tree<'a> {
         self.parts.len()
     }
 
-    /// How many parts are below a part: they are those right after it.
+    /// Returns how many parts are below a part, at any depth. They are the parts right after it.
+    ///
+    /// # Requires
+    ///
+    /// The part is in the tree: `part < parts()`.
     pub fn below(&self, part: usize) -> usize
         requires { part < length self.now }
         ensures { HoldsAt (λ p. result ≡ p.below) self.now part }
@@ -93,7 +105,12 @@ impl<'a> Tree<'a> {
         self.parts[part].below()
     }
 
-    /// The depth of a part, from 1 to [`MAX_DEPTH`]; that of the message itself is 1.
+    /// Returns the depth of a part, from 1 to [`MAX_DEPTH`](crate::MAX_DEPTH). The message itself has depth 1, its
+    /// children have depth 2.
+    ///
+    /// # Requires
+    ///
+    /// The part is in the tree: `part < parts()`.
     pub fn depth(&self, part: usize) -> usize
         requires { part < length self.now }
         ensures { HoldsAt (λ p. result ≡ p.depth) self.now part }
@@ -101,7 +118,11 @@ impl<'a> Tree<'a> {
         self.parts[part].depth()
     }
 
-    /// The header of a part.
+    /// Returns the header of a part.
+    ///
+    /// # Requires
+    ///
+    /// The part is in the tree: `part < parts()`.
     pub fn header(&self, part: usize) -> &Header<'a>
         requires { part < length self.now }
         ensures { HoldsAt (λ p. result.now ≡ p.header) self.now part }
@@ -109,7 +130,11 @@ impl<'a> Tree<'a> {
         self.parts[part].header()
     }
 
-    /// The octets of a part, its header included.
+    /// Returns the bytes of a part, including its header, as they are in the message.
+    ///
+    /// # Requires
+    ///
+    /// The part is in the tree: `part < parts()`.
     pub fn raw(&self, part: usize) -> &'a [u8]
         requires { part < length self.now }
         ensures { HoldsAt (λ p. result.now ≡ p.raw) self.now part }
@@ -117,7 +142,11 @@ impl<'a> Tree<'a> {
         self.parts[part].raw()
     }
 
-    /// The octets of a part after its header, as they are encoded.
+    /// Returns the bytes of a part after its header, as they are encoded.
+    ///
+    /// # Requires
+    ///
+    /// The part is in the tree: `part < parts()`.
     pub fn body(&self, part: usize) -> &'a [u8]
         requires { part < length self.now }
         ensures { HoldsAt (λ p. result.now ≡ body_of p) self.now part }
@@ -125,12 +154,16 @@ impl<'a> Tree<'a> {
         self.parts[part].body()
     }
 
-    /// The media type of a part: that of its first Content-Type, or its default (RFC 2045, section 5.2). Each call reads it anew,
-    /// with all of its parameters, which may be millions.
+    /// Returns the media type of a part with all its parameters: that of its first Content-Type, or its default (RFC
+    /// 2045, section 5.2). Each call reads it again, and there can be millions of parameters.
+    ///
+    /// # Requires
+    ///
+    /// The part is in the tree: `part < parts()`.
     ///
     /// # Errors
     ///
-    /// An allocation was refused.
+    /// `AllocError` if memory is refused.
     pub fn media(&self, alloc: Global, part: usize) -> Result<MediaType, AllocError>
         requires { part < length self.now }
         ensures { HoldsAt (λ p. IfOk result (λ media. media ≡ p.media)) self.now part }
@@ -138,7 +171,11 @@ impl<'a> Tree<'a> {
         self.parts[part].media(alloc)
     }
 
-    /// The media type of a part without its parameters, which aren't read for it.
+    /// Returns the media type of a part without its parameters, which aren't read. It takes no memory.
+    ///
+    /// # Requires
+    ///
+    /// The part is in the tree: `part < parts()`.
     pub fn media_without_params(&self, part: usize) -> &MediaType
         requires { part < length self.now }
         ensures { HoldsAt (λ p. result.now ≡ without_params p.media) self.now part }
@@ -146,11 +183,16 @@ impl<'a> Tree<'a> {
         self.parts[part].media_without_params(&self.text, &self.message)
     }
 
-    /// The value of the first parameter of this name, without ASCII case, that a part's media type has. No other is kept.
+    /// Returns the value of the first parameter of a part's media type with this name; `None` if there is none. ASCII
+    /// case of the name is ignored. Other parameters aren't kept.
+    ///
+    /// # Requires
+    ///
+    /// The part is in the tree: `part < parts()`.
     ///
     /// # Errors
     ///
-    /// An allocation was refused.
+    /// `AllocError` if memory is refused.
     pub fn media_param(
         &self,
         alloc: Global,
@@ -164,7 +206,11 @@ impl<'a> Tree<'a> {
         self.parts[part].media_param(alloc, name)
     }
 
-    /// The texts that are kept with the types of a part's long fields.
+    /// Returns the short texts that the tree keeps for the types of a part's long fields.
+    ///
+    /// # Requires
+    ///
+    /// The part is in the tree: `part < parts()`.
     pub fn type_texts(&self, part: usize) -> &TypeTexts
         requires { part < length self.now }
         ensures { HoldsAt (λ p. AreTypeTexts p.header.fields result.now) self.now part }
@@ -172,7 +218,12 @@ impl<'a> Tree<'a> {
         self.parts[part].type_texts()
     }
 
-    /// How the body of a part is encoded: by its first Content-Transfer-Encoding, or 7bit (RFC 2045, section 6.1).
+    /// Returns how the body of a part is encoded: as its first Content-Transfer-Encoding says, or 7bit if there is
+    /// none (RFC 2045, section 6.1).
+    ///
+    /// # Requires
+    ///
+    /// The part is in the tree: `part < parts()`.
     pub fn encoding(&self, part: usize) -> TransferEncoding
         requires { part < length self.now }
         ensures { HoldsAt (λ p. result ≡ p.encoding) self.now part }

@@ -12,20 +12,21 @@ use octets::Octets;
 use std::alloc::{AllocError, Global};
 use std::marker::Model;
 
-/// A short text with the type of a field.
+/// A short text with the type of a field. [`TypeTexts`] keeps it.
 #[derive(Drop)]
 pub struct TypeText {
-    /// The field's place in its header.
+    /// The field's place in its header, counted in fields from 0.
     pub place: usize,
     /// A text with the field's type, or its disposition, and nothing else.
     pub text: Octets,
 }
 
-/// The texts that are kept of a header: one for each field of a type that is longer than [`TYPE_START`], and whose type so many
-/// octets don't settle. So such a field is gone over once, however often its type is asked for.
+/// The short texts that are kept for a header: one for each Content-Type and Content-Disposition that is longer than
+/// [`TYPE_START`] and whose type its first so many bytes don't settle. So such a field is read once, however often
+/// its type is asked for.
 ///
-/// The texts together have no more octets than those fields, and there are at most as many as [`TYPE_START`] goes into the
-/// header. A contract sees their list.
+/// The texts together have no more bytes than those fields, and there is at most one for each [`TYPE_START`] bytes of
+/// the header. [`crate::Tree::type_texts`] gives them. A contract sees their list.
 #[derive(Drop)]
 pub struct TypeTexts {
     // In the order of their places.
@@ -42,9 +43,11 @@ impl Model for TypeTexts {
 }
 
 impl TypeTexts {
-    /// Those of the fields of a header.
+    /// The texts for the fields of a header.
     ///
-    /// An error comes only where memory was refused.
+    /// # Errors
+    ///
+    /// `AllocError` if memory is refused.
     pub(crate) fn read(alloc: Global, fields: &[Field]) -> Result<TypeTexts, AllocError>
         ensures { IfOk result (λ texts. AreTypeTexts fields.now texts) }
     {
@@ -57,7 +60,8 @@ impl TypeTexts {
         Ok(TypeTexts { texts })
     }
 
-    /// The text that is kept for the field at this place, if there is one. Takes no memory.
+    /// Returns the text that is kept for the field at this place, counted in fields from 0; `None` if there is none.
+    /// It takes no memory.
     pub fn at(&self, place: usize) -> Option<&[u8]>
         ensures { IfSome result (λ text. Contains self.now (record { place = place; text = text.now })) }
     {
@@ -71,7 +75,7 @@ impl TypeTexts {
     }
 }
 
-// The text to keep for a field, or nothing where none is needed.
+// The text to keep for a field, or `None` if it needs none.
 fn kept_text(alloc: Global, field: &Field) -> Result<Option<Octets>, AllocError>
     ensures { IfOk result (λ kept. IfSome kept (λ text. IsTypeText field.now text)) }
 {
@@ -112,7 +116,7 @@ fn kept_disposition(alloc: Global, field: &Field) -> Result<Option<Octets>, Allo
     Ok(Some(disposition_text(alloc, value.as_slice())?))
 }
 
-// Whether the field has the name, but for ASCII case.
+// Whether the field has the name; ASCII case is ignored.
 fn is_named(field: &Field, name: &[u8]) -> bool
     ensures { result ≡ is_word field.now.name name.now }
 {

@@ -1,7 +1,8 @@
 ghost use Rattle.std.specs.Prelude.{◌≡◌, ◌*◌};
 ghost use Rattle.octet_lanes.specs.Encoding.{padding, quantum, stray, width};
 
-/// An alphabet of RFC 4648, with its group size.
+/// An alphabet of RFC 4648. It determines how many bits a symbol has; pass it to each call that reads or writes
+/// symbols.
 #[derive(Clone, Copy, Drop)]
 pub enum Alphabet {
     /// Groups of 6 bits in `A-Z a-z 0-9 + /` (RFC 4648, section 4).
@@ -12,14 +13,14 @@ pub enum Alphabet {
     Base32Hex,
 }
 
-/// The class of an octet that doesn't stand in the alphabet.
+/// The class of a byte that isn't in the alphabet.
 pub const STRAY: u8 = 0xff;
 
-/// The padding character.
+/// The padding character, `=`.
 pub const PADDING: u8 = b'=';
 
 impl Alphabet {
-    /// The bits of a group.
+    /// Returns how many bits a symbol has: 6 in base64, 5 in the others.
     pub fn width(self) -> usize
         ensures { result ≡ width self }
     {
@@ -29,7 +30,8 @@ impl Alphabet {
         }
     }
 
-    /// The octets of a quantum, the least number of whole octets that is a number of whole groups.
+    /// Returns how many bytes a quantum has, which is the shortest run of bytes that is a whole number of symbols: 3
+    /// in base64, 5 in the others.
     pub fn quantum_octets(self) -> usize
         ensures { result * 8 ≡ width self * quantum self }
     {
@@ -39,7 +41,7 @@ impl Alphabet {
         }
     }
 
-    /// The characters of a quantum.
+    /// Returns how many characters a quantum has: 4 in base64, 8 in the others.
     pub fn quantum_characters(self) -> usize
         ensures { result ≡ quantum self }
     {

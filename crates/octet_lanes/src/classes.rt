@@ -1,7 +1,7 @@
 // Classes and symbols, each lane by the alphabet's table.
 //
-// Base64 classes come from three look-ups in tables of 16 instead of five runs of symbols, which gains a fifth of
-// the speed of reading.
+// Base64 classes come from three look-ups in tables of 16 instead of five runs of symbols, which makes reading a
+// fifth faster.
 ghost use Rattle.std.specs.Prelude.{◌≡◌, ◌<◌, ◌%◌, ◌^◌, ◌==◌, map};
 ghost use Rattle.std.specs.List.{All, list_any, position_or_len};
 ghost use Rattle.octet_lanes.specs.Encoding.{class_of, stray, symbol_of, upper_of, width};
@@ -15,7 +15,7 @@ use crate::operations::{
 };
 use std::simd::prelude::*;
 
-/// The class of each octet in the alphabet: its value, or [`STRAY`] where it is no symbol.
+/// Returns the class of each byte in the alphabet: the value of the symbol, or [`STRAY`] if the byte isn't one.
 #[inline(always)]
 pub fn classify(octets: &[u8; 32], alphabet: Alphabet) -> [u8; 32]
     ensures { result ≡ map (class_of alphabet) octets.now }
@@ -29,8 +29,8 @@ pub fn classify(octets: &[u8; 32], alphabet: Alphabet) -> [u8; 32]
     classes.to_array()
 }
 
-// The place of each octet in a run of `n` symbols, and `mark`, which is 1 more than the value of the first; 0 for the
-// octets outside of the run. The runs of an alphabet add up to the class and 1.
+// `mark` plus the place of each byte in a run of `n` symbols, where `mark` is 1 more than the value of the first; 0
+// for bytes outside of the run. The sum of an alphabet's runs is the class plus 1.
 #[inline(always)]
 fn run(lanes: u8x32, first: u8, n: u8, mark: u8) -> u8x32
     ensures { result ≡ map (in_run first n mark) lanes }
@@ -39,8 +39,8 @@ fn run(lanes: u8x32, first: u8, n: u8, mark: u8) -> u8x32
     where_below(places, n, more(places, mark))
 }
 
-// The kinds of base64 symbols that have an octet's low four bits, and those that have its high four: 1 for `+` and `/`,
-// 2 for the digits, 4 and 8 for letters. An octet is a symbol where the two have a kind in common.
+// The kinds of base64 symbols that have a byte's low four bits, and those that have its high four: 1 for `+` and `/`,
+// 2 for the digits, 4 and 8 for letters. A byte is a symbol if the two have a kind in common.
 const LOW_KINDS: [u8; 32] = [
     10, 14, 14, 14, 14, 14, 14, 14, 14, 14, 12, 5, 4, 4, 4, 5, 10, 14, 14, 14, 14, 14, 14, 14, 14,
     14, 12, 5, 4, 4, 4, 5,
@@ -50,8 +50,8 @@ const HIGH_KINDS: [u8; 32] = [
     0, 0, 1, 2, 4, 8, 4, 8, 0, 0, 0, 0, 0, 0, 0, 0, 0, 0, 1, 2, 4, 8, 4, 8, 0, 0, 0, 0, 0, 0, 0, 0,
 ];
 
-// How much farther the value of a base64 symbol is than its octet (less 256, where it is nearer), by the high four bits
-// of the octet, and by 1 less for `/`.
+// How much larger the value of a base64 symbol is than its byte (modulo 256), by the high four bits of the byte, and
+// by 1 less for `/`.
 const STEPS: [u8; 32] = [
     0, 16, 19, 4, 191, 191, 185, 185, 0, 0, 0, 0, 0, 0, 0, 0, 0, 16, 19, 4, 191, 191, 185, 185, 0,
     0, 0, 0, 0, 0, 0, 0,
@@ -84,7 +84,7 @@ fn base32hex_classes(lanes: u8x32) -> u8x32
     less(plus(run(lanes, b'0', 10, 1), run(lanes, b'A', 22, 11)), 1)
 }
 
-/// Whether a class is that of a stray character.
+/// Returns whether one of the classes is [`STRAY`].
 #[inline(always)]
 pub fn has_stray(classes: &[u8; 32]) -> bool
     ensures { result ≡ list_any (λ class. class == stray) classes.now }
@@ -118,7 +118,7 @@ pub(crate) fn run_len(classes: &[u8; 32]) -> usize
     strays.trailing_zeros() as usize
 }
 
-/// The class of one octet.
+/// The class of one byte.
 #[inline(always)]
 pub(crate) fn class(octet: u8, alphabet: Alphabet) -> u8
     ensures { result ≡ class_of alphabet octet }
@@ -130,7 +130,7 @@ pub(crate) fn class(octet: u8, alphabet: Alphabet) -> u8
     }
 }
 
-// The class of each octet.
+// The class of each byte.
 static BASE64_CLASSES: [u8; 256] = [
     255, 255, 255, 255, 255, 255, 255, 255, 255, 255, 255, 255, 255, 255, 255, 255, 255, 255, 255,
     255, 255, 255, 255, 255, 255, 255, 255, 255, 255, 255, 255, 255, 255, 255, 255, 255, 255, 255,
@@ -181,7 +181,7 @@ static BASE32HEX_CLASSES: [u8; 256] = [
     255,
 ];
 
-/// The values among the classes as they are, and some value in place of each stray character.
+/// The values among the classes as they are, and some value instead of each stray class.
 #[inline(always)]
 pub(crate) fn some_values(classes: &[u8; 32], alphabet: Alphabet) -> [u8; 32]
     ensures { result ≡ map (λ class. class % 2 ^ width alphabet) classes.now }
@@ -194,7 +194,11 @@ pub(crate) fn some_values(classes: &[u8; 32], alphabet: Alphabet) -> [u8; 32]
     values.to_array()
 }
 
-/// The symbol of each value in the alphabet.
+/// Returns the symbol of each value in the alphabet.
+///
+/// # Requires
+///
+/// Each value is less than 2 to the power of the alphabet's width.
 #[inline(always)]
 pub fn spell(values: &[u8; 32], alphabet: Alphabet) -> [u8; 32]
     requires { All (λ value. value < 2 ^ width alphabet) values.now }
@@ -209,7 +213,7 @@ pub fn spell(values: &[u8; 32], alphabet: Alphabet) -> [u8; 32]
     symbols.to_array()
 }
 
-// From each run's first value on, the symbol is so much farther from the value (less 256, where it is nearer).
+// The symbol is its value plus a number that depends on the run that the value is in (modulo 256).
 #[inline(always)]
 fn base64_symbols(lanes: u8x32) -> u8x32
     requires { All (λ value. value < 64) lanes }
@@ -236,7 +240,7 @@ fn base32hex_symbols(lanes: u8x32) -> u8x32
     plus(more(lanes, b'0'), where_from(lanes, 10, 7))
 }
 
-/// Each ASCII letter in upper case, and each other octet as it is.
+/// Returns each ASCII letter in upper case, and each other byte as it is.
 #[inline(always)]
 pub fn ascii_upper_lanes(octets: &[u8; 32]) -> [u8; 32]
     ensures { result ≡ map upper_of octets.now }

@@ -12,7 +12,8 @@ ghost use Rattle.octet_lanes.specs.Private.{order_of};
 use crate::alphabet::STRAY;
 use std::simd::prelude::*;
 
-/// The values among the classes, in order, then [`STRAY`] in each lane that is left; and the number of the values.
+/// Returns the values among the classes, in order, then [`STRAY`] in each lane that is left; and the number of the
+/// values.
 #[inline(always)]
 pub fn close_up(classes: &[u8; 32]) -> ([u8; 32], usize)
     ensures lanes { result.0 ≡ values_among classes.now ++ replicate
@@ -33,7 +34,7 @@ pub fn close_up(classes: &[u8; 32]) -> ([u8; 32], usize)
     (u8x32::from_slice(&closed).to_array(), n)
 }
 
-// The classes, eight by eight, each eight with as many stray ones after them.
+// The classes in four groups of eight, each with eight stray ones after it.
 #[inline(always)]
 fn eights(classes: u8x32) -> [u8x16; 4]
     ensures { result ≡ map (λ eighth. take 8 (drop (eighth * 8) classes) ++ replicate 8 stray)
@@ -72,7 +73,7 @@ fn values_in(group: u8x16) -> u64
     group.simd_ne(u8x16::splat(STRAY)).to_bitmask()
 }
 
-// The lanes whose bits are set, in order, then lane 8 in those that are left.
+// The lanes whose bits are set, in order; the lanes that are left get lane 8.
 #[inline(always)]
 fn in_order(group: u8x16, bits: u64) -> u8x16
     requires { bits < 256 }
@@ -97,7 +98,7 @@ fn put(closed: &mut [u8; 40], n: usize, group: u8x16)
     group.copy_to_slice(&mut closed[n..]);
 }
 
-// For each number of eight bits the places of those that are set, from the low octet on, and then 8.
+// For each number of eight bits the places of the bits that are set, the first in the low byte, and then 8.
 static ORDERS: [u64; 256] = [
     0x0808_0808_0808_0808,
     0x0808_0808_0808_0800,

@@ -1,4 +1,5 @@
-// Octets as groups of bits, and back. A lane's number of two groups becomes two lanes of a group each, and so on.
+// Bytes as groups of bits, and back. A lane with a number of two groups becomes two lanes with one group each, and so
+// on.
 ghost use Rattle.std.specs.Prelude.{◌≡◌, ◌+◌, ◌*◌, ◌<◌, ◌≤◌, ◌^◌, map, take};
 ghost use Rattle.std.specs.List.{All, flat_map};
 ghost use Rattle.std.specs.Simd.Lanes.{Each1};
@@ -9,7 +10,8 @@ ghost use Rattle.octet_lanes.specs.declared.alphabet.Alphabet.TheVariants.{Base3
 use crate::alphabet::Alphabet;
 use std::simd::prelude::*;
 
-/// The bits of the first `4 * width` octets, as 32 groups of the alphabet's width.
+/// Returns the bits of the first `4 * width` bytes as 32 groups of the alphabet's width. The first bits are the
+/// highest of the first group.
 #[inline(always)]
 pub fn split(octets: &[u8; 32], alphabet: Alphabet) -> [u8; 32]
     ensures bits { all_bits (width alphabet) result ≡ all_bits 8
@@ -27,7 +29,7 @@ pub fn split(octets: &[u8; 32], alphabet: Alphabet) -> [u8; 32]
     groups.to_array()
 }
 
-// Each three octets, the first one highest.
+// Each three bytes, the first one highest.
 #[inline(always)]
 fn sextet_quanta(octets: u8x32) -> u32x8
     ensures bits { all_bits 24 result ≡ all_bits 8 (take 24 octets) }
@@ -42,7 +44,7 @@ fn sextet_quanta(octets: u8x32) -> u32x8
     ))
 }
 
-// Each five octets, the first one highest.
+// Each five bytes, the first one highest.
 #[inline(always)]
 fn quintet_quanta(octets: u8x32) -> u64x4
     ensures bits { all_bits 40 result ≡ all_bits 8 (take 20 octets) }
@@ -150,7 +152,12 @@ fn parts_16(lanes: u16x16) -> u8x32
     lanes.to_le_bytes()
 }
 
-/// The bits of 32 groups as octets, of which there are `4 * width`.
+/// Returns the bits of 32 groups as bytes. The first `4 * width` bytes of the result have the bits; the others mean
+/// nothing.
+///
+/// # Requires
+///
+/// Each group is less than 2 to the power of the alphabet's width.
 #[inline(always)]
 pub fn join(groups: &[u8; 32], alphabet: Alphabet) -> [u8; 32]
     requires { All (λ group. group < 2 ^ width alphabet) groups.now }
@@ -220,7 +227,7 @@ fn pairs_64(lanes: u32x8) -> u64x4
     u64x4::from_le_bytes(lanes.to_le_bytes())
 }
 
-// The two groups of each lane as one number, where the first one is in the low half.
+// The two groups of each lane as one number. The first group is in the low half.
 #[inline(always)]
 fn wholes_16(lanes: u16x16, width: u16) -> u16x16
     requires width { width ≤ 8 }
@@ -254,7 +261,7 @@ fn wholes_64(lanes: u64x4, width: u64) -> u64x4
     (first << u64x4::splat(width)) + second
 }
 
-// The three octets of each quantum, from the first on.
+// The three bytes of each quantum, from the first on.
 #[inline(always)]
 fn sextet_octets(quanta: u32x8) -> u8x32
     requires { Each1 (λ quantum. quantum < 2 ^ 24) quanta }
@@ -266,7 +273,7 @@ fn sextet_octets(quanta: u32x8) -> u8x32
     ])
 }
 
-// The five octets of each quantum, from the first on.
+// The five bytes of each quantum, from the first on.
 #[inline(always)]
 fn quintet_octets(quanta: u64x4) -> u8x32
     requires { Each1 (λ quantum. quantum < 2 ^ 40) quanta }

@@ -4,8 +4,22 @@
 //! or a join keeps the bits; and a text is the encoding of its octets, at every length.
 //!
 //! The general encoder and reader are here, next to the four kernels, for all three alphabets. `lanes_base32` and
-//! `lanes_base64_mime` add strictness and lines. `Spells` is the bare equation. That a text's members are bytes is a
-//! premise of the laws.
+//! `lanes_base64_mime` add strictness and lines. `Spells` is the bare equation. The laws assume that the members of a
+//! text are bytes.
+//!
+//! The gate builds for x86-64-v2, so 32 lanes are two SSE registers of 16.
+//!
+//! # Promises
+//!
+//! ## Lanes
+//!
+//! `classify`, `spell` and `ascii_upper_lanes` take 32 bytes at once, and give for each what its table has. `close_up`
+//! moves the values among 32 classes together. A text in an alphabet is written and read as its definition says, at
+//! every length, also if it is read in pieces. A text spells at most one list of bytes, and what was written is read
+//! back.
+//!
+//! By `classify`, `close_up`, `spell`, `ascii_upper_lanes`, `encode`, `append_encoding`, `Held`; laws
+//! `spells_at_most_one`, `reads_what_was_written`.
 #![tactic(auto)]
 
 mod alphabet;

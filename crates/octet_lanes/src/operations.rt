@@ -1,4 +1,4 @@
-// The vector operations that the kernels are made of, lane by lane.
+// The vector operations that the kernels consist of, lane by lane.
 ghost use Rattle.std.specs.Prelude.{◌≡◌, ◌<◌, ◌/◌, bit_and, bit_or, drop, map, slice_index, take};
 ghost use Rattle.std.specs.Simd.Lanes.{Each1, zip2};
 ghost use Rattle.octet_lanes.specs.Lanes.{added, if_equal, if_from};
@@ -6,7 +6,7 @@ ghost use Rattle.octet_lanes.specs.Private.{if_below, taken};
 
 use std::simd::prelude::*;
 
-/// The sums, lane by lane, in the low 8 bits.
+/// Returns the sums, lane by lane, modulo 256.
 #[inline(always)]
 pub fn plus(a: u8x32, b: u8x32) -> u8x32
     ensures { result ≡ zip2 added a b }
@@ -38,7 +38,7 @@ pub(crate) fn where_below(lanes: u8x32, n: u8, numbers: u8x32) -> u8x32
         .select(numbers, u8x32::splat(0))
 }
 
-/// `number` in the lanes from `n` on, and 0 in the others.
+/// Returns `number` in the lanes that are at least `n`, and 0 in the others.
 #[inline(always)]
 pub fn where_from(lanes: u8x32, n: u8, number: u8) -> u8x32
     ensures { result ≡ map (if_from n number) lanes }
@@ -48,7 +48,7 @@ pub fn where_from(lanes: u8x32, n: u8, number: u8) -> u8x32
         .select(u8x32::splat(number), u8x32::splat(0))
 }
 
-/// `number` in the lanes that are `n`, and 0 in the others.
+/// Returns `number` in the lanes that are equal to `n`, and 0 in the others.
 #[inline(always)]
 pub fn where_equal(lanes: u8x32, n: u8, number: u8) -> u8x32
     ensures { result ≡ map (if_equal n number) lanes }
@@ -80,7 +80,8 @@ pub(crate) fn high_halves(lanes: u8x32) -> u8x32
     lanes >> u8x32::splat(4)
 }
 
-// The entry of a table of 16 at each place. The table stands twice, as each 16 lanes look up in their own.
+// The entry at each place of a table with 16 entries. The table is there twice, because each 16 lanes look up in
+// their own.
 #[inline(always)]
 pub(crate) fn look_up(table: u8x32, places: u8x32) -> u8x32
     requires twice { take 16 table ≡ drop 16 table }

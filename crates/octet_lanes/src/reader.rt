@@ -1,4 +1,4 @@
-// Texts that any octets may interrupt, in pieces.
+// Texts in pieces, with any bytes between their symbols.
 ghost use Rattle.std.specs.Prelude.{◌≡◌, ◌≢◌, ◌==◌, ◌||◌, false, ℕ, ◌+◌, ◌-◌, ◌*◌, ◌/◌, ◌++◌, ◌<◌, ◌≤◌, ◌^◌, List, [], IfOk, OnErr, OnOk, drop, length, map, replicate, slice_index, take};
 ghost use Rattle.std.specs.List.{All, list_any, position};
 ghost use Rattle.octet_lanes.specs.Encoding.{all_bits, before_padding, class_of, contains_padding, left_over, octets_of, padding, quantum, stray, text_bits, values_among, values_of, whole, width};
@@ -13,20 +13,22 @@ use crate::groups::join;
 use std::alloc::AllocError;
 use std::simd::prelude::*;
 
-/// What is kept of a text between its pieces: the bits of an open quantum that no octet was given of, and whether a `=` came,
-/// after which nothing counts.
+/// What a reader keeps of a text between two pieces: the bits of an open quantum that didn't make a whole byte, and
+/// whether a `=` has come, after which nothing counts.
+///
+/// Start with [`Held::new`], give each piece to [`Held::take_in`], and call [`Held::bits_left`] after the last one.
 #[derive(Clone, Copy, Drop)]
 pub struct Held {
-    /// The values of the open quantum, in the prefix of a block, as [`join`] takes one.
+    /// The values of the open quantum, at the start of a block, in the form that [`join`] takes.
     pub values: [u8; 32],
-    /// The number of these values. Their whole octets have been given.
+    /// The number of these values. Their whole bytes are already in the output.
     pub n: usize,
-    /// Whether a `=` came.
+    /// Whether a `=` has come.
     pub ended: bool,
 }
 
 impl Held {
-    /// What is kept before a text.
+    /// Returns the state before the first piece.
     pub fn new() -> Held
         ensures held { (alphabet : Alphabet) → IsHeld alphabet result }
         ensures nothing { (alphabet : Alphabet) → kept_bits alphabet result ≡ [] }
@@ -39,7 +41,11 @@ impl Held {
         }
     }
 
-    /// How many bits are kept.
+    /// Returns how many bits are kept.
+    ///
+    /// # Requires
+    ///
+    /// The reader has been used with this alphabet only: its values belong to a quantum of it (`IsHeld`).
     pub fn bits_left(&self, alphabet: Alphabet) -> u8
         requires { IsHeld alphabet self.now }
         ensures { result ≡ length (kept_bits alphabet self.now) }
@@ -47,12 +53,16 @@ impl Held {
         (self.n * alphabet.width() % 8) as u8
     }
 
-    /// Takes in a piece of a text: appends the whole octets of what is kept and of the piece's bits, and keeps the bits that they
-    /// leave over.
+    /// Takes in a piece of a text: appends the whole bytes of the bits that are kept and of the piece's bits, and
+    /// keeps the bits that are left over. Bytes that aren't symbols are ignored; everything after a `=` is, too.
+    ///
+    /// # Requires
+    ///
+    /// The reader has been used with this alphabet only: its values belong to a quantum of it (`IsHeld`).
     ///
     /// # Errors
     ///
-    /// Memory ran out; then nothing was taken in.
+    /// `AllocError` if memory is refused. The reader and `out` are then as they were before.
     #[inline(always)]
     pub fn take_in(
         &mut self,
@@ -80,7 +90,7 @@ impl Held {
         Ok(())
     }
 
-    // Reads a piece; where memory runs out, a part of it.
+    // Reads a piece; if memory is refused, a part of it.
     #[inline(always)]
     fn read(
         &mut self,
@@ -108,8 +118,8 @@ impl Held {
         Ok(())
     }
 
-    // Takes values into the open quantum, whatever stray characters interrupt it, appends the octets that they complete, and gives
-    // what follows them.
+    // Takes values into the open quantum, whatever stray characters come between them, appends the bytes that they
+    // complete, and returns the text after them.
     #[inline(always)]
     fn append_quantum<'a>(
         &mut self,
@@ -137,7 +147,7 @@ impl Held {
         Ok(rest)
     }
 
-    // Takes values up to a whole quantum, and gives what follows them. There are fewer only where the text or a `=`
+    // Takes values up to a whole quantum, and returns the text after them. There are fewer only if the text or a `=`
     // ends them.
     fn next_quantum<'a>(&mut self, text: &'a [u8], alphabet: Alphabet) -> &'a [u8]
         requires held { IsHeld alphabet self.old }
@@ -171,7 +181,7 @@ impl Held {
     }
 }
 
-// What follows the stray characters that a text begins with, up to a `=`. No block is made of an empty line.
+// The text after the stray characters at its start, up to a `=`. It prevents an empty line from becoming a block.
 #[inline(always)]
 fn after_strays(text: &[u8], alphabet: Alphabet) -> &[u8]
     ensures bits { text_bits alphabet result.now ≡ text_bits alphabet text.now }
@@ -187,8 +197,8 @@ fn after_strays(text: &[u8], alphabet: Alphabet) -> &[u8]
     rest
 }
 
-// Appends the octets of whole quanta from the start, a block at a time, and gives what follows them: a quantum that the end, a
-// `=` or stray characters interrupt.
+// Appends the bytes of whole quanta from the start, a block at a time, and returns the text after them: a quantum
+// that the end, a `=` or stray characters interrupt.
 #[inline(always)]
 fn append_runs<'a>(
     text: &'a [u8],
@@ -213,7 +223,8 @@ fn append_runs<'a>(
     Ok(rest)
 }
 
-// Appends the octets of whole quanta before a text's first block, which padding fills up, and gives where they end.
+// Appends the bytes of whole quanta at the start of a text's first block, which padding fills up, and returns where
+// they end.
 #[inline(always)]
 fn append_first(text: &[u8], alphabet: Alphabet, out: &mut Vec<u8>) -> Result<usize, AllocError>
     ensures within { IfOk result (λ end. end ≤ length text.now) }
@@ -238,7 +249,7 @@ fn padded(text: &[u8]) -> [u8; 32]
     block
 }
 
-// Appends the octets of whole quanta before a block, and gives where they end.
+// Appends the bytes of whole quanta at the start of a block, and returns where they end.
 #[inline(always)]
 fn append_block(
     block: &[u8; 32],
@@ -258,8 +269,8 @@ fn append_block(
     append_prefix(block, &classes, alphabet, out)
 }
 
-// Appends the octets of whole quanta before a block with stray characters, and gives where they end. Which of the two ways
-// it goes changes the time alone.
+// Appends the bytes of whole quanta at the start of a block with stray characters, and returns where they end. Which
+// of the two ways it goes changes the time alone.
 #[inline(always)]
 fn append_prefix(
     block: &[u8; 32],
@@ -279,7 +290,8 @@ fn append_prefix(
     append_run(block, classes, alphabet, out)
 }
 
-// Appends the octets of the whole quanta before a block, and gives where they and the stray characters after them end.
+// Appends the bytes of the whole quanta at the start of a block, and returns where they and the stray characters after
+// them end.
 #[inline(always)]
 fn append_run(
     block: &[u8; 32],
@@ -317,7 +329,8 @@ fn end_of_strays(block: &[u8; 32], classes: &[u8; 32], start: usize) -> usize
     end
 }
 
-// Appends the octets of the whole quanta before a block, whatever stray characters interrupt them, and gives where they end.
+// Appends the bytes of the whole quanta at the start of a block, whatever stray characters are in them, and returns
+// where they end.
 #[inline(always)]
 fn append_closed(
     block: &[u8; 32],
@@ -356,7 +369,7 @@ fn start_of_last(classes: &[u8; 32], n: usize) -> usize
     start
 }
 
-// Appends the whole octets of the first `n` values, from that on which follows the `given` ones.
+// Appends the whole bytes of the first `n` values, except for the `given` first of them.
 #[inline(always)]
 fn append_values(
     values: &[u8; 32],
@@ -375,8 +388,12 @@ fn append_values(
     out.extend_from_slice(&join(values, alphabet)[given..n * alphabet.width() / 8])
 }
 
-/// The octets of at most a block of text, from the first octet on, and their number: the bits of its symbols before the first `=`, as
-/// whole octets.
+/// Reads at most a block of text: returns the bytes, and their number. They are the bits of the symbols before the
+/// first `=`, as whole bytes; bits that are left over are dropped.
+///
+/// # Requires
+///
+/// The text has at most 32 bytes.
 #[inline(always)]
 pub fn block_octets(text: &[u8], alphabet: Alphabet) -> ([u8; 32], usize)
     requires { length text.now ≤ 32 }
@@ -400,7 +417,7 @@ fn has_padding(octets: &[u8; 32]) -> bool
         != 0
 }
 
-// What comes before the first `=`.
+// The text before the first `=`.
 #[inline(always)]
 fn up_to_padding(text: &[u8]) -> &[u8]
     ensures { result.now ≡ before_padding text.now }

@@ -8,11 +8,11 @@ use crate::classes::spell;
 use crate::groups::split;
 use std::alloc::{AllocError, Global};
 
-/// The text of `octets` in `alphabet`, with its padding (RFC 4648, sections 4, 6 and 7).
+/// Returns the text of `octets` in `alphabet`, with its padding (RFC 4648, sections 4, 6 and 7).
 ///
 /// # Errors
 ///
-/// Memory ran out.
+/// `AllocError` if memory is refused.
 #[inline(always)]
 pub fn encode(alloc: Global, octets: &[u8], alphabet: Alphabet) -> Result<Vec<u8>, AllocError>
     ensures { IfOk result (λ text. text.items ≡ encoding_of alphabet octets.now) }
@@ -27,7 +27,7 @@ pub fn encode(alloc: Global, octets: &[u8], alphabet: Alphabet) -> Result<Vec<u8
 ///
 /// # Errors
 ///
-/// Memory ran out; a part of the text may have been appended to what was there.
+/// `AllocError` if memory is refused. A part of the text may then be appended; what was in `out` before is unchanged.
 #[inline(always)]
 pub fn append_encoding(
     out: &mut Vec<u8>,
@@ -47,7 +47,7 @@ pub fn append_encoding(
     append_rest(out, rest, alphabet)
 }
 
-// Appends the text of a whole block, the first `4 * width` octets.
+// Appends the text of a whole block, the first `4 * width` bytes.
 #[inline(always)]
 fn append_symbols(
     out: &mut Vec<u8>,
@@ -61,7 +61,7 @@ fn append_symbols(
     out.extend_from_slice(&block_symbols(octets, alphabet))
 }
 
-// Appends the text of less than 32 octets, which are at most two blocks.
+// Appends the text of fewer than 32 bytes, which are at most two blocks.
 #[inline(always)]
 fn append_rest(out: &mut Vec<u8>, octets: &[u8], alphabet: Alphabet) -> Result<(), AllocError>
     requires { length octets.now < 32 }
@@ -77,7 +77,7 @@ fn append_rest(out: &mut Vec<u8>, octets: &[u8], alphabet: Alphabet) -> Result<(
     append_block(out, back, alphabet)
 }
 
-// Appends the text of at most a block of octets, whose last quantum is padded.
+// Appends the text of at most a block of bytes, whose last quantum is padded.
 #[inline(always)]
 fn append_block(out: &mut Vec<u8>, octets: &[u8], alphabet: Alphabet) -> Result<(), AllocError>
     requires { length octets.now ≤ 4 * width alphabet }
@@ -88,7 +88,11 @@ fn append_block(out: &mut Vec<u8>, octets: &[u8], alphabet: Alphabet) -> Result<
     out.extend_from_slice(&text[..len])
 }
 
-/// The text of at most a block of octets, from the first octet on, and its length.
+/// Returns the text of at most a block of bytes, with its padding, and the length of the text.
+///
+/// # Requires
+///
+/// There are at most `4 * width` bytes: 24 in base64, 20 in the others.
 #[inline(always)]
 pub fn block_text(octets: &[u8], alphabet: Alphabet) -> ([u8; 32], usize)
     requires { length octets.now ≤ 4 * width alphabet }
@@ -104,7 +108,7 @@ pub fn block_text(octets: &[u8], alphabet: Alphabet) -> ([u8; 32], usize)
     (text, quanta * alphabet.quantum_characters())
 }
 
-/// The text of a whole block, the first `4 * width` octets.
+/// Returns the text of a whole block: of the first `4 * width` bytes. The others are ignored.
 #[inline(always)]
 pub fn block_symbols(octets: &[u8; 32], alphabet: Alphabet) -> [u8; 32]
     ensures { result ≡ encoding_of alphabet (take (4 * width alphabet) octets.now) }

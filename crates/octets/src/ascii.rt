@@ -5,23 +5,25 @@ ghost use Rattle.octets.specs.Ascii.{uppercase_of, lowercase_of, is_word, EqualI
 use crate::owned::Octets;
 use std::alloc::{AllocError, Global};
 
-/// Whether the texts are equal but for the case of ASCII letters.
+/// Returns whether the texts are equal if the case of ASCII letters is ignored.
 pub fn equal_ignoring_case(a: &[u8], b: &[u8]) -> bool
     ensures { IsTrue result ↔ EqualIgnoringCase a.now b.now }
 {
     a.eq_ignore_ascii_case(b)
 }
 
-/// Whether a name is this word, but for the case of ASCII letters.
+/// Returns whether a name is this word if the case of ASCII letters is ignored.
 pub fn is_word(name: &[u8], word: &[u8]) -> bool
     ensures { result ≡ is_word name.now word.now }
 {
     equal_ignoring_case(name, word)
 }
 
-/// The text with `a` to `z` as `A` to `Z`.
+/// Returns a copy of the text with `a` to `z` as `A` to `Z`. Other bytes stay as they are.
 ///
-/// An error comes only where memory was refused.
+/// # Errors
+///
+/// `AllocError` if memory is refused.
 pub fn to_uppercase(alloc: Global, text: &[u8]) -> Result<Octets, AllocError>
     ensures { IfOk result (λ octets. octets ≡ uppercase_of text.now) }
 {
@@ -29,9 +31,11 @@ pub fn to_uppercase(alloc: Global, text: &[u8]) -> Result<Octets, AllocError>
     Ok(Octets::from(mapped))
 }
 
-/// The text with `A` to `Z` as `a` to `z`.
+/// Returns a copy of the text with `A` to `Z` as `a` to `z`. Other bytes stay as they are.
 ///
-/// An error comes only where memory was refused.
+/// # Errors
+///
+/// `AllocError` if memory is refused.
 pub fn to_lowercase(alloc: Global, text: &[u8]) -> Result<Octets, AllocError>
     ensures { IfOk result (λ octets. octets ≡ lowercase_of text.now) }
 {

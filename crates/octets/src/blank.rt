@@ -2,7 +2,7 @@
 ghost use Rattle.std.specs.Prelude.{◌≡◌};
 ghost use Rattle.octets.specs.Blank.{without_leading_blanks, without_trailing_blanks, without_outer_blanks};
 
-/// The text without the SP and TAB that it begins with.
+/// Returns the text without the spaces and tabs at its start.
 pub fn trim_leading_blanks(text: &[u8]) -> &[u8]
     ensures { result.now ≡ without_leading_blanks text.now }
 {
@@ -13,7 +13,7 @@ pub fn trim_leading_blanks(text: &[u8]) -> &[u8]
     rest
 }
 
-/// The text without the SP and TAB that it ends with.
+/// Returns the text without the spaces and tabs at its end.
 pub fn trim_trailing_blanks(text: &[u8]) -> &[u8]
     ensures { result.now ≡ without_trailing_blanks text.now }
 {
@@ -24,7 +24,7 @@ pub fn trim_trailing_blanks(text: &[u8]) -> &[u8]
     rest
 }
 
-/// The text without outer SP and TAB.
+/// Returns the text without the spaces and tabs at its start and at its end.
 pub fn trim_blanks(text: &[u8]) -> &[u8]
     ensures { result.now ≡ without_outer_blanks text.now }
 {

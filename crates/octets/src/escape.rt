@@ -1,10 +1,10 @@
-// Octets written as two hexadecimal digits, after a backslash in a quoted text.
+// Bytes written as two hexadecimal digits, after a backslash in a quoted text.
 ghost use Rattle.std.specs.Prelude.{◌≡◌, ◌≤◌, length, IfSome, Some, None, if◌then◌else◌};
 ghost use Rattle.std.specs.Option.{option_map};
 ghost use Rattle.std.specs.Char.{digit_value};
 ghost use Rattle.octets.specs.Escapes.{escape_at, is_hex, octet_of_digits, said_at};
 
-/// The octet of two hexadecimal digits of either case; `None` where one is no digit.
+/// Returns the byte that two hexadecimal digits of either case write; `None` if one of them isn't a digit.
 pub fn octet_of_digits(high: u8, low: u8) -> Option<u8>
     ensures { result ≡ octet_of_digits high low }
 {
@@ -13,8 +13,11 @@ pub fn octet_of_digits(high: u8, low: u8) -> Option<u8>
     Some(16 * high + low)
 }
 
-/// What an octet of a quoted text says with those after it, and what is left after that: itself, or
-/// after a backslash the octet of the two hexadecimal digits; `None` where the digits are missing.
+/// Reads one byte of a quoted text: `octet`, with the text after it in `rest`. Returns the byte that is meant and the
+/// text after it.
+///
+/// A backslash and the two hexadecimal digits after it mean the byte of these digits; every other byte means itself.
+/// The result is `None` if a backslash has no two digits after it.
 pub fn said_of(octet: u8, rest: &[u8]) -> Option<(u8, &[u8])>
     ensures said { option_map (λ x. (x.0, x.1.now)) result ≡ said_at octet rest.now }
     ensures shorter { IfSome result (λ x. length x.1.now ≤ length rest.now) }
@@ -26,7 +29,7 @@ pub fn said_of(octet: u8, rest: &[u8]) -> Option<(u8, &[u8])>
     }
 }
 
-// The octet whose digits stand first, and what is left after them.
+// The byte whose two digits come first, and the text after them.
 fn escape_of(octets: &[u8]) -> Option<(u8, &[u8])>
     ensures said { option_map (λ x. (x.0, x.1.now)) result ≡ escape_at octets.now }
     ensures shorter { IfSome result (λ x. length x.1.now ≤ length octets.now) }
@@ -40,7 +43,7 @@ fn escape_of(octets: &[u8]) -> Option<(u8, &[u8])>
     }
 }
 
-// The value of each octet as a hexadecimal digit of either case; 16 where it is none.
+// The value of each byte as a hexadecimal digit of either case; 16 if it isn't one.
 static VALUES: [u8; 256] = *b"\
     \x10\x10\x10\x10\x10\x10\x10\x10\x10\x10\x10\x10\x10\x10\x10\x10\
     \x10\x10\x10\x10\x10\x10\x10\x10\x10\x10\x10\x10\x10\x10\x10\x10\

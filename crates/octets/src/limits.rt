@@ -1,7 +1,7 @@
 // The limits that several crates keep to; specs/Limits has them all.
 
-/// The most octets of a string: in a script, after its references are replaced, and in a program.
+/// The largest number of bytes of a string: in a script, after its references are replaced, and in a program.
 pub const MAX_STRING: usize = 16_384;
 
-/// The most octets of a variable's value, which is cut there, as a capture is.
+/// The largest number of bytes of a variable's value. A longer value, and a longer capture, is cut to this length.
 pub const MAX_VALUE: usize = 4_096;

@@ -1,7 +1,7 @@
-// The octets of a text, one at a time.
+// The bytes of a text, one at a time.
 ghost use Rattle.std.specs.Prelude.{◌≡◌, ◌∷◌, [], MatchOption};
 
-/// The first octet and what follows it.
+/// Returns the first byte of a text and the text after it; `None` if the text is empty.
 #[inline]
 pub fn first(text: &[u8]) -> Option<(u8, &[u8])>
     ensures { MatchOption result (text.now ≡ []) (λ parts. text.now ≡ parts.0 ∷ parts.1.now) }

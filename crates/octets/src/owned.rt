@@ -1,4 +1,4 @@
-// The owned octet string.
+// The owned byte string.
 //
 // Strings are `Octets`, which a contract sees as a list. A plain `Vec<u8>` would show its capacity.
 ghost use Rattle.std.specs.Prelude.{◌≡◌, ◌==◌, ℕ, List, length, nat_eq, refl, Some};
@@ -12,7 +12,10 @@ use std::convert::AsSlice;
 use std::marker::Model;
 use std::ops::DerefSlice;
 
-/// An owned string of octets. A contract sees the list of the octets.
+/// An owned byte string: a `Vec<u8>` that contracts see as the list of its bytes, without its capacity.
+///
+/// The crates keep every string as `Octets`. Make one with [`Octets::from_vec`], and read its bytes with
+/// [`Octets::as_slice`].
 #[derive(Drop)]
 pub struct Octets {
     items: Vec<u8>,
@@ -25,35 +28,35 @@ impl Model for Octets {
 }
 
 impl Octets {
-    /// The octets of the vector, which is taken over as it is.
+    /// Makes a byte string of a vector, which is moved, not copied.
     pub fn from_vec(items: Vec<u8>) -> Octets
         ensures { result ≡ items.items }
     {
         Octets { items }
     }
 
-    /// The vector of the octets, handed over as it is.
+    /// Returns the vector of the bytes, which is moved, not copied.
     pub fn into_vec(self) -> Vec<u8>
         ensures { result.items ≡ self }
     {
         self.items
     }
 
-    /// The octets.
+    /// Returns the bytes of the string.
     pub fn as_slice(&self) -> &[u8]
         ensures { result.now ≡ self.now }
     {
         self.items.as_slice()
     }
 
-    /// How many octets there are.
+    /// Returns the number of bytes.
     pub fn len(&self) -> usize
         ensures { result ≡ length self.now }
     {
         self.items.len()
     }
 
-    /// Whether there is no octet.
+    /// Returns whether there are no bytes.
     pub fn is_empty(&self) -> bool
         ensures { result ≡ (length self.now == 0) }
     {

@@ -38,13 +38,13 @@ module _ {D : Type 0} {g : Ghosts D} where
   pub holds_one : (c : Held (FileStore D g)) → HasNumberedTrees c → LeavesStores (file_state c) → (image : Image) → MayLeaveFiles c image → ∥ HoldsOneLeft c image ∥₁
   holds_one c numbered stores image may =
       ∥∥₁_map (opens_again c.store numbered (λ trees left. (store_schema, (stores trees left).1.listed)) image may)
-      (λ found. record { trees = found.0; may = found.1; holds = λ e. holds_stored image found.0 e found.2 })
+      (λ found. record { trees = found.0; may = found.1; same = λ listed. record { trees = ∣ found.2 ∣₁; listed = listed }; holds = λ e. holds_stored image found.0 e found.2 })
 
   -- so too of a close that failed or was cut off
   pub closing_holds_one : (c : Held (FileStore D g)) → (image : Image) → MayLeaveClosing c image → ∥ HoldsOneLeft c image ∥₁
   closing_holds_one c image it =
       ∥∥₁_map (opens_again it.last it.numbered (it.closed.sound it.clean) image it.may)
-      (λ found. record { trees = found.0; may = it.closed.quiet.outcomes found.0 found.1; holds = λ e. holds_stored image found.0 e found.2 })
+      (λ found. record { trees = found.0; may = it.closed.quiet.outcomes found.0 found.1; same = λ listed. record { trees = ∣ found.2 ∣₁; listed = listed }; holds = λ e. holds_stored image found.0 e found.2 })
 
   -- and of either
   pub left_holds_one : (c : Held (FileStore D g)) → LeavesStores (file_state c) → (image : Image) → AreLeft c image → ∥ HoldsOneLeft c image ∥₁
@@ -62,7 +62,7 @@ module _ {D : Type 0} {g : Ghosts D} where
       → (trees : Trees) → (file_state new).may_leave trees → IsStored trees before ⊎ IsStored trees (change before)
   was_or_is change before old new settled at clean survives trees may = elim (survives.crash clean trees may) [
     | inl was ↦ inl (stored_as trees (file_state old).now before (settled trees at.2 was ∙ ap (λ (d : Database). d.trees) at.1) at.0)
-    | inr is ↦ inr (is before at.0)
+    | inr is ↦ inr (is before at.0).0
   ]
 
   pub holds_either : (image : Image) (c : Held (FileStore D g)) (one other : Entries) → ((trees : Trees) → (file_state c).may_leave trees → IsStored trees one ⊎ IsStored trees other)

@@ -11,6 +11,7 @@ use Rattle.part_store.specs.Additions.{CanFile, Claims, Enters, FilesAll, HasDra
 use Rattle.part_store.specs.Filing.{Collides}
 use Rattle.part_store.specs.Standing.{HasContent, Stands, StandsFor}
 use Rattle.part_store.specs.Inside.{Stays}
+use Rattle.part_store.proofs.Digests.{draft_verified}
 use Rattle.part_store.proofs.FiledAll.{has_left, has_right}
 use Rattle.part_store.proofs.Programs.{bytes_same}
 use Rattle.part_store.proofs.Stored.{still_listed}
@@ -46,6 +47,10 @@ entered old mid new user last count drafts before long is claims files =
       stands = subst (Stands new.now) same files.stands;
       committed = files.committed ∙ claims.committed;
       apart = no_other old new _ drafts files.stands files.has from;
+      verified = λ g o h. elim (files.from g o h) [
+        | inl was ↦ inl (subst (λ rows. HasContent rows g o) claims.contents was)
+        | inr of ↦ inr (draft_verified drafts g o of)
+      ];
     }
 
 pub collides_before : (old mid : State) (drafts : List Draft) → mid.now.trees contents_tree ≡ old.now.trees contents_tree → Collides mid.now.trees drafts → Collides old.now.trees drafts

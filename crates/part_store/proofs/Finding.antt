@@ -8,11 +8,12 @@ use Rattle.sqlite_trees.specs.Tree.{Trees}
 use Rattle.sqlite_rules.specs.Lists.{Has}
 use Rattle.sqlite_rules.proofs.ListLemmas.{all_has}
 use Rattle.sqlite.specs.State.{State}
-use Rattle.part_store.specs.Tables.{contents_tree, entries_tree, equals}
+use Rattle.part_store.specs.Tables.{contents_tree, entries_tree, equals, store_schema}
 use Rattle.part_store.specs.Changes.{is_entry, columns, length_at, IsFound, Steps, Reads}
 use Rattle.part_store.specs.Entries.{Entry, Entries, is_at}
 use Rattle.part_store.specs.Standing.{IsEntryRow, IsContentRow, HasContent, content_row, StandsFor, Stands, IsEntryAt, HasNone}
 use Rattle.part_store.specs.Readings.{NamesDigest}
+use Rattle.part_store.specs.Verifying.{IsAltered, Keeps, Lacks, Names}
 use Rattle.part_store.proofs.Equals.{blob_length, equal_texts, equal_blobs, equal_numbers, same_number}
 use Rattle.part_store.proofs.Programs.{same_bytes, bytes_same}
 
@@ -54,6 +55,20 @@ module _ (old new : State) (user : List ℕ) (number : ℕ) where
       let found = (reads stands.schema).change.1 in
       (found.0, found.1, found.2, sym (ap (λ (r : Row). column r 0) found.3) ∙ shown)
 
+  pub named_there : (row : Row) (digest : List ℕ) → Steps (Reads (λ db. IsFound entries_tree (is_entry user number) (columns (7 ∷ [])) db (Some row))) old new → column row 0 ≡ Blob digest
+      → old.now.schema ≡ store_schema → Names old.now.trees user number digest
+  named_there row digest reads shown has =
+      let found = (reads has).change.1 in
+      let parts = and_parts _ _ found.2 in
+      (found.0, found.1, parts.0, parts.1, sym (ap (λ (r : Row). column r 0) found.3) ∙ shown)
+
+  pub unnamed_there : (row : Row) → Steps (Reads (λ db. IsFound entries_tree (is_entry user number) (columns (7 ∷ [])) db (Some row))) old new
+      → ((digest : List ℕ) → column row 0 ≡ Blob digest → ⊥) → old.now.schema ≡ store_schema → IsAltered old.now.trees user number
+  unnamed_there row reads none has =
+      let found = (reads has).change.1 in
+      let parts = and_parts _ _ found.2 in
+      (found.0, found.1, parts.0, parts.1, λ digest is. absurd (none digest (ap (λ (r : Row). column r 0) found.3 ∙ is)))
+
 -- the entry of a row that names a digest has the octets under it
 pub entry_there : (db : Trees) (e : Entries) (user : List ℕ) (number : ℕ) (digest : List ℕ) → StandsFor db e → NamesDigest db user number digest
     → (x : Entry) × IsEntryAt e user number x × HasContent (db contents_tree) digest x.octets
@@ -74,6 +89,18 @@ content_there old new digest row octets reads shown before stands =
     let is : bytes_eq h.1 digest ≡ true = sym (content_test found.0 h.0 h.1 h.2 digest h.3) ∙ found.2 in
     let same : octets ≡ h.2 = same_blob octets h.2 (sym shown ∙ ap (λ (r : Row). column r 0) found.3 ∙ ap (λ (r : Row). column r 2) h.3) in
     (h.0, subst (Has (old.now.trees contents_tree)) (h.3 ∙ ap₂ (λ d o. content_row h.0 d o) (same_bytes h.1 digest is) (sym same)) found.1)
+
+pub kept_there : (old new : State) (digest : List ℕ) (row : Row) (octets : List ℕ) → Steps (Reads (λ db. IsFound contents_tree (equals 1 (Blob digest)) (columns (2 ∷ [])) db (Some row))) old new
+    → column row 0 ≡ Blob octets → old.now.schema ≡ store_schema → Keeps old.now.trees digest octets
+kept_there old new digest row octets reads shown has =
+    let found = (reads has).change.1 in
+    (found.0, found.1, found.2, sym (ap (λ (r : Row). column r 0) found.3) ∙ shown)
+
+pub lacking_there : (old new : State) (digest : List ℕ) (row : Row) → Steps (Reads (λ db. IsFound contents_tree (equals 1 (Blob digest)) (columns (2 ∷ [])) db (Some row))) old new
+    → ((octets : List ℕ) → column row 0 ≡ Blob octets → ⊥) → old.now.schema ≡ store_schema → Lacks old.now.trees digest
+lacking_there old new digest row reads none has =
+    let found = (reads has).change.1 in
+    inr (found.0, found.1, found.2, λ octets is. absurd (none octets (ap (λ (r : Row). column r 0) found.3 ∙ is)))
 
 -- how long what is under a digest is
 pub size_there : (old new : State) (digest : List ℕ) (row : Row) (n : ℕ) → Steps (Reads (λ db. IsFound contents_tree (equals 1 (Blob digest)) (length_at 2) db (Some row))) old new → column row 0 ≡ Int (pos n)

@@ -9,6 +9,7 @@ mod EntryRows
 mod Equals
 mod Gaining
 mod Apart
+pub mod Digests
 mod Programs
 mod Numbers
 mod Creation
@@ -18,6 +19,7 @@ mod Filed
 mod FiledAll
 pub mod Entering
 mod Removing
+mod Verified
 mod Listed
 mod NameOrder
 mod ProgramList
@@ -29,6 +31,7 @@ mod Showing
 mod ListedFailing
 mod Opened
 pub mod Stored
+mod Commits
 pub mod Crashed
 pub mod Unfinished
 mod Faults

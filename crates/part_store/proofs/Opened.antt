@@ -39,7 +39,7 @@ use Rattle.sqlite_value.specs.Order.{Row}
 use Rattle.part_store.specs.Tables.{no_schema, store_schema}
 use Rattle.part_store.specs.Entries.{Entries, no_entries}
 use Rattle.part_store.specs.Standing.{Stands}
-use Rattle.part_store.specs.Opening.{HasOtherTables, Holds, HoldsNoTables, HoldsStore, IsAt, IsBare, IsEmptied, IsFoundIn, IsReady, IsReadyFrom, IsUnopened, IsUnseen, KeepsStore, MakesEmpty, TellsWhy}
+use Rattle.part_store.specs.Opening.{HasOtherTables, Holds, HoldsNoTables, HoldsStore, IsAt, IsBare, IsEmptied, IsFoundIn, IsReady, IsReadyFrom, IsUnopened, IsUnseen, KeepsDatabase, KeepsStore, MakesEmpty, TellsWhy}
 use Rattle.part_store.specs.Looking.{are_tables, unopened_of}
 use Rattle.part_store.specs.declared.error.StoreError.{StoreError}
 use Rattle.part_store.specs.declared.looking.Unopened.{Unopened}
@@ -107,6 +107,12 @@ pub finds_none : (image : Image) (s : State) → Opens s → IsLive s → FindsI
 finds_none image s opens live finds (inl nothing) = finds_nothing image s opens live finds nothing
 finds_none image s opens live finds (inr (d, holds, none)) = ap (λ (x : Database). x.schema) (finds_held image s d opens live finds holds) ∙ none
 
+-- what was opened as it is is the database that the files held
+pub finds_same : {D : Type 0} {g : Ghosts D} (image : Image) (d : Database) (found : Held (FileStore D g)) → Holds image d → IsFoundIn image found → HasCleanDisk (file_state found) → (file_state found).now ≡ d
+finds_same image d found holds there clean =
+    let opened = there.opened clean in
+    finds_held image (file_state found) d opened.0 opened.1 (there.finds clean) holds
+
 -- a store in the files has the tables of one
 pub others_never : {D : Type 0} {g : Ghosts D} (image : Image) (e : Entries) (found : Held (FileStore D g)) → HoldsStore image e → IsFoundIn image found → HasCleanDisk (file_state found)
     → HasOtherTables (file_state found) → ⊥
@@ -128,6 +134,13 @@ module _ {D : Type 0} {g : Ghosts D} (image : Image) (now : Held (FileStore D g)
       let opened = from.ready.opened early in
       let found = shows_held image (file_state from.ready.found) opened.0 opened.1 (from.finds early) e held in
       subst (λ (h : Held (FileStore D g)). IsAt e (file_state h)) (sym (from.ready.same (has_tables (file_state from.ready.found) found.0.schema))) found
+
+  -- a store that was found is the database that the files held
+  pub opens_same : (d : Database) → d.schema ≡ store_schema → Holds image d → (file_state now).now ≡ d
+  opens_same d has holds =
+      let opened = from.ready.opened early in
+      let found = finds_held image (file_state from.ready.found) d opened.0 opened.1 (from.finds early) holds in
+      subst (λ (h : Held (FileStore D g)). (file_state h).now ≡ d) (sym (from.ready.same (has_tables (file_state from.ready.found) (ap (λ (x : Database). x.schema) found ∙ has)))) found
 
   pub opens_none : HoldsNoTables image → IsAt no_entries (file_state now)
   opens_none none =
@@ -217,14 +230,15 @@ pub ready_of : {D : Type 0} {g : Ghosts D} (image : Image) (result : Result (Hel
 ready_of image (Ok s) from = from.ready
 ready_of image (Err e) from = tt
 
--- files to which a store's last commit was copied keep the store
-pub keeps : {D : Type 0} {g : Ghosts D} (c : Held (FileStore D g)) (files : Files D) → IsCopied c files → IsLive (file_state c) → (IsTrue (file_state c).is_open → (file_state c).now ≡ (file_state c).committed)
-    → (e : Entries) → Stands (file_state c).now e → KeepsStore g files e
-keeps {D} {g} c files copied live settled e stands =
+-- files to which a store's last commit was copied keep its database
+pub keeps_database : {D : Type 0} {g : Ghosts D} (c : Held (FileStore D g)) (files : Files D) → IsCopied c files → IsLive (file_state c) → (IsTrue (file_state c).is_open → (file_state c).now ≡ (file_state c).committed)
+    → KeepsDatabase g files (file_state c).now
+keeps_database {D} {g} c files copied live settled =
     let same = settled copied.was_open in
-    let holds = λ (image : Image) (alone : HoldsAlone image (file_state c).committed.trees). let r : HoldsStore image e = (
-      (file_state c).now,
-      record { trees = subst (λ (d : Database). ∥ HoldsDatabase image d.trees ∥₁) (sym same) alone.both; listed = (live copied.was_open).0 },
-      stands,
-    ) in r in
+    let holds = λ (image : Image) (alone : HoldsAlone image (file_state c).committed.trees). let r : Holds image (file_state c).now =
+    record { trees = subst (λ (d : Database). ∥ HoldsDatabase image d.trees ∥₁) (sym same) alone.both; listed = (live copied.was_open).0 } in r in
     record { seen = holds _ copied.seen; left = λ image may. holds image (copied.left image may) }
+
+-- and the store
+pub keeps : {D : Type 0} {g : Ghosts D} (c : Held (FileStore D g)) (files : Files D) → KeepsDatabase g files (file_state c).now → (e : Entries) → Stands (file_state c).now e → KeepsStore g files e
+keeps c files it e stands = record { seen = ((file_state c).now, it.seen, stands); left = λ image may. ((file_state c).now, it.left image may, stands) }

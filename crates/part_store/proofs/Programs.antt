@@ -21,6 +21,7 @@ use Rattle.part_store.specs.Inside.{Brings}
 use Rattle.part_store.specs.Standing.{Stands, IsUserRow, IsContentRow, IsNumbered, HasContent, StandsFor, IsEntryRow}
 pub use Rattle.part_store.proofs.Apart.{bytes_same, same_bytes}
 use Rattle.part_store.proofs.Apart.{apart_put}
+use Rattle.part_store.proofs.Digests.{same_verified}
 use Rattle.part_store.proofs.Equals.{equal_texts, same_number}
 use Rattle.part_store.proofs.Gaining.{filter_rises, has_put_row, keyed_all, put_or_was, rises_with, stays_beside}
 
@@ -119,8 +120,11 @@ program_brought old one two new user program n found reads last takes adds befor
     let b = takes a.schema in
     let c = adds b.schema in
     let number = last_read old.now.trees before stands.tables user found n a.change.1 last in
-    let taken = subst (λ t. IsTaken users_tree (equals 1 (Text user)) t two.now.trees) a.change.0 b.change in
-    (record { schema = c.schema; listed = c.listed (b.listed (a.listed stands.listed)); tables = program_put old.now.trees two.now.trees new.now.trees before stands.tables user program n number taken c.change }, c.committed ∙ b.committed ∙ a.committed)
+    let taken = subst (λ t. IsTaken users_tree (equals 1 (Text user)) t two.now.trees) a.change.0 b.change in (
+      record { schema = c.schema; listed = c.listed (b.listed (a.listed stands.listed)); tables = program_put old.now.trees two.now.trees new.now.trees before stands.tables user program n number taken c.change },
+      c.committed ∙ b.committed ∙ a.committed,
+      same_verified old.now.trees new.now.trees (c.change.others.1.0 (λ h. absurd (omega (arith, h))) ∙ taken.others.1.0 (λ h. absurd (omega (arith, h)))),
+    )
 
 -- a program that was read
 no_program : (program : Option (List ℕ)) → or_null Blob program ≡ Null → program ≡ None

@@ -15,7 +15,7 @@ use Rattle.sqlite.specs.State.{State, KeepsCommit}
 use Rattle.part_store.specs.Tables.{store_schema, users_tree, contents_tree, entries_tree, equals}
 use Rattle.part_store.specs.Changes.{is_entry, IsTaken, Steps, IsTidied, IsTableIn}
 use Rattle.part_store.specs.Entries.{Entry, Entries, is_at, without_entry}
-use Rattle.part_store.specs.Standing.{IsUserRow, IsEntryRow, IsContentRow, HasContent, content_row, StandsFor, Stands, HaveOneRow}
+use Rattle.part_store.specs.Standing.{AddsVerified, IsUserRow, IsEntryRow, IsContentRow, HasContent, content_row, StandsFor, Stands, HaveOneRow}
 use Rattle.part_store.specs.Inside.{Brings, Stays}
 use Rattle.part_store.specs.Readings.{NamesDigest}
 use Rattle.part_store.proofs.Gaining.{filter_rises, keyed_all}
@@ -46,7 +46,7 @@ never_later user number x y es up h one other =
     omega (arith, low, eqb-true x.number number a.1, eqb-true y.number number b.1)
 
 -- a user has one row of a number
-same_row : (contents rows : List Row) (es : List Entry) (user : List ℕ) (number : ℕ) → AllZip (IsEntryRow contents) rows es → IsAscending Rises es → (r s : Row) → Has rows r → Has rows s
+pub same_row : (contents rows : List Row) (es : List Entry) (user : List ℕ) (number : ℕ) → AllZip (IsEntryRow contents) rows es → IsAscending Rises es → (r s : Row) → Has rows r → Has rows s
     → is_entry user number r ≡ true → is_entry user number s ≡ true → r ≡ s
 same_row contents [] es user number all up r s h k one other = absurd h
 same_row contents (a ∷ rows) [] user number all up r s h k one other = absurd all
@@ -160,11 +160,20 @@ entry_taken_out old one two new user number digest told stays commits takes tidi
     let names = told before stands in
     let contents = contents_left old.now.trees two.now.trees before user number digest stands.tables names gone in
     let listed = step.listed (still_listed old.now one.now same.0 same.1 stands) in
-    let tidied = tidies step.schema listed (subst (λ rows. IsTable rows × AllByRecursion (λ r. IsTrue (is_int (rowid r))) rows) (sym contents) (contents_table_in old before stands)) in
+    let keyed = subst (λ rows. IsTable rows × AllByRecursion (λ r. IsTrue (is_int (rowid r))) rows) (sym contents) (contents_table_in old before stands) in
+    let tidied = tidies step.schema listed keyed in
     let tables : StandsFor new.now.trees (without_entry user number before) = elim tidied.change [
       | inl shared ↦ subst (λ t. StandsFor t (without_entry user number before)) (sym shared.3) (shared_left old.now.trees two.now.trees before user number digest stands.tables names gone shared.0 shared.1
           (let was = has_filtered (λ r. not (is_entry user number r)) (old.now.trees entries_tree) shared.0 (subst (λ rows. Has rows shared.0) (rows_left old.now.trees two.now.trees before user number digest stands.tables names gone) shared.1) in
           named_blob old.now.trees before digest shared.0 stands.tables was.0 shared.2))
       | inr alone ↦ alone_left old.now.trees two.now.trees before user number digest stands.tables names gone new.now.trees alone.0 alone.1
     ] in
-    (record { schema = tidied.schema; listed = tidied.listed listed; tables = tables }, tidied.committed ∙ step.committed ∙ (commits stands.schema).committed step.was_open)
+    let verified : AddsVerified old.now.trees new.now.trees = λ d o h. inl (subst (λ rows. HasContent rows d o) contents (elim tidied.change [
+      | inl shared ↦ subst (λ (t : Trees). HasContent (t contents_tree) d o) shared.3 h
+      | inr alone ↦ (
+        h.0,
+        (has_filtered (λ r. not (equals 1 (Blob digest) r)) (two.now.trees contents_tree) (content_row h.0 d o)
+            (subst (λ rows. Has rows (content_row h.0 d o)) (alone.1.rows keyed.0 keyed.1) h.1)).0,
+      )
+    ])) in
+    (record { schema = tidied.schema; listed = tidied.listed listed; tables = tables }, tidied.committed ∙ step.committed ∙ (commits stands.schema).committed step.was_open, verified)

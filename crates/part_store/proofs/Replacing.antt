@@ -8,13 +8,14 @@ use Rattle.sqlite_rules.specs.Lists.{Has}
 use Rattle.sqlite.specs.declared.error.Error.{Error}
 use Rattle.sqlite.specs.State.{State, HasCleanDisk, KeepsCommit, Survives}
 use Rattle.sqlite.proofs.StateLemmas.{survives_then}
-use Rattle.part_store.specs.Tables.{store_schema, users_table, users_tree}
+use Rattle.part_store.specs.Tables.{store_schema, contents_tree, users_table, users_tree}
 use Rattle.part_store.specs.Entries.{Entries, UserProgram, program_named, with_program, with_programs}
 use Rattle.part_store.specs.Inside.{Brings, Stays}
-use Rattle.part_store.specs.Standing.{Stands, pair_of}
+use Rattle.part_store.specs.Standing.{AddsVerified, Stands, pair_of}
 use Rattle.part_store.specs.Refusals.{refusal_of, user_values, OnlyWhenFailedOrNoProgramRoom, OnlyWhenFailedOrNoUserRoom, IsTooBig, RunsOut}
 use Rattle.part_store.specs.Causes.{RisesFrom}
 use Rattle.part_store.proofs.Apart.{bytes_same, same_bytes}
+use Rattle.part_store.proofs.Digests.{same_verified, then_verified}
 use Rattle.part_store.proofs.Failing.{later_failed}
 use Rattle.part_store.proofs.Room.{ran_out, rises_after}
 use Rattle.part_store.proofs.Entering.{kept_then, stands_still}
@@ -77,7 +78,7 @@ replaced_more pairs pair old mid new so_far survives brings inside schema opened
       brought = λ clean before stands.
           let first = so_far.brought (early clean) before stands in
           let second = brings clean (with_programs pairs before) first.0 in
-          (subst (Stands new.now) (programs_push pairs pair before) second.0, second.1 ∙ first.1);
+          (subst (Stands new.now) (programs_push pairs pair before) second.0, second.1 ∙ first.1, then_verified old.now.trees mid.now.trees new.now.trees first.2 second.2);
       inside = λ clean has h. inside clean (so_far.schema (early clean) has) (so_far.inside (early clean) has h);
       schema = λ clean has. schema clean (so_far.schema (early clean) has);
       opened = λ clean some. so_far.stays_closed (early clean) (opened clean);
@@ -98,16 +99,25 @@ pairs_more programs place item user program lt is named code =
 
 -- ---- one of them
 
+still_verified : (old new : State) → Stays old new → old.now.schema ≡ store_schema → AddsVerified old.now.trees new.now.trees
+still_verified old new stays has = same_verified old.now.trees new.now.trees (ap (λ (t : Trees). t contents_tree) (stays has).1)
+
 pub replaced_one : (old mid new : State) (user program was : List ℕ) → ((before : Entries) → Stands old.now before → Some was ≡ before.programs user) → Stays old mid
     → (old.now.schema ≡ store_schema → KeepsCommit old mid) → (old.now.schema ≡ store_schema → IsTrue mid.is_open) → Brings (with_program user program) mid new → Brings (with_programs ((user, program) ∷ [])) old new
 replaced_one old mid new user program was told stays kept is_open brings before stands =
-    let second = brings before (stands_still old mid before stays stands) in
-    (subst (Stands new.now) (one_replaced user program was before (told before stands)) second.0, second.1 ∙ (kept stands.schema).committed (is_open stands.schema))
+    let second = brings before (stands_still old mid before stays stands) in (
+      subst (Stands new.now) (one_replaced user program was before (told before stands)) second.0,
+      second.1 ∙ (kept stands.schema).committed (is_open stands.schema),
+      then_verified old.now.trees mid.now.trees new.now.trees (still_verified old mid stays stands.schema) second.2,
+    )
 
 pub passed_over : (old new : State) (user program : List ℕ) → ((before : Entries) → Stands old.now before → None ≡ before.programs user) → Stays old new → (old.now.schema ≡ store_schema → KeepsCommit old new) → (old.now.schema ≡ store_schema → IsTrue new.is_open)
     → Brings (with_programs ((user, program) ∷ [])) old new
-passed_over old new user program told stays kept is_open before stands =
-    (subst (Stands new.now) (none_replaced user program before (told before stands)) (stands_still old new before stays stands), (kept stands.schema).committed (is_open stands.schema))
+passed_over old new user program told stays kept is_open before stands = (
+  subst (Stands new.now) (none_replaced user program before (told before stands)) (stands_still old new before stays stands),
+  (kept stands.schema).committed (is_open stands.schema),
+  still_verified old new stays stands.schema,
+)
 
 -- ---- what is refused
 

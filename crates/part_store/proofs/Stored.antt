@@ -11,7 +11,7 @@ use Rattle.sqlite.proofs.StateLemmas.{survives_then}
 use Rattle.part_store.specs.Tables.{store_schema}
 use Rattle.part_store.specs.Entries.{Entries}
 use Rattle.part_store.specs.Inside.{Brings}
-use Rattle.part_store.specs.Standing.{IsStored, MayMake, Stands}
+use Rattle.part_store.specs.Standing.{AddsVerified, IsStored, MayMake, Stands}
 
 -- the same trees list the same tables
 pub still_listed : {e : Entries} (old new : Database) → new.schema ≡ store_schema → new.trees ≡ old.trees → Stands old e → IsDatabase new
@@ -30,4 +30,9 @@ committed_change g old mid new change first is_open brings commits =
     survives_begin g old new _ (survives_then (state g (record old { in_transaction = true })) mid new (λ _. ⊥) (λ trees. trees ≡ mid.now.trees)
     (λ trees. IsTrue (state g old).is_open × MayMake change (state g old) trees) (λ clean trees none. absurd none)
     (λ clean trees is.
-    let early : HasCleanDisk mid = omega (arith, commits.clean) in (is_open early, λ before stands. stored_as trees mid.now (change before) is (brings early before stands).0)) first commits)
+    let early : HasCleanDisk mid = omega (arith, commits.clean) in (
+      is_open early,
+      λ before stands.
+          let brought = brings early before stands in
+          (stored_as trees mid.now (change before) is brought.0, subst (AddsVerified (state g (record old { in_transaction = true })).now.trees) (sym is) brought.2),
+    )) first commits)

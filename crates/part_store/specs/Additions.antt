@@ -11,7 +11,7 @@ use Rattle.sqlite_trees.specs.Tree.{Trees, IsTable}
 use Rattle.sqlite_value.specs.Order.{Row}
 use Rattle.part_store.specs.Entries.{Entry, Entries, Draft, numbered, with_last, with_entries}
 use Rattle.part_store.specs.Filing.{Collides, HasRoom}
-use Rattle.part_store.specs.Standing.{IsContentRow, HasContent, Stands}
+use Rattle.part_store.specs.Standing.{AddsVerified, IsContentRow, HasContent, Stands}
 use Rattle.part_store.specs.Tables.{users_tree, contents_tree, entries_tree, store_schema}
 use Rattle.part_store.specs.declared.adding.Adding.{Adding}
 use Rattle.part_store.specs.declared.adding.Adding.TheVariants.{From, NumberFull, Collision}
@@ -105,6 +105,7 @@ pub record Enters (user : List ℕ) (drafts : List Draft) (before : Entries) (ol
   pub stands : Stands new.now (with_entries user drafts before)
   pub committed : new.committed ≡ old.committed
   pub apart : Collides old.now.trees drafts → ⊥
+  pub verified : AddsVerified old.now.trees new.now.trees
 
 -- in a transaction: what adding the drafts comes to
 abbrev pub Adds : List ℕ → List Draft → State → State → Adding → Type 0
@@ -112,6 +113,7 @@ Adds user drafts old new (From first) =
     (before : Entries) → Stands old.now before
     → HasRoom before user (length drafts) × (first ≡ before.lasts user + 1) × (Collides old.now.trees drafts → ⊥)
     × Stands new.now (with_entries user drafts before) × (new.committed ≡ old.committed)
+    × AddsVerified old.now.trees new.now.trees
 Adds user drafts old new NumberFull = (before : Entries) → Stands old.now before
     → max_entry_number < before.lasts user + length drafts
 Adds user drafts old new Collision = (before : Entries) → Stands old.now before

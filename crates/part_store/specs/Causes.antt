@@ -4,7 +4,7 @@ use Rattle.sqlite.specs.Effect.{IsDatabase}
 use Rattle.sqlite.specs.State.{State}
 use Rattle.sqlite.specs.declared.error.Error.{Error}
 use Rattle.sqlite.specs.declared.error.Error.TheVariants.{SqliteFailure}
-use Rattle.sqlite.specs.declared.error.ErrorCode.TheVariants.{ConstraintViolation}
+use Rattle.sqlite.specs.declared.error.ErrorCode.TheVariants.{ConstraintViolation, DatabaseCorrupt}
 use Rattle.sqlite_rules.specs.Edit.{next_rowid, IsOversized}
 use Rattle.sqlite_rules.specs.Lists.{Has}
 use Rattle.sqlite_schema.specs.declared.schema.Constraint.TheVariants.{ForeignKey}
@@ -26,6 +26,10 @@ use Rattle.part_store.specs.declared.error.StoreError.TheVariants.{Database}
 -- the database's refusal to let a row go that another one names
 abbrev pub still_named : Error
 still_named = SqliteFailure (ConstraintViolation ForeignKey)
+
+-- the refusal of a content that doesn't have the digest that it is under
+abbrev pub content_altered : Error
+content_altered = SqliteFailure DatabaseCorrupt
 
 -- where there are the three tables, a statement is refused for no other cause
 abbrev pub Faults : State → State → Error → Type 0

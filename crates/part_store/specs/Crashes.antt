@@ -4,6 +4,7 @@ use Rattle.sqlite_disk.specs.declared.Disk.{Ghosts}
 use Rattle.sqlite_trees.specs.Tree.{Trees}
 use Rattle.sqlite_trees.specs.View.{IsClean}
 use Rattle.sqlite.specs.declared.FileStore.{FileStore}
+use Rattle.sqlite.specs.Effect.{IsDatabase}
 use Rattle.sqlite.specs.FileStore as store
 use Rattle.sqlite.specs.Files.{file_state, HoldsDatabase, IsCleanLeft, IsClosed}
 use Rattle.sqlite.specs.Held.{Held}
@@ -16,8 +17,9 @@ use Rattle.sqlite.specs.declared.file.Leftover.TheVariants as left
 use Rattle.sqlite_pool.specs.Stored.{is_summed}
 use Rattle.sqlite_store.specs.Unopened.{state_of}
 use Rattle.part_store.specs.Entries.{Entries}
-use Rattle.part_store.specs.Opening.{HoldsStore, IsFoundIn, IsUnopened, MakesEmpty}
+use Rattle.part_store.specs.Opening.{Holds, HoldsStore, IsFoundIn, IsUnopened, MakesEmpty}
 use Rattle.part_store.specs.Standing.{IsStored}
+use Rattle.part_store.specs.Tables.{store_schema}
 
 -- all that a crash may leave are stores of states
 abbrev pub LeavesStores : State → Type 0
@@ -50,6 +52,7 @@ module _ {D : Type 0} {g : Ghosts D} where
   pub record HoldsOneLeft (c : Held (FileStore D g)) (image : Image) : Type 0 where
     pub trees : Trees
     pub may : (file_state c).may_leave trees
+    pub same : IsDatabase (record { schema = store_schema; trees = trees }) → Holds image (record { schema = store_schema; trees = trees })
     pub holds : (e : Entries) → IsStored trees e → HoldsStore image e
 
   -- Whatever a crash leaves of the files of a store that stood for this state is that state's store

@@ -2,7 +2,7 @@
 use Rattle.std.specs.Prelude.{◌≡◌, IsTrue}
 use Rattle.sqlite.specs.State.{State, KeepsCommit}
 use Rattle.part_store.specs.Entries.{Entries}
-use Rattle.part_store.specs.Standing.{Stands}
+use Rattle.part_store.specs.Standing.{AddsVerified, Stands}
 use Rattle.part_store.specs.Tables.{store_schema}
 use Rattle.part_store.specs.declared.error.StoreError.{StoreError}
 
@@ -25,7 +25,7 @@ KeepsStored old new = old.now.schema ≡ store_schema → KeepsCommit old new
 -- within a transaction: what the tables stand for has changed so, and nothing is committed
 abbrev pub Brings : (Entries → Entries) → State → State → Type 0
 Brings change old new = (before : Entries) → Stands old.now before
-    → Stands new.now (change before) × (new.committed ≡ old.committed)
+    → Stands new.now (change before) × (new.committed ≡ old.committed) × AddsVerified old.now.trees new.now.trees
 
 -- in a transaction: the tables are read, and stay as they are
 abbrev pub Stays : State → State → Type 0

@@ -4,6 +4,7 @@ pub mod Standing
 pub mod Filing
 pub mod Refusals
 pub mod Sharing
+pub mod Verifying
 pub mod Calls
 pub mod Inside
 pub mod Access

@@ -119,6 +119,11 @@ abbrev pub TellsWhy : {D : Type 0} {g : Ghosts D} → Image → Result (Held (Fi
 TellsWhy image (Ok s) = ⊤
 TellsWhy {D} {g} image (Err why) = IsUnseen g image why
 
+-- the two files hold this database, as they read now and as a crash may leave them
+pub record KeepsDatabase {D : Type 0} (g : Ghosts D) (files : Files D) (d : Database) : Type 0 where
+  pub seen : Holds (image_of g files) d
+  pub left : (image : Image) → outcomes g files.log files.db image → Holds image d
+
 -- the two files hold the store of this state, as they read now and as a crash may leave them
 pub record KeepsStore {D : Type 0} (g : Ghosts D) (files : Files D) (e : Entries) : Type 0 where
   pub seen : HoldsStore (image_of g files) e

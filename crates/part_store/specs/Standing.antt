@@ -11,6 +11,7 @@ use Rattle.sqlite.specs.Values.{or_null}
 use Rattle.sqlite.specs.Effect.{Database, IsDatabase}
 use Rattle.sqlite.specs.State.{State}
 use Rattle.octets.specs.Limits.{max_entry_number}
+use Rattle.sha2.specs.Sha256.{sha256}
 use Rattle.part_store.specs.Tables.{store_schema, users_tree, contents_tree, entries_tree, equals}
 use Rattle.part_store.specs.declared.entry.Kind.{Kind}
 use Rattle.part_store.specs.declared.entry.Kind.TheVariants.{Message, Part}
@@ -89,9 +90,19 @@ pub record IsStored (trees : Trees) (e : Entries) : Type 0 where
   pub listed : IsDatabase (record { schema = store_schema; trees = trees })
   pub tables : StandsFor trees e
 
+-- each content has the digest that it is under
+abbrev pub HaveDigests : Trees → Type 0
+HaveDigests db = (digest octets : List ℕ) → HasContent (db contents_tree) digest octets → sha256 octets ≡ digest
+
+-- each content was there before, or has the digest that it is under
+abbrev pub AddsVerified : Trees → Trees → Type 0
+AddsVerified old new = (digest octets : List ℕ) → HasContent (new contents_tree) digest octets
+    → HasContent (old contents_tree) digest octets ⊎ (sha256 octets ≡ digest)
+
 -- what may be committed of a change: the store of what it makes of the state that was
 abbrev pub MayMake : (Entries → Entries) → State → Trees → Type 0
-MayMake change old trees = (before : Entries) → Stands old.now before → IsStored trees (change before)
+MayMake change old trees = (before : Entries) → Stands old.now before
+    → IsStored trees (change before) × AddsVerified old.now.trees trees
 
 -- the store was open and still is, and what it shows is committed
 abbrev pub IsSaved : State → State → Type 0
@@ -99,7 +110,8 @@ IsSaved old new = IsTrue old.is_open × IsTrue new.is_open × (new.committed ≡
 
 -- the same, once it is committed
 abbrev pub Makes : (Entries → Entries) → State → State → Type 0
-Makes change old new = IsSaved old new × ((before : Entries) → Stands old.now before → Stands new.now (change before))
+Makes change old new = IsSaved old new × ((before : Entries) → Stands old.now before
+    → Stands new.now (change before) × AddsVerified old.now.trees new.now.trees)
 
 -- the disk failed in the call
 abbrev pub DiskFailed : State → State → Type 0

@@ -1,4 +1,4 @@
-//! How entries are added: their numbers are claimed, and then each is filed.
+//! How entries are added: first their numbers are claimed, then each entry is filed.
 ghost use Rattle.std.specs.Prelude.{◌≡◌, ◌⊎◌, ◌+◌, ◌<◌, ◌≤◌, true, false, IsTrue, length, map};
 ghost use Rattle.octets.specs.Limits.{max_entry_number};
 ghost use Rattle.part_store.specs.Access.{InTransaction};
@@ -20,18 +20,28 @@ use crate::shared::{Shared, digest_at};
 use crate::users;
 use sqlite::{Alter, Error, Transaction};
 
-/// What adding entries comes to.
+/// The result of adding entries.
 #[derive(Drop)]
 pub(crate) enum Adding {
-    /// They have the numbers from this one on.
+    /// They were added and have the numbers from this one on.
     From(u32),
-    /// The numbers that are left don't suffice.
+    /// The user has too few numbers left.
     NumberFull,
-    /// Other octets are under the digest of one.
+    /// Different bytes are stored under the digest of one of them.
     Collision,
 }
 
-/// Adds the entries under the user's next numbers. What was written before an answer other than `From` has to be rolled back.
+/// Adds the entries under the user's next numbers. After any result except `From`, what was written has to be rolled
+/// back.
+///
+/// # Requires
+///
+/// - There is at least one entry.
+/// - What `shared` says is true: if it names an earlier place for an entry, the entry at that place has the same bytes.
+///
+/// # Errors
+///
+/// The database's error: it fails, or has no room for an entry, its content or the user's row.
 pub(crate) fn put_entries<S: Alter>(
     tx: &mut Transaction<'_, S>,
     user: &str,
@@ -61,8 +71,15 @@ pub(crate) fn put_entries<S: Alter>(
     }
 }
 
-/// Files the entries under the numbers after a user's last one, which is then that of the last entry. `is_known` tells whether he has
-/// a row. Answers false where other octets are under the digest of one.
+/// Files the entries under the numbers after the user's last one, and makes the number of the last entry the user's
+/// last one. `is_known` says whether the user has a row. Returns false if different bytes are stored under the digest
+/// of an entry.
+///
+/// # Requires
+///
+/// - There is at least one entry.
+/// - What `shared` says is true.
+/// - The numbers suffice: `last + length entries` is at most 4,294,967,295.
 fn claim_and_file<S: Alter>(
     tx: &mut Transaction<'_, S>,
     user: &str,
@@ -101,7 +118,7 @@ fn claim_and_file<S: Alter>(
     file_all(tx, user, last, entries, shared)
 }
 
-/// A user's last number, and whether he has a row.
+/// A user's last number, and whether the user has a row.
 fn last_of<S: Alter>(tx: &mut Transaction<'_, S>, user: &str) -> Result<(u32, bool), Error>
     ensures same_reference { tx.new.conn.ghost_name ≡ tx.old.conn.ghost_name }
     ensures answer { IfDone S.Store tx.old.conn.now tx.new.conn.now result
@@ -118,7 +135,7 @@ fn last_of<S: Alter>(tx: &mut Transaction<'_, S>, user: &str) -> Result<(u32, bo
     }
 }
 
-/// Gives a user another last number. Who has no row gets one.
+/// Gives a user another last number. A user without a row gets one.
 fn claim<S: Alter>(
     tx: &mut Transaction<'_, S>,
     user: &str,
@@ -149,8 +166,14 @@ fn claim<S: Alter>(
     }
 }
 
-/// Files the entries under the numbers after a user's last one. Answers false where other octets are under the digest of one. A
-/// content that an earlier entry shares is neither hashed nor looked up again.
+/// Files the entries under the numbers after the user's last one. Returns false if different bytes are stored under the
+/// digest of an entry. A content that an earlier entry has is neither hashed nor looked up again.
+///
+/// # Requires
+///
+/// - There is at least one entry.
+/// - What `shared` says is true.
+/// - The numbers suffice: `last + length entries` is at most 4,294,967,295.
 fn file_all<S: Alter>(
     tx: &mut Transaction<'_, S>,
     user: &str,

@@ -1,24 +1,43 @@
-//! The table of contents: the octets of each digest.
+//! The table of contents: the bytes stored under each digest. Each function runs one statement, and its error is the
+//! database's.
 //!
-//! A removal lets the database find whether another entry has the content: it deletes the content's row at once, and
-//! if the foreign key refuses that, an entry still names it, and everything stays as it was. A search of our own
+//! A removal lets the database find out whether another entry has the content: it deletes the content's row at once,
+//! and if the foreign key refuses that, an entry still names it, and everything stays as it was. A search of our own
 //! would read every entry a second time.
-ghost use Rattle.std.specs.Prelude.{◌≡◌, ◌≢◌, [], ◌∷◌, IfErr, OnOk};
+ghost use Rattle.std.specs.Prelude.{◌≡◌, ◌≢◌, [], ◌∷◌, true, false, IfErr, OnOk};
+ghost use Rattle.sha2.specs.Sha256.{sha256};
 ghost use Rattle.sqlite_value.specs.declared.value.Value.TheVariants.{Blob};
 ghost use Rattle.sqlite.specs.Effect.{IsDatabase};
 ghost use Rattle.sqlite.specs.State.{KeepsCommit};
 ghost use Rattle.part_store.specs.Changes.{Steps, Reads, IsFound, IsAdded, IsListed, every, columns, length_at, sized, IsTidied, IsTableIn};
 ghost use Rattle.part_store.specs.Tables.{contents_tree, equals, contents_table, store_schema};
 ghost use Rattle.part_store.specs.Refusals.{content_values};
-ghost use Rattle.part_store.specs.Causes.{AddFaults, HasNoContent, WriteFaults, still_named};
+ghost use Rattle.part_store.specs.Causes.{AddFaults, HasNoContent, WriteFaults, content_altered, still_named};
 ghost use Rattle.part_store.specs.Asking.{AsksTables};
 ghost use Rattle.part_store.specs.Calls.{Always, CommitsNothing, IfDone, IfRefused, OnDone, OnRefused};
 ghost use Rattle.part_store.specs.Inside.{IsInside};
 
 use crate::users::first_of;
+use sha2::{Digest, Sha256};
 use sqlite::{Alter, Constraint, Error, ErrorCode, Row, Transaction, params};
 
-/// The octets under a digest.
+/// Whether bytes have this digest.
+pub(crate) fn has_digest(octets: &[u8], digest: &[u8]) -> bool
+    ensures is { result ≡ true → sha256 octets.now ≡ digest.now }
+    ensures other { result ≡ false → sha256 octets.now ≢ digest.now }
+{
+    let own = Sha256::digest(octets);
+    own.as_slice() == digest
+}
+
+/// The error for a content that doesn't have the digest that it is stored under.
+pub(crate) fn altered() -> Error
+    ensures { result ≡ content_altered }
+{
+    Error::SqliteFailure(ErrorCode::DatabaseCorrupt)
+}
+
+/// The bytes under a digest.
 pub(crate) fn find<S: Alter>(
     tx: &mut Transaction<'_, S>,
     digest: &[u8],
@@ -36,7 +55,7 @@ pub(crate) fn find<S: Alter>(
     Ok(first_of(rows))
 }
 
-/// How many octets are under a digest.
+/// The number of bytes under a digest.
 pub(crate) fn size<S: Alter>(
     tx: &mut Transaction<'_, S>,
     digest: &[u8],
@@ -54,7 +73,7 @@ pub(crate) fn size<S: Alter>(
     Ok(first_of(rows))
 }
 
-/// Each digest and how many octets are under it.
+/// Each digest and the number of bytes under it.
 pub(crate) fn list<S: Alter>(tx: &mut Transaction<'_, S>) -> Result<Vec<Row>, Error>
     ensures same_reference { tx.new.conn.ghost_name ≡ tx.old.conn.ghost_name }
     ensures step { IfDone S.Store tx.old.conn.now tx.new.conn.now result
@@ -67,7 +86,7 @@ pub(crate) fn list<S: Alter>(tx: &mut Transaction<'_, S>) -> Result<Vec<Row>, Er
     )
 }
 
-/// Puts octets in under a digest.
+/// Stores bytes under a digest.
 pub(crate) fn add<S: Alter>(
     tx: &mut Transaction<'_, S>,
     digest: &[u8],
@@ -89,8 +108,8 @@ pub(crate) fn add<S: Alter>(
     )
 }
 
-/// Takes out what is under a digest, unless an entry names it. The database finds that out itself, as it looks for entries whose
-/// content would be gone.
+/// Removes what is under a digest, unless an entry names it. The database finds this out itself, because it looks for
+/// entries whose content would be missing.
 pub(crate) fn remove_unnamed<S: Alter>(
     tx: &mut Transaction<'_, S>,
     digest: &[u8],
@@ -110,7 +129,7 @@ pub(crate) fn remove_unnamed<S: Alter>(
     }
 }
 
-/// Nothing where a row is refused to go because another one names it, and else the error.
+/// Ok if a row wasn't removed because another row names it; otherwise the error.
 fn unless_named(error: Error) -> Result<(), Error>
     ensures named { OnOk result (error ≡ still_named) }
     ensures other { IfErr result (λ e. (e ≡ error) × (error ≢ still_named)) }

@@ -1,4 +1,5 @@
-//! The table of entries.
+//! The table of entries, and the statements that read and change it. Each function runs one statement, and its error is
+//! the database's.
 ghost use Rattle.std.specs.Prelude.{◌≡◌, [], ◌∷◌, pos, IfErr};
 ghost use Rattle.sqlite_value.specs.declared.value.Value.TheVariants.{Int, Text, Blob};
 ghost use Rattle.sqlite.specs.State.{KeepsCommit};
@@ -12,7 +13,7 @@ ghost use Rattle.part_store.specs.Inside.{IsInside};
 use crate::users::first_of;
 use sqlite::{Alter, Error, Row, Transaction, params};
 
-/// A user's entries by their numbers.
+/// A user's entries, in the order of their numbers.
 pub(crate) fn list<S: Alter>(tx: &mut Transaction<'_, S>, user: &str) -> Result<Vec<Row>, Error>
     ensures same_reference { tx.new.conn.ghost_name ≡ tx.old.conn.ghost_name }
     ensures step { IfDone S.Store tx.old.conn.now tx.new.conn.now result
@@ -27,7 +28,7 @@ pub(crate) fn list<S: Alter>(tx: &mut Transaction<'_, S>, user: &str) -> Result<
     )
 }
 
-/// The digest of a user's entry.
+/// The digest of a user's entry, if there is such an entry.
 pub(crate) fn find<S: Alter>(
     tx: &mut Transaction<'_, S>,
     user: &str,

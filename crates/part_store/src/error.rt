@@ -1,4 +1,4 @@
-// Why a call of the store is refused.
+// The errors of the store's calls.
 ghost use Rattle.std.specs.Prelude.{◌≡◌};
 ghost use Rattle.part_store.specs.declared.error.StoreError.TheVariants.{Memory};
 ghost use Rattle.part_store.specs.Refusals.{refusal_of};
@@ -7,22 +7,23 @@ use sqlite::ErrorCode;
 use std::alloc::{AllocError, AllocFailed};
 use thiserror::Error;
 
-/// Why a call of the store is refused.
+/// Why a call of the store failed. Each contract names the cases that its call can return; `depot_actions` turns them
+/// into refusals of the same name.
 #[derive(Clone, Copy, Debug, PartialEq, Eq, Drop, Error)]
 pub enum StoreError {
-    /// An allocation was refused, here or in the database.
+    /// Memory was refused, here or in the database.
     #[error("an allocation was refused")]
     Memory,
-    /// The user has no entry of that number.
+    /// The user has no entry with that number.
     #[error("the user has no entry of that number")]
     NoSuchEntry,
-    /// The numbers that are left don't suffice.
+    /// The user has too few numbers left for the new entries: the last one is 4,294,967,295.
     #[error("the numbers that are left don't suffice")]
     NumberFull,
-    /// Another content has the same digest and other octets.
+    /// Another content has the same SHA-256 digest and different bytes.
     #[error("another content has the same digest")]
     Collision,
-    /// The database refused or failed.
+    /// The database refused the call or failed, or the bytes of an entry were altered.
     #[error("the database refused or failed")]
     Database,
 }

@@ -1,8 +1,8 @@
 //! How entries are filed.
 //!
-//! Other bytes under a digest are found while the entries are filed, each compared in its row, and the transaction
-//! is given up, so nothing of the delivery is left. So each digest is made once. If the tables have no room for an
-//! earlier row, the answer is `Database`.
+//! Different bytes under a digest are found while the entries are filed: each content is compared in its row. Then the
+//! transaction is given up, so nothing of the delivery is left. So each digest is made once. If the tables have no room
+//! for an earlier row, the answer is `Database`.
 ghost use Rattle.std.specs.Prelude.{◌≡◌, ◌≢◌, ◌⊎◌, ◌<◌, ℕ, List, length, true, false, IsTrue, IfOk, IfErr};
 ghost use Rattle.sqlite_value.specs.declared.value.Value.TheVariants.{Blob};
 ghost use Rattle.sqlite_value.specs.Order.{column};
@@ -23,7 +23,7 @@ use crate::{contents, entries};
 use sqlite::{Alter, Error, Row, Transaction};
 use sqlite_value::value::ValueRef;
 
-/// Whether what a row begins with is these octets. They are compared where they lie.
+/// Whether the first column of a row holds these bytes. They are compared in place.
 fn are_these(row: &Row, octets: &[u8]) -> Result<bool, Error>
     ensures same { IfOk result (λ done. done ≡ true → column row.now 0 ≡ Blob octets.now) }
     ensures other { IfOk result (λ done. done ≡ false
@@ -37,8 +37,8 @@ fn are_these(row: &Row, octets: &[u8]) -> Result<bool, Error>
     }
 }
 
-/// Puts octets under their digest where nothing is under it yet. Answers whether they are what is under it now. Nothing is looked
-/// up where they are known to be there.
+/// Stores bytes under their digest if nothing is there. Returns whether the bytes under the digest are these now. If
+/// `is_there` says that these bytes are already stored, nothing is looked up.
 fn stock<S: Alter>(
     tx: &mut Transaction<'_, S>,
     digest: &[u8],
@@ -84,8 +84,12 @@ fn kind_number(kind: Kind) -> u32
     }
 }
 
-/// Files one entry, whose octets have this digest, under a number. Answers false where other octets are under the digest. Its octets
-/// aren't looked up where they are known to be there.
+/// Files one entry under a number. Returns false if different bytes are stored under the digest. If `is_there` says
+/// that the entry's bytes are already stored, they aren't looked up.
+///
+/// # Requires
+///
+/// `digest` is the SHA-256 digest of the entry's bytes.
 pub(crate) fn file_entry<S: Alter>(
     tx: &mut Transaction<'_, S>,
     user: &str,

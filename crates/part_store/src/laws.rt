@@ -1,19 +1,21 @@
 //! What a crash leaves is what the next open finds.
 //!
-//! A crash is a disk that fails from some call on, so what it may leave in the midst of a call is
-//! what it may leave once that call has ended. Each call says by `survives` which stores these are,
-//! and `open_from` opens files by what they hold.
+//! A crash is a disk that fails from some call on, so what a crash can leave in the middle of a call is what it can
+//! leave once that call has ended. Each call says in `survives` which stores these are, and `open_from` opens files by
+//! what they hold.
 ghost use Rattle.std.specs.Prelude.{◌≡◌, ◌⊎◌, IsTrue};
+ghost use Rattle.sqlite.specs.Effect.{Database};
 ghost use Rattle.sqlite.specs.Files.{file_state};
 ghost use Rattle.sqlite.specs.FileStore.{view};
 ghost use Rattle.sqlite.specs.Held.{Held, state};
 ghost use Rattle.sqlite.specs.Recovery.{Image};
 ghost use Rattle.sqlite.specs.State.{HasCleanDisk, Survives};
+ghost use Rattle.sqlite_trees.specs.Tree.{Trees};
 ghost use Rattle.sqlite_trees.specs.View.{IsClean};
 ghost use Rattle.part_store.specs.Crashes.{HasNumberedTrees, HoldsOneLeft, IsCutOff, IsRefusedOpen, LeavesStores, MayLeaveClosing, MayLeaveFiles};
-ghost use Rattle.part_store.specs.Entries.{Entries};
-ghost use Rattle.part_store.specs.Opening.{HasOtherTables, HoldsState, HoldsStore, IsAt, IsFoundIn};
-ghost use Rattle.part_store.specs.Standing.{MayMake, Stands, StandsFor};
+ghost use Rattle.part_store.specs.Entries.{Entries, no_entries};
+ghost use Rattle.part_store.specs.Opening.{HasOtherTables, Holds, HoldsState, HoldsStore, IsAt, IsFoundIn, IsReadyFrom};
+ghost use Rattle.part_store.specs.Standing.{AddsVerified, HaveDigests, MayMake, Stands, StandsFor};
 ghost use Rattle.part_store.specs.Tables.{store_schema};
 
 use crate::store::PartStore;
@@ -21,8 +23,8 @@ use crate::within::know_connection;
 use sqlite::{Alter, Connection, FileStore};
 use sqlite_disk::Disk;
 
-/// An open store lists its tables. So where it has the three tables, it holds each state that they
-/// stand for. Gives its connection.
+/// An open store lists its tables. So if it has the three tables, it holds each state that they represent. Returns the
+/// store's connection.
 pub fn open_stores_list_their_tables<S: Alter>(store: PartStore<S>) -> Connection<S>
     ensures same { result ≡ store }
     ensures listed { (e : Entries) → IsTrue (state S.Store store).is_open
@@ -34,9 +36,9 @@ pub fn open_stores_list_their_tables<S: Alter>(store: PartStore<S>) -> Connectio
     conn
 }
 
-/// Where all that a crash may leave are stores, the two files hold one of them after it, however
-/// far a call got. So too after a close that failed or that a crash cut off, also of a store that a
-/// failure had shut.
+/// If the trees are numbered ([`trees_are_numbered`]) and everything that a crash can leave is a store, the two files
+/// hold one of these stores after a crash, however far a call got. The same holds after a close that failed or that a
+/// crash cut off, also for a store that a failure had shut.
 pub fn each_image_holds_one_left<D: Disk + Drop>()
     ensures called { (c : Held (FileStore D D.Disk)) → HasNumberedTrees c
         → LeavesStores (file_state c) → (image : Image) → MayLeaveFiles c image
@@ -45,8 +47,8 @@ pub fn each_image_holds_one_left<D: Disk + Drop>()
         → ∥ HoldsOneLeft c image ∥₁ }
 {}
 
-/// A crash in a call that may commit one change leaves the two files with the store of what was, or
-/// of what the change makes of it.
+/// A crash during a call that commits at most one change leaves the two files with the store before the change or after
+/// it. The premises are that the disk is clean and that the trees are numbered ([`trees_are_numbered`]).
 pub fn calls_leave_what_was_or_is<D: Disk + Drop>()
     ensures { (change : Entries → Entries) (before : Entries) (old new : Held (FileStore D D.Disk))
         → IsAt before (file_state old) → HasCleanDisk (file_state new) → HasNumberedTrees new
@@ -55,34 +57,48 @@ pub fn calls_leave_what_was_or_is<D: Disk + Drop>()
         → ∥ HoldsStore image before ⊎ HoldsStore image (change before) ∥₁ }
 {}
 
-/// Files that hold a store aren't told to have other tables (`look_from`), where their disk is
-/// clean.
+/// Contents keep their digests. The empty store has no content. A call adds contents only under their digests
+/// (`AddsVerified`, in what each call makes and in what a crash can leave of it), so if each content of a store had its
+/// digest before, each has it afterwards. A store that is opened has the contents that its files held, whether it is
+/// opened or looked at.
+pub fn contents_keep_their_digests<D: Disk + Drop>()
+    ensures empty { (db : Trees) → StandsFor db no_entries → HaveDigests db }
+    ensures changed { (old new : Trees) → AddsVerified old new → HaveDigests old → HaveDigests new }
+    ensures opened { (image : Image) (d : Database) (now : Held (FileStore D D.Disk))
+        → d.schema ≡ store_schema → Holds image d → IsReadyFrom image now
+        → HasCleanDisk (file_state now) → (file_state now).now ≡ d }
+    ensures looked { (image : Image) (d : Database) (found : Held (FileStore D D.Disk))
+        → Holds image d → IsFoundIn image found → HasCleanDisk (file_state found)
+        → (file_state found).now ≡ d }
+{}
+
+/// If the disk is clean, files that hold a store are never reported to have other tables (`look_from`).
 pub fn stores_are_not_told_as_others<D: Disk + Drop>()
     ensures { (image : Image) (held : Entries) (found : Held (FileStore D D.Disk))
         → HoldsStore image held → IsFoundIn image found → HasCleanDisk (file_state found)
         → HasOtherTables (file_state found) → ⊥ }
 {}
 
-/// What a store stands on, with what isn't committed rolled back. Where its disk is clean the trees
-/// are numbered.
+/// The storage below a store, with everything that isn't committed rolled back. If its disk is clean, the trees are
+/// numbered.
 fn stood_on<S: Alter + Drop>(store: PartStore<S>) -> S
     ensures { IsClean (S.Store.view result) → IsTrue (S.Store.view store.store).is_numbered }
 {
     store.release().into_store()
 }
 
-/// A store over files whose disk is clean has numbered trees. Gives what the store stands on, with
-/// what isn't committed rolled back.
+/// A store over files whose disk is clean has numbered trees. Returns the storage below the store, with everything that
+/// isn't committed rolled back.
 pub fn trees_are_numbered<D: Disk + Drop>(store: PartStore<FileStore<D>>) -> FileStore<D>
     ensures { IsClean (view result) → HasNumberedTrees store }
 {
     stood_on(store)
 }
 
-/// An open that comes to nothing leaves files that stand for the same state, where they held its
-/// store and where they held no tables yet: one that the database refused, however far it got and
-/// also after a crash, where what they hold has no sums; and one that a crash cut off before the
-/// first command, also while the tables were made.
+/// An open that fails leaves files that represent the same state, if they held its store or no tables, and if the
+/// database in them has no checksums at the ends of its pages or a crash cut the open off before the first command. An
+/// open that the database refused may have got however far, also up to a crash; one that was cut off may have been
+/// making the tables. No database that was made here has such checksums.
 pub fn refused_opens_leave_the_state<D: Disk + Drop>()
     ensures refused { (image other : Image) → IsRefusedOpen D.Disk image other
         → (held : Entries) → HoldsState image held → ∥ HoldsState other held ∥₁ }

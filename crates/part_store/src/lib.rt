@@ -1,10 +1,122 @@
 //! The store of the depot: entries, programs and last numbers in three tables of one SQLite database.
 //!
-//! What the store holds is in `specs/Entries`, which has no digest, and how the tables stand for it in `specs/Standing`.
-//! Each call of [`PartStore`] is one transaction: its step on what the tables stand for, or a refusal that leaves them as
-//! they were. Entries of several users are added in one by [`begin`] and [`add_within`]. A step that is done is committed, and
-//! the store is open. Only a fault of the disk shuts a store, which then does nothing more; what its files hold is what the
-//! calls say of a crash. Octets are kept once under their SHA-256, and as long as an entry names them.
+//! `specs/Entries` defines what the store holds, without digests, and `specs/Standing` how the tables represent it.
+//! Each call of [`PartStore`] is one transaction: its step on the state that the tables represent, or a refusal that
+//! leaves the state as it was. [`begin`] and [`add_within`] add entries of several users in one transaction. A step
+//! that is done is committed, and the store is open. Only a failure of the disk shuts a store, which then does nothing
+//! more; its files then hold what the calls promise for a crash. Octets are kept once under their SHA-256, as long as
+//! an entry names them.
+//!
+//! An open that is refused `43 Database` has no cause in a clause: the kit gives none if the system refuses, so a
+//! clause that allowed for it would allow for every refusal. A store that a fault of the disk has shut shows nothing,
+//! and each later call is refused: the clauses of `sqlite` speak of the tables only while the connection is open. So a
+//! command that only reads can be answered, and the store be shut after it. After a writer that was refused and shut
+//! the store, the file holds the state before or after.
+//!
+//! Of the crates within `sqlite`, code names three: `sqlite_value` (values), `sqlite_schema` (the schema) and
+//! `sqlite_disk` (the trait `Disk`, in contracts about stores over two files; only tests use its disks `Memory`, `Fuse`
+//! and `Crash`).
+//!
+//! # Promises
+//!
+//! ## The store
+//!
+//! ### Calls of the store
+//!
+//! The store's tables represent a state of programs, entries and last numbers. If the disk returns what was written,
+//! `set_program`, `replace_programs`, `add_entries`, `add_sharing_entries` and `remove_entry` are exactly their steps
+//! on it, committed once, and `program_of`, `programs`, `users`, `contents`, `entries_of` and `bytes_of` give exactly
+//! what is there.
+//!
+//! ### Open stores and transactions
+//!
+//! A call that succeeds found the store open; a writer leaves it open, with its step committed. No call leaves a
+//! transaction open. Within an open one, `program_within` and `add_within` give and do the same and commit nothing.
+//!
+//! ### What the store refuses
+//!
+//! Only an open store refuses `NumberFull`, `Collision` and `NoSuchEntry`, and only for their cause, and no call with
+//! such a cause succeeds. A collision is found by comparing bytes, not digests. A refusal leaves the tables and the
+//! last commit as they were. Only a failure of the disk shuts a store, and it stays shut.
+//!
+//! ### When the database refuses
+//!
+//! A call is refused `Database` only if the disk failed in it, an earlier failure had shut the store, or the
+//! connection has a limit on steps. For a call that adds or replaces rows there are two more causes: a table has no
+//! rowid left, or a row, or its key in an index, is more than the database can store; for `add_entries` these count
+//! only if the numbers suffice. For `bytes_of` there is one more cause: the bytes were altered. For `programs` and
+//! `users` this holds if users' names are UTF-8. `contents` is also refused if there are 2^64 bytes or more.
+//!
+//! ### Bytes that are read have their digest
+//!
+//! `bytes_of` returns only bytes whose SHA-256 is the digest that they are stored under, whatever rows the store's three
+//! tables have, if the disk returned what was written. If they were altered (they don't have it, or nothing is stored
+//! under the digest), it is refused `Database`, and nothing changes. Calls add contents only under their digests, also
+//! in what a crash leaves, and the empty store has none (`contents_keep_their_digests`). So if each content of a store has its digest, each has it after any
+//! calls, and no read is refused for this. A store is opened with the contents that its files held, and closed into
+//! files that hold the same ones (clause `same` of `close_files`).
+//!
+//! ### A crash in a call of the store
+//!
+//! A crash leaves what it could have left before the call, or the state after it. A call that finds the store shut
+//! commits nothing; `replace_programs` promises that only if its list isn't empty.
+//!
+//! ### Taking a connection
+//!
+//! A connection that has tables is taken as it is. If it has none, the tables of the empty state are made and
+//! committed, or the connection is refused. A refused one that is still open is as it was. If a failure shut it in the
+//! call, a crash leaves what it could have left before, or these tables; one that was shut before commits nothing. No
+//! connection is taken inside of a transaction.
+//!
+//! By `PartStore`: `set_program`, `replace_programs`, `add_entries`, `add_sharing_entries`, `remove_entry`,
+//! `program_of`, `programs`, `users`, `contents`, `entries_of`, `bytes_of`, `adopt`, `in_memory`, `release`; and
+//! `begin`, `program_within`, `add_within`; laws `open_stores_list_their_tables`, `calls_leave_what_was_or_is`,
+//! `contents_keep_their_digests`.
+//!
+//! ## Connections that are taken as they are
+//!
+//! A connection is taken as it is, with nothing read or written, if it is in no transaction and has tables of the
+//! names of a store's with as many columns, and otherwise returned. Outside of transactions a connection with the
+//! tables of a store is never returned.
+//!
+//! By `PartStore::adopt_as_is`, `PartStore::look`; law `stores_are_not_told_as_others`.
+//!
+//! ## The files of a store
+//!
+//! ### Opening files
+//!
+//! If a file and its log held a store, the opened store has that state, committed. If they held no tables, or what an
+//! open that was cut off left half made, it has the empty state. A connection that has tables and is in no transaction
+//! is never refused (`adopt`), and a refused one stays out of a transaction.
+//!
+//! ### Why a file isn't opened
+//!
+//! No contract says why opening a store fails with `Database`, because failures of the operating system are not
+//! modelled. A file that is looked at is reported as damaged, or as on a disk that failed, only if the database's open
+//! said so of files that it had, and as having other tables only if it found others (clause `cause` of `look_from`).
+//! Files that hold a store aren't reported as having others (`stores_are_not_told_as_others`).
+//!
+//! ### Closing files
+//!
+//! A store that is closed leaves files that hold its state, as they read and as a crash can leave them; so the next
+//! open finds it.
+//!
+//! ### If closing or opening fails
+//!
+//! A close that fails or that a crash cuts off leaves the same store (clause `survives` of `close_files`). A close of a
+//! store that a failure had shut leaves what a crash could have left (`each_image_holds_one_left`). If an open is
+//! refused `Database` and the files are still there, they hold what they held, however far it got, provided that they
+//! have no checksums; files that `depot` makes have none, but no clause says so. If a crash cuts an open off before
+//! the first command, they hold what they held, too (`refused_opens_leave_the_state`).
+//!
+//! ### What is left of a premise
+//!
+//! What a crash leaves of a store that isn't closed, or whose close failed, is promised under one premise: its trees
+//! are numbered. The proofs of the database's crate show this, but no contract of it says so. Nothing is promised of an
+//! open that is refused `Memory`, or that leaves no files.
+//!
+//! By `PartStore::open_from`, `look_from`, `adopt`, `close_files`; laws `each_image_holds_one_left`,
+//! `trees_are_numbered`, `refused_opens_leave_the_state`, `stores_are_not_told_as_others`.
 #![tactic(auto)]
 
 mod adding;
@@ -30,7 +142,7 @@ pub use entry::{EntryRow, Kind, NewEntry};
 pub use error::StoreError;
 pub use looking::Unopened;
 pub use shared::Shared;
-pub use store::PartStore;
+pub use store::{Again, PartStore};
 pub use totals::ContentTotal;
 pub use user_row::UserRow;
 pub use within::{add_within, begin, program_within};

@@ -1,7 +1,7 @@
 //! How a user's entries are listed.
 //!
-//! `list` asks for each entry's length by a statement of its own. A join of both tables would be one statement; what
-//! is proved of statements here is about one table.
+//! `list` asks for each entry's length with a statement of its own. A join of both tables would be one statement, but
+//! what is proved about statements here is about one table.
 ghost use Rattle.std.specs.Prelude.{◌≡◌, ◌⊎◌, ◌≤◌, ℕ, pos, List, length, map, IfOk, IfErr};
 ghost use Rattle.sqlite_value.specs.declared.value.Value.TheVariants.{Int};
 ghost use Rattle.sqlite_value.specs.Order.{column};
@@ -22,7 +22,7 @@ use crate::error::StoreError;
 use crate::{contents, entries};
 use sqlite::{Alter, Error, Row, Transaction};
 
-/// What a row of the answer to a listing shows, and the digest of the entry's octets.
+/// What a row of the answer to a listing shows, with the digest of the entry's bytes.
 #[derive(Drop)]
 struct Parts {
     number: u32,
@@ -60,7 +60,7 @@ fn kind_of(row: &Row) -> Result<Kind, Error>
     })
 }
 
-/// How many octets are under a digest that an entry names.
+/// The number of bytes under a digest that an entry names.
 fn size_of<S: Alter>(tx: &mut Transaction<'_, S>, digest: &[u8]) -> Result<u64, Error>
     ensures same_reference { tx.new.conn.ghost_name ≡ tx.old.conn.ghost_name }
     ensures answer { IfDone S.Store tx.old.conn.now tx.new.conn.now result
@@ -111,7 +111,7 @@ fn read_row<S: Alter>(tx: &mut Transaction<'_, S>, row: &Row) -> Result<EntryRow
     })
 }
 
-/// A user's entries by their numbers.
+/// A user's entries, in the order of their numbers.
 pub(crate) fn list_all<S: Alter>(
     tx: &mut Transaction<'_, S>,
     user: &str,

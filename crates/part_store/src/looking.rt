@@ -1,4 +1,4 @@
-//! How a database is taken as it is.
+//! How a database is opened as it is, without making tables.
 ghost use Rattle.std.specs.Prelude.{◌≡◌};
 ghost use Rattle.part_store.specs.Looking.{are_tables, is_table, three_tables, unopened_of};
 ghost use Rattle.part_store.specs.Unmade.{refusal_to_open, unmade_of};
@@ -8,22 +8,22 @@ use sqlite::ErrorCode;
 use sqlite_schema::schema::{Schema, Table};
 use thiserror::Error;
 
-/// Why a file isn't opened as a store.
+/// Why a file isn't opened as a store. [`crate::PartStore::look`] returns it, and `depot inspect` reports it.
 #[derive(Clone, Copy, Debug, PartialEq, Eq, Drop, Error)]
 pub enum Unopened {
-    /// An allocation was refused, here or in the database.
+    /// Memory was refused, here or in the database.
     #[error("an allocation was refused")]
     Memory,
-    /// Another process, or another store of this one, has the file open.
+    /// Another process, or another store of this process, has the file open.
     #[error("another process holds it")]
     Held,
-    /// The files can't be opened for reading and writing, or something else has the name of one.
+    /// The files can't be opened for reading and writing, or one of their names belongs to something that isn't a file.
     #[error("it can't be opened")]
     Closed,
     /// The file holds no database, or a damaged one.
     #[error("it is no database, or a damaged one")]
     Damaged,
-    /// The database has other tables than a store, or none.
+    /// The database doesn't have exactly the tables of a store, or has none.
     #[error("it has other tables, or none")]
     OtherTables,
     /// The disk failed.
@@ -70,7 +70,7 @@ impl From<Unopened> for StoreError {
     }
 }
 
-/// Whether a database has tables of the names of a store's, with as many columns.
+/// Whether the tables of a database have the names of a store's tables, and as many columns.
 pub(crate) fn has_tables(schema: &Schema) -> bool
     ensures { result ≡ are_tables schema.now.tables }
 {

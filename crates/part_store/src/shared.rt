@@ -6,7 +6,9 @@ ghost use Rattle.part_store.specs.Sharing.{first_of, octets_at};
 
 use sha2::{Digest, Sha256};
 
-/// What is known of the content of an entry in a list: the first entry that has it, and, once that one is filed, its digest.
+/// What is known about the content of one entry in a list: the first entry that has the same content, and that entry's
+/// digest once it is filed. A caller makes one for each entry and passes them to
+/// [`crate::PartStore::add_sharing_entries`], which then hashes and looks up each content once.
 #[derive(Clone, Copy)]
 pub struct Shared {
     first: usize,
@@ -14,8 +16,8 @@ pub struct Shared {
 }
 
 impl Shared {
-    /// The content of an entry that is the same as that of the entry at this place, from 0 on. An entry whose content no earlier
-    /// one has names its own place, or any that isn't before it.
+    /// Says that this entry has the same content as the entry at the place `first`, counted from 0. For an entry whose
+    /// content no earlier one has, `first` is its own place, or any later one.
     pub fn with(first: usize) -> Shared
         ensures { first_of result ≡ first }
     {
@@ -26,8 +28,8 @@ impl Shared {
     }
 }
 
-/// The digest of the octets of the entry at this place, and whether an earlier entry has them. Then they aren't hashed again. The digest
-/// is noted.
+/// Returns the digest of the bytes of the entry at this place, and whether an earlier entry has the same bytes; then
+/// they aren't hashed again. Notes the digest for later entries.
 pub(crate) fn digest_at(shared: &mut [Shared], place: usize, octets: &[u8]) -> ([u8; 32], bool)
     ensures { (drafts : List Draft) → AreNoted drafts place shared.old → place < length drafts
         → octets_at drafts place ≡ octets.now
@@ -42,7 +44,7 @@ pub(crate) fn digest_at(shared: &mut [Shared], place: usize, octets: &[u8]) -> (
     (digest, known.is_some())
 }
 
-// The digest of an earlier entry that has the content of the one at this place.
+// The digest of an earlier entry that has the same content as the entry at this place.
 fn known_digest(shared: &[Shared], place: usize) -> Option<[u8; 32]>
     ensures { IfSome result (IsKnown shared.now place) }
 {
@@ -57,7 +59,7 @@ fn known_digest(shared: &[Shared], place: usize) -> Option<[u8; 32]>
     }
 }
 
-// Notes the digest of the entry at this place, where it is one of the list.
+// Notes the digest of the entry at this place, if the list has that place.
 fn note_digest(shared: &mut [Shared], place: usize, digest: &[u8; 32])
     ensures firsts { map first_of shared.new ≡ map first_of shared.old }
     ensures noted { place < length shared.old

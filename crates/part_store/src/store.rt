@@ -1,14 +1,15 @@
 //! The store and its calls.
 //!
-//! `adopt` hands a connection with an open transaction back, instead of a condition on the caller. No call leaves
-//! one open, so none has to ask. The cache of 2,000 pages and the syncs of an open are the database's own: its call
-//! that opens a path has no option for either. A batch pays them once. What the files held is a parameter of
-//! opening: `open_from` is generic in a `Start`, the kit's word for what a file and its log held, and promises to
-//! find that. `open` is `open_from` at `Unknown`, of which no clause says anything, because no contract can say what
+//! `adopt` hands a connection with an open transaction back; this isn't a condition on the caller. No call leaves a
+//! transaction open, so none has to ask. The cache of 2,000 pages and the syncs of an open are the database's own: its
+//! call that opens a path has no option for either. A batch pays for them once. What the files held is a parameter of
+//! opening: `open_from` is generic in a `Start`, the toolchain's word for what a file and its log held, and promises to
+//! find that. `open` is `open_from` at `Unknown`, about which no clause says anything, because no contract can say what
 //! a file of the system holds; no clause ties the `Start` to the path either. A file that an interrupted first open
-//! left half made counts as one without tables (`HoldsNoTables`), which follows from what the kit's `open_from` says
-//! of the trees that it found.
-ghost use Rattle.std.specs.Prelude.{◌≡◌, ◌≢◌, ◌⊎◌, ◌↔◌, ◌+◌, ◌^◌, ◌<◌, ◌≤◌, length, map, true, false, IsTrue, option_map, MatchOption, Err, IfOk, IfErr, IsErrAnd, None, OnOk, OnErr};
+//! left half made counts as a file without tables (`HoldsNoTables`); this follows from what the toolchain's `open_from`
+//! says about the trees that it found.
+ghost use Rattle.std.specs.Prelude.{◌≡◌, ◌≢◌, ◌⊎◌, ◌↔◌, ◌+◌, ◌^◌, ◌<◌, ◌≤◌, length, map, true, false, IsTrue, option_map, MatchOption, Err, IfOk, IfErr, IsErrAnd, None, OnOk, OnErr, IfSome};
+ghost use Rattle.sha2.specs.Sha256.{sha256};
 ghost use Rattle.sqlite.specs.Held.{state};
 ghost use Rattle.sqlite.specs.State.{HasCleanDisk, KeepsCommit};
 ghost use Rattle.part_store.specs.Tables.{no_schema, store_schema, contents_tree, users_tree};
@@ -16,9 +17,9 @@ ghost use Rattle.part_store.specs.Entries.{AreProgramsOf, entries_of, listing_of
 ghost use Rattle.part_store.specs.Access.{AddsEntries, InTransaction, IsFailure, IsFailureOrAbsence, IsFailureOrObstacle, IsRefusedAs, MayMakeOpen, ReadsStore, WritesStore};
 ghost use Rattle.part_store.specs.Blaming.{AsRefusal, AsRefusalInside};
 ghost use Rattle.part_store.specs.Inside.{Brings, Stays, IsInside, KeepsStored, StaysInside};
-ghost use Rattle.part_store.specs.Standing.{IsStored, Makes, MayMake, Stands, HasContent, IsEntryAt, HasNone, draft_of, listed, pair_of};
+ghost use Rattle.part_store.specs.Standing.{AddsVerified, HaveDigests, IsStored, Makes, MayMake, Stands, HasContent, IsEntryAt, HasNone, draft_of, listed, pair_of};
 ghost use Rattle.part_store.specs.Readings.{NamesDigest};
-ghost use Rattle.part_store.specs.Refusals.{refusal_of, OnlyWhenFailed, OnlyWhenFailedOrNoEntryRoom, OnlyWhenUnnamed, OnlyWhenFailedOr, OnlyWhenFailedOrNoProgramRoom, OnlyWhenFailedOrNoUserRoom};
+ghost use Rattle.part_store.specs.Refusals.{refusal_of, HasFailed, OnlyWhenFailed, OnlyWhenFailedOrNoEntryRoom, OnlyWhenUnnamed, OnlyWhenFailedOr, OnlyWhenFailedOrNoProgramRoom, OnlyWhenFailedOrNoUserRoom};
 ghost use Rattle.part_store.specs.declared.error.StoreError.TheVariants.{Memory, NoSuchEntry, NumberFull, Collision, Database};
 ghost use Rattle.part_store.specs.Crashes.{KeepsState};
 ghost use Rattle.part_store.specs.Looking.{are_tables};
@@ -28,10 +29,12 @@ ghost use Rattle.sqlite.specs.Files.{file_state, IsClosed, IsOpened};
 ghost use Rattle.sqlite.specs.FileStore.{files as files_of};
 ghost use Rattle.sqlite.specs.WalReads.{AreClean};
 ghost use Rattle.sqlite.specs.Steps.{over_memory};
-ghost use Rattle.part_store.specs.Opening.{HasOtherTables, HoldsNoTables, HoldsStore, IsAt, IsBare, IsEmptied, IsFoundIn, IsKept, IsReady, IsReadyFrom, KeepsStore, MakesEmpty, TellsWhy};
+ghost use Rattle.part_store.specs.Opening.{HasOtherTables, HoldsNoTables, HoldsStore, IsAt, IsBare, IsEmptied, IsFoundIn, IsKept, IsReady, IsReadyFrom, KeepsDatabase, KeepsStore, MakesEmpty, TellsWhy};
 ghost use Rattle.part_store.specs.Connections.{OpensOrTells};
 ghost use Rattle.sqlite.specs.WalFiles.{image_at};
 ghost use Rattle.part_store.specs.Sharing.{SharesContents, first_of};
+ghost use Rattle.part_store.specs.Verifying.{IsAltered, IsVerified, Keeps, Lacks, Names, OnlyWhenFailedOrAltered};
+ghost use Rattle.part_store.specs.Causes.{content_altered};
 ghost use Rattle.part_store.specs.Calls.{Always, CommitsNothing, DoneWhere, IfDone, IfRefused, MayCommit, OnDone, OnRefused, RefusedWhere, Tells, WasOpen};
 
 mod connections;
@@ -56,15 +59,28 @@ use sqlite_disk::Disk;
 use sqlite_schema::schema::Schema;
 use std::alloc::Global;
 use std::marker::Model;
+use std::thread;
+use std::time::Duration;
 
-/// Entries, programs and last numbers in the three tables of a database. No call leaves a transaction open.
+/// A store: entries, filter programs and last numbers in the three tables of one database. `open`, `in_memory` and
+/// `adopt` make one; the crate `depot_actions` carries out the commands of users with it. No call leaves a transaction
+/// open.
 ///
-/// Where the tables stand for a state, a call is refused `Database` only by a database that can't work: its disk failed in the call,
-/// a failure had shut it before, or its connection has a limit on steps (`cause`). A call that puts rows in may also be refused for
-/// want of room: a table has no rowid left, or a row is more than the database can store. What else refuses a call, it says itself.
+/// If the tables represent a state, a call fails with `Database` only if the database can't work: its disk failed in
+/// the call, a failure had shut it before, or its connection limits the steps of a statement (the clauses `cause`). A
+/// call that puts rows in can also fail because there is no room: a table has no rowid left, or a row is larger than
+/// the database can store. Each call lists its other errors itself. If it says "exactly if", the error has no other
+/// cause, and with this cause the call never succeeds; memory can still be refused, or the database fail, before the
+/// cause is found.
+///
+/// A store that a failure has shut stays shut: its calls fail with `Memory` or `Database`, and commit nothing (for
+/// `replace_programs` the latter is promised only if its list isn't empty).
+///
+/// Which errors a call can return is promised whatever the disk does. What it returns and leaves, and the cause of an
+/// error, are promised as long as the disk returns what was written.
 pub struct PartStore<S: Alter> {
-    /// The database, in which no transaction is open. Whoever borrows it leaves none open. So calls of several users' entries can be
-    /// committed together ([`crate::begin`]).
+    /// The database, in which no transaction is open. Code that borrows it has to leave none open. It is public so that
+    /// entries of several users can be committed together ([`crate::begin`]).
     pub conn: Connection<S>,
 }
 
@@ -87,7 +103,7 @@ impl<S: Alter + Drop> Drop for PartStore<S> {
     }
 }
 
-/// Whether a database has no table, index or view.
+/// Whether a database has no table, no index and no view.
 fn is_bare(schema: &Schema) -> bool
     ensures { IsTrue result ↔ (schema.now ≡ no_schema) }
 {
@@ -109,7 +125,7 @@ fn create_tables<S: Alter>(tx: &mut Transaction<'_, S>) -> Result<(), Error>
     Ok(())
 }
 
-/// Makes the tables in a database that has none, and leaves another as it is.
+/// Makes the tables in a database that has none, and leaves any other database as it is.
 fn ready_tables<S: Alter>(conn: &mut Connection<S>) -> Result<(), StoreError>
     ensures made { OnDone S.Store conn.old conn.new result (λ old new. IsBare old → IsEmptied new) }
     ensures same { OnOk result ((IsBare (state S.Store conn.old) → ⊥) → conn.new ≡ conn.old) }
@@ -136,7 +152,7 @@ fn ready_tables<S: Alter>(conn: &mut Connection<S>) -> Result<(), StoreError>
     Ok(())
 }
 
-/// The digest of a user's entry, or none where he has no such entry.
+/// The digest of a user's entry, or `None` if the user has no such entry.
 fn digest_of<S: Alter>(
     tx: &mut Transaction<'_, S>,
     user: &str,
@@ -147,6 +163,11 @@ fn digest_of<S: Alter>(
         (λ found old _. (before : _) → Stands old.now before
         → MatchOption found (HasNone before user.now number)
         (λ digest. NamesDigest old.now.trees user.now number digest.items)) }
+    ensures named { IfDone S.Store tx.old.conn.now tx.new.conn.now result
+        (λ found old _. old.now.schema ≡ store_schema
+        → IfSome found (λ digest. Names old.now.trees user.now number digest.items)) }
+    ensures unnamed { IfRefused S.Store tx.old.conn.now tx.new.conn.now result
+        (AsRefusal (OnlyWhenFailedOrAltered user.now number)) }
     ensures same { OnDone S.Store tx.old.conn.now tx.new.conn.now result Stays }
     ensures inside { OnDone S.Store tx.old.conn.now tx.new.conn.now result StaysInside }
     ensures cause { IfRefused S.Store tx.old.conn.now tx.new.conn.now result (AsRefusal OnlyWhenFailed) }
@@ -164,11 +185,14 @@ fn content_of<S: Alter>(tx: &mut Transaction<'_, S>, digest: &[u8]) -> Result<Ve
     ensures answer { IfDone S.Store tx.old.conn.now tx.new.conn.now result
         (λ octets old _. (before : _) → Stands old.now before
         → HasContent (old.now.trees contents_tree) digest.now octets.items) }
+    ensures found { IfDone S.Store tx.old.conn.now tx.new.conn.now result
+        (λ octets old _. old.now.schema ≡ store_schema
+        → Keeps old.now.trees digest.now octets.items) }
+    ensures lacking { IfRefused S.Store tx.old.conn.now tx.new.conn.now result
+        (λ old new e. refusal_of e ≡ Database → old.now.schema ≡ store_schema
+        → HasFailed old new ⊎ Lacks old.now.trees digest.now) }
     ensures same { OnDone S.Store tx.old.conn.now tx.new.conn.now result Stays }
     ensures kept { Always S.Store tx.old.conn.now tx.new.conn.now KeepsStored }
-    ensures cause { IfRefused S.Store tx.old.conn.now tx.new.conn.now result
-        (λ old new e. (octets : _) → HasContent (old.now.trees contents_tree) digest.now octets
-        → OnlyWhenFailed old new (refusal_of e)) }
     ensures survives { CommitsNothing S.Store tx.old.conn.now tx.new.conn.now }
 {
     match contents::find(tx, digest)? {
@@ -177,6 +201,20 @@ fn content_of<S: Alter>(tx: &mut Transaction<'_, S>, digest: &[u8]) -> Result<Ve
     }
 }
 
+/// The bytes that were read under a digest, if they have that digest.
+fn verified(octets: Vec<u8>, digest: &[u8]) -> Result<Vec<u8>, Error>
+    ensures same { IfOk result (λ it. it ≡ octets) }
+    ensures has { IfOk result (λ it. sha256 it.items ≡ digest.now) }
+    ensures other { IfErr result (λ e. (e ≡ content_altered) × (sha256 octets.items ≢ digest.now)) }
+{
+    if contents::has_digest(&octets, digest) {
+        Ok(octets)
+    } else {
+        Err(contents::altered())
+    }
+}
+
+/// The bytes of a user's entry, or `None` if the user has no such entry.
 fn read_bytes<S: Alter>(
     tx: &mut Transaction<'_, S>,
     user: &str,
@@ -187,16 +225,21 @@ fn read_bytes<S: Alter>(
         (λ before found.
         MatchOption found (HasNone before user.now number)
         (λ octets. (x : _) × IsEntryAt before user.now number x × (octets.items ≡ x.octets))) }
-    ensures cause { IfRefused S.Store tx.old.conn.now tx.new.conn.now result (AsRefusal OnlyWhenFailed) }
+    ensures verified { IfDone S.Store tx.old.conn.now tx.new.conn.now result
+        (λ found old _. old.now.schema ≡ store_schema
+        → IfSome found (λ octets. IsVerified old.now.trees user.now number octets.items)) }
+    ensures cause { IfRefused S.Store tx.old.conn.now tx.new.conn.now result
+        (AsRefusal (OnlyWhenFailedOrAltered user.now number)) }
     ensures within { InTransaction S.Store tx.old.conn.now tx.new.conn.now result }
 {
     let Some(digest) = digest_of(tx, user, number)? else {
         return Ok(None);
     };
-    Ok(Some(content_of(tx, &digest)?))
+    let octets = content_of(tx, &digest)?;
+    Ok(Some(verified(octets, &digest)?))
 }
 
-/// Takes a user's entry out. Answers false where he has no such entry.
+/// Takes a user's entry out. Returns false if the user has no such entry.
 fn take_entry<S: Alter>(tx: &mut Transaction<'_, S>, user: &str, number: u32) -> Result<bool, Error>
     ensures same_reference { tx.new.conn.ghost_name ≡ tx.old.conn.ghost_name }
     ensures taken { IfDone S.Store tx.old.conn.now tx.new.conn.now result
@@ -222,11 +265,19 @@ fn take_entry<S: Alter>(tx: &mut Transaction<'_, S>, user: &str, number: u32) ->
 }
 
 impl<S: Alter> PartStore<S> {
-    /// Takes an open connection that has no tables, or those of a store. Where there are none they are made and committed; any other
-    /// connection stays as it is. A crash on the way leaves the database as it was, or with the empty tables. A refusal, `Memory` or
-    /// `Database`, hands the connection back, with what it shows and what is committed as they were, unless a failure has shut it, and
-    /// in a transaction if it was in one. One in a transaction is refused `Database`; of the others only one without tables is refused.
-    /// Through a connection that a failure has shut nothing is committed.
+    /// Makes a store of an open connection that has no tables, or a store's tables. If there are no tables, the empty
+    /// ones are made and committed; otherwise the connection stays as it is. A crash on the way leaves the database as
+    /// it was, or with the empty tables.
+    ///
+    /// # Errors
+    ///
+    /// The error comes with the connection. What the connection shows and what is committed are as before, unless a
+    /// failure has shut it; it is in a transaction if it was in one before. Nothing is committed through a connection
+    /// that is shut.
+    ///
+    /// - `Memory` if memory is refused.
+    /// - `Database` if the connection is in a transaction, or the database fails. Outside a transaction, only a
+    ///   connection without tables is refused.
     pub fn adopt(conn: Connection<S>) -> Result<PartStore<S>, (StoreError, Connection<S>)>
         ensures made { IfOk result
             (λ s. Always S.Store conn s (λ old new. IsBare old → IsEmptied new)) }
@@ -251,8 +302,12 @@ impl<S: Alter> PartStore<S> {
         }
     }
 
-    /// Takes an open connection that has tables of the names of a store's, with as many columns. Any other is handed back. Nothing
+    /// Makes a store of an open connection whose tables have the names of a store's tables and as many columns. Nothing
     /// is read or written.
+    ///
+    /// # Errors
+    ///
+    /// The connection itself, unchanged, if it is in a transaction or its tables are different.
     pub fn adopt_as_is(conn: Connection<S>) -> Result<PartStore<S>, Connection<S>>
         ensures same { IfOk result (λ s. s ≡ conn) }
         ensures tables { IfOk result (λ s. are_tables (state S.Store s).now.schema.tables ≡ true) }
@@ -271,7 +326,7 @@ impl<S: Alter> PartStore<S> {
         }
     }
 
-    /// Gives the connection back.
+    /// Gives the connection back. No transaction is open on it.
     pub fn release(self) -> Connection<S>
         ensures same { result ≡ self }
         ensures settled { (state S.Store result).in_transaction ≡ false }
@@ -280,8 +335,13 @@ impl<S: Alter> PartStore<S> {
         conn
     }
 
-    /// Stores the user's program in place of the one before. Refuses `Memory`, and `Database` also where the user's row has no room.
-    /// A store that a failure has shut commits nothing.
+    /// Stores the user's filter program and replaces the one before. Any bytes are accepted: whether they are a program
+    /// is for the caller to check.
+    ///
+    /// # Errors
+    ///
+    /// - `Memory` if memory is refused.
+    /// - `Database` if the database fails (see [`PartStore`]), or the user's row has no room.
     pub fn set_program(&mut self, user: &str, program: &[u8]) -> Result<(), StoreError>
         ensures writes { WritesStore S.Store self.old self.new result
             (with_program user.now program.now)
@@ -295,7 +355,12 @@ impl<S: Alter> PartStore<S> {
         Ok(())
     }
 
-    /// The user's program, or none where he has none. Refuses `Memory` and `Database`.
+    /// Returns the user's filter program, or `None` if the user has none.
+    ///
+    /// # Errors
+    ///
+    /// - `Memory` if memory is refused.
+    /// - `Database` if the database fails (see [`PartStore`]).
     pub fn program_of(&mut self, user: &str) -> Result<Option<Vec<u8>>, StoreError>
         ensures answer { Tells S.Store self.old self.new result
             (λ before found. option_map (λ v. v.items) found ≡ before.programs user.now) }
@@ -306,8 +371,12 @@ impl<S: Alter> PartStore<S> {
         Ok(read_program(&mut tx, user)?)
     }
 
-    /// The users that have a program, in the order of their names, with their programs. Refuses `Memory`, and `Database` also where
-    /// a user's name in the table isn't UTF-8.
+    /// Returns the users that have a filter program, each with the program, in the order of their names.
+    ///
+    /// # Errors
+    ///
+    /// - `Memory` if memory is refused.
+    /// - `Database` if the database fails (see [`PartStore`]), or a user's name in the table isn't UTF-8.
     pub fn programs(&mut self) -> Result<Vec<(String, Vec<u8>)>, StoreError>
         ensures answer { Tells S.Store self.old self.new result
             (λ before programs. AreProgramsOf before (map pair_of programs.items)) }
@@ -318,8 +387,12 @@ impl<S: Alter> PartStore<S> {
         list_programs(&mut tx)
     }
 
-    /// All users, each with the last number and the program, in the order of their names. Refuses `Memory`, and `Database` also where
-    /// a user's name in the table isn't UTF-8.
+    /// Returns all users, each with the last number and the program, in the order of their names.
+    ///
+    /// # Errors
+    ///
+    /// - `Memory` if memory is refused.
+    /// - `Database` if the database fails (see [`PartStore`]), or a user's name in the table isn't UTF-8.
     pub fn users(&mut self) -> Result<Vec<UserRow>, StoreError>
         ensures answer { IfDone S.Store self.old self.new result
             (λ users old _. (before : _) → Stands old.now before
@@ -331,8 +404,13 @@ impl<S: Alter> PartStore<S> {
         list_users(&mut tx)
     }
 
-    /// How many contents there are and how many octets they have; what several entries have is counted once. Refuses `Memory`, and
-    /// `Database` also where the octets are more than 64 bits can count.
+    /// Returns how many contents there are, and how many bytes they have together. A content that several entries share
+    /// counts once.
+    ///
+    /// # Errors
+    ///
+    /// - `Memory` if memory is refused.
+    /// - `Database` if the database fails (see [`PartStore`]), or there are 2^64 bytes or more.
     pub fn contents(&mut self) -> Result<ContentTotal, StoreError>
         ensures answer { IfDone S.Store self.old self.new result
             (λ total old _. (before : _) → Stands old.now before
@@ -345,8 +423,13 @@ impl<S: Alter> PartStore<S> {
         count_contents(&mut tx)
     }
 
-    /// Replaces the programs of the listed users, and passes over those that have none. Where a user is listed twice the later
-    /// program counts. No last number changes. Refuses `Memory`, and `Database` also where a user's row has no room.
+    /// Replaces the programs of the listed users. A listed user without a program is skipped; if a user is listed
+    /// twice, the later program counts. No last number changes.
+    ///
+    /// # Errors
+    ///
+    /// - `Memory` if memory is refused.
+    /// - `Database` if the database fails (see [`PartStore`]), or a user's row has no room.
     pub fn replace_programs(&mut self, programs: &[(String, Vec<u8>)]) -> Result<(), StoreError>
         ensures writes { WritesStore S.Store self.old self.new result
             (with_programs (map pair_of programs.now))
@@ -361,12 +444,25 @@ impl<S: Alter> PartStore<S> {
         Ok(())
     }
 
-    /// Adds the entries, of which there is at least one, in order, under the user's next numbers, and answers the first of
-    /// these. Refuses `Memory`, `NumberFull` exactly where the numbers that are left don't suffice, else `Collision` exactly where
-    /// another content, stored or earlier among the entries, has the digest of one and other octets, and `Database` also where an
-    /// entry, its octets or the user's row has no room.
+    /// Adds the entries in order under the user's next numbers, and returns the first of these numbers. All entries are
+    /// added, or none.
     ///
-    /// A store that a failure has shut stays shut, adds nothing, and refuses `Memory` or `Database`.
+    /// For example, a new user's first entry gets number 1 and the next one 2. After entry 2 is removed, the next entry
+    /// gets number 3.
+    ///
+    /// # Requires
+    ///
+    /// There is at least one entry: `0 < length entries`.
+    ///
+    /// # Errors
+    ///
+    /// - `Memory` if memory is refused.
+    /// - `NumberFull` exactly if the user has too few numbers left. For example, a user whose last number is
+    ///   4,294,967,293 can add two entries, but not three.
+    /// - `Collision` exactly if there are enough numbers and a different content, in the store or earlier in `entries`,
+    ///   has the digest of one of the entries.
+    /// - `Database` if the database fails (see [`PartStore`]), or has no room for an entry, its content or the user's
+    ///   row.
     pub fn add_entries(&mut self, user: &str, entries: &[NewEntry<'_>]) -> Result<u32, StoreError>
         requires { 0 < length entries.now }
         ensures adds { AddsEntries S.Store self.old self.new result user.now entries.now }
@@ -379,9 +475,25 @@ impl<S: Alter> PartStore<S> {
         self.add_sharing_entries(user, entries, &mut [])
     }
 
-    /// The same of entries of which some have the same content: what one says of an entry is known of its content. A content is hashed,
-    /// looked up and compared once, however many entries of the list have it. `shared` tells of each entry at which place of the list
-    /// its content comes first; of those past its end it tells nothing.
+    /// Adds entries as [`PartStore::add_entries`] does, if the caller knows which of them have the same content:
+    /// `shared` names for each entry the place in the list, counted from 0, at which its content comes first. Each
+    /// content is hashed, looked up and compared once, however many entries of the list have it. Entries past the end
+    /// of `shared` are looked up one by one.
+    ///
+    /// # Requires
+    ///
+    /// - There is at least one entry: `0 < length entries`.
+    /// - What `shared` says is true: if it names an earlier place for an entry, the entry at that place has the same
+    ///   bytes. It can be shorter or longer than `entries`.
+    ///
+    /// # Errors
+    ///
+    /// - `Memory` if memory is refused.
+    /// - `NumberFull` exactly if the user has too few numbers left.
+    /// - `Collision` exactly if there are enough numbers and a different content, in the store or earlier in `entries`,
+    ///   has the digest of one of the entries.
+    /// - `Database` if the database fails (see [`PartStore`]), or has no room for an entry, its content or the user's
+    ///   row.
     pub fn add_sharing_entries(
         &mut self,
         user: &str,
@@ -403,7 +515,12 @@ impl<S: Alter> PartStore<S> {
         Ok(first)
     }
 
-    /// The user's entries, by their numbers. Refuses `Memory` and `Database`.
+    /// Returns the user's entries without their contents, in the order of their numbers; none for an unknown user.
+    ///
+    /// # Errors
+    ///
+    /// - `Memory` if memory is refused.
+    /// - `Database` if the database fails (see [`PartStore`]).
     pub fn entries_of(&mut self, user: &str) -> Result<Vec<EntryRow>, StoreError>
         ensures answer { Tells S.Store self.old self.new result
             (λ before rows. map listed rows.items ≡ map listing_of (entries_of user.now before)) }
@@ -414,18 +531,35 @@ impl<S: Alter> PartStore<S> {
         list_all(&mut tx, user)
     }
 
-    /// The octets of the user's entry of that number. Refuses `Memory`, `NoSuchEntry` exactly where
-    /// he has none, and `Database`. A store that a failure has shut refuses `Memory` or `Database`.
+    /// Returns the bytes of the user's entry with this number. Their SHA-256 is the digest that they are stored under
+    /// (`verified`).
+    ///
+    /// # Errors
+    ///
+    /// - `Memory` if memory is refused.
+    /// - `NoSuchEntry` exactly if the user has no entry with this number.
+    /// - `Database` if the database fails (see [`PartStore`]), or if the stored bytes were altered: they don't have the
+    ///   digest that they are stored under, or nothing is stored under the digest that the entry names. If each content
+    ///   has its digest ([`crate::laws::contents_keep_their_digests`]), only if the database fails (`sound`).
     pub fn bytes_of(&mut self, user: &str, number: u32) -> Result<Vec<u8>, StoreError>
         ensures answer { Tells S.Store self.old self.new result
             (λ before octets. (x : _) × IsEntryAt before user.now number x
             × (octets.items ≡ x.octets)) }
+        ensures verified { IfDone S.Store self.old self.new result
+            (λ octets old _. old.now.schema ≡ store_schema
+            → IsVerified old.now.trees user.now number octets.items) }
+        ensures unaltered { OnDone S.Store self.old self.new result
+            (λ old _. (before : _) → Stands old.now before
+            → IsAltered old.now.trees user.now number → ⊥) }
         ensures absent { RefusedWhere S.Store self.old self.new result NoSuchEntry
             (λ before. HasNone before user.now number) }
         ensures begun { IfRefused S.Store self.old self.new result
             (λ old _ e. e ≡ NoSuchEntry → IsTrue old.is_open) }
         ensures reads { ReadsStore S.Store self.old self.new result }
-        ensures refused { IsRefusedAs S.Store self.old self.new result IsFailureOrAbsence OnlyWhenFailed }
+        ensures refused { IsRefusedAs S.Store self.old self.new result IsFailureOrAbsence
+            (OnlyWhenFailedOrAltered user.now number) }
+        ensures sound { IfRefused S.Store self.old self.new result
+            (λ old new e. HaveDigests old.now.trees → OnlyWhenFailed old new e) }
     {
         let mut tx = begin(&mut self.conn);
         match read_bytes(&mut tx, user, number)? {
@@ -434,9 +568,17 @@ impl<S: Alter> PartStore<S> {
         }
     }
 
-    /// Removes the user's entry of that number, and its octets where no other entry has them. The
-    /// number isn't given again. Refuses `Memory`, `NoSuchEntry` exactly where he has none, and
-    /// `Database`. A store that a failure has shut refuses `Memory` or `Database`, and commits nothing.
+    /// Removes the user's entry with this number, and its content if no other entry has the same content. The number
+    /// isn't given again.
+    ///
+    /// For example, if `ann` and `bob` each have one entry with the bytes `foobar`, `bob` can still read them after
+    /// `ann`'s entry is removed. After `bob`'s entry 1 is removed too, `bob`'s next entry gets number 2.
+    ///
+    /// # Errors
+    ///
+    /// - `Memory` if memory is refused.
+    /// - `NoSuchEntry` exactly if the user has no entry with this number.
+    /// - `Database` if the database fails (see [`PartStore`]).
     pub fn remove_entry(&mut self, user: &str, number: u32) -> Result<(), StoreError>
         ensures there { DoneWhere S.Store self.old self.new result
             (λ before. (x : _) × IsEntryAt before user.now number x) }
@@ -448,7 +590,8 @@ impl<S: Alter> PartStore<S> {
             (without_entry user.now number)
             (λ old trees. IsTrue old.is_open × ((before : _) → Stands old.now before
             → ((x : _) × IsEntryAt before user.now number x)
-            × IsStored trees (without_entry user.now number before))) }
+            × IsStored trees (without_entry user.now number before)
+            × AddsVerified old.now.trees trees)) }
         ensures refused { IsRefusedAs S.Store self.old self.new result IsFailureOrAbsence OnlyWhenFailed }
     {
         let mut tx = begin(&mut self.conn);
@@ -461,7 +604,12 @@ impl<S: Alter> PartStore<S> {
 }
 
 impl PartStore<MemStore> {
-    /// An empty store in memory. Refuses `Memory` and `Database`.
+    /// Makes an empty store in memory.
+    ///
+    /// # Errors
+    ///
+    /// - `Memory` if memory is refused.
+    /// - `Database` if the database fails.
     pub fn in_memory(alloc: Global) -> Result<PartStore<MemStore>, StoreError>
         ensures empty { IfOk result (λ s. Stands (state over_memory s).now no_entries) }
         ensures committed { IfOk result
@@ -477,13 +625,22 @@ impl PartStore<MemStore> {
 }
 
 impl<D: Disk + Drop> PartStore<FileStore<D>> {
-    /// Closes the store: its log is copied into its file, and both are given back. They hold what the store stands for, also after
-    /// a crash, and that is what `open_from` finds in them. No fault that the store counted was forgotten when they were given
-    /// back (`given`). Refuses `Memory` and `Database`; then, and where a crash ends it, the files are left with a store of the
-    /// same state.
+    /// Closes the store: the log is copied into the file, and both are given back. Together they hold the state that
+    /// the store had, also after a crash, and `open_from` finds that state in them. No failed call that the store
+    /// counted is forgotten when they are given back (`given`).
+    ///
+    /// # Errors
+    ///
+    /// The error comes with what is left of the files. If the close is refused, or a crash ends it, the files still
+    /// hold a store with the same state.
+    ///
+    /// - `Memory` if memory is refused.
+    /// - `Database` if the database fails.
     pub fn close_files(self) -> Result<Files<D>, (StoreError, FileStore<D>)>
         ensures holds { IfOk result (λ files. AreClean D.Disk files.log files.db
             → (held : _) → Stands (file_state self).now held → KeepsStore D.Disk files held) }
+        ensures same { IfOk result (λ files. AreClean D.Disk files.log files.db
+            → KeepsDatabase D.Disk files (file_state self).now) }
         ensures open { IfOk result (λ files. AreClean D.Disk files.log files.db
             → IsTrue (file_state self).is_open) }
         ensures given { IfOk result (λ files. (last : _)
@@ -502,6 +659,25 @@ impl<D: Disk + Drop> PartStore<FileStore<D>> {
     }
 }
 
+/// What the files held, described again for another try to open them.
+pub trait Again {
+    /// Returns the same description of what the files held.
+    fn again(&self) -> Self;
+}
+
+impl Again for Unknown {
+    fn again(&self) -> Unknown {
+        Unknown
+    }
+}
+
+/// How often a file that another process has open is tried again: with 1, 2, 4 .. 64 milliseconds between the first
+/// tries and [`LONGEST_WAIT`] between the others, this takes 10 seconds.
+const TRIES: u32 = 106;
+
+/// The longest time between two tries, in milliseconds.
+const LONGEST_WAIT: u64 = 100;
+
 /// The database in the file at a path.
 fn connect<B: Start>(
     rt: &HostRuntime,
@@ -519,7 +695,8 @@ fn connect<B: Start>(
     }
 }
 
-/// The store in the file at a path: with its tables made where it had none, or as it is.
+/// The store in the file at a path: its tables are made if there are none and `makes` is true, otherwise it is taken as
+/// it is.
 fn reach<B: Start>(
     rt: &HostRuntime,
     path: &str,
@@ -538,13 +715,46 @@ fn reach<B: Start>(
     store_on(conn, makes)
 }
 
-impl<B: Start> PartStore<FileStore<FileFrom<B>>> {
-    /// The store in the file at a path, where `B` stands for what the file and its log held. A file that isn't there, is empty or
-    /// has no tables becomes the empty store. Its statements may take any number of steps. Refuses `Memory`, and `Database` where the
-    /// file can't be opened or is no database.
+/// The store in the file at a path, once no other process has it open; its tables are made if there are none.
+fn reach_when_free<B: Start + Again>(
+    rt: &HostRuntime,
+    path: &str,
+    start: B,
+) -> Result<PartStore<FileStore<FileFrom<B>>>, Unopened>
+    ensures ready { IfOk result (IsReadyFrom (image_at B.Start)) }
+    ensures settled { IfOk result (λ s. (file_state s).in_transaction ≡ false) }
+    ensures unlimited { IfOk result (λ s. (file_state s).step_limit ≡ None) }
+{
+    let mut start = start;
+    let mut millis = 1;
+    for _ in 0..TRIES {
+        let again = start.again();
+        match reach(rt, path, start, true) {
+            Err(Unopened::Held) => {}
+            opened => return opened,
+        }
+        thread::sleep(rt, Duration::from_millis(millis));
+        millis = millis.saturating_mul(2).min(LONGEST_WAIT);
+        start = again;
+    }
+    reach(rt, path, start, true)
+}
+
+impl<B: Start + Again> PartStore<FileStore<FileFrom<B>>> {
+    /// Opens the store in the file at a path; `B` describes what the file and its log held. A file that doesn't exist,
+    /// is empty or has no tables becomes the empty store. The steps of its statements aren't limited.
     ///
-    /// No clause ties `B` to the path: that the file there is opened, and no other, is seen in the body. Nor does one say why it is
-    /// refused, since what the system refuses has no cause in a clause; a connection that has tables isn't refused (`adopt`).
+    /// While another process has the file open, this waits and tries again for 10 seconds.
+    ///
+    /// No clause ties `B` to the path: only the body shows that this file is opened and no other. No clause says why an
+    /// open is refused either, because failures of the operating system aren't modelled; a connection that has tables
+    /// isn't refused (`adopt`).
+    ///
+    /// # Errors
+    ///
+    /// - `Memory` if memory is refused.
+    /// - `Database` if the file can't be opened, is no database, is damaged or stays open elsewhere, or if the disk
+    ///   fails.
     pub fn open_from(
         rt: &HostRuntime,
         path: &str,
@@ -559,13 +769,20 @@ impl<B: Start> PartStore<FileStore<FileFrom<B>>> {
         ensures unlimited { IfOk result (λ s. (file_state s).step_limit ≡ None) }
         ensures refused { IfErr result (λ e. (e ≡ Memory) ⊎ (e ≡ Database)) }
     {
-        Ok(reach(rt, path, start, true)?)
+        Ok(reach_when_free(rt, path, start)?)
     }
+}
 
-    /// The same as `look`, where `B` stands for what the file and its log held, and what was found is
-    /// what they did. No clause ties `B` to the path. It is refused `OtherTables` only where the file was opened and its tables are
-    /// others, and `Damaged` and `Disk` only where the database's open told so of files that it had;
-    /// why it is refused otherwise no clause says.
+impl<B: Start> PartStore<FileStore<FileFrom<B>>> {
+    /// Opens a store as [`PartStore::look`] does; `B` describes what the file and its log held. If the disk is clean,
+    /// the store holds just that. No clause ties `B` to the path.
+    ///
+    /// # Errors
+    ///
+    /// - [`Unopened::OtherTables`] only if the file was opened and its tables are different.
+    /// - [`Unopened::Damaged`] and [`Unopened::Disk`] only if the database's open reported this for files that it had
+    ///   opened.
+    /// - Any other case of [`Unopened`]; no clause says why.
     pub fn look_from(
         rt: &HostRuntime,
         path: &str,
@@ -585,8 +802,13 @@ impl<B: Start> PartStore<FileStore<FileFrom<B>>> {
 }
 
 impl PartStore<FileStore<File>> {
-    /// The store in the file at a path, which is made if it isn't there. Refuses `Memory`, and `Database` where the
-    /// file can't be opened or is no database.
+    /// Opens the store in the file at a path, as [`PartStore::open_from`] does. The file is made if it doesn't exist.
+    ///
+    /// # Errors
+    ///
+    /// - `Memory` if memory is refused.
+    /// - `Database` if the file can't be opened, is no database, is damaged or stays open elsewhere, or if the disk
+    ///   fails.
     pub fn open(rt: &HostRuntime, path: &str) -> Result<PartStore<FileStore<File>>, StoreError>
         ensures ready { IfOk result IsReady }
         ensures refused { IfErr result (λ e. (e ≡ Memory) ⊎ (e ≡ Database)) }
@@ -594,11 +816,16 @@ impl PartStore<FileStore<File>> {
         PartStore::open_from(rt, path, Unknown)
     }
 
-    /// The store in the file at a path, as it is: no table is made, and where its tables aren't those of a store it is refused
-    /// `OtherTables`. A file that isn't there is made, empty, so see first that it is.
+    /// Opens the store in the file at a path, as it is: no table is made. A file that doesn't exist is made, empty, so
+    /// check first that it exists.
     ///
-    /// To open takes the right to write, and the lock that every store holds. It makes a log beside the file where there is none;
-    /// what a log holds of a store that wasn't closed is put into the file.
+    /// Opening needs the right to write, and takes the lock that every store holds. It makes a log next to the file if
+    /// there is none, and puts the log of a store that wasn't closed into the file.
+    ///
+    /// # Errors
+    ///
+    /// - [`Unopened::OtherTables`] if the tables aren't those of a store.
+    /// - Any other case of [`Unopened`], as it says there.
     pub fn look(rt: &HostRuntime, path: &str) -> Result<PartStore<FileStore<File>>, Unopened>
         ensures opened { IfOk result (λ s. HasCleanDisk (file_state s) → IsOpened s) }
         ensures tables { IfOk result (λ s. are_tables (file_state s).now.schema.tables ≡ true) }

@@ -1,4 +1,4 @@
-//! The users' programs.
+//! The users' filter programs. The errors are those of the database.
 ghost use Rattle.std.specs.Prelude.{◌≡◌, ◌⊎◌, ◌∷◌, ◌<◌, [], length, map, IsTrue, option_map, IfOk, IfErr};
 ghost use Rattle.part_store.specs.Access.{InTransaction};
 ghost use Rattle.part_store.specs.Changes.{columns};
@@ -18,7 +18,7 @@ use crate::error::StoreError;
 use crate::users;
 use sqlite::{Alter, Error, Row, Transaction};
 
-/// The last number in a user's row, or 0 where there is none.
+/// The last number in a user's row, or 0 if there is no row.
 fn last_in(found: &Option<Row>) -> Result<u32, Error>
     ensures last { IfOk result (last_in found.now) }
     ensures cause { IfErr result (λ e. refusal_of e ≡ Database → ShowsLast found.now → ⊥) }
@@ -29,7 +29,7 @@ fn last_in(found: &Option<Row>) -> Result<u32, Error>
     }
 }
 
-/// Stores a user's program in place of the one before.
+/// Stores a user's program and replaces the one before.
 pub(crate) fn put_program<S: Alter>(
     tx: &mut Transaction<'_, S>,
     user: &str,
@@ -54,7 +54,7 @@ pub(crate) fn put_program<S: Alter>(
     Ok(())
 }
 
-/// A user's program, or none where he has none.
+/// A user's program, or `None` if the user has none.
 pub(crate) fn read_program<S: Alter>(
     tx: &mut Transaction<'_, S>,
     user: &str,
@@ -105,7 +105,7 @@ fn programs_in(rows: &Vec<Row>) -> Result<Vec<(String, Vec<u8>)>, StoreError>
     Ok(programs)
 }
 
-/// Replaces a user's program, or passes over a user that has none.
+/// Replaces a user's program, or does nothing for a user without one.
 fn replace_program<S: Alter>(
     tx: &mut Transaction<'_, S>,
     user: &str,

@@ -1,9 +1,9 @@
-//! The three tables and how they are made.
+//! The three tables and how they are made. Each function runs one statement, and its error is the database's.
 //!
-//! There is no index on the digests of entries, so a removal goes over the entries once. A second index would need
-//! each statement's meaning under two schemas, because existing depots have none. A name is a column of each row, as
-//! it was sent: a content that several entries have is kept once, and a part's file name isn't, because the tables
-//! have no place for it.
+//! There is no index on the digests of entries, so a removal reads the entries once. A second index would need each
+//! statement's meaning under two schemas, because existing depots have none. A name is a column of each row, as it was
+//! sent: a content that several entries have is stored once, but a part's file name isn't, because the tables have no
+//! place for it.
 ghost use Rattle.std.specs.Prelude.{◌≡◌, []};
 ghost use Rattle.sqlite.specs.State.{KeepsCommit};
 ghost use Rattle.part_store.specs.Tables.{users_tree, contents_tree, entries_tree, no_schema, with_users, with_contents, store_schema};
@@ -29,7 +29,7 @@ pub(crate) fn create_users<S: Alter>(tx: &mut Transaction<'_, S>) -> Result<usiz
     )
 }
 
-/// Makes the table of contents after that of users.
+/// Makes the table of contents, after the table of users.
 pub(crate) fn create_contents<S: Alter>(tx: &mut Transaction<'_, S>) -> Result<usize, Error>
     ensures same_reference { tx.new.conn.ghost_name ≡ tx.old.conn.ghost_name }
     ensures step { OnDone S.Store tx.old.conn.now tx.new.conn.now result

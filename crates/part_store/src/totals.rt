@@ -15,16 +15,16 @@ use crate::contents;
 use crate::error::StoreError;
 use sqlite::{Alter, Row, Transaction};
 
-/// How much a store holds, where what several entries have is counted once.
+/// How much a store holds; a content that several entries share counts once. [`crate::PartStore::contents`] returns it.
 #[derive(Clone, Copy, Drop)]
 pub struct ContentTotal {
-    /// How many contents there are.
+    /// The number of contents.
     pub contents: u64,
-    /// How many octets they have together.
+    /// The number of bytes that they have together.
     pub octets: u64,
 }
 
-/// How many contents there are, and their octets.
+/// Counts the contents and their bytes.
 pub(crate) fn count_contents<S: Alter>(
     tx: &mut Transaction<'_, S>,
 ) -> Result<ContentTotal, StoreError>
@@ -41,7 +41,7 @@ pub(crate) fn count_contents<S: Alter>(
     total_of(&rows)
 }
 
-/// The total of the rows of an answer, or `Database` where it is more than 64 bits.
+/// The total of the rows of an answer, or `Database` if it is more than 64 bits can count.
 fn total_of(rows: &Vec<Row>) -> Result<ContentTotal, StoreError>
     ensures total { IfOk result (λ total. (total.contents ≡ length rows.now.items)
         × (total.octets ≡ sum_by (λ r. number_of (column r 1)) rows.now.items)) }
@@ -60,7 +60,7 @@ fn total_of(rows: &Vec<Row>) -> Result<ContentTotal, StoreError>
     })
 }
 
-/// A number of octets and that which a row shows.
+/// A number of bytes plus the number that a row shows.
 fn with_size(octets: u64, row: &Row) -> Result<u64, StoreError>
     ensures sum { IfOk result (λ sum. sum ≡ octets + number_of (column row.now 1)) }
     ensures refused { IfErr result (λ e. (e ≡ Memory) ⊎ (e ≡ Database)) }

@@ -1,14 +1,15 @@
 //! Users as callers see them.
 //!
-//! A delivery changes its user's last number alone, by an UPDATE, or an INSERT if there is no row. It neither reads
-//! the user's program for that nor binds it to the statement.
-/// A user that the store knows.
+//! A delivery changes only its user's last number, by an UPDATE, or an INSERT if there is no row. It neither reads the
+//! user's program for that nor binds it to the statement.
+/// A user that the store knows, because a program or an entry was stored under that name. [`crate::PartStore::users`]
+/// returns one for each row of the table of users.
 #[derive(Drop)]
 pub struct UserRow {
-    /// The name.
+    /// The user's name.
     pub user: String,
-    /// The last number that an entry of the user was given, 0 at first.
+    /// The last number that an entry of the user was given; 0 if there was none.
     pub last: u32,
-    /// The octets of the program, if the user has one.
+    /// The bytes of the user's filter program, if there is one.
     pub program: Option<Vec<u8>>,
 }

@@ -1,4 +1,5 @@
-//! The table of users: each user's last number and program.
+//! The table of users: each user's last number and program. Each function runs one statement, and its error is the
+//! database's.
 ghost use Rattle.std.specs.Prelude.{◌≡◌, [], ◌∷◌, ℕ, ℤ, pos, List, Option, slice_get, IfErr};
 ghost use Rattle.sqlite_value.specs.declared.value.Value.TheVariants.{Int, Text, Blob};
 ghost use Rattle.sqlite.specs.State.{KeepsCommit};
@@ -35,7 +36,7 @@ pub(crate) fn find<S: Alter>(tx: &mut Transaction<'_, S>, user: &str) -> Result<
     Ok(first_of(rows))
 }
 
-/// A user's last number, without his program.
+/// A user's last number, without the program.
 pub(crate) fn find_last<S: Alter>(
     tx: &mut Transaction<'_, S>,
     user: &str,
@@ -115,7 +116,7 @@ pub(crate) fn add<S: Alter>(
     )
 }
 
-/// Gives a user's row another last number. His program isn't written again.
+/// Gives a user's row another last number. The user's program isn't written again.
 pub(crate) fn renew<S: Alter>(
     tx: &mut Transaction<'_, S>,
     user: &str,

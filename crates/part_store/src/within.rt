@@ -1,9 +1,9 @@
 //! Calls within a transaction, which are committed together.
 //!
-//! Several deliveries are one call with a list, and no transaction is handed out. `PartStore` has an invariant, that
-//! none is open; a value that lends its connection would have to keep that for whatever is done with it. So the
-//! connection is a public field, which a crate above can borrow and has to leave as it was, and `begin`,
-//! `program_within` and `add_within` work on what it lends.
+//! Several deliveries are one call with a list; no transaction is handed out. `PartStore` has the invariant that no
+//! transaction is open, and a value that lends its connection would have to keep that invariant whatever is done with
+//! the connection. So the connection is a public field, which a crate above can borrow and has to leave as it was;
+//! `begin`, `program_within` and `add_within` work on the borrowed connection.
 ghost use Rattle.std.specs.Prelude.{◌≡◌, ◌<◌, true, false, length, map, IsTrue, option_map};
 ghost use Rattle.sqlite.specs.Held.{state};
 ghost use Rattle.sqlite.specs.State.{IsLive};
@@ -23,8 +23,13 @@ use crate::shared::Shared;
 use crate::stored_programs::read_program;
 use sqlite::{Alter, Connection, Transaction};
 
-/// Begins a transaction of a store's database, in which none is open. What an open database then shows is what is committed. The
-/// transaction is rolled back where it is dropped before its commit.
+/// Begins a transaction on a store's database. An open database then shows what is committed. If the transaction is
+/// dropped before its commit, it is rolled back.
+///
+/// # Requires
+///
+/// No transaction is open on the connection: `conn.in_transaction` is false, as it is for the connection of every
+/// [`crate::PartStore`].
 pub fn begin<S: Alter>(conn: &mut Connection<S>) -> Transaction<'_, S>
     requires { conn.old.in_transaction ≡ false }
     ensures same_reference { result.conn.ghost_name ≡ conn.entry.ghost_name }
@@ -36,8 +41,8 @@ pub fn begin<S: Alter>(conn: &mut Connection<S>) -> Transaction<'_, S>
     conn.transaction()
 }
 
-/// Does nothing. Says what holds of every connection, which a proof knows only where it is asked: what an open one
-/// shows lists its tables, and is what is committed where it is in no transaction.
+/// Does nothing. It states what holds for every connection, which a proof only learns by asking: an open connection
+/// lists its tables, and what it shows is committed if it is in no transaction.
 pub(crate) fn know_connection<S: Alter>(conn: &Connection<S>)
     ensures settled { conn.now.in_transaction ≡ false → IsTrue (state S.Store conn.now).is_open
         → (state S.Store conn.now).now ≡ (state S.Store conn.now).committed }
@@ -47,7 +52,12 @@ pub(crate) fn know_connection<S: Alter>(conn: &Connection<S>)
     let _schema = conn.schema();
 }
 
-/// The user's program, or none where he has none. Refuses `Memory` and `Database`.
+/// Returns the user's filter program, or `None` if the user has none.
+///
+/// # Errors
+///
+/// - `Memory` if memory is refused.
+/// - `Database` if the database fails (see [`crate::PartStore`]).
 pub fn program_within<S: Alter>(
     tx: &mut Transaction<'_, S>,
     user: &str,
@@ -63,8 +73,23 @@ pub fn program_within<S: Alter>(
     Ok(read_program(tx, user)?)
 }
 
-/// Adds the entries, of which there is at least one, as [`crate::PartStore::add_sharing_entries`] does, with the same answers and
-/// refusals, and commits nothing. Where it is refused the transaction is to be rolled back: some of the entries may be in it.
+/// Adds entries as [`crate::PartStore::add_sharing_entries`] does, with the same answer and the same errors, and
+/// commits nothing. After an error, roll the transaction back: it can have some of the entries.
+///
+/// # Requires
+///
+/// - There is at least one entry: `0 < length entries`.
+/// - What `shared` says is true: if it names an earlier place for an entry, the entry at that place has the same bytes.
+///   It can be shorter or longer than `entries`.
+///
+/// # Errors
+///
+/// - `Memory` if memory is refused.
+/// - `NumberFull` exactly if the user has too few numbers left.
+/// - `Collision` exactly if there are enough numbers and a different content, in the store or earlier in `entries`, has
+///   the digest of one of the entries.
+/// - `Database` if the database fails (see [`crate::PartStore`]), or has no room for an entry, its content or the
+///   user's row.
 pub fn add_within<S: Alter>(
     tx: &mut Transaction<'_, S>,
     user: &str,

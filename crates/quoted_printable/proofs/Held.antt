@@ -17,17 +17,17 @@ use Rattle.quoted_printable.proofs.Heads.{IsFirm, blank_is, decoded-blank, decod
 -- ---- a literal `=`
 
 -- whether a text begins with two hexadecimal digits
-abbrev opens : List ℕ → Bool
+abbrev pub opens : List ℕ → Bool
 opens [] = false
 opens (a ∷ []) = false
 opens (a ∷ b ∷ rest) = is_hex a && is_hex b
 
-opens_front : (front rest : List ℕ) → opens (front ++ rest) ≡ false → opens front ≡ false
+pub opens_front : (front rest : List ℕ) → opens (front ++ rest) ≡ false → opens front ≡ false
 opens_front [] rest e = refl
 opens_front (x ∷ []) rest e = refl
 opens_front (x ∷ y ∷ front) rest e = e
 
-unescaped-literal : (text : List ℕ) → opens text ≡ false → unescaped (61 ∷ text) ≡ 61 ∷ unescaped text
+pub unescaped-literal : (text : List ℕ) → opens text ≡ false → unescaped (61 ∷ text) ≡ 61 ∷ unescaped text
 unescaped-literal [] e = refl
 unescaped-literal (a ∷ []) e = refl
 unescaped-literal (a ∷ b ∷ rest) e = rw e refl
@@ -58,7 +58,7 @@ ended_literal (y ∷ ys) break some e = elim (cases_Bool (ends_in_equals (y ∷ 
   | inr hard ↦ rw hard (ap (λ l. l ++ break) (unescaped-literal (y ∷ ys) e))
 ]
 
-decoded-literal : (text : List ℕ) → IsFirm text → opens text ≡ false → decoding_of (61 ∷ text) ≡ 61 ∷ decoding_of text
+pub decoded-literal : (text : List ℕ) → IsFirm text → opens text ≡ false → decoding_of (61 ∷ text) ≡ 61 ∷ decoding_of text
 unfolding decoding_of
 decoded-literal text firm e =
     let line = firm.line in
@@ -110,12 +110,12 @@ decoded-soft_ends text break rest ends =
 
 -- ---- the forms of what is kept
 
-or_none : (a b : Bool) → (a || b) ≡ false → (a ≡ false) × (b ≡ false)
+pub or_none : (a b : Bool) → (a || b) ≡ false → (a ≡ false) × (b ≡ false)
 or_none false false e = (refl, refl)
 or_none false true e = absurd (true≢false e)
 or_none true b e = absurd (true≢false e)
 
-and_both : (a b : Bool) → (a && b) ≡ true → (a ≡ true) × (b ≡ true)
+pub and_both : (a b : Bool) → (a && b) ≡ true → (a ≡ true) × (b ≡ true)
 and_both true true e = (refl, refl)
 and_both true false e = absurd (true≢false (sym e))
 and_both false b e = absurd (true≢false (sym e))
@@ -253,7 +253,7 @@ gap_ends (y ∷ rest) text (inr (cr, ended)) = rw (cr, ended) (record { content 
 unfoldable pub NotKept : List ℕ → ℕ → List ℕ → Type 0
 NotKept held x text = decoding_of (held ++ x ∷ text) ≡ held ++ decoding_of (x ∷ text)
 
-opens_other : (x : ℕ) (text : List ℕ) → is_hex x ≡ false → opens (x ∷ text) ≡ false
+pub opens_other : (x : ℕ) (text : List ℕ) → is_hex x ≡ false → opens (x ∷ text) ≡ false
 opens_other x [] e = refl
 opens_other x (y ∷ text) e = rw e refl
 

@@ -6,6 +6,7 @@ pub mod Extended
 pub mod Filling
 pub mod Heads
 mod Known
+pub mod Pending
 pub mod Held
 pub mod Lengths
 pub mod Pieced

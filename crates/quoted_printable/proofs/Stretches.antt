@@ -1,47 +1,15 @@
--- Stretches of a text that are read at once: octets before a place, lines before a break, and one stretch after another.
-use Rattle.std.proofs.Common.{◌≡◌, ◌≢◌, ℕ, ◌<◌, ◌≤◌, ◌==◌, ◌&&◌, Bool, true, false, List, [], ◌∷◌, ◌++◌, zero, suc, inl, inr, refl, sym, ◌∙◌, ap, arith, length, take, drop, get_or, subst}
+-- Stretches of a text that are read at once: lines before a break, and one stretch after another.
+use Rattle.std.proofs.Common.{◌≡◌, ◌≢◌, ℕ, ◌<◌, ◌==◌, ◌&&◌, Bool, true, false, List, [], ◌∷◌, ◌++◌, zero, suc, refl, sym, ◌∙◌, ap, arith, length, take, drop, get_or, subst}
 use Rattle.std.specs.List.{flat_map}
 use Rattle.std.specs.Prelude.{if◌then◌else◌, Result, Ok, Err, OnOk}
-use Rattle.std.proofs.lemmas.Bool.{eqb-false, cases_Bool}
 use Rattle.std.proofs.lemmas.Grind.{flat_map-append}
 use Rattle.std.proofs.lemmas.List.{append_assoc, append_cancel_left}
-use Rattle.memchr.specs.Find.{is_byte3}
 use Rattle.text_lines.specs.Lines.{TextLine, lines_of, octets_of, onto_break, onto_content}
 use Rattle.text_lines.proofs.Broken.{octets_of-lines_of}
 use Rattle.quoted_printable.specs.QuotedPrintable.{decoded_line, decoding_of}
 use Rattle.quoted_printable.specs.Pieces.{HasFed, is_held}
 use Rattle.quoted_printable.specs.Private.{Extends, Reads}
 use Rattle.quoted_printable.proofs.Extended.{added_of}
-use Rattle.quoted_printable.proofs.Heads.{IsPlain, decoded-plain}
-
--- ---- octets that stand as they are
-
-plain_of : (x : ℕ) → is_byte3 61 32 9 x ≢ true → IsPlain x
-plain_of x none = elim (cases_Bool (x == 61)) [
-  | inl e ↦ absurd (none (rw e refl))
-  | inr first ↦ elim (cases_Bool (x == 32)) [
-    | inl e ↦ absurd (none (rw (first, e) refl))
-    | inr second ↦ elim (cases_Bool (x == 9)) [
-      | inl e ↦ absurd (none (rw (first, second, e) refl))
-      | inr third ↦ record { no_equals = eqb-false x 61 first; no_blank = rw (second, third) refl }
-    ]
-  ]
-]
-
-plain_past : (n : ℕ) (text after : List ℕ) → n ≤ length text → ((k : ℕ) → k < n → is_byte3 61 32 9 (get_or text k 0) ≢ true)
-    → decoding_of (text ++ after) ≡ take n text ++ decoding_of (drop n text ++ after)
-plain_past zero text after within none = refl
-plain_past (suc n) [] after within none = absurd (omega arith)
-plain_past (suc n) (x ∷ text) after within none =
-    decoded-plain x (text ++ after) (plain_of x (none 0 (omega arith)))
-    ∙ ap (λ l. x ∷ l) (plain_past n text after (omega arith) (λ k lt. none (suc k) (omega arith)))
-
-pub reads_plain : (was now text : List ℕ) (n : ℕ) → n ≤ length text → ((k : ℕ) → k < n → is_byte3 61 32 9 (get_or text k 0) ≢ true) → now ≡ was ++ take n text
-    → Reads was text now (drop n text)
-reads_plain was now text n within none e = λ after.
-    ap (λ l. l ++ decoding_of (drop n text ++ after)) e
-    ∙ append_assoc was (take n text) (decoding_of (drop n text ++ after))
-    ∙ ap (λ l. was ++ l) (sym (plain_past n text after within none))
 
 -- ---- lines that breaks end
 

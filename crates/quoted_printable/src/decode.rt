@@ -1,13 +1,14 @@
-// Texts read.
+// How texts are read.
 //
 // Escapes that are close together are decoded together, up to 32 bytes that are then appended at once. A text with
-// few escapes pays about a tenth for it, and one of nothing else takes a third of the time. There is no error except
-// memory: any text has a reading. Lines are those of text_lines, so a lone CR ends none.
+// few escapes pays about a tenth for it, and one of only escapes takes a third of the time. There is no error except
+// memory: any text has a reading. Lines are those of text_lines, so a CR alone ends none.
 ghost use Rattle.std.specs.Prelude.{◌≡◌, ◌∷◌, ◌++◌, ◌<◌, ◌≤◌, IfOk, IfSome, OnOk, IsTrue, length, slice_index, take};
 ghost use Rattle.text_lines.specs.Lines.{text_line};
 ghost use Rattle.quoted_printable.specs.Private.{AreFor, Extends, Decodes};
 ghost use Rattle.quoted_printable.specs.QuotedPrintable.{decoded_line, decoding_of, ends_in_equals, unescaped};
 
+use crate::decoder::append_known;
 use memchr::memchr;
 use octets::{octet_of_digits, trim_trailing_blanks};
 use std::alloc::{AllocError, Global};
@@ -15,27 +16,31 @@ use text_lines::Lines;
 
 pub(crate) const EQUALS: u8 = b'=';
 
-/// How many octets are decoded together.
-pub(crate) const STRETCH: usize = 32;
+/// How many bytes are decoded together.
+const STRETCH: usize = 32;
 
-/// The octets of a quoted-printable text; any text is read.
+/// Returns the bytes of a quoted-printable text (RFC 2045, section 6.7). Any text is read.
 ///
-/// SP and TAB at the end of a line or of the text are deleted. Then `=` with two hexadecimal digits of either case is the
-/// octet of that value, `=` at the end of a line goes together with the line's break, and any other `=` is literal. All
-/// else stays as it stands, line breaks too. No octet is kept aside, however many blanks a line has.
+/// Spaces and tabs at the end of a line or of the text are deleted. Then `=` with two hexadecimal digits of either
+/// case means the byte of that value, `=` at the end of a line is deleted together with the line's break, and any
+/// other `=` is literal. Everything else stays as it is, line breaks too. No bytes are kept aside, however many
+/// blanks a line has.
+///
+/// For example, `caf=C3=A9` is read as the bytes of `café` in UTF-8.
 ///
 /// # Errors
 ///
-/// Memory ran out.
+/// `AllocError` if memory is refused.
 pub fn decode_qp(alloc: Global, text: &[u8]) -> Result<Vec<u8>, AllocError>
     ensures { IfOk result (λ octets. octets.items ≡ decoding_of text.now) }
 {
     let mut out = Vec::with_capacity(alloc, text.len())?;
-    append_decoding(text, &mut out)?;
+    let pending = append_known(text, &mut out)?;
+    append_decoding(pending, &mut out)?;
     Ok(out)
 }
 
-// Appends the octets of a text.
+// Appends the bytes of a text.
 #[tactic(auto, unfolding(crate::specs::QuotedPrintable::decoding_of))]
 pub(crate) fn append_decoding(text: &[u8], out: &mut Vec<u8>) -> Result<(), AllocError>
     ensures decoded { OnOk result (out.new.items ≡ out.old.items ++ decoding_of text.now) }
@@ -48,7 +53,7 @@ pub(crate) fn append_decoding(text: &[u8], out: &mut Vec<u8>) -> Result<(), Allo
     Ok(())
 }
 
-// Appends what a line stands for.
+// Appends the bytes that a line means.
 #[inline]
 fn append_line(content: &[u8], line_break: &[u8], out: &mut Vec<u8>) -> Result<(), AllocError>
     ensures decoded { OnOk result (out.new.items ≡ out.old.items
@@ -67,7 +72,7 @@ fn append_line(content: &[u8], line_break: &[u8], out: &mut Vec<u8>) -> Result<(
     out.extend_from_slice(line_break)
 }
 
-// Whether the last octet is `=`.
+// Whether the last byte is `=`.
 #[tactic(auto, using(crate::proofs::Decoded::ends_by_last))]
 #[inline]
 fn ends_in_equals(text: &[u8]) -> bool
@@ -77,9 +82,9 @@ fn ends_in_equals(text: &[u8]) -> bool
     text.len() > 0 && text[text.len() - 1] == EQUALS
 }
 
-// Appends octets whose escapes are decoded.
+// Appends bytes whose escapes are decoded.
 #[inline]
-fn append_unescaped(text: &[u8], out: &mut Vec<u8>) -> Result<(), AllocError>
+pub(crate) fn append_unescaped(text: &[u8], out: &mut Vec<u8>) -> Result<(), AllocError>
     ensures decoded { OnOk result (out.new.items ≡ out.old.items ++ unescaped text.now) }
     ensures more { Extends out.old.items out.new.items }
 {
@@ -87,7 +92,7 @@ fn append_unescaped(text: &[u8], out: &mut Vec<u8>) -> Result<(), AllocError>
     'escapes: while let Some(place) = memchr(EQUALS, rest) {
         let (before, escape) = rest.split_at(place);
         out.extend_from_slice(before)?;
-        // where escapes are many, the next is near
+        // if there are many escapes, the next is near
         let (octets, n, after) = first_octets(append_escape(escape, out)?);
         out.extend_from_slice(&octets[..n])?;
         rest = after;
@@ -95,7 +100,7 @@ fn append_unescaped(text: &[u8], out: &mut Vec<u8>) -> Result<(), AllocError>
     out.extend_from_slice(rest)
 }
 
-// Appends the octet that an escape stands for, or the `=` where it is literal, and gives what follows it.
+// Appends the byte that an escape means, or the `=` if it is literal, and returns the text after it.
 #[inline]
 fn append_escape<'a>(text: &'a [u8], out: &mut Vec<u8>) -> Result<&'a [u8], AllocError>
     requires some { 0 < length text.now }
@@ -117,10 +122,10 @@ fn append_escape<'a>(text: &'a [u8], out: &mut Vec<u8>) -> Result<&'a [u8], Allo
     Ok(after)
 }
 
-// What the first octets of a text stand for, at most [`STRETCH`], and what follows those: up to the first that depend on what comes
-// after them.
+// The bytes that the start of a text means, at most [`STRETCH`], and the text after them: up to a blank, because
+// after a word without escapes a search is faster, or a `=` that two digits don't follow.
 #[inline(always)]
-pub(crate) fn first_octets(text: &[u8]) -> ([u8; STRETCH], usize, &[u8])
+fn first_octets(text: &[u8]) -> ([u8; STRETCH], usize, &[u8])
     ensures octets { AreFor text.now (take result.1 result.0) result.2.now }
     ensures few { result.1 ≤ 32 }
 {
@@ -138,7 +143,7 @@ pub(crate) fn first_octets(text: &[u8]) -> ([u8; STRETCH], usize, &[u8])
     (octets, n, rest)
 }
 
-// The octet that the first ones of a text stand for, and what follows those; nothing where it depends on what comes after them.
+// The byte that the start of a text means, and the text after it; `None` before a blank or a `=` without two digits.
 #[inline(always)]
 fn first_octet(text: &[u8]) -> Option<(u8, &[u8])>
     ensures { IfSome result (λ read. Decodes text.now read.0 read.1.now) }
@@ -153,7 +158,7 @@ fn first_octet(text: &[u8]) -> Option<(u8, &[u8])>
     Some((*octet, after))
 }
 
-// The octet whose digits follow a `=`.
+// The byte whose digits follow a `=`, and the text after them.
 #[inline(always)]
 fn after_equals(text: &[u8]) -> Option<(u8, &[u8])>
     ensures { IfSome result (λ read. Decodes (61 ∷ text.now) read.0 read.1.now) }

@@ -4,18 +4,19 @@ ghost use Rattle.octets.specs.Blank.{is_blank};
 ghost use Rattle.octets.specs.Escapes.{is_hex};
 ghost use Rattle.quoted_printable.specs.QuotedPrintable.{decoding_of};
 ghost use Rattle.quoted_printable.specs.Pieces.{HasFed, begins, follows, is_held};
-ghost use Rattle.quoted_printable.specs.Private.{Extends, Reads, Stops, goes_on, has_digit};
+ghost use Rattle.quoted_printable.specs.Private.{Extends, HasNoFeed, IsChainFrom, IsPendingFrom, Reads, Stops, goes_on, has_digit};
 
-use crate::decode::{EQUALS, append_decoding, first_octets};
-use memchr::{memchr3, memrchr};
+use crate::decode::{EQUALS, append_decoding, append_unescaped};
+use memchr::memrchr;
 use octets::{octet_of_digits, trim_leading_blanks};
 use std::alloc::{AllocError, Global};
 use std::marker::Model;
 
-/// Reads a quoted-printable text that comes in pieces, of which each may end anywhere.
+/// A decoder of a quoted-printable text that comes in pieces, each of which can end anywhere.
 ///
-/// A contract sees the list of the octets that it keeps: those at the end of the pieces so far of which it isn't known yet
-/// what they stand for. They are `=` and a hexadecimal digit, or `=`, SP and TAB, and one CR.
+/// Make one with [`QpDecoder::new`], give it each piece with [`QpDecoder::feed`], and call [`QpDecoder::finish`]
+/// after the last. It keeps the bytes at the end of the pieces whose meaning depends on what follows: `=` and a
+/// hexadecimal digit, or `=`, spaces and tabs, and one CR. A contract sees the list of these bytes.
 #[derive(Drop)]
 pub struct QpDecoder {
     alloc: Global,
@@ -34,7 +35,7 @@ impl Model for QpDecoder {
 }
 
 impl QpDecoder {
-    /// Before the first piece. Takes no memory.
+    /// Returns a decoder before the first piece. It takes no memory.
     pub fn new(alloc: Global) -> QpDecoder
         ensures { result ≡ [] }
     {
@@ -44,11 +45,11 @@ impl QpDecoder {
         }
     }
 
-    /// Reads the next piece, and appends the octets that it is known to stand for after those before it, as many as there are.
+    /// Reads the next piece: appends all bytes whose meaning is known, and keeps the others.
     ///
     /// # Errors
     ///
-    /// Memory ran out, and then the decoder and `out` are as they were.
+    /// `AllocError` if memory is refused. The decoder and `out` are then as they were before.
     pub fn feed(&mut self, piece: &[u8], out: &mut Vec<u8>) -> Result<(), AllocError>
         ensures fed { OnOk result (HasFed self.old piece.now self.new out.old.items out.new.items) }
         ensures decoder { OnErr result (self.new ≡ self.old) }
@@ -64,11 +65,11 @@ impl QpDecoder {
         fed
     }
 
-    /// Appends what the octets that are kept stand for at the text's end.
+    /// Ends the text: appends the meaning of the bytes that are kept.
     ///
     /// # Errors
     ///
-    /// Memory ran out, and then `out` is as it was.
+    /// `AllocError` if memory is refused. `out` is then as it was before.
     pub fn finish(self, out: &mut Vec<u8>) -> Result<(), AllocError>
         ensures finished { OnOk result (out.new.items ≡ out.old.items ++ decoding_of self) }
         ensures out { OnErr result (out.new.items ≡ out.old.items) }
@@ -82,7 +83,7 @@ impl QpDecoder {
     }
 }
 
-// Reads a piece after the octets that are kept, and then keeps others.
+// Reads a piece after the bytes that are kept, and then keeps others.
 fn feed_held(
     alloc: Global,
     held: &mut Vec<u8>,
@@ -104,11 +105,11 @@ fn feed_held(
         return Ok(());
     }
     let rest = release(held, rest, out)?;
-    *held = append_open(alloc, rest, out)?;
+    *held = append_known(rest, out)?.to_vec(alloc)?;
     Ok(())
 }
 
-// What a piece stands for that is a line break and nothing else, hard or soft, where no octets are kept before it.
+// The meaning of a piece that is a line break and nothing else, hard or soft, if no bytes are kept before it.
 fn lone_break<'a>(held: &[u8], piece: &'a [u8]) -> Option<&'a [u8]>
     ensures none { IfSome result (λ octets. held.now ≡ []) }
     ensures stands { IfSome result (λ octets. (after : List ℕ) → decoding_of (piece.now ++ after)
@@ -142,7 +143,7 @@ fn is_soft_break(piece: &[u8]) -> bool
     piece == b"=\n".as_slice() || piece == b"=\r\n".as_slice()
 }
 
-// Keeps the first octets of a text, as many as may be kept after those that are, and gives what follows them.
+// Keeps the first bytes of a text, as many as can be kept after those that are, and returns the text after them.
 fn hold<'a>(held: &mut Vec<u8>, text: &'a [u8]) -> Result<&'a [u8], AllocError>
     requires { is_held held.old.items ≡ true }
     ensures held { OnOk result (is_held held.new.items ≡ true) }
@@ -161,7 +162,7 @@ fn hold<'a>(held: &mut Vec<u8>, text: &'a [u8]) -> Result<&'a [u8], AllocError>
     Ok(rest)
 }
 
-// Whether an octet is kept, too, after those that are kept.
+// Whether a byte is also kept, after those that are.
 #[tactic(auto, using(crate::proofs::Held::goes_on_last))]
 #[inline]
 fn goes_on(held: &[u8], octet: u8) -> bool
@@ -201,7 +202,7 @@ fn is_hex(octet: u8) -> bool
     octet.is_ascii_hexdigit()
 }
 
-// Appends what the octets kept stand for, now that it is known what follows them, and gives what is left after them.
+// Appends the meaning of the kept bytes, which is known now, and returns the text after them.
 fn release<'a>(held: &[u8], rest: &'a [u8], out: &mut Vec<u8>) -> Result<&'a [u8], AllocError>
     requires held { is_held held.now ≡ true }
     requires stops { Stops held.now rest.now }
@@ -221,7 +222,7 @@ fn release<'a>(held: &[u8], rest: &'a [u8], out: &mut Vec<u8>) -> Result<&'a [u8
     Ok(rest)
 }
 
-// Whether a hexadecimal digit stands after the first octet.
+// Whether a hexadecimal digit is kept after the first byte.
 #[inline]
 fn has_digit(held: &[u8]) -> bool
     ensures { result ≡ has_digit held.now }
@@ -229,7 +230,7 @@ fn has_digit(held: &[u8]) -> bool
     held.len() >= 2 && is_hex(held[1])
 }
 
-// The same where `=` and a digit are kept: a second digit ends the escape, and with any other octet both are literal.
+// The same if `=` and a digit are kept: a second digit ends the escape, and with any other byte both are literal.
 #[inline]
 fn release_escape<'a>(
     held: &[u8],
@@ -253,7 +254,7 @@ fn release_escape<'a>(
     Ok(rest)
 }
 
-// The same where LF follows: after `=` it belongs to a soft break. Otherwise blanks are deleted, and a CR stays.
+// The same if LF follows: after `=` it belongs to a soft break. Otherwise blanks are deleted, and a CR stays.
 #[inline]
 fn release_line<'a>(held: &[u8], rest: &'a [u8], out: &mut Vec<u8>) -> Result<&'a [u8], AllocError>
     requires held { is_held held.now ≡ true }
@@ -273,22 +274,25 @@ fn release_line<'a>(held: &[u8], rest: &'a [u8], out: &mut Vec<u8>) -> Result<&'
     Ok(rest)
 }
 
-// Appends what is known of a text before which nothing is kept, and gives the octets to keep.
-fn append_open(alloc: Global, text: &[u8], out: &mut Vec<u8>) -> Result<Vec<u8>, AllocError>
-    ensures read { IfOk result (λ held. Reads out.old.items text.now out.new.items held.items) }
-    ensures held { IfOk result (λ held. is_held held.items ≡ true) }
+// Appends what is known of a text if no bytes are kept before it, and returns the end of it that has to be kept.
+pub(crate) fn append_known<'a>(text: &'a [u8], out: &mut Vec<u8>) -> Result<&'a [u8], AllocError>
+    ensures read { IfOk result (λ pending. Reads out.old.items text.now out.new.items pending.now) }
+    ensures held { IfOk result (λ pending. is_held pending.now ≡ true) }
     ensures more { Extends out.old.items out.new.items }
 {
     let (lines, open) = after_last_break(text);
     append_decoding(lines, out)?;
-    append_octets(alloc, open, out)
+    let (known, pending) = open.split_at(pending_start(open));
+    append_unescaped(known, out)?;
+    Ok(pending)
 }
 
-// The text up to its last LF, and what follows it.
+// The text up to its last LF, and the text after it.
 #[inline]
 fn after_last_break(text: &[u8]) -> (&[u8], &[u8])
-    ensures { (after : List ℕ) → decoding_of (text.now ++ after) ≡ decoding_of result.0.now
+    ensures lines { (after : List ℕ) → decoding_of (text.now ++ after) ≡ decoding_of result.0.now
         ++ decoding_of (result.1.now ++ after) }
+    ensures no_feed { HasNoFeed result.1.now }
 {
     match memrchr(b'\n', text) {
         Some(place) => text.split_at(place + 1),
@@ -296,61 +300,30 @@ fn after_last_break(text: &[u8]) -> (&[u8], &[u8])
     }
 }
 
-// The same, one place after another at which something may have to be kept.
-fn append_octets(alloc: Global, text: &[u8], out: &mut Vec<u8>) -> Result<Vec<u8>, AllocError>
-    ensures read { IfOk result (λ held. Reads out.old.items text.now out.new.items held.items) }
-    ensures held { IfOk result (λ held. is_held held.items ≡ true) }
-    ensures more { Extends out.old.items out.new.items }
+// Where the longest end of a line begins that has to be kept, if the line can go on.
+#[inline]
+fn pending_start(line: &[u8]) -> usize
+    ensures { IsPendingFrom line.now result }
 {
-    let mut held = Vec::new(alloc);
-    let mut rest = append_known(text, out)?;
-    'places: while !rest.is_empty() {
-        let after = hold(&mut held, rest)?;
-        if after.is_empty() {
-            return Ok(held);
-        }
-        let left = release(&held, after, out)?;
-        held.clear();
-        rest = append_known(left, out)?;
+    if line.is_empty() {
+        return 0;
     }
-    Ok(held)
+    let start = chain_start(line);
+    if begins(line[start]) {
+        return start;
+    }
+    line.len()
 }
 
-// Appends what is known of a text up to a place at which something may have to be kept, and gives what follows.
+// Where the longest end of a line begins in which each byte is kept after the one before it.
 #[inline]
-fn append_known<'a>(text: &'a [u8], out: &mut Vec<u8>) -> Result<&'a [u8], AllocError>
-    ensures read { IfOk result (λ left. Reads out.old.items text.now out.new.items left.now) }
-    ensures begins { IfOk result (λ left. 0 < length left.now → begins (slice_index left.now 0)
-        ≡ true) }
-    ensures within { IfOk result (λ left. length left.now ≤ length text.now) }
-    ensures more { Extends out.old.items out.new.items }
+fn chain_start(line: &[u8]) -> usize
+    requires { 0 < length line.now }
+    ensures { IsChainFrom line.now result }
 {
-    let mut rest = append_plain(text, out)?;
-    'stretches: while !rest.is_empty() {
-        let (octets, n, after) = first_octets(rest);
-        if n == 0 {
-            break;
-        }
-        out.extend_from_slice(&octets[..n])?;
-        rest = append_plain(after, out)?;
+    let mut start = line.len() - 1;
+    'octets: while start > 0 && follows(line[start - 1], line[start]) {
+        start -= 1;
     }
-    Ok(rest)
-}
-
-// Appends the octets before the first `=`, SP or TAB, and gives what follows them.
-#[inline]
-fn append_plain<'a>(text: &'a [u8], out: &mut Vec<u8>) -> Result<&'a [u8], AllocError>
-    ensures read { IfOk result (λ left. Reads out.old.items text.now out.new.items left.now) }
-    ensures begins { IfOk result (λ left. 0 < length left.now → begins (slice_index left.now 0)
-        ≡ true) }
-    ensures within { IfOk result (λ left. length left.now ≤ length text.now) }
-    ensures more { Extends out.old.items out.new.items }
-{
-    let place = match memchr3(EQUALS, b' ', b'\t', text) {
-        Some(place) => place,
-        None => text.len(),
-    };
-    let (before, after) = text.split_at(place);
-    out.extend_from_slice(before)?;
-    Ok(after)
+    start
 }

@@ -1,4 +1,4 @@
-// Texts written.
+// How texts are written.
 ghost use Rattle.std.specs.Prelude.{◌≡◌, ◌++◌, ◌∷◌, [], ◌+◌, ◌/◌, ◌%◌, ◌-◌, ◌*◌, ◌^◌, ◌≤◌, ◌<◌, false, true, ℕ, IfOk, OnErr, OnOk, length, min, not, slice_index, take};
 ghost use Rattle.std.specs.List.{filter};
 ghost use Rattle.quoted_printable.specs.Written.{first_of, length_of};
@@ -7,18 +7,18 @@ ghost use Rattle.quoted_printable.specs.QuotedPrintable.{hex_of, encoding_of, es
 use crate::lanes::standing_len;
 use std::alloc::{AllocError, Global};
 
-/// The octets of a line without its break; where a soft break follows, its `=` is one of them.
+/// The bytes of a line without its break; the `=` of a soft break is one of them.
 const LINE_OCTETS: usize = 76;
 
-/// How many octets are looked at together.
+/// How many bytes are looked at together.
 const LANES: usize = 32;
 
-/// Room for a line, and for as many octets as are written together at its end.
+/// Room for a line, and for as many bytes as are written together at its end.
 const LINE_ROOM: usize = 112;
 
 const DIGITS: &[u8; 16] = b"0123456789ABCDEF";
 
-// What each octet is written as first, where another follows it: itself, or `=` where it is written with digits.
+// The first byte that each byte is written as, if another follows it: itself, or `=` if it is written with digits.
 static FIRSTS: [u8; 256] = *b"\
     \x3d\x3d\x3d\x3d\x3d\x3d\x3d\x3d\x3d\x09\x3d\x3d\x3d\x3d\x3d\x3d\
     \x3d\x3d\x3d\x3d\x3d\x3d\x3d\x3d\x3d\x3d\x3d\x3d\x3d\x3d\x3d\x3d\
@@ -37,7 +37,7 @@ static FIRSTS: [u8; 256] = *b"\
     \x3d\x3d\x3d\x3d\x3d\x3d\x3d\x3d\x3d\x3d\x3d\x3d\x3d\x3d\x3d\x3d\
     \x3d\x3d\x3d\x3d\x3d\x3d\x3d\x3d\x3d\x3d\x3d\x3d\x3d\x3d\x3d\x3d";
 
-// How many octets each octet is written as, where another follows it.
+// How many bytes each byte is written as, if another follows it.
 static LENGTHS: [u8; 256] = *b"\
     \x03\x03\x03\x03\x03\x03\x03\x03\x03\x01\x03\x03\x03\x03\x03\x03\
     \x03\x03\x03\x03\x03\x03\x03\x03\x03\x03\x03\x03\x03\x03\x03\x03\
@@ -56,21 +56,25 @@ static LENGTHS: [u8; 256] = *b"\
     \x03\x03\x03\x03\x03\x03\x03\x03\x03\x03\x03\x03\x03\x03\x03\x03\
     \x03\x03\x03\x03\x03\x03\x03\x03\x03\x03\x03\x03\x03\x03\x03\x03";
 
-// How many octets a run has at least after which another is looked for at once.
+// The least length of a run after which another run is looked for at once.
 const LONG_RUN: usize = 16;
 
-// How many octets are written one by one after a shorter run, before another is looked for.
+// How many bytes are written one by one after a shorter run, before another is looked for.
 const FEW: usize = 8;
 
-/// The quoted-printable text of octets.
+/// Returns the quoted-printable text of bytes (RFC 2045, section 6.7). [`crate::decode_qp`] reads it as the same
+/// bytes.
 ///
-/// Octets 33 to 126 but `=` stand as they are, also SP and TAB but for the last octet of all; every other octet is `=`
-/// with two upper-case digits, line breaks too. Where all that is left fits in 76 octets it is the last line, without a
-/// break. Otherwise a line takes as many whole tokens as 75 octets hold, then `=` CRLF.
+/// Bytes 33 to 126 except `=` are written as they are, and so are spaces and tabs except as the last byte of all.
+/// Every other byte is written as `=` and two upper-case digits, line breaks too. If all that is left fits into 76
+/// bytes, it is the last line, without a break. Otherwise a line takes as many whole tokens as fit into 75 bytes,
+/// then `=` CRLF.
+///
+/// For example, 77 times `a` become a line with 75 of them, `=` CRLF, and `aa`.
 ///
 /// # Errors
 ///
-/// Memory ran out.
+/// `AllocError` if memory is refused.
 pub fn encode_qp(alloc: Global, octets: &[u8]) -> Result<Vec<u8>, AllocError>
     ensures { IfOk result (λ text. text.items ≡ encoding_of octets.now) }
 {
@@ -84,14 +88,14 @@ pub fn encode_qp(alloc: Global, octets: &[u8]) -> Result<Vec<u8>, AllocError>
     Ok(out)
 }
 
-/// Appends the first line of the quoted-printable text of octets, with its soft break where octets are left after it, and
-/// gives how many octets stand in it; none where there are none.
+/// Appends the first line of the quoted-printable text of bytes, with its soft break if bytes are left after it.
+/// Returns how many of the bytes it took; it takes 0 only if there are none.
 ///
-/// The text is this line, then the text of what is left.
+/// The text is this line, and then the text of the bytes that are left.
 ///
 /// # Errors
 ///
-/// Memory ran out, and then `out` is as it was.
+/// `AllocError` if memory is refused. `out` is then as it was before.
 #[inline]
 pub fn encode_qp_line(octets: &[u8], out: &mut Vec<u8>) -> Result<usize, AllocError>
     ensures line { OnOk result (out.new.items ≡ out.old.items ++ first_line
@@ -115,8 +119,8 @@ pub fn encode_qp_line(octets: &[u8], out: &mut Vec<u8>) -> Result<usize, AllocEr
     Ok(taken)
 }
 
-// Writes the tokens of the longest run that takes no more than so many octets of the line, and gives how many tokens and
-// how many octets they are.
+// Writes the tokens of the longest run that takes no more than so many bytes of the line, and returns how many tokens
+// and how many bytes they are.
 #[inline]
 fn fill(line: &mut [u8; LINE_ROOM], octets: &[u8], room: usize) -> (usize, usize)
     requires { room ≤ 76 }
@@ -143,8 +147,8 @@ fn fill(line: &mut [u8; LINE_ROOM], octets: &[u8], room: usize) -> (usize, usize
     (taken, len)
 }
 
-// Writes the octets from the first on that stand as they are at a place of the line, at most 32 and as many as there is
-// room for, and gives how many they are; none of the last 32 of all, and none where a run isn't tried.
+// Writes the first bytes that are literal at a place of the line, at most 32 and as many as there is room for, and
+// returns how many they are. It writes none if at most 32 bytes are left, and none if a run isn't tried.
 #[inline(always)]
 fn put_run(
     line: &mut [u8; LINE_ROOM],
@@ -172,7 +176,7 @@ fn put_run(
     standing_len(block).min(room - at)
 }
 
-// How many octets are still written one by one, after a run of so many.
+// How many bytes are still written one by one, after a run of so many.
 #[inline(always)]
 fn left_after(few: usize, run: usize) -> usize {
     if few > 0 {
@@ -184,7 +188,7 @@ fn left_after(few: usize, run: usize) -> usize {
     }
 }
 
-// What an octet is written as first, where another follows it.
+// The first byte that a byte is written as, if another follows it.
 #[inline(always)]
 fn first_of(octet: u8) -> u8
     ensures { result ≡ first_of octet }
@@ -192,7 +196,7 @@ fn first_of(octet: u8) -> u8
     FIRSTS[octet as usize]
 }
 
-// How many octets an octet is written as, where another follows it.
+// How many bytes a byte is written as, if another follows it.
 #[inline(always)]
 fn length_of(octet: u8) -> usize
     ensures { result ≡ length_of octet }
@@ -200,7 +204,7 @@ fn length_of(octet: u8) -> usize
     LENGTHS[octet as usize] as usize
 }
 
-// Whether an octet is written with digits, also where another follows it.
+// Whether a byte is written with digits even if another follows it.
 #[inline(always)]
 fn is_escaped(octet: u8) -> bool
     ensures { result ≡ not (stands octet false) }
@@ -208,7 +212,7 @@ fn is_escaped(octet: u8) -> bool
     LENGTHS[octet as usize] == 3
 }
 
-// Writes an octet, and two digits after it, at a place of the line.
+// Writes a byte, and two digits after it, at a place of the line.
 #[inline(always)]
 fn put_three(line: &mut [u8; LINE_ROOM], at: usize, first: u8, octet: u8)
     requires { at ≤ 76 }
@@ -220,7 +224,7 @@ fn put_three(line: &mut [u8; LINE_ROOM], at: usize, first: u8, octet: u8)
     line[at + 2] = DIGITS[(octet % 16) as usize];
 }
 
-// Writes the token of an octet that another follows at a place of the line, and gives where it ends.
+// Writes the token of a byte that another follows at a place of the line, and returns where it ends.
 #[inline(always)]
 fn put_inner(line: &mut [u8; LINE_ROOM], at: usize, octet: u8) -> usize
     requires { at ≤ 76 }
@@ -231,7 +235,7 @@ fn put_inner(line: &mut [u8; LINE_ROOM], at: usize, octet: u8) -> usize
     at + length_of(octet)
 }
 
-// Writes a token at a place of the line, and gives where it ends.
+// Writes a token at a place of the line, and returns where it ends.
 #[inline]
 fn put_token(line: &mut [u8; LINE_ROOM], at: usize, octet: u8, is_last: bool) -> usize
     requires { at ≤ 76 }
@@ -248,7 +252,7 @@ fn put_token(line: &mut [u8; LINE_ROOM], at: usize, octet: u8, is_last: bool) ->
     put_escape(line, at, octet)
 }
 
-// Writes `=` and two digits at a place of the line, and gives where they end.
+// Writes `=` and two digits at a place of the line, and returns where they end.
 #[inline(always)]
 fn put_escape(line: &mut [u8; LINE_ROOM], at: usize, octet: u8) -> usize
     requires { at ≤ 76 }
@@ -261,7 +265,7 @@ fn put_escape(line: &mut [u8; LINE_ROOM], at: usize, octet: u8) -> usize
     at + 3
 }
 
-// Writes a soft break at a place of the line, and gives where it ends.
+// Writes a soft break at a place of the line, and returns where it ends.
 #[inline]
 fn put_soft_break(line: &mut [u8; LINE_ROOM], at: usize) -> usize
     requires { at ≤ 76 }
@@ -274,7 +278,7 @@ fn put_soft_break(line: &mut [u8; LINE_ROOM], at: usize) -> usize
     at + 3
 }
 
-// Whether an octet stands as it is.
+// Whether a byte is written as it is.
 #[inline]
 fn stands(octet: u8, is_last: bool) -> bool
     ensures { result ≡ stands octet is_last }
@@ -289,8 +293,8 @@ fn is_literal(octet: u8) -> bool
     octet.is_ascii_graphic() && octet != b'='
 }
 
-// Room for the text of octets: all tokens, where the last octet may be a blank, and a soft break for each 73 octets of them,
-// the fewest that a line has.
+// Room for the text of bytes: all tokens, where the last byte can be a blank, and a soft break for each 73 bytes of
+// them, the fewest that a line has.
 fn text_room(octets: &[u8]) -> usize
     ensures enough { min (length (encoding_of octets.now)) (2 ^ 64 - 1) ≤ result }
     ensures few { result ≤ 4 * length octets.now + 6 }
@@ -300,7 +304,7 @@ fn text_room(octets: &[u8]) -> usize
     tokens.saturating_add((tokens / 73 + 1).saturating_mul(3))
 }
 
-// How many octets are written with digits, also where others follow.
+// How many bytes are written with digits even if others follow.
 fn escaped_count(octets: &[u8]) -> usize
     ensures number { result ≡ length (filter (λ octet. not (stands octet false)) octets.now) }
     ensures few { result ≤ length octets.now }

@@ -1,4 +1,4 @@
-// Octets that stand as they are, found 32 at a time.
+// Bytes that are written as they are, found 32 at a time.
 ghost use Rattle.std.specs.Prelude.{◌≡◌, ◌<◌, ◌≤◌, false, true, ℕ, map, slice_index, if◌then◌else◌};
 ghost use Rattle.std.specs.Simd.Lanes.{zip2};
 ghost use Rattle.octet_lanes.specs.Lanes.{added, if_equal, if_from};
@@ -7,7 +7,7 @@ ghost use Rattle.quoted_printable.specs.QuotedPrintable.{stands};
 use octet_lanes::{plus, where_equal, where_from};
 use std::simd::prelude::*;
 
-/// How many of the octets before the first one that is written with digits; SP and TAB stand, as where others follow.
+/// How many bytes come before the first one that is written with digits. Spaces and tabs count as if others follow.
 #[inline(always)]
 pub(crate) fn standing_len(octets: &[u8; 32]) -> usize
     ensures few { result ≤ 32 }
@@ -22,7 +22,7 @@ pub(crate) fn standing_len(octets: &[u8; 32]) -> usize
     written.trailing_zeros() as usize
 }
 
-// 1 in the lane of each octet that stands, and 0 in the others. 255 is 1 less, in the low 8 bits.
+// 1 in the lane of each byte that is written as it is, and 0 in the others. 255 is 1 less, modulo 256.
 #[inline(always)]
 fn standing_lanes(lanes: u8x32) -> u8x32
     ensures { result ≡ map (λ octet. if stands octet false then 1 else 0) lanes }

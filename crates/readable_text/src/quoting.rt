@@ -1,4 +1,4 @@
-//! Octets between quotes, as listings and traces have them.
+//! Bytes between quotes, in the form that listings and traces have.
 ghost use Rattle.std.specs.Prelude.{◌≡◌, ◌++◌, ◌<◌, false, OnOk};
 ghost use Rattle.std.specs.List.{flat_map};
 ghost use Rattle.std.specs.Fmt.{digit_glyph};
@@ -6,7 +6,7 @@ ghost use Rattle.readable_text.specs.Quoted.{cut, escape, escaped_octet, is_plai
 
 use std::alloc::AllocError;
 
-/// How many octets of a text [`put_quoted_start`] appends.
+/// How many bytes of a text [`put_quoted_start`] appends at most.
 pub const MAX_START: usize = 80;
 
 // A hexadecimal digit.
@@ -17,14 +17,14 @@ fn digit(n: u8) -> u8
     if n < 10 { b'0' + n } else { b'a' - 10 + n }
 }
 
-/// The two hexadecimal digits of an octet.
+/// Returns the two hexadecimal digits of a byte, in lower case.
 pub fn two_digits(octet: u8) -> [u8; 2]
     ensures { result ≡ two_digits octet }
 {
     [digit(octet / 16), digit(octet % 16)]
 }
 
-/// A backslash and the two hexadecimal digits of an octet.
+/// Returns a backslash and the two hexadecimal digits of a byte.
 pub fn escape(octet: u8) -> [u8; 3]
     ensures { result ≡ escape octet }
 {
@@ -32,14 +32,14 @@ pub fn escape(octet: u8) -> [u8; 3]
     [b'\\', high, low]
 }
 
-/// Whether an octet stands for itself between quotes.
+/// Returns whether a byte is written as it is between quotes: printable ASCII except `"` and the backslash.
 pub fn is_plain(octet: u8) -> bool
     ensures { result ≡ is_plain octet }
 {
     matches!(octet, 32..=126) && !matches!(octet, b'"' | b'\\')
 }
 
-// Appends an octet between quotes.
+// Appends a byte between quotes.
 fn put_octet(out: &mut Vec<u8>, octet: u8) -> Result<(), AllocError>
     ensures { OnOk result (out.new.items ≡ out.old.items ++ escaped_octet octet) }
 {
@@ -50,7 +50,7 @@ fn put_octet(out: &mut Vec<u8>, octet: u8) -> Result<(), AllocError>
     }
 }
 
-// Appends octets as they stand between quotes.
+// Appends bytes in the form that they have between quotes.
 fn put_escaped(out: &mut Vec<u8>, octets: &[u8]) -> Result<(), AllocError>
     ensures { OnOk result (out.new.items ≡ out.old.items ++ flat_map escaped_octet octets.now) }
 {
@@ -60,9 +60,11 @@ fn put_escaped(out: &mut Vec<u8>, octets: &[u8]) -> Result<(), AllocError>
     Ok(())
 }
 
-/// Appends octets between quotes, as the strings of a listing.
+/// Appends a text between quotes, as listings have it. A byte that [`is_plain`] refuses is written by [`escape`].
 ///
-/// An error comes only where memory was refused.
+/// # Errors
+///
+/// `AllocError` if memory is refused.
 pub fn put_quoted(out: &mut Vec<u8>, octets: &[u8]) -> Result<(), AllocError>
     ensures { OnOk result (out.new.items ≡ out.old.items ++ quoted octets.now) }
 {
@@ -71,7 +73,12 @@ pub fn put_quoted(out: &mut Vec<u8>, octets: &[u8]) -> Result<(), AllocError>
     Ok(out.push(b'"')?)
 }
 
-/// Appends a text between quotes; of one with more octets than `most` the first ones, and after them the mark.
+/// Appends a text between quotes, cut if it is long: of a text with more than `most` bytes only the first `most`, and
+/// then `mark` after the closing quote.
+///
+/// # Errors
+///
+/// `AllocError` if memory is refused.
 pub fn put_cut(out: &mut Vec<u8>, text: &[u8], most: usize, mark: &[u8]) -> Result<(), AllocError>
     ensures { OnOk result (out.new.items ≡ out.old.items ++ cut most mark.now text.now) }
 {
@@ -83,10 +90,12 @@ pub fn put_cut(out: &mut Vec<u8>, text: &[u8], most: usize, mark: &[u8]) -> Resu
     out.extend_from_slice(mark)
 }
 
-/// Appends a text between quotes, as a trace has it: its first [`MAX_START`] octets, and two dots after them where
-/// there are more.
+/// Appends a text between quotes, as a trace has it: at most its first [`MAX_START`] bytes, and two dots after the
+/// closing quote if there are more.
 ///
-/// An error comes only where memory was refused.
+/// # Errors
+///
+/// `AllocError` if memory is refused.
 #[tactic(auto, unfolding(crate::specs::Quoted::quoted_start))]
 pub fn put_quoted_start(out: &mut Vec<u8>, text: &[u8]) -> Result<(), AllocError>
     ensures { OnOk result (out.new.items ≡ out.old.items ++ quoted_start text.now) }

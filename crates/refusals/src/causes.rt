@@ -1,4 +1,4 @@
-// The errors of the crates below, as refusals: each as the one of its name.
+// The errors of the crates below as refusals: each becomes the refusal of the same name.
 use crate::refusal::Refusal;
 use base64::DecodeAllocError;
 use bytecode_format::FormatError;

@@ -1,6 +1,6 @@
-// Why an answer is refused.
+// The refusals, with their numbers and names.
 //
-// A fault of a listing is `28 Listing`, with the byte: the first number after those of programs. The numbers of the
+// A fault in a listing is `28 Listing`, with its byte: the first number after those of programs. The numbers of the
 // other refusals stay.
 ghost use Rattle.std.specs.Prelude.{◌≡◌, None, Some};
 ghost use Rattle.refusals.specs.declared.refusal.Refusal.TheVariants.{Memory};
@@ -9,65 +9,70 @@ use std::alloc::{AllocError, AllocFailed};
 use std::error::Error;
 use std::fmt::{self, Display};
 
-/// Why an answer is refused. Its line has the refusal's number and name, and its place where it has one.
+/// Why depot refuses a command; the calls from `sieve_engine` upwards return it as their error. It displays as the line
+/// that the program prints, `refused 25 Jump at 2`: the number, the name and, for some refusals, the place.
+/// `depot help 25` explains number 25.
 #[derive(Debug, Drop, PartialEq, Eq)]
 pub enum Refusal {
-    /// An allocation was refused.
+    /// Memory was refused.
     Memory,
-    /// A message, or a file, has more octets than the limit.
+    /// A message or a file is longer than the limit in bytes.
     MessageTooLarge,
     /// A message has more parts than the limit.
     TooManyParts,
-    /// A text isn't one of its encoding.
+    /// A text isn't a valid text of its encoding.
     NotCanonical,
-    /// At an octet of a script begins neither a token nor white space nor a comment.
+    /// At this byte of a script neither a token nor white space nor a comment begins.
     Lexical { place: usize },
-    /// A script has more octets than the limit.
+    /// A script is longer than the limit in bytes.
     ScriptTooLong,
-    /// With this token the tokens of a script begin none; the end counts as a token.
+    /// No script begins with the tokens up to and including this one; the end of the script counts as a token.
     Syntax { place: usize },
-    /// This token is the brace or test name that would be nested too deep.
+    /// This token is the brace or the test name that would be nested too deep.
     TooDeep { place: usize },
-    /// A command or test of this name isn't known. The place of this and the next four is a token.
+    /// No command or test has this name. The place of this refusal and of the next four is a token.
     UnknownCommand { place: usize },
-    /// The command or test needs a capability that wasn't required.
+    /// The command or test needs a capability that the script didn't require.
     MissingCapability { place: usize },
-    /// `require` names a capability that isn't known.
+    /// `require` names a capability that doesn't exist.
     UnknownCapability { place: usize },
-    /// The command or test stands at a wrong place, or with other arguments, tests or another end than it takes; or a reference
-    /// in one of its strings has a namespace or is to a capture above the last one; or `set` or `take` gives a name that is no
-    /// identifier; or no open loop has the name of a `break`.
+    /// The command or test is in a wrong place, or has other arguments, tests or another end than it takes; or a
+    /// reference in one of its strings has a namespace or refers to a capture above the last one; or the name that
+    /// `set` or `take` gives isn't an identifier; or no open loop has the name that a `break` gives.
     BadArguments { place: usize },
-    /// The command or test has too long a string, or too many strings in its lists; or one of its strings has too many segments, or
-    /// names a variable by too long a name; or with it the script has too many variables; or it is a loop within too many.
+    /// The command or test has a string that is too long, or too many strings in its lists; or one of its strings has
+    /// too many segments, or names a variable with a name that is too long; or it is the first for which the script has
+    /// too many variables; or it is a loop nested in too many others.
     Limit { place: usize },
-    /// The octets of a program spell none.
+    /// The bytes of a program aren't the spelling of any program.
     Spelling,
-    /// An instruction has an index of what isn't there. The place of this and the next six is an instruction.
+    /// An instruction's index refers to something that isn't there. The place of this refusal and of the next six is an
+    /// instruction.
     Index { place: usize },
-    /// No operation, a field out of its range, or a field that isn't named and not 0.
+    /// The operation doesn't exist, a field is out of range, or a field that the operation doesn't use isn't 0.
     Form { place: usize },
     /// The last instruction doesn't end the run.
     End { place: usize },
-    /// A loop without its other end, too many open loops, or a break of more than there are.
+    /// A loop has no matching other end, too many loops are open, or a break leaves more loops than are open.
     Loop { place: usize },
-    /// A jump that isn't forward, or to a place that is none or has other open loops.
+    /// A jump doesn't go forward, or its target isn't an instruction or has other open loops.
     Jump { place: usize },
-    /// An operation on the current part where no loop is open.
+    /// The operation needs a current part, but no loop is open.
     NoPart { place: usize },
-    /// An entry of the stack is missing, of the wrong kind, too many, or left where none may be.
+    /// A stack entry is missing or has the wrong kind, there are too many entries, or one is left that isn't allowed.
     Stack { place: usize },
-    /// At this octet of a listing stands what can't stand there; or its end, where what it lists exceeds the limits of programs.
+    /// At this byte of a listing is something that isn't allowed there; or it is the listing's end, and the listed
+    /// program exceeds the limits of programs.
     Listing { place: usize },
-    /// A user has no entry of that number.
+    /// The user has no entry with that number, or no filter program to give back.
     NoSuchEntry,
-    /// The numbers that are left for a user's entries don't suffice.
+    /// The user has too few numbers left for the new entries.
     NumberFull,
-    /// Another content has the same digest, and other octets.
+    /// Another content has the same digest and different bytes.
     Collision,
-    /// The database refused or failed, or a stored program can't be read any more.
+    /// The database refused a call or failed, or a stored program no longer reads and verifies.
     Database,
-    /// A name isn't that of a user.
+    /// The name isn't a valid user name.
     UserName,
     /// A file couldn't be made or written, or standard output failed.
     Write,
@@ -75,7 +80,7 @@ pub enum Refusal {
     Read,
 }
 
-// A row of the table of refusals.
+// A row of the table of refusals: what a refusal's line consists of.
 #[derive(Drop)]
 struct Row {
     number: u8,
@@ -84,7 +89,7 @@ struct Row {
 }
 
 impl Row {
-    // That of a refusal that names no place.
+    // The row of a refusal without a place.
     fn plain(number: u8, name: &'static str) -> Row
         ensures number { result.number ≡ number }
         ensures name { result.name.now ≡ name.now }
@@ -97,7 +102,7 @@ impl Row {
         }
     }
 
-    // That of a refusal that names a place.
+    // The row of a refusal with a place.
     fn placed(number: u8, name: &'static str, place: usize) -> Row
         ensures number { result.number ≡ number }
         ensures name { result.name.now ≡ name.now }
@@ -114,7 +119,7 @@ impl Row {
 impl Refusal {
     ghost use Rattle.refusals.specs.Lines.{number_of, name_of, place_of};
 
-    // Its row in the table.
+    // This refusal's row in the table.
     fn row(&self) -> Row
         ensures number { result.number ≡ number_of self.now }
         ensures name { result.name.now ≡ name_of self.now }
@@ -153,21 +158,22 @@ impl Refusal {
         }
     }
 
-    /// Its number.
+    /// The number, from 1 to 46, for example 43 for `Database`.
     pub fn number(&self) -> u8
         ensures { result ≡ number_of self.now }
     {
         self.row().number
     }
 
-    /// Its name.
+    /// The name, for example `Database`.
     pub fn name(&self) -> &'static str
         ensures { result.now ≡ name_of self.now }
     {
         self.row().name
     }
 
-    /// The place that it names, counted from 0: that of an octet, a token or an instruction.
+    /// The place, if this refusal has one, counted from 0: a byte of a script or a listing, a token of a script, or an
+    /// instruction of a program.
     pub fn place(&self) -> Option<usize>
         ensures { result ≡ place_of self.now }
     {
@@ -175,7 +181,7 @@ impl Refusal {
     }
 }
 
-/// The line of a refusal, without its line break.
+/// The line of a refusal, without its line break: `refused 43 Database`, or `refused 25 Jump at 2`.
 impl Display for Refusal {
     ghost use Rattle.refusals.specs.Lines.{refusal_text};
 

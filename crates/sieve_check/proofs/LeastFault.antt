@@ -30,7 +30,7 @@ use Rattle.sieve_check.specs.Causes.{Cause, Refused, about, fault_of_kind, plain
 use Rattle.sieve_check.specs.LeastFault.{Seen, all_of, all_of_command, all_of_commands, all_of_more, all_of_tests, ends_otherwise, fault_by, fault_read, first_fault, has_large, has_long, has_unknown, has_wrong, known_fault, lacks, least_fault, read_fault}
 use Rattle.sieve_check.specs.Names.{row_named, tag_named}
 use Rattle.sieve_check.specs.Rules.{Mentions, Visit, after_invocation, are_many, capability_arguments, cause_of, command_visits, commands_visits, ending_cause, fault_of, invocation_of, is_long_name, kind_of, known_cause, lacking, lacking_cause, lacks_by, large_cause, large_mention_cause, long_name, long_string_cause, looks_inside, loops_opened, many_loops_cause, many_strings_cause, may_stand, mention_cause, mentions_of, misplaced, more_visits, names_by, needs_of, opened_by, opened_past, past_invocation, place_cause, read_cause, reference_cause, reference_kind, refused_among, same_ending, same_reason, same_tests, string_has, strings_of, tests_cause, tests_visits, unknown_as, unknown_cause, visits_of, where_required}
-use Rattle.sieve_check.specs.Rows.{Row}
+use Rattle.sieve_check.specs.Rows.{Row, is_test}
 use Rattle.sieve_check.specs.Signatures.{Given, Read, add_tag, asks_for_mime, is_positional, no_tag, nothing_given, takes_tag, with_argument}
 use Rattle.sieve_check.specs.Surroundings.{Context, at_start, first_lacking, in_block, opens_many}
 use Rattle.sieve_check.proofs.Existence.{Behind, behind_sound}
@@ -225,10 +225,10 @@ of_read : (s : Context) (row : Row) (args : List ArgumentTree) (tests : Tests) (
 of_read s row args tests ending read =
     let mentions = where_required s.required (mentions_of row.role read) in
     of_groups (tests_cause row.signature tests) (ending_cause row.ending ending) (mention_cause mentions) (place_cause s row.place read.name)
-    (long_string_cause args) (many_strings_cause row.counted read) (large_mention_cause mentions) (many_loops_cause s (opened_by row args)) _ _ _ _ _ _ _ _
+    (long_string_cause args) (many_strings_cause (is_test row.ending) read) (large_mention_cause mentions) (many_loops_cause s (opened_by row args)) _ _ _ _ _ _ _ _
     (of_tests row.signature tests) (of_ending row.ending ending) (of_mentions mentions)
     (of_unless (may_stand s row.place read.name) _ BadArguments (of_misplaced row.place read.name))
-    (of_long args) (of_if (are_many row.counted read) _ Limit refl) (of_large mentions) (of_if (opens_many (opened_by row args) s) _ Limit refl)
+    (of_long args) (of_if (are_many (is_test row.ending) read) _ Limit refl) (of_large mentions) (of_if (opens_many (opened_by row args) s) _ Limit refl)
 
 of_known : (s : Context) (args : List ArgumentTree) (tests : Tests) (ending : Option Ending) (row : Row) → fault_for (known_cause s args tests ending row) ≡ known_fault s args tests ending row
 of_known s args tests ending row =

@@ -27,11 +27,10 @@ use Rattle.sieve_check.specs.declared.signature.Tests.{Tests}
 use Rattle.sieve_check.specs.declared.signature.Tests.TheVariants.{Nothing, One, Bracketed}
 use Rattle.sieve_check.specs.Bounded.{IsBoundedTest, AreBoundedTests, IsTestIn, AreTestsIn}
 use Rattle.sieve_check.specs.FormOf.{InnerForms, none, one, bracketed, number_in, size_of, question_by, question_of, strings_in, asking_of, test_of, test_form_of, inner_forms_of, more_forms_of}
-use Rattle.sieve_check.specs.declared.table.Role.TheVariants.{Expanded}
 use Rattle.sieve_check.specs.declared.signature.Ending.{Ending}
 use Rattle.sieve_check.specs.declared.surroundings.Capabilities.{Capabilities}
 use Rattle.sieve_check.specs.Names.{test_known, test_named}
-use Rattle.sieve_check.specs.Rows.{Row, test_row}
+use Rattle.sieve_check.specs.Rows.{Row, is_test, test_row}
 use Rattle.sieve_check.specs.Arguments.{arguments_cause, reading}
 use Rattle.sieve_check.specs.Causes.{Cause, about, plain}
 use Rattle.sieve_check.specs.Questions.{Asking, asking, by_number, by_tags, unasked}
@@ -104,7 +103,7 @@ pub record RowWellFormed (s : Context) (row : Row) (args : List ArgumentTree) (t
   pub same : same_tests row.signature.tests tests ≡ true
   pub ends : ending_cause row.ending ending ≡ None
   pub stands : may_stand s row.place form.read.name ≡ true
-  pub few : are_many row.counted form.read ≡ false
+  pub few : are_many (is_test row.ending) form.read ≡ false
   pub room : opens_many (opened_by row args) s ≡ false
   pub short : has_long_string args ≡ false
   pub large : large_mention_cause (where_required s.required (mentions_of row.role form.read)) ≡ None
@@ -123,7 +122,7 @@ row_well_formed s args tests ending row h =
     let f = both_none (ending_cause row.ending ending) (mention_cause mentions) e.1 in
     let g = both_none (place_cause s row.place read.name) _ d.1 in
     let i = both_none (long_string_cause args) _ g.1 in
-    let j = both_none (many_strings_cause row.counted read) _ i.1 in
+    let j = both_none (many_strings_cause (is_test row.ending) read) _ i.1 in
     let k = both_none (large_mention_cause mentions) (many_loops_cause s (opened_by row args)) j.1 in
     record {
       has = map_none lacking (first_lacking (needs_of row args) s.required) a.0;
@@ -131,7 +130,7 @@ row_well_formed s args tests ending row h =
       same = unless_none (same_tests row.signature.tests tests) (plain (WrongTests row.signature.tests)) e.0;
       ends = f.0;
       stands = unless_none (may_stand s row.place read.name) (misplaced row.place read.name) g.0;
-      few = (if_none (are_many row.counted read) (plain ManyStrings) None j.0).0;
+      few = (if_none (are_many (is_test row.ending) read) (plain ManyStrings) None j.0).0;
       room = (if_none (opens_many (opened_by row args) s) (plain ManyLoops) None k.1).0;
       short = none_long args i.0;
       large = k.0;
@@ -145,14 +144,6 @@ pub record TestWellFormed (s : Context) (name : TestName) (args : List ArgumentT
   pub params : HasArgument form.read.tags.selector form.read.params
   pub few : length (strings_of (lists_read form.read)) ≤ max_test_strings
   pub sound : All (IsSound (expands s)) (strings_of (lists_read form.read))
-
-are_counted : (name : TestName) → (test_row name).counted ≡ true
-are_counted (Constant b) = refl
-are_counted _ = refl
-
-are_expanded : (name : TestName) → (test_row name).role ≡ Expanded
-are_expanded (Constant b) = refl
-are_expanded _ = refl
 
 -- no test names a loop
 stands_unnamed : (s : Context) (name : TestName) (loop : Option (List ℕ)) → may_stand s (test_row name).place loop ≡ may_stand s (test_row name).place None
@@ -168,9 +159,9 @@ test_well_formed s name args tests h =
       same = well.same;
       form = well.form;
       params = (selecting_read (test_signature name) args read well.form.is).params;
-      few = ltb-false max_test_strings (length (strings_of (lists_read read))) (ap (λ counted. are_many counted read) (sym (are_counted name)) ∙ well.few);
+      few = ltb-false max_test_strings (length (strings_of (lists_read read))) well.few;
       sound = all_sound (expands s) (strings_of (lists_read read)) (read_short (test_signature name) args read well.form.is well.short)
-          (none_large (expands s) (expanding (strings_of (lists_read read))) (ap (λ role. large_mention_cause (where_required s.required (mentions_of role read))) (sym (are_expanded name)) ∙ well.large));
+          (none_large (expands s) (expanding (strings_of (lists_read read))) well.large);
     }
 
 -- ---- the tests behind arguments
@@ -351,8 +342,7 @@ mutual
         around = f.around;
         variables = f.variables
             ∙ names_found test_row s.required args (test_named word) name.0 (own_names s read) (inner_variables inner.inner) _ name.1
-            (ap (λ role. names_mentioned (where_required s.required (mentions_of role read))) (sym (are_expanded name.0))
-            ∙ ap (λ o. names_mentioned (where_required s.required (mentions_read (test_row name.0).role o))) (sym well.form.is)) (inner.variables ∙ ap names_brought (sym looked));
+            (ap (λ o. names_mentioned (where_required s.required (mentions_read (test_row name.0).role o))) (sym well.form.is)) (inner.variables ∙ ap names_brought (sym looked));
       }
 
   pub inner_exists : (s : Context) (tests : TestsTree) → AreFaultless (tests_visits s tests) → Inner s tests

@@ -18,7 +18,7 @@ use Rattle.sieve_check.specs.declared.surroundings.Capabilities.{Capabilities}
 use Rattle.sieve_check.specs.Arguments.{reading}
 use Rattle.sieve_check.specs.Causes.{refusal}
 use Rattle.sieve_check.specs.Names.{row_named}
-use Rattle.sieve_check.specs.Rows.{Row}
+use Rattle.sieve_check.specs.Rows.{Row, is_test}
 use Rattle.sieve_check.specs.Signatures.{Read}
 use Rattle.sieve_check.specs.Rules.{Mentions, after_invocation, are_many, capability_arguments, invocation_of, is_long_name, kind_of, loops_opened, may_stand, mentions_of, names_by, needs_of, opened_by, same_ending, same_tests, string_has, strings_of, where_required}
 use Rattle.sieve_check.specs.Surroundings.{Context, at_start, first_lacking, in_block, opens_many}
@@ -55,7 +55,7 @@ abbrev pub read_fault : Context → Row → List ArgumentTree → Tests → Opti
 read_fault s row args tests ending read =
     let mentions = where_required s.required (mentions_of row.role read) in
     if not (same_tests row.signature.tests tests) || ends_otherwise row.ending ending || has_wrong mentions || not (may_stand s row.place read.name) then Some BadArguments
-    else if has_long args || are_many row.counted read || has_large mentions || opens_many (opened_by row args) s then Some Limit
+    else if has_long args || are_many (is_test row.ending) read || has_large mentions || opens_many (opened_by row args) s then Some Limit
     else None
 
 abbrev pub known_fault : Context → List ArgumentTree → Tests → Option Ending → Row → Option Fault

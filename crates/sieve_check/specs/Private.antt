@@ -28,7 +28,6 @@ row_view row = record {
   ending = row.ending;
   place = row.place;
   role = row.role;
-  counted = row.counted;
   opens = row.opens;
   follows = row.follows;
 }

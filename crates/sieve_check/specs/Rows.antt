@@ -15,6 +15,7 @@ use Rattle.sieve_check.specs.declared.table.Follows.{Follows}
 use Rattle.sieve_check.specs.declared.table.Follows.TheVariants.{Requires, Branches, Others}
 use Rattle.sieve_check.specs.declared.signature.Ending.{Ending}
 use Rattle.sieve_check.specs.declared.signature.Ending.TheVariants.{Semicolon, Block}
+use Rattle.sieve_check.specs.declared.signature.Positional.{Positional}
 use Rattle.sieve_check.specs.declared.signature.Positional.TheVariants as positional
 use Rattle.sieve_check.specs.declared.signature.Signature.{Signature}
 use Rattle.sieve_check.specs.declared.signature.Tests.{Tests}
@@ -32,8 +33,6 @@ pub record Row : Type 0 where
   pub place : Place
   -- what variables have to do with its strings
   pub role : Role
-  -- its strings are counted: a test may have so many
-  pub counted : Bool
   -- a loop is open around its block
   pub opens : Bool
   -- what its being there means for the commands after it
@@ -44,9 +43,9 @@ abbrev pub is_test : Option Ending → Bool
 is_test None = true
 is_test (Some ending) = false
 
--- no argument, and these tests
-abbrev pub bare : Tests → Signature
-bare after = record {
+-- nothing is taken
+abbrev pub nothing : Signature
+nothing = record {
   order = false;
   matching = false;
   modifying = false;
@@ -55,276 +54,107 @@ bare after = record {
   naming = false;
   limiting = false;
   positional = positional.Nothing;
-  tests = after;
+  tests = tests.Nothing;
 }
+
+-- these tests alone, or these arguments
+abbrev pub bare : Tests → Signature
+bare after = record nothing { tests = after }
+
+abbrev pub taking : Positional → Signature
+taking arguments = record nothing { positional = arguments }
+
+-- of this name, where no more is said: it may stand anywhere, takes nothing, and its strings are expanded; a test, a command that
+-- ends with a semicolon or with a block, and a test of the current part
+abbrev pub test : List ℕ → Row
+test word = record {
+  word = word;
+  needs = [];
+  signature = nothing;
+  ending = None;
+  place = Anywhere;
+  role = Expanded;
+  opens = false;
+  follows = Others;
+}
+
+abbrev pub command : List ℕ → Row
+command word = record (test word) { ending = Some Semicolon }
+
+abbrev pub block : List ℕ → Row
+block word = record (test word) { ending = Some Block }
+
+abbrev pub part_test : List ℕ → Row
+part_test word = record (test word) { needs = capability.Depot ∷ []; place = InLoop }
 
 abbrev pub command_row : CommandName → Row
-command_row Require = record {
-  word = codes "require";
-  needs = [];
-  signature = record (bare tests.Nothing) { positional = positional.OneList };
-  ending = Some Semicolon;
+command_row Require = record (command (codes "require")) {
+  signature = taking positional.OneList;
   place = AtTop;
   role = AsWritten;
-  counted = false;
-  opens = false;
   follows = Requires;
 }
-command_row If = record {
-  word = codes "if";
-  needs = [];
-  signature = bare tests.One;
-  ending = Some Block;
-  place = Anywhere;
-  role = Expanded;
-  counted = false;
-  opens = false;
-  follows = Branches;
-}
-command_row Elsif = record {
-  word = codes "elsif";
-  needs = [];
-  signature = bare tests.One;
-  ending = Some Block;
-  place = AfterIf;
-  role = Expanded;
-  counted = false;
-  opens = false;
-  follows = Branches;
-}
-command_row Else = record {
-  word = codes "else";
-  needs = [];
-  signature = bare tests.Nothing;
-  ending = Some Block;
-  place = AfterIf;
-  role = Expanded;
-  counted = false;
-  opens = false;
-  follows = Others;
-}
-command_row Stop = record {
-  word = codes "stop";
-  needs = [];
-  signature = bare tests.Nothing;
-  ending = Some Semicolon;
-  place = Anywhere;
-  role = Expanded;
-  counted = false;
-  opens = false;
-  follows = Others;
-}
-command_row Keep = record {
-  word = codes "keep";
-  needs = [];
-  signature = bare tests.Nothing;
-  ending = Some Semicolon;
-  place = Anywhere;
-  role = Expanded;
-  counted = false;
-  opens = false;
-  follows = Others;
-}
-command_row Discard = record {
-  word = codes "discard";
-  needs = [];
-  signature = bare tests.Nothing;
-  ending = Some Semicolon;
-  place = Anywhere;
-  role = Expanded;
-  counted = false;
-  opens = false;
-  follows = Others;
-}
-command_row FileInto = record {
-  word = codes "fileinto";
+command_row If = record (block (codes "if")) { signature = bare tests.One; follows = Branches }
+command_row Elsif = record (block (codes "elsif")) { signature = bare tests.One; place = AfterIf; follows = Branches }
+command_row Else = record (block (codes "else")) { place = AfterIf }
+command_row Stop = command (codes "stop")
+command_row Keep = command (codes "keep")
+command_row Discard = command (codes "discard")
+command_row FileInto = record (command (codes "fileinto")) {
   needs = capability.FileInto ∷ [];
-  signature = record (bare tests.Nothing) { positional = positional.Text };
-  ending = Some Semicolon;
-  place = Anywhere;
-  role = Expanded;
-  counted = false;
-  opens = false;
-  follows = Others;
+  signature = taking positional.Text;
 }
-command_row Set = record {
-  word = codes "set";
+command_row Set = record (command (codes "set")) {
   needs = capability.Variables ∷ [];
-  signature = record (bare tests.Nothing) { modifying = true; positional = positional.TwoTexts };
-  ending = Some Semicolon;
-  place = Anywhere;
+  signature = record (taking positional.TwoTexts) { modifying = true };
   role = NameThenValue;
-  counted = false;
-  opens = false;
-  follows = Others;
 }
-command_row ForEveryPart = record {
-  word = codes "foreverypart";
+command_row ForEveryPart = record (block (codes "foreverypart")) {
   needs = capability.ForEveryPart ∷ [];
-  signature = record (bare tests.Nothing) { naming = true };
-  ending = Some Block;
-  place = Anywhere;
-  role = Expanded;
-  counted = false;
+  signature = record nothing { naming = true };
   opens = true;
-  follows = Others;
 }
-command_row Break = record {
-  word = codes "break";
+command_row Break = record (command (codes "break")) {
   needs = capability.ForEveryPart ∷ [];
-  signature = record (bare tests.Nothing) { naming = true };
-  ending = Some Semicolon;
+  signature = record nothing { naming = true };
   place = ToLeave;
-  role = Expanded;
-  counted = false;
-  opens = false;
-  follows = Others;
 }
-command_row Store = record {
-  word = codes "store";
+command_row Store = record (command (codes "store")) {
   needs = capability.Depot ∷ [];
-  signature = record (bare tests.Nothing) { positional = positional.Text };
-  ending = Some Semicolon;
+  signature = taking positional.Text;
   place = InLoop;
-  role = Expanded;
-  counted = false;
-  opens = false;
-  follows = Others;
 }
-command_row Take = record {
-  word = codes "take";
+command_row Take = record (command (codes "take")) {
   needs = capability.Variables ∷ capability.Depot ∷ [];
-  signature = record (bare tests.Nothing) { limiting = true; positional = positional.Text };
-  ending = Some Semicolon;
+  signature = record (taking positional.Text) { limiting = true };
   place = InLoop;
   role = NameAlone;
-  counted = false;
-  opens = false;
-  follows = Others;
 }
 
-abbrev pub test_row : TestName → Row
-test_row (Constant b) = record {
-  word = if b then codes "true" else codes "false";
-  needs = [];
-  signature = bare tests.Nothing;
-  ending = None;
-  place = Anywhere;
-  role = Expanded;
-  counted = true;
-  opens = false;
-  follows = Others;
+-- a test by its word, with what it needs and takes, and where it may stand
+abbrev pub test_entry : TestName → Row
+test_entry (Constant b) = test (if b then codes "true" else codes "false")
+test_entry Not = record (test (codes "not")) { signature = bare tests.One }
+test_entry AllOf = record (test (codes "allof")) { signature = bare tests.Bracketed }
+test_entry AnyOf = record (test (codes "anyof")) { signature = bare tests.Bracketed }
+test_entry Header = record (test (codes "header")) {
+  signature = record (taking positional.TwoLists) { matching = true; scoped = true; selecting = true };
 }
-test_row Not = record {
-  word = codes "not";
-  needs = [];
-  signature = bare tests.One;
-  ending = None;
-  place = Anywhere;
-  role = Expanded;
-  counted = true;
-  opens = false;
-  follows = Others;
-}
-test_row AllOf = record {
-  word = codes "allof";
-  needs = [];
-  signature = bare tests.Bracketed;
-  ending = None;
-  place = Anywhere;
-  role = Expanded;
-  counted = true;
-  opens = false;
-  follows = Others;
-}
-test_row AnyOf = record {
-  word = codes "anyof";
-  needs = [];
-  signature = bare tests.Bracketed;
-  ending = None;
-  place = Anywhere;
-  role = Expanded;
-  counted = true;
-  opens = false;
-  follows = Others;
-}
-test_row Header = record {
-  word = codes "header";
-  needs = [];
-  signature = record (bare tests.Nothing) { matching = true; scoped = true; selecting = true; positional = positional.TwoLists };
-  ending = None;
-  place = Anywhere;
-  role = Expanded;
-  counted = true;
-  opens = false;
-  follows = Others;
-}
-test_row Exists = record {
-  word = codes "exists";
-  needs = [];
-  signature = record (bare tests.Nothing) { scoped = true; positional = positional.OneList };
-  ending = None;
-  place = Anywhere;
-  role = Expanded;
-  counted = true;
-  opens = false;
-  follows = Others;
-}
-test_row Size = record {
-  word = codes "size";
-  needs = [];
-  signature = record (bare tests.Nothing) { order = true; positional = positional.Number };
-  ending = None;
-  place = Anywhere;
-  role = Expanded;
-  counted = true;
-  opens = false;
-  follows = Others;
-}
-test_row String = record {
-  word = codes "string";
+test_entry Exists = record (test (codes "exists")) { signature = record (taking positional.OneList) { scoped = true } }
+test_entry Size = record (test (codes "size")) { signature = record (taking positional.Number) { order = true } }
+test_entry String = record (test (codes "string")) {
   needs = capability.Variables ∷ [];
-  signature = record (bare tests.Nothing) { matching = true; positional = positional.TwoLists };
-  ending = None;
-  place = Anywhere;
-  role = Expanded;
-  counted = true;
-  opens = false;
-  follows = Others;
+  signature = record (taking positional.TwoLists) { matching = true };
 }
-test_row PartSize = record {
-  word = codes "partsize";
-  needs = capability.Depot ∷ [];
-  signature = record (bare tests.Nothing) { order = true; positional = positional.Number };
-  ending = None;
-  place = InLoop;
-  role = Expanded;
-  counted = true;
-  opens = false;
-  follows = Others;
+test_entry PartSize = record (part_test (codes "partsize")) { signature = record (taking positional.Number) { order = true } }
+test_entry PartBody = record (part_test (codes "partbody")) {
+  signature = record (taking positional.OneList) { matching = true };
 }
-test_row PartBody = record {
-  word = codes "partbody";
-  needs = capability.Depot ∷ [];
-  signature = record (bare tests.Nothing) { matching = true; positional = positional.OneList };
-  ending = None;
-  place = InLoop;
-  role = Expanded;
-  counted = true;
-  opens = false;
-  follows = Others;
-}
-test_row PartDigest = record {
-  word = codes "partdigest";
-  needs = capability.Depot ∷ [];
-  signature = record (bare tests.Nothing) { positional = positional.OneList };
-  ending = None;
-  place = InLoop;
-  role = Expanded;
-  counted = true;
-  opens = false;
-  follows = Others;
-}
+test_entry PartDigest = record (part_test (codes "partdigest")) { signature = taking positional.OneList }
+
+-- no test has an ending, and the strings of each are expanded
+abbrev pub test_row : TestName → Row
+test_row name = record (test_entry name) { ending = None; role = Expanded }
 
 -- all of them
 abbrev pub all_commands : List CommandName

@@ -241,12 +241,12 @@ place_cause s place name = if may_stand s place name then None else Some (mispla
 abbrev pub long_string_cause : List ArgumentTree → Option Cause
 long_string_cause args = option_map (about LongString) (find (string_has Long) (strings_of args))
 
--- more strings than it may have, where they are counted
+-- more strings than a test may have, where it is one
 abbrev pub are_many : Bool → Read → Bool
-are_many counted read = counted && has_many_strings read
+are_many tests read = tests && has_many_strings read
 
 abbrev pub many_strings_cause : Bool → Read → Option Cause
-many_strings_cause counted read = if are_many counted read then Some (plain ManyStrings) else None
+many_strings_cause tests read = if are_many tests read then Some (plain ManyStrings) else None
 
 -- the first name of a variable that is longer than the limit
 abbrev pub long_name : List Segment → Option (List ℕ)
@@ -278,7 +278,7 @@ ill_formed row tests ending mentions =
 abbrev pub oversized : Context → Row → List ArgumentTree → Read → Mentions → Option Cause
 oversized s row args read mentions =
     option_or (long_string_cause args)
-    (option_or (many_strings_cause row.counted read)
+    (option_or (many_strings_cause (is_test row.ending) read)
     (option_or (large_mention_cause mentions) (many_loops_cause s (opened_by row args))))
 
 -- where the arguments were read, apart from them, with its place and the limits

@@ -14,7 +14,7 @@ use bytecode_format::Selector;
 use sieve_parser::Argument;
 use std::slice;
 
-// The first argument's name and the arguments after it, where it is a tag.
+// The first argument's name and the arguments after it, if it is a tag.
 fn first_tag(arguments: &[Argument]) -> Option<(&[u8], &[Argument])>
     ensures { FirstTag (map argument_tree arguments.now) result }
 {
@@ -35,7 +35,7 @@ fn is_second_modifier(tag: Tag, tags: Tags) -> bool
     }
 }
 
-// What is wrong with a tag that can't be added to those that were given.
+// What is wrong with a tag that can't be added to the given ones.
 fn untaken_kind(signature: Signature, tag: Tag, tags: Tags) -> ReasonKind
     ensures { result ≡ untaken_kind signature tag tags }
 {
@@ -48,7 +48,7 @@ fn untaken_kind(signature: Signature, tag: Tag, tags: Tags) -> ReasonKind
     }
 }
 
-// What was read so far, with the comparator that is named next.
+// The reading with the comparator that is named next.
 fn with_comparator(reading: Reading<'_>) -> Option<Reading<'_>>
     ensures { Settles reading.entry Tag.Comparator result }
 {
@@ -67,7 +67,7 @@ fn with_comparator(reading: Reading<'_>) -> Option<Reading<'_>>
     })
 }
 
-// What was read so far, without the list that comes next.
+// The reading without the list that comes next.
 fn with_params(reading: Reading<'_>) -> Option<Reading<'_>>
     ensures { Settles reading.entry (Tag.Select Selector.Param) result }
 {
@@ -81,7 +81,7 @@ fn with_params(reading: Reading<'_>) -> Option<Reading<'_>>
     }
 }
 
-// What was read so far, with the string of `:name`, which comes next.
+// The reading with the string of `:name`, which comes next.
 fn with_name(reading: Reading<'_>) -> Option<Reading<'_>>
     ensures { Settles reading.entry Tag.Name result }
 {
@@ -95,7 +95,7 @@ fn with_name(reading: Reading<'_>) -> Option<Reading<'_>>
     })
 }
 
-// What was read so far, with the number of `:first`, which comes next and isn't zero.
+// The reading with the number of `:first`, which comes next and isn't zero.
 fn with_first(reading: Reading<'_>) -> Option<Reading<'_>>
     ensures { Settles reading.entry Tag.First result }
 {
@@ -116,7 +116,7 @@ fn with_first(reading: Reading<'_>) -> Option<Reading<'_>>
     })
 }
 
-// What was read so far, with the argument that the tag takes.
+// The reading with the argument that the tag takes.
 fn with_argument(tag: Tag, reading: Reading<'_>) -> Option<Reading<'_>>
     ensures { Settles reading.entry tag result }
 {
@@ -145,7 +145,7 @@ fn first_label(arguments: &[Argument]) -> Option<&[u8]>
     None
 }
 
-// Whether a tag of that name stands only with `:mime`.
+// Whether a tag with this name is allowed only with `:mime`.
 fn needs_mime(name: &[u8]) -> bool
     ensures { result ≡ needs_mime (tag_named name.now) }
 {
@@ -172,7 +172,7 @@ fn label_needing_mime(arguments: &[Argument]) -> &[u8]
     &[]
 }
 
-// How many arguments stand behind the tags.
+// How many arguments come after the tags.
 fn number_of(positional: Positional) -> usize
     ensures { result ≡ number_of positional }
 {
@@ -183,7 +183,7 @@ fn number_of(positional: Positional) -> usize
     }
 }
 
-// What is wrong with the arguments behind the tags.
+// What is wrong with the arguments after the tags.
 fn positional_cause(signature: Signature, arguments: &[Argument]) -> Option<Cause<'_>>
     ensures { option_map cause_view result
         ≡ positional_cause signature.positional (map argument_tree arguments.now) }
@@ -204,7 +204,7 @@ fn positional_cause(signature: Signature, arguments: &[Argument]) -> Option<Caus
     }
 }
 
-// What is wrong with tags, of which each is taken, and which stand among the arguments.
+// What is wrong with tags that are each taken, and that are among the arguments.
 fn missing_cause(signature: Signature, tags: Tags, arguments: &[Argument]) -> Option<Cause<'_>>
     ensures { option_map cause_view result
         ≡ missing_cause signature tags (map argument_tree arguments.now) }

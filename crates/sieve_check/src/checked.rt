@@ -13,7 +13,8 @@ use crate::typed::Command;
 use sieve_parser::Script;
 use std::marker::Model;
 
-/// A script that was checked, with its typed form. A contract sees the commands of both.
+/// A script that keeps the rules, with its typed form. [`crate::check`] makes it; the compiler and the evaluator take
+/// it. A contract sees the commands of both.
 #[derive(Drop)]
 pub struct Checked {
     script: Script,
@@ -49,7 +50,7 @@ impl Checked {
         Checked { script, commands }
     }
 
-    /// The script that was checked, as it is written: for editors and formatters, which need what the typed form leaves out.
+    /// Returns the syntax tree of the script, for editors and formatters, which need what the typed form leaves out.
     pub fn script(&self) -> &Script
         ensures value { result.now ≡ self.now.script }
         ensures tree { IsTree (commands_tree self.now.script) }
@@ -58,8 +59,8 @@ impl Checked {
         &self.script
     }
 
-    /// Its typed form, which is within the limits: no string is too long or has too many segments, no test has a list
-    /// that is empty or lists of too many strings, and there aren't too many variables.
+    /// Returns the typed form of the script, which is within the limits: no string is too long or has too many
+    /// segments, no test has an empty list or lists of too many strings, and there aren't too many variables.
     pub fn commands(&self) -> &[Command]
         ensures value { result.now ≡ self.now.commands }
         ensures form { IsFormOf (commands_tree self.now.script) (commands_form self.now.commands) }

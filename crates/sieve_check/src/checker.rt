@@ -20,19 +20,33 @@ use arrayvec::ArrayVec;
 use sieve_parser::Script;
 use std::alloc::Global;
 
-/// Why commands and tests of the script are refused, in order, the first reasons up to [`MAX_FOUND`]: one more than the
-/// [`MAX_REASONS`](crate::MAX_REASONS) that are told says that there are more. It takes no memory. `check` refuses just such a script,
-/// with the fault that the first reason is ([`ReasonKind::fault`]).
+/// Returns why commands and tests of a script are refused, in order, at most [`MAX_FOUND`] of them. It takes no
+/// memory.
 ///
-/// Commands are looked at in order, each before its tests and these before its block. One with which something is wrong is refused
-/// for the first that holds of: its name isn't known; it needs a capability that wasn't required; a `require` names something
-/// else than a capability; its arguments can't be read; other tests follow, or it ends otherwise; a string that is expanded has a
-/// wrong reference, or what is set is no name; it can't stand at its place; it is beyond a limit. What is required, and what stands
-/// before an `else`, goes by what is written, wrong or not; a loop whose arguments can't be read may have any name; one that isn't known
-/// changes nothing for those after it. One with which something is wrong by itself brings no variables; of one that brings too many,
-/// those count for which there is room. All capabilities are told that one needs and that weren't required, and all strings of a
-/// `require` that are none. A capability that is lacking is told once, and so is that variables are too many. The block
-/// of a loop too many isn't looked at, nor are the tests behind a command or test that takes none.
+/// [`check`] refuses a script exactly if there is a reason, with the fault of the first reason's kind
+/// ([`ReasonKind::fault`]). At most [`MAX_REASONS`](crate::MAX_REASONS) are reported to people; one more shows that
+/// there are more.
+///
+/// Commands are checked in order, each before its tests and these before its block. A command or test is refused for
+/// the first of these that holds:
+///
+/// 1. Its name isn't known.
+/// 2. It needs a capability that wasn't required.
+/// 3. It is a `require` that names something other than a capability.
+/// 4. Its arguments can't be read.
+/// 5. Other tests follow than it takes, or it ends in another way.
+/// 6. A string that is expanded has a wrong reference, or the name of a variable isn't one.
+/// 7. It isn't allowed at its place.
+/// 8. It is beyond a limit.
+///
+/// One fault should not cause others. What counts as required, and what comes before an `else`, depends on what is
+/// written, wrong or not; a loop whose arguments can't be read can have any name; an unknown command changes nothing
+/// for those after it. A command or test that is wrong by itself adds no variables; one that adds too many adds those
+/// for which there is room.
+///
+/// All capabilities that a command or test needs and that weren't required are reported, and all strings of a
+/// `require` that aren't capabilities. A missing capability is reported once, and so are too many variables. The
+/// block of a loop that is one too many isn't checked, nor are the tests after a command or test that takes none.
 pub fn reasons_of(script: &Script) -> ArrayVec<Refused<'_>, MAX_FOUND>
     ensures { map refused_view result.items
         ≡ take max_found (reasons_of (commands_tree script.now)) }
@@ -40,22 +54,30 @@ pub fn reasons_of(script: &Script) -> ArrayVec<Refused<'_>, MAX_FOUND>
     rules::script(script.commands()).refused
 }
 
-/// The script with its typed form, where nothing is wrong with it (RFC 5228; RFC 5229, sections 3 and 4; RFC 5703, sections 3
-/// and 4).
+/// Checks a script against the rules of the language, and returns it with its typed form (RFC 5228; RFC 5229,
+/// sections 3 and 4; RFC 5703, sections 3 and 4).
 ///
-/// Commands are looked at in order, each before its tests and these before its block. The first command or test
-/// of which something is wrong is refused, at the number of its identifier's token: as
-/// [`CheckError::UnknownCommand`] where its name isn't known; else as [`CheckError::MissingCapability`] where it
-/// needs a capability that wasn't required; else as [`CheckError::UnknownCapability`] where a `require` names
-/// something else than a capability; else as [`CheckError::BadArguments`] where it stands at a wrong place (a
-/// `break` where there is no such loop to leave, a `store`, a `take` or a test of the current part outside of all loops),
-/// or has other arguments, tests or another end than it takes, or expands a string with a reference into a namespace or to a
-/// capture after the last one, or sets what is no name; else as [`CheckError::Limit`] where one of its strings has
-/// too many octets, or the lists of a test have too many strings, or it expands a string of too many segments or with too
-/// long a name, or sets too long a name, or opens a loop within as many others as may be open, or where the script has too
-/// many variables with those that it brings. Strings are expanded where variables were required, but for the names of
-/// variables and loops. [`CheckError::Memory`] comes only where memory was
-/// refused and nothing is wrong with the script.
+/// Strings are expanded if `variables` was required, except for the names of variables and loops. For example,
+/// `require "fileinto";` is accepted.
+///
+/// # Errors
+///
+/// The error of the first command or test that has a fault, with the number of its identifier's token, counted from
+/// 0. Commands are checked in order, each before its tests and these before its block. If one has several faults, the
+/// first in this list is reported:
+///
+/// - `CheckError::UnknownCommand` if its name isn't known.
+/// - `CheckError::MissingCapability` if it needs a capability that wasn't required.
+/// - `CheckError::UnknownCapability` if it is a `require` that names something other than a capability.
+/// - `CheckError::BadArguments` if it isn't allowed at its place (a `break` without a loop to leave, or a `store`, a
+///   `take` or a test of the current part outside of all loops), has other arguments, tests or another end than it
+///   takes, expands a string with a reference into a namespace or to a capture after the last one, or sets a variable
+///   by a name that isn't one.
+/// - `CheckError::Limit` if one of its strings has too many bytes, the lists of a test have too many strings, it
+///   expands a string of too many segments or with too long a name, it sets too long a name, it opens a loop inside
+///   as many others as can be open, or the script has too many variables with the ones that it adds.
+///
+/// `CheckError::Memory` if memory is refused and nothing is wrong with the script.
 pub fn check(alloc: Global, script: Script) -> Result<Checked, CheckError>
     ensures script { IfOk result (λ checked. checked.script ≡ script) }
     ensures form { IfOk result (λ checked. IsFormOf (commands_tree script)

@@ -23,13 +23,13 @@ use arrayvec::ArrayVec;
 use octets::Octets;
 use sieve_parser::{Argument, Head};
 
-/// The most reasons that are told of a script.
+/// The largest number of reasons that are reported for a script.
 pub const MAX_REASONS: usize = 20;
 
-/// The most reasons that are looked for: one more, which says that there are more than [`MAX_REASONS`].
+/// The largest number of reasons that are looked for: one more than [`MAX_REASONS`], which shows that there are more.
 pub const MAX_FOUND: usize = 21;
 
-// Whether the same is lacking: a capability, or room for variables.
+// Whether the same is missing: a capability, or room for variables.
 fn is_same_lack(kind: ReasonKind, other: ReasonKind) -> bool
     ensures { result ≡ same_lack kind other }
 {
@@ -42,7 +42,7 @@ fn is_same_lack(kind: ReasonKind, other: ReasonKind) -> bool
     }
 }
 
-// Whether both strings are no capabilities.
+// Whether both strings aren't capabilities.
 fn are_unknown(kind: ReasonKind, other: ReasonKind) -> bool
     ensures { result ≡ are_unknown kind other }
 {
@@ -52,7 +52,7 @@ fn are_unknown(kind: ReasonKind, other: ReasonKind) -> bool
     )
 }
 
-// Whether the same string of the same `require` is no capability.
+// Whether it is the same string of the same `require` that isn't a capability.
 fn is_same_string(found: Refused<'_>, other: Refused<'_>) -> bool
     ensures { result ≡ same_string (refused_view found.entry) (refused_view other.entry) }
 {
@@ -61,15 +61,15 @@ fn is_same_string(found: Refused<'_>, other: Refused<'_>) -> bool
         && found.reason.subject == other.reason.subject
 }
 
-// Whether one was told with the other.
+// Whether one is reported with the other.
 fn is_same_reason(found: Refused<'_>, other: Refused<'_>) -> bool
     ensures { result ≡ same_reason (refused_view found.entry) (refused_view other.entry) }
 {
     is_same_lack(found.reason.kind, other.reason.kind) || is_same_string(found, other)
 }
 
-/// Why commands and tests were refused so far, the first reasons up to [`MAX_FOUND`], each thing that is lacking told once; and
-/// the names of variables that the others brought, with those of one that brought too many as far as there was room.
+/// Why commands and tests were refused, the first reasons up to [`MAX_FOUND`], each thing that is missing once; and
+/// the names of the variables that the others added, with those of one that added too many as far as there was room.
 #[derive(Drop)]
 pub struct Findings<'t> {
     pub names: VariableNames<'t>,
@@ -87,7 +87,7 @@ impl<'t> Findings<'t> {
     ghost use Rattle.sieve_check.specs.Refusing.{AreNoted, listed, refused_in};
     ghost use Rattle.sieve_check.specs.Rules.{lacking_causes, same_reason, strings_in, strings_of, unknown_causes};
 
-    /// Nothing.
+    /// No findings.
     pub fn new() -> Findings<'t>
         ensures names { listed result.names ≡ [] }
         ensures refused { refused_in result ≡ [] }
@@ -98,7 +98,7 @@ impl<'t> Findings<'t> {
         }
     }
 
-    // Whether the same was told already.
+    // Whether the same has been noted.
     fn tells(&self, found: Refused<'_>) -> bool
         ensures { result ≡ is_listed same_reason (refused_view found.entry) (refused_in self.now) }
     {
@@ -110,7 +110,7 @@ impl<'t> Findings<'t> {
         false
     }
 
-    /// Notes that a command or test is refused, and why, where there is room, and where the same wasn't told already.
+    /// Notes that a command or test is refused, and why, if there is room and the same hasn't been noted.
     pub fn refuse(&mut self, head: &'t Head, cause: Cause<'t>)
         ensures { AreNoted self.old
             (refused_for head.now.token head.now.name (cause_view cause.entry) ∷ []) self.new }
@@ -122,7 +122,7 @@ impl<'t> Findings<'t> {
         self.refused.push(found);
     }
 
-    // Notes the capability that a command or test needs, where it wasn't required.
+    // Notes the capability that a command or test needs, if it wasn't required.
     fn refuse_lack(&mut self, head: &'t Head, required: Capabilities, capability: Capability)
         ensures { AreNoted self.old (map (refused_for head.now.token head.now.name)
             (lacking_causes required (capability ∷ []))) self.new }
@@ -135,7 +135,7 @@ impl<'t> Findings<'t> {
         }
     }
 
-    /// Notes each of the capabilities that a command or test needs, where it wasn't required.
+    /// Notes each of the capabilities that a command or test needs, if it wasn't required.
     pub fn refuse_lacking(&mut self, head: &'t Head, required: Capabilities, needed: &[Capability])
         ensures { AreNoted self.old (map (refused_for head.now.token head.now.name)
             (lacking_causes required needed.now)) self.new }
@@ -145,7 +145,7 @@ impl<'t> Findings<'t> {
         }
     }
 
-    // Notes the string of a `require`, where it is no capability.
+    // Notes the string of a `require`, if it isn't a capability.
     fn refuse_unknown(&mut self, head: &'t Head, string: &'t Octets)
         ensures { AreNoted self.old (map (refused_for head.now.token head.now.name)
             (unknown_causes (string.now ∷ []))) self.new }
@@ -158,7 +158,7 @@ impl<'t> Findings<'t> {
         }
     }
 
-    // Notes each of the strings of a `require` that is no capability.
+    // Notes each of the strings of a `require` that isn't a capability.
     fn refuse_all_unknown(&mut self, head: &'t Head, strings: &'t [Octets])
         ensures { AreNoted self.old (map (refused_for head.now.token head.now.name)
             (unknown_causes strings.now)) self.new }
@@ -168,7 +168,7 @@ impl<'t> Findings<'t> {
         }
     }
 
-    // Notes each string of the argument that is no capability.
+    // Notes each string of the argument that isn't a capability.
     fn refuse_argument(&mut self, head: &'t Head, argument: &'t Argument)
         ensures { AreNoted self.old (map (refused_for head.now.token head.now.name)
             (unknown_causes (strings_in (argument_tree argument.now)))) self.new }
@@ -183,7 +183,7 @@ impl<'t> Findings<'t> {
         }
     }
 
-    /// Notes each string of the arguments of a `require` that is no capability.
+    /// Notes each string of the arguments of a `require` that isn't a capability.
     pub fn refuse_arguments(&mut self, head: &'t Head, arguments: &'t [Argument])
         ensures { AreNoted self.old (map (refused_for head.now.token head.now.name)
             (unknown_causes (strings_of (map argument_tree arguments.now)))) self.new }

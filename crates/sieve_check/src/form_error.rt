@@ -1,17 +1,17 @@
 // Why commands and tests get no typed form.
 //
-// What makes the typed form answers it, or why there is none: memory was refused, or something isn't written as it
-// has to be. `check` has found before that everything is. So the code has one way out besides its answer, where the
-// definition has nothing.
+// The code that makes the typed form returns it, or why there is none: memory is refused, or something isn't written
+// as it has to be. `check` has found before that everything is. So the code has one way out besides its result, where
+// the definition has nothing.
 ghost use Rattle.std.specs.Prelude.{◌≡◌};
 ghost use Rattle.sieve_check.specs.declared.form_error.FormError.TheVariants.{Memory};
 
 use std::alloc::{AllocError, AllocFailed};
 
-/// Why a command, a test or what belongs to one has no typed form.
+/// Why a command, a test or a part of one has no typed form.
 #[derive(Clone, Copy)]
 pub enum FormError {
-    /// An allocation was refused.
+    /// Memory is refused, so there is no result.
     Memory,
     /// It isn't written as it has to be.
     Malformed,

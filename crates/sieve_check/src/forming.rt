@@ -1,10 +1,10 @@
 // The typed form of scripts.
 //
-// The typed form is a function of the tree and of what surrounds each command; it answers nothing if the tree isn't
-// written as it has to be. What was required says whether strings are expanded, which is all that the form of a test
-// needs; the open loops say how many of them a `break` leaves. The definition puts each command before the form of
-// those after it, so that an `elsif` or `else` is with its `if`. The code goes over the commands in order, and keeps
-// the choice that can still go on.
+// The typed form is a function of the tree and of what surrounds each command; there is none if the tree isn't
+// written as it has to be. What was required determines whether strings are expanded, which is all that the form of a
+// test needs; the open loops determine how many of them a `break` leaves. The definition puts each command before the
+// form of those after it, so that an `elsif` or `else` is with its `if`. The code goes over the commands in order,
+// and keeps the choice that can still be continued.
 ghost use Rattle.std.specs.Prelude.{◌≡◌, map};
 ghost use Rattle.sieve_parser.specs.View.{argument_tree, command_tree, commands_tree, invocation_tree};
 ghost use Rattle.sieve_check.specs.FormOf.{none, one, act_of, block_part, form_of, leaving_in, most_of, part_of, setting_in, simple_part, taking_in, with_text};
@@ -66,7 +66,7 @@ fn setting(
     }
 }
 
-// At most how many octets are taken.
+// How many bytes are taken at most.
 fn most_of(tags: Tags) -> u16
     ensures { result ≡ most_of tags }
 {
@@ -74,8 +74,8 @@ fn most_of(tags: Tags) -> u16
     tags.first.unwrap_or(most).min(most) as u16
 }
 
-// The act that gives the first octets of the current part's content to the variable of the name, which the arguments are. The
-// name isn't expanded.
+// The act that assigns the first bytes of the current part's content to the variable with the name in the arguments.
+// The name isn't expanded.
 fn taking(
     alloc: Global,
     tags: Tags,
@@ -94,7 +94,7 @@ fn taking(
     }
 }
 
-// The act that leaves the loop of the name, or the innermost one, with those within it.
+// The act that leaves the loop with this name, or the innermost one, with those inside it.
 fn leaving(
     alloc: Global,
     surroundings: &Surroundings<'_>,
@@ -109,7 +109,7 @@ fn leaving(
     }
 }
 
-// What an action of this name does, with its string, by what was read.
+// The act of an action with this name, with its string, from what was read.
 fn act_of(
     alloc: Global,
     surroundings: &Surroundings<'_>,
@@ -138,7 +138,7 @@ fn act_of(
     }
 }
 
-// The command of that name, with its arguments as they were read.
+// The command with this name, with its arguments as they were read.
 fn command_read(name: Option<CommandName>, head: &Head) -> Option<(CommandName, Reading<'_>)>
     requires { name ≡ command_named head.now.name }
     ensures simple { IsSimpleRead head.now result }
@@ -149,7 +149,7 @@ fn command_read(name: Option<CommandName>, head: &Head) -> Option<(CommandName, 
     Some((name, reading))
 }
 
-// A command that ends in a semicolon, and after whose arguments no test stands.
+// A command that ends in a semicolon, without tests after its arguments.
 fn plain_part(
     alloc: Global,
     surroundings: &Surroundings<'_>,
@@ -175,7 +175,7 @@ fn plain_part(
     }
 }
 
-// What this adds, with a test and a block of these commands behind it.
+// What this adds, with a test and a block of these commands after it.
 fn branch_part(
     name: Option<CommandName>,
     head: &Head,
@@ -194,7 +194,7 @@ fn branch_part(
     }
 }
 
-// What this adds, with a block of these commands and no test behind it.
+// What this adds, with a block of these commands and no test after it.
 fn untested_part(
     name: Option<CommandName>,
     head: &Head,

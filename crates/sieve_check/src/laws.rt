@@ -14,24 +14,24 @@ ghost use Rattle.sieve_check.specs.Signatures.{Read};
 ghost use Rattle.sieve_check.specs.Surroundings.{Context};
 ghost use Rattle.sieve_check.specs.Typed.{CommandForms, Template};
 
-/// A script of which nothing is wrong has a typed form.
+/// A script without a fault has a typed form.
 pub fn faultless_scripts_have_a_form()
     ensures { (script : CommandsTree) → fault_of script ≡ None
         → (form : CommandForms) × IsFormOf script form }
 {}
 
-/// The fault of a script is that of least number of the first command or test that has one.
+/// The fault of a script is the least one of the first command or test that has one.
 pub fn the_fault_is_the_least()
     ensures { (script : CommandsTree) → fault_of script ≡ least_fault script }
 {}
 
-/// A question is called as the test of which it is made.
+/// A question has the name of the test that it is made of.
 pub fn questions_are_called_as_their_tests()
     ensures { (name : TestName) (read : Read) (question : Question)
         → question_of name read ≡ Some question → named_by question ≡ name }
 {}
 
-/// An act is called as the command of which it is made.
+/// An act has the name of the command that it is made of.
 pub fn acts_are_called_as_their_commands()
     ensures { (s : Context) (name : CommandName) (read : Read) (act : Act) (string : Template)
         → act_of s name read ≡ Some (act, string) → (act_row act).name ≡ name }

@@ -6,18 +6,18 @@ ghost use Rattle.sieve_check.specs.Surroundings.{is_meant};
 
 use bytecode_format::MAX_LOOPS;
 
-/// What an open loop is called.
+/// The name of an open loop.
 #[derive(Clone, Copy)]
 pub enum LoopName<'t> {
     /// It has no name.
     Nameless,
     /// This is its name.
     Named(&'t [u8]),
-    /// Its arguments can't be read: any may be its name.
+    /// Its arguments can't be read: it can have any name.
     Unreadable,
 }
 
-// Whether a loop is meant: each one where none is named, else those of just that name, and those that may have it.
+// Whether a loop is meant: every one if there is no name, else those with just this name, and those that can have it.
 fn is_meant(name: Option<&[u8]>, loop_name: LoopName<'_>) -> bool
     ensures { result ≡ is_meant (name_in name.entry) (loop_in loop_name.entry) }
 {
@@ -34,7 +34,7 @@ fn is_meant(name: Option<&[u8]>, loop_name: LoopName<'_>) -> bool
 /// The loops that are open.
 #[derive(Clone, Copy)]
 pub struct Loops<'t> {
-    /// The innermost is the first; those after the open ones say nothing.
+    /// The innermost is the first; those after the open ones mean nothing.
     pub names: [LoopName<'t>; MAX_LOOPS],
     /// How many are open.
     pub number: usize,
@@ -48,7 +48,7 @@ impl<'t> Loops<'t> {
     ghost use Rattle.sieve_check.specs.Refusing.{open_loops};
     ghost use Rattle.sieve_check.specs.Surroundings.{loops_left};
 
-    /// None.
+    /// No loops.
     pub fn none() -> Loops<'t>
         ensures { open_loops result ≡ [] }
     {
@@ -65,14 +65,14 @@ impl<'t> Loops<'t> {
         self.number > 0
     }
 
-    /// Whether there are as many as there may be.
+    /// Whether there are as many as there can be.
     pub fn are_full(self) -> bool
         ensures { result ≡ not (nat_lt (length (open_loops self.entry)) max_loops) }
     {
         self.number >= MAX_LOOPS
     }
 
-    /// These and one within them. Nothing where there would be too many.
+    /// These and one inside them; `None` if there would be too many.
     pub fn with(self, name: LoopName<'t>) -> Option<Loops<'t>>
         ensures { MatchOption result (nat_lt (length (open_loops self.entry)) max_loops ≡ false)
             (λ all. (nat_lt (length (open_loops self.entry)) max_loops ≡ true)
@@ -88,7 +88,7 @@ impl<'t> Loops<'t> {
         })
     }
 
-    /// How many of them are left by a `break`, the innermost first: up to the first that is meant, if one is.
+    /// How many of them a `break` leaves, the innermost first: up to the first that is meant, if one is.
     pub fn left_by(self, name: Option<&[u8]>) -> Option<u8>
         ensures { result ≡ loops_left (name_in name.entry) (open_loops self.entry) }
     {

@@ -1,4 +1,4 @@
-// Which strings of a command or test variables have to do with.
+// The strings of a command or test that have to do with variables.
 //
 // The order of names within one command is that of its code, the value of a `set` before its name. No refusal shows
 // it, because its place is the command's.
@@ -23,7 +23,7 @@ use octets::Octets;
 use sieve_parser::Argument;
 use sieve_references::{Segment, first_segment, is_identifier};
 
-// What kind of fault the first wrong reference in the string is.
+// The kind of fault of the first wrong reference in the string.
 fn reference_kind(string: &[u8]) -> ReasonKind
     ensures { result ≡ reference_kind (segments string.now) }
 {
@@ -39,7 +39,7 @@ fn reference_kind(string: &[u8]) -> ReasonKind
     ReasonKind::Namespace
 }
 
-// The first name of a variable in the string that has too many octets.
+// The first name of a variable in the string that has too many bytes.
 fn long_name(string: &[u8]) -> Option<&[u8]>
     ensures { name_in result ≡ long_name (segments string.now) }
 {
@@ -68,7 +68,7 @@ fn large_cause(string: &[u8]) -> Cause<'_>
     }
 }
 
-// The first argument, where it is one string.
+// The first argument, if it is one string.
 fn first_text(arguments: &[Argument]) -> Option<&Octets>
     ensures { set_in result ≡ first_text (map argument_tree arguments.now) }
 {
@@ -81,7 +81,7 @@ fn first_text(arguments: &[Argument]) -> Option<&Octets>
     }
 }
 
-/// The strings of a command or test that variables have to do with.
+/// The strings of a command or test that have to do with variables.
 #[derive(Clone, Copy)]
 pub struct Mentions<'t> {
     /// The lists whose strings are expanded.
@@ -91,7 +91,7 @@ pub struct Mentions<'t> {
 }
 
 impl<'t> Mentions<'t> {
-    // None.
+    // No strings.
     fn none() -> Mentions<'t>
         ensures { mentions_in result ≡ no_mention }
     {
@@ -101,7 +101,7 @@ impl<'t> Mentions<'t> {
         }
     }
 
-    /// Those of arguments, by what variables have to do with them: none where variables weren't required.
+    /// The strings of arguments, by their role for variables: none if variables weren't required.
     pub fn of(required: Capabilities, role: Role, reading: Reading<'t>) -> Mentions<'t>
         ensures { mentions_in result
             ≡ where_required required (mentions_of role (read_of reading.entry)) }
@@ -149,7 +149,11 @@ impl<'t> Mentions<'t> {
         is_long_name(name).then_some(Cause::about(ReasonKind::LongName, name))
     }
 
-    /// Adds the names that they bring to those so far: those in the strings, then the one that is set.
+    /// Adds the names in them to the names before: those in the strings, then the one that is set.
+    ///
+    /// # Errors
+    ///
+    /// `ReasonKind::ManyVariables` if there would be too many.
     pub fn add_to(self, names: &mut VariableNames<'t>) -> Result<(), ReasonKind>
         ensures { Adds (listed names.old) (names_mentioned (mentions_in self.entry)) result
             (listed names.new) }

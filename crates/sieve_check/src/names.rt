@@ -1,11 +1,11 @@
-// What tags, capabilities and comparators are called. ASCII case is ignored but in the last two.
+// The names of tags, capabilities and comparators. ASCII case is ignored except in the last two.
 ghost use Rattle.std.specs.Prelude.{◌≡◌};
 ghost use Rattle.sieve_check.specs.Names.{capability_named, comparator_named};
 
 use bytecode_format::{Case, Order, Selector};
 use glob_match::{Comparator, MatchType};
 
-/// The tags that are known, by the group of which at most one may stand.
+/// A known tag, by its group. At most one tag of a group is allowed.
 #[derive(Clone, Copy)]
 pub enum Tag {
     /// `:over` and `:under` (RFC 5228, section 5.9).
@@ -14,13 +14,13 @@ pub enum Tag {
     Kind(MatchType),
     /// `:comparator`, which takes the comparator's name (RFC 5228, section 2.7.3).
     Comparator,
-    /// `:lower` and `:upper` (RFC 5229, section 4.1.1).
+    /// `:lower` and `:upper` (RFC 5229, section 4.1).
     Letters(Case),
-    /// `:lowerfirst` and `:upperfirst` (RFC 5229, section 4.1.2).
+    /// `:lowerfirst` and `:upperfirst` (RFC 5229, section 4.1).
     FirstLetter(Case),
-    /// `:quotewildcard` (RFC 5229, section 4.1.3).
+    /// `:quotewildcard` (RFC 5229, section 4.1).
     QuoteWildcard,
-    /// `:length` (RFC 5229, section 4.1.4).
+    /// `:length` (RFC 5229, section 4.1).
     Length,
     /// `:mime` (RFC 5703, section 4.1).
     Mime,
@@ -31,11 +31,11 @@ pub enum Tag {
     Select(Selector),
     /// `:name`, which takes the name of a loop (RFC 5703, section 3).
     Name,
-    /// `:first`, which takes a number of octets, of our own.
+    /// `:first`, which takes a number of bytes, of our own.
     First,
 }
 
-/// The capabilities that can be required.
+/// A capability that can be required.
 #[derive(Clone, Copy, PartialEq, Eq)]
 pub enum Capability {
     /// `fileinto` (RFC 5228, section 4.1).
@@ -54,7 +54,7 @@ pub enum Capability {
     CasemapComparator,
 }
 
-/// The capability of that name, if it is known; its octets are compared as they are.
+/// The capability with this name, if it is known; its bytes are compared as they are.
 pub fn capability_named(name: &[u8]) -> Option<Capability>
     ensures { result ≡ capability_named name.now }
 {
@@ -77,7 +77,7 @@ pub fn capability_named(name: &[u8]) -> Option<Capability>
     }
 }
 
-/// The comparator of that name, if it is known; its octets are compared as they are.
+/// The comparator with this name, if it is known; its bytes are compared as they are.
 pub fn comparator_named(name: &[u8]) -> Option<Comparator>
     ensures { result ≡ comparator_named name.now }
 {

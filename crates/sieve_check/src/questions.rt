@@ -1,4 +1,4 @@
-// What simple tests ask: the questions by their names and tags, and what is told of them.
+// The questions of simple tests: made of their names and tags, and their properties.
 ghost use Rattle.std.specs.Prelude.{◌≡◌, map};
 ghost use Rattle.sieve_parser.specs.View.{argument_tree};
 ghost use Rattle.sieve_check.specs.FormOf.{number_in, question_of};
@@ -34,7 +34,7 @@ fn scope_of(tags: Tags) -> Scope
     }
 }
 
-// The one number that the arguments are.
+// The one number in the arguments.
 fn number_in(arguments: &[Argument]) -> Option<u64>
     ensures { result ≡ number_in (map argument_tree arguments.now) }
 {
@@ -44,7 +44,7 @@ fn number_in(arguments: &[Argument]) -> Option<u64>
     }
 }
 
-/// What a simple test of this name asks, by what was read.
+/// The question of a simple test with this name, from what was read.
 pub fn question_of(name: TestName, reading: &Reading<'_>) -> Option<Question>
     ensures { result ≡ question_of name (read_of reading.now) }
 {
@@ -66,7 +66,7 @@ pub fn question_of(name: TestName, reading: &Reading<'_>) -> Option<Question>
     })
 }
 
-/// The name of the test that asks it.
+/// Returns the name of the test that asks the question.
 pub fn name_of(question: Question) -> TestName
     ensures { result ≡ named_by question }
 {
@@ -82,7 +82,7 @@ pub fn name_of(question: Question) -> TestName
     }
 }
 
-/// In which way values are compared with its keys, if they are.
+/// Returns how values are compared with the question's keys; `None` if it takes no keys.
 pub fn comparison_of(question: Question) -> Option<MatchType>
     ensures { result ≡ compared_by question }
 {

@@ -1,7 +1,7 @@
-// The static rules: what is wrong with commands and tests (RFC 5228, section 8.2, and each command's own section).
+// The static rules: the faults of commands and tests (RFC 5228, section 8.2, and each command's own section).
 //
 // Strings are counted for all lists of a test together, without the comparator's, because they are on the machine's
-// stack together. A `require` is no test.
+// stack together. A `require` isn't a test.
 ghost use Rattle.std.specs.Prelude.{◌≡◌, [], ◌∷◌, map, option_map, take, None};
 ghost use Rattle.sieve_parser.specs.View.{argument_tree, command_tree, commands_tree, invocation_tree, more_tests_of};
 ghost use Rattle.sieve_check.specs.Reading.{read_of};
@@ -34,7 +34,7 @@ fn is_mime_tag(argument: &Argument) -> bool
     }
 }
 
-// The capability of `:mime`, where that stands somewhere among the arguments.
+// The capability of `:mime`, if that is one of the arguments.
 fn mime_where_given(arguments: &[Argument]) -> &'static [Capability]
     ensures { result.now ≡ mime_where_given (map argument_tree arguments.now) }
 {
@@ -46,7 +46,7 @@ fn mime_where_given(arguments: &[Argument]) -> &'static [Capability]
     &[]
 }
 
-// What is needed for `:mime`, where that is taken and stands there.
+// What is needed for `:mime`, if that is taken and given.
 fn mime_needs(signature: Signature, head: &Head) -> &'static [Capability]
     ensures { result.now ≡ mime_needs signature (arguments_of head.now) }
 {
@@ -57,7 +57,7 @@ fn mime_needs(signature: Signature, head: &Head) -> &'static [Capability]
     }
 }
 
-// What is wrong with what stands at a wrong place.
+// The cause for a command or test at a wrong place.
 fn misplaced<'t>(place: Place, reading: Reading<'t>) -> Cause<'t>
     ensures { cause_view result ≡ misplaced place (read_of reading.entry).name }
 {
@@ -72,7 +72,7 @@ fn misplaced<'t>(place: Place, reading: Reading<'t>) -> Cause<'t>
     }
 }
 
-// What is wrong with the place of a command or test, where it may not stand there.
+// What is wrong with the place of a command or test, if it isn't allowed there.
 fn place_cause<'t>(
     surroundings: &Surroundings<'_>,
     place: Place,
@@ -121,7 +121,7 @@ fn capability_arguments(follows: Follows, head: &Head) -> &[Argument]
     }
 }
 
-// The first of their strings that is none.
+// The first of their strings that isn't a capability.
 fn unknown_cause<'t>(row: &Row, head: &'t Head) -> Option<Cause<'t>>
     ensures { option_map cause_view result ≡ unknown_cause (row_view row.now) (arguments_of head.now) }
 {
@@ -129,7 +129,7 @@ fn unknown_cause<'t>(row: &Row, head: &'t Head) -> Option<Cause<'t>>
     Some(Cause::about(ReasonKind::UnknownCapability, string))
 }
 
-// What is wrong with the tests behind the arguments.
+// What is wrong with the tests after the arguments.
 fn tests_cause<'t>(signature: Signature, tests: Tests) -> Option<Cause<'t>>
     ensures { option_map cause_view result ≡ tests_cause signature tests }
 {
@@ -145,7 +145,7 @@ fn ending_cause<'t>(wanted: Option<Ending>, ending: Option<Ending>) -> Option<Ca
     (wanted != ending).then_some(Cause::plain(ReasonKind::WrongEnding(wanted)))
 }
 
-// The string that is longer than the limit, if one is.
+// The string that is longer than the limit, if there is one.
 fn long_string_cause(head: &Head) -> Option<Cause<'_>>
     ensures { option_map cause_view result ≡ long_string_cause (arguments_of head.now) }
 {
@@ -153,7 +153,7 @@ fn long_string_cause(head: &Head) -> Option<Cause<'_>>
     Some(Cause::about(ReasonKind::LongString, string))
 }
 
-// What is wrong behind the arguments, or with references and names among them.
+// What is wrong after the arguments, or with references and names in them.
 fn ill_formed<'t>(
     row: &Row,
     tests: Tests,
@@ -187,7 +187,7 @@ fn oversized<'t>(
     if let Some(cause) = long_string_cause(head) {
         return Some(cause);
     }
-    if row.counted && has_many_strings(reading) {
+    if is_test(row.ending) && has_many_strings(reading) {
         return Some(Cause::plain(ReasonKind::ManyStrings));
     }
     if let Some(cause) = mentions.large_cause() {
@@ -198,7 +198,8 @@ fn oversized<'t>(
         .then_some(Cause::plain(ReasonKind::ManyLoops))
 }
 
-// What a command or test whose arguments were read has to do with variables, where nothing is wrong with it.
+// The strings of a command or test, whose arguments were read, that have to do with variables; or what is wrong with
+// it.
 fn read<'t>(
     surroundings: &Surroundings<'_>,
     row: &Row,
@@ -225,7 +226,7 @@ fn read<'t>(
     }
 }
 
-// The same of one of which that is known.
+// The same for one with a known name.
 fn known<'t>(
     surroundings: &Surroundings<'_>,
     row: &Row,
@@ -250,7 +251,7 @@ fn known<'t>(
     }
 }
 
-// What it is that isn't known.
+// What isn't known: a command or a test.
 fn unknown_as(ending: Option<Ending>) -> ReasonKind
     ensures { result ≡ unknown_as ending }
 {
@@ -261,7 +262,7 @@ fn unknown_as(ending: Option<Ending>) -> ReasonKind
     }
 }
 
-// The same of any.
+// The same for any.
 fn found<'t>(
     surroundings: &Surroundings<'_>,
     known_as: &Option<Row>,
@@ -281,7 +282,7 @@ fn found<'t>(
     }
 }
 
-// Notes all that a command or test lacks.
+// Notes all that is missing for a command or test.
 fn refuse_lacks<'t>(
     findings: &mut Findings<'t>,
     required: Capabilities,
@@ -298,8 +299,8 @@ fn refuse_lacks<'t>(
     }
 }
 
-// Looks at a command, which ends so, or a test, of which that is known, apart from its tests and its block. Says whether its tests are
-// looked at.
+// Checks a command, with this ending, or a test, apart from its tests and its block; `known_as` is its row. Returns
+// whether its tests are checked.
 fn visit<'t>(
     findings: &mut Findings<'t>,
     surroundings: &Surroundings<'_>,
@@ -329,7 +330,7 @@ fn visit<'t>(
     inside
 }
 
-// Looks at a command of which that is known and its tests, apart from its block, or at a test and its own tests.
+// Checks a command and its tests, apart from its block, or a test and its own tests; `known_as` is its row.
 #[cycle(tests)]
 fn invocation<'t>(
     findings: &mut Findings<'t>,
@@ -376,7 +377,7 @@ fn invocation<'t>(
     }
 }
 
-// Looks at the tests of a list after its first.
+// Checks the tests of a list after its first.
 #[cycle(tests)]
 fn tests<'t>(findings: &mut Findings<'t>, surroundings: &Surroundings<'_>, list: &'t [Invocation])
     ensures { AreVisited findings.old
@@ -388,7 +389,7 @@ fn tests<'t>(findings: &mut Findings<'t>, surroundings: &Surroundings<'_>, list:
     }
 }
 
-// Looks at a command of that name and what stands below it. The block of a loop too many isn't looked at.
+// Checks a command with this name and what is below it. The block of a loop that is one too many isn't checked.
 #[cycle(commands)]
 fn command<'t>(
     findings: &mut Findings<'t>,
@@ -428,7 +429,7 @@ fn command<'t>(
     }
 }
 
-// Looks at the commands of a script or block.
+// Checks the commands of a script or block.
 #[cycle(commands)]
 fn commands<'t>(findings: &mut Findings<'t>, surroundings: &Surroundings<'t>, trees: &'t [Command])
     ensures { AreVisited findings.old

@@ -1,15 +1,15 @@
-// Commands of the typed form, put together from commands alone.
+// Commands of the typed form, put together from single commands.
 use crate::form_error::FormError;
 use crate::typed::{Branch, Command};
 use std::alloc::{AllocError, Global};
 use std::mem;
 
-/// A command alone: what it adds to the commands before it.
+/// A single command: what it adds to the commands before it.
 #[derive(Drop)]
 pub enum Part {
     /// `require` adds nothing.
     Nothing,
-    /// A command that is a name alone adds itself.
+    /// A command without branches adds itself.
     Action(Command),
     /// `if` adds a choice, with its first branch.
     First(Branch),
@@ -19,10 +19,12 @@ pub enum Part {
     Last(Vec<Command>),
 }
 
-/// Commands so far, and the branches of a choice to which more may be added.
+/// The commands before a place, and the branches of a choice to which more can be added.
 #[derive(Drop)]
 pub struct Sequence {
+    /// The commands that are complete.
     pub commands: Vec<Command>,
+    /// The branches of the open choice; none if no choice is open.
     pub branches: Vec<Branch>,
 }
 
@@ -34,7 +36,11 @@ impl Sequence {
     ghost use Rattle.sieve_check.specs.TypedView.{commands_form};
     ghost use Rattle.sieve_check.specs.Private.{else_form};
 
-    /// Before the first of so many commands. An error comes only where memory was refused.
+    /// Before the first of so many commands.
+    ///
+    /// # Errors
+    ///
+    /// `AllocError` if memory is refused.
     pub fn new(alloc: Global, number: usize) -> Result<Sequence, AllocError>
         ensures commands { IfOk result (λ sequence. sequence.commands.items ≡ []) }
         ensures branches { IfOk result (λ sequence. sequence.branches.items ≡ []) }
@@ -57,7 +63,12 @@ impl Sequence {
         Ok(())
     }
 
-    /// Adds what a command adds. A further branch can be added to an open choice alone.
+    /// Adds what a command adds. A further branch can only be added to an open choice.
+    ///
+    /// # Errors
+    ///
+    /// - `FormError::Malformed` if there is no open choice for a further branch.
+    /// - `FormError::Memory` if memory is refused.
     pub fn push(&mut self, alloc: Global, part: Part) -> Result<(), FormError>
         ensures { MatchResult result (λ _. Pushed self.old part self.new)
             (λ e. e ≡ Malformed → Unfit self.old part) }
@@ -83,6 +94,10 @@ impl Sequence {
     }
 
     /// The commands.
+    ///
+    /// # Errors
+    ///
+    /// `AllocError` if memory is refused.
     pub fn finish(self, alloc: Global) -> Result<Vec<Command>, AllocError>
         ensures { IfOk result (λ commands. commands_form commands.items
             ≡ joined self no_branch no_command) }

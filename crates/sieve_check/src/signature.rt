@@ -1,5 +1,5 @@
-// What commands and tests take, and how their arguments are read (RFC 5228, section 2.6; RFC 5229, section 4; RFC 5703, sections 3
-// and 4).
+// What commands and tests take, and how their arguments are read (RFC 5228, section 2.6; RFC 5229, section 4; RFC
+// 5703, sections 3 and 4).
 //
 // A tag that takes an argument is read in the same pass as the others: the reading knows which tag waits for its
 // argument, and takes the next one for it. So what is wrong with the arguments and what they mean are one definition
@@ -14,9 +14,10 @@ use bytecode_format::{Modifiers, Order, Selector};
 use glob_match::{Comparator, MatchType};
 use sieve_parser::Argument;
 
-/// The arguments behind the tags.
+/// The arguments that come after the tags.
 #[derive(Clone, Copy)]
 pub enum Positional {
+    /// No argument.
     Nothing,
     /// One number.
     Number,
@@ -30,29 +31,32 @@ pub enum Positional {
     TwoLists,
 }
 
-/// The tests behind the arguments.
+/// The tests that come after the arguments.
 #[derive(Clone, Copy)]
 pub enum Tests {
+    /// No test.
     Nothing,
-    /// One test, without brackets.
+    /// One test, without parentheses.
     One,
-    /// Tests in round brackets.
+    /// Tests in parentheses.
     Bracketed,
 }
 
 /// How a command ends.
 #[derive(Clone, Copy)]
 pub enum Ending {
+    /// A semicolon.
     Semicolon,
+    /// A block of commands in braces.
     Block,
 }
 
-/// What a command or test takes.
+/// What a command or test takes: its tags, arguments and tests. The row of each has its signature.
 #[derive(Clone, Copy)]
 pub struct Signature {
     /// Takes exactly one of `:over` and `:under`.
     pub order: bool,
-    /// Takes at most one of `:is`, `:contains` and `:matches`, and perhaps `:comparator`.
+    /// Takes at most one of `:is`, `:contains` and `:matches`, and optionally `:comparator`.
     pub matching: bool,
     /// Takes the modifiers of a value, at most one of each precedence.
     pub modifying: bool,
@@ -64,23 +68,32 @@ pub struct Signature {
     pub naming: bool,
     /// Takes `:first`, at most once.
     pub limiting: bool,
+    /// The arguments after the tags.
     pub positional: Positional,
+    /// The tests after the arguments.
     pub tests: Tests,
 }
 
-/// The tags that were given, one of each group at most.
+/// The given tags, at most one of each group.
 #[derive(Clone, Copy)]
 pub struct Tags {
+    /// The order that a size is compared by.
     pub order: Option<Order>,
+    /// How values are matched.
     pub kind: Option<MatchType>,
+    /// How bytes are compared.
     pub comparator: Option<Comparator>,
+    /// The modifiers of a value.
     pub modifiers: Modifiers,
+    /// Whether `:mime` is given.
     pub mime: bool,
+    /// Whether `:anychild` is given.
     pub any_child: bool,
-    /// The value, where no tag says otherwise.
+    /// The value, if no tag selects something else.
     pub selector: Selector,
+    /// Whether `:name` is given.
     pub named: bool,
-    /// The number of `:first`, if it stands there, which isn't zero.
+    /// The number of `:first`, if it is given; it isn't zero.
     pub first: Option<u64>,
 }
 
@@ -88,7 +101,7 @@ impl Tags {
     ghost use Rattle.std.specs.Prelude.{◌≡◌};
     ghost use Rattle.sieve_check.specs.Signatures.{asks_for_mime, is_given, no_tag, selects};
 
-    /// None.
+    /// No tags.
     pub fn none() -> Tags
         ensures { result ≡ no_tag }
     {
@@ -105,7 +118,7 @@ impl Tags {
         }
     }
 
-    /// Whether one of them says what is taken of a field.
+    /// Whether one of them selects what is taken of a field.
     pub fn select(self) -> bool
         ensures { result ≡ selects self.selector }
     {
@@ -132,7 +145,7 @@ impl Tags {
         }
     }
 
-    /// Whether one of them stands only with `:mime`.
+    /// Whether one of them is allowed only with `:mime`.
     pub fn ask_for_mime(self) -> bool
         ensures { result ≡ asks_for_mime self }
     {
@@ -143,23 +156,24 @@ impl Tags {
 /// Arguments that were read by a signature.
 #[derive(Clone, Copy)]
 pub struct Reading<'a> {
+    /// The tags.
     pub tags: Tags,
-    /// That of `:param`, if it stands there.
+    /// The list of `:param`, if it is given.
     pub params: &'a [Argument],
-    /// That of `:name`, if it stands there.
+    /// The name of `:name`, if it is given.
     pub name: Option<&'a [u8]>,
-    /// Those behind the tags.
+    /// The arguments after the tags.
     pub positional: &'a [Argument],
 }
 
 /// The lists that were read, in the order of the typed form.
 #[derive(Clone, Copy)]
 pub struct Lists<'a> {
-    /// The first behind the tags.
+    /// The first list after the tags.
     pub first: &'a [Argument],
-    /// That of `:param`, if it stands there.
+    /// The list of `:param`, if it is given.
     pub params: &'a [Argument],
-    /// The others behind the tags.
+    /// The other lists after the tags.
     pub others: &'a [Argument],
 }
 
@@ -167,7 +181,7 @@ impl<'a> Lists<'a> {
     ghost use Rattle.std.specs.Prelude.{◌≡◌, []};
     ghost use Rattle.sieve_check.specs.Reading.{all_lists};
 
-    /// None.
+    /// No lists.
     pub fn none() -> Lists<'a>
         ensures { all_lists result ≡ [] }
     {
@@ -196,7 +210,7 @@ impl<'a> Reading<'a> {
         }
     }
 
-    /// The lists without the first behind the tags.
+    /// The lists without the first one after the tags.
     pub fn later_lists(self) -> Lists<'a>
         ensures { all_lists result ≡ (read_of self.entry).params ++ drop 1 (read_of self.entry).positional }
     {
@@ -236,14 +250,14 @@ impl Signature {
         }
     }
 
-    /// Whether the tag is taken, and none of its group was given.
+    /// Whether the tag is taken, and no tag of its group was given.
     pub fn takes(self, tag: Tag, tags: Tags) -> bool
         ensures { result ≡ takes_tag self tag tags }
     {
         self.offers(tag_row(tag).family) && !tags.have(tag)
     }
 
-    /// The tags with one more, where it is taken and none of its group was given.
+    /// The tags with one more, if it is taken and no tag of its group was given.
     pub fn add(self, tag: Tag, tags: Tags) -> Option<Tags>
         ensures { result ≡ tags_with self tag tags }
     {
@@ -267,7 +281,7 @@ impl Signature {
         Some(tags)
     }
 
-    /// Whether the arguments are those that have to stand behind the tags.
+    /// Whether the arguments are those that have to come after the tags.
     pub fn is_positional(self, arguments: &[Argument]) -> bool
         ensures { result ≡ is_positional self.positional (map argument_tree arguments.now) }
     {

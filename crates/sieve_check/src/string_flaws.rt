@@ -1,4 +1,4 @@
-// What is wrong with the strings of commands and tests.
+// The faults of single strings of commands and tests.
 ghost use Rattle.std.specs.Prelude.{◌≡◌, ◌+◌, ◌<◌, map, length, nat_lt, not, is_some, MatchOption};
 ghost use Rattle.sieve_parser.specs.View.{argument_tree};
 ghost use Rattle.sieve_check.specs.Rules.{has_many_strings, strings_in, strings_of};
@@ -11,16 +11,16 @@ use bytecode_format::MAX_TEST_STRINGS;
 use octets::{MAX_STRING, Octets};
 use sieve_parser::Argument;
 
-/// What may be wrong with a string.
+/// What can be wrong with a string.
 #[derive(Clone, Copy)]
 pub enum StringFlaw {
-    /// It is no capability.
+    /// It isn't a capability.
     Unknown,
-    /// It has more octets than the limit.
+    /// It has more bytes than the limit.
     Long,
-    /// It has a reference into a namespace, or to a capture that there can't be.
+    /// It has a reference into a namespace, or to a capture that can't exist.
     Wrong,
-    /// It has too many segments, or a reference by a name that has too many octets.
+    /// It has too many segments, or a reference by a name that has too many bytes.
     Large,
 }
 
@@ -43,7 +43,7 @@ impl StringFlaw {
         }
     }
 
-    // The first of the strings with which this is wrong.
+    // The first of the strings that has this fault.
     fn first_of(self, strings: &[Octets]) -> Option<&[u8]>
         ensures { name_in result ≡ find (string_has self) strings.now }
     {
@@ -55,7 +55,7 @@ impl StringFlaw {
         None
     }
 
-    // The first string of the argument with which this is wrong.
+    // The first string of the argument that has this fault.
     fn first_in_argument(self, argument: &Argument) -> Option<&[u8]>
         ensures { name_in result ≡ find (string_has self)
             (strings_in (argument_tree argument.now)) }
@@ -79,8 +79,8 @@ impl StringFlaw {
         }
     }
 
-    /// The first string of the arguments with which this is wrong. Inlined, so that each flaw has a search of its own, and lists
-    /// without arguments cost no call.
+    /// The first string of the arguments that has this fault. It is inlined, so that each flaw has a search of its
+    /// own, and lists without arguments need no call.
     #[inline(always)]
     pub fn first_in(self, arguments: &[Argument]) -> Option<&[u8]>
         ensures { name_in result ≡ find (string_has self)
@@ -94,7 +94,7 @@ impl StringFlaw {
         None
     }
 
-    /// The first string of the lists with which this is wrong. Inlined as [`first_in`](StringFlaw::first_in).
+    /// The first string of the lists that has this fault. It is inlined like [`first_in`](StringFlaw::first_in).
     #[inline(always)]
     pub fn first_in_lists<'t>(self, lists: Lists<'t>) -> Option<&'t [u8]>
         ensures { name_in result ≡ find (string_has self)
@@ -121,7 +121,7 @@ fn string_count(argument: &Argument) -> usize
     }
 }
 
-// How many strings may still come after those of the arguments, where so many may come with them.
+// How many strings can still come after those of the arguments, if there can be so many with them.
 fn left_after(most: usize, arguments: &[Argument]) -> Option<usize>
     ensures { MatchOption result (most < length (strings_of (map argument_tree arguments.now)))
         (λ left. left + length (strings_of (map argument_tree arguments.now)) ≡ most) }
@@ -133,7 +133,7 @@ fn left_after(most: usize, arguments: &[Argument]) -> Option<usize>
     Some(left)
 }
 
-// How many strings may still come after those of the lists, where so many may come with them.
+// How many strings can still come after those of the lists, if there can be so many with them.
 fn left_after_lists(most: usize, lists: Lists<'_>) -> Option<usize>
     ensures { is_some result ≡ not (nat_lt most (length (strings_of (all_lists lists.entry)))) }
 {
@@ -142,7 +142,7 @@ fn left_after_lists(most: usize, lists: Lists<'_>) -> Option<usize>
     left_after(left, lists.others)
 }
 
-/// Whether the lists have more strings than one test may have.
+/// Whether the lists have more strings than a test can have.
 pub fn has_many_strings(reading: Reading<'_>) -> bool
     ensures { result ≡ has_many_strings (read_of reading.entry) }
 {

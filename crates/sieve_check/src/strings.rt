@@ -1,4 +1,4 @@
-// The strings of the typed form: those of a script, cut into what stands in them.
+// The strings of the typed form: those of a script, cut into segments.
 ghost use Rattle.std.specs.Prelude.{◌≡◌, [], ◌∷◌, ◌++◌, IfOk, OnOk, flat_map, map};
 ghost use Rattle.sieve_references.specs.References.{segments};
 ghost use Rattle.sieve_references.specs.SegmentView.{segment_of};
@@ -46,8 +46,12 @@ fn expanded(alloc: Global, string: &[u8]) -> Result<Vec<Segment>, AllocError>
     Ok(all)
 }
 
-/// The string as it is meant: with references where variables were required, else as it is written
-/// (RFC 5229, section 3). An error comes only where memory was refused.
+/// The string as it is meant: with references if variables were required, else as it is written (RFC 5229, section
+/// 3).
+///
+/// # Errors
+///
+/// `AllocError` if memory is refused.
 pub fn template(
     alloc: Global,
     required: Capabilities,
@@ -97,7 +101,7 @@ fn templates(
     Ok(all)
 }
 
-// The strings of a list, as they are meant; one string is a list, too. What is no list has no form.
+// The strings of a list, as they are meant; one string is a list, too. Other arguments have no form.
 fn list_in(
     alloc: Global,
     required: Capabilities,
@@ -132,7 +136,7 @@ fn list_taken<'t>(
     }
 }
 
-/// The strings of a test that takes such lists, by what was read.
+/// The strings of a test that takes such lists, from what was read.
 pub fn strings_in(
     alloc: Global,
     required: Capabilities,

@@ -1,4 +1,4 @@
-// What surrounds a command or test.
+// The surroundings of a command or test.
 //
 // Whether a string is expanded depends on what was required before it. A `require` comes before all other commands,
 // so in a script without faults that is the same everywhere.
@@ -50,7 +50,7 @@ impl Capabilities {
         }
     }
 
-    /// The first of the capabilities that isn't there, if one isn't.
+    /// The first of the capabilities that isn't there, if there is one.
     pub fn first_lacking(self, needed: &[Capability]) -> Option<Capability>
         ensures { result ≡ first_lacking needed.now self }
     {
@@ -78,7 +78,7 @@ impl Capabilities {
         all
     }
 
-    // These and the one of that name, where there is one.
+    // These and the one with this name, if there is one.
     fn with_named(self, name: &Octets) -> Capabilities
         ensures { result ≡ with_required name.now self }
     {
@@ -122,7 +122,7 @@ impl Capabilities {
     }
 }
 
-// What an invocation begins with.
+// The beginning of an invocation.
 fn head_in(invocation: &Invocation) -> &Head
     ensures { (tests : TestsTree) × (invocation_tree invocation.now ≡ head_tree result.now tests) }
 {
@@ -143,21 +143,21 @@ pub fn invocation_in(command: &Command) -> &Invocation
     }
 }
 
-/// The command, where its name is known.
+/// The command, if its name is known.
 pub fn command_in(command: &Command) -> Option<CommandName>
     ensures { result ≡ command_named (name_of (invocation_of (command_tree command.now))) }
 {
     command_named(head_in(invocation_in(command)).name.as_slice())
 }
 
-/// What is known of a test, where its name is known.
+/// The row of a test, if its name is known.
 pub fn test_in(test: &Invocation) -> Option<Row>
     ensures { option_map row_view result ≡ test_known (name_of (invocation_tree test.now)) }
 {
     test_known(head_in(test).name.as_slice())
 }
 
-/// Whether the tests are looked at of a command or test of which that is known: where it takes none, what stands there may be meant as
+/// Whether the tests of a command or test with this row are checked: if it takes none, what is there can be meant as
 /// something else.
 pub fn looks_inside(known: &Option<Row>) -> bool
     ensures { result ≡ looks_inside (option_map row_view known.now) }
@@ -181,7 +181,7 @@ fn opens(known: &Option<Row>) -> bool
     }
 }
 
-// What the loop is called that a command of this signature and these arguments opens.
+// The name of the loop that a command with this signature and these arguments opens.
 fn loop_name(signature: Signature, arguments: &[Argument]) -> LoopName<'_>
     ensures { loop_in result ≡ loop_read (reading signature (map argument_tree arguments.now)) }
 {
@@ -194,16 +194,16 @@ fn loop_name(signature: Signature, arguments: &[Argument]) -> LoopName<'_>
     }
 }
 
-/// What surrounds a command or test.
+/// The surroundings of a command or test, on which it depends whether it is allowed.
 #[derive(Clone, Copy)]
 pub struct Surroundings<'t> {
     /// What was required before it.
     pub required: Capabilities,
     /// The loops that are open around it.
     pub loops: Loops<'t>,
-    /// At the top level, and after no other command than `require` (RFC 5228, section 3.2).
+    /// Whether it is at the top level, and after no other command than `require` (RFC 5228, section 3.2).
     pub takes_require: bool,
-    /// Directly after an `if` or `elsif` of the same block (RFC 5228, section 3.1).
+    /// Whether it is directly after an `if` or `elsif` of the same block (RFC 5228, section 3.1).
     pub after_if: bool,
 }
 
@@ -218,7 +218,7 @@ impl<'t> Surroundings<'t> {
     ghost use Rattle.sieve_check.specs.Refusing.{LoopsWithin, context_of, open_loops};
     ghost use Rattle.sieve_check.specs.Surroundings.{at_start, following, inside, opens_many, swallowing};
 
-    /// Those of the first command of a script.
+    /// The surroundings of the first command of a script.
     pub fn at_start() -> Surroundings<'t>
         ensures { context_of result ≡ at_start }
     {
@@ -236,7 +236,7 @@ impl<'t> Surroundings<'t> {
         }
     }
 
-    // The loops around the block of a command of that name that begins so. Nothing where there would be too many.
+    // The loops around the block of a command with this name and head; `None` if there would be too many.
     fn loops_within(&self, name: Option<CommandName>, head: &'t Head) -> Option<Loops<'t>>
         ensures { LoopsWithin (context_of self.now)
             (loops_by (option_map command_row name) (arguments_of head.now)) result }
@@ -250,7 +250,7 @@ impl<'t> Surroundings<'t> {
         }
     }
 
-    // With these loops, those of the first command of a block.
+    // With these loops, the surroundings of the first command of a block.
     fn within(&self, loops: Loops<'t>) -> Surroundings<'t>
         ensures { context_of result
             ≡ record (context_of self.now) {
@@ -267,8 +267,8 @@ impl<'t> Surroundings<'t> {
         }
     }
 
-    // The loops around the block of a command, or of the last one that it swallowed, if that opens one. Nothing where there would be
-    // too many.
+    // The loops around the block of a command, or of the last one that it swallowed, if that opens one; `None` if
+    // there would be too many.
     fn loops_past(&self, invocation: &'t Invocation) -> Option<Loops<'t>>
         ensures { LoopsWithin (context_of self.now) (opened_past (invocation_tree invocation.now))
             result }
@@ -290,8 +290,9 @@ impl<'t> Surroundings<'t> {
         }
     }
 
-    /// Those of the first command of a block, where they are those behind its command, as [`pass`](Surroundings::pass) makes them, and
-    /// the command may have swallowed others. Nothing where more loops would be open than may be.
+    /// The surroundings of the first command of a block, if these are those after its command, as
+    /// [`pass`](Surroundings::pass) makes them, and the command can have swallowed others; `None` if too many loops
+    /// would be open.
     pub fn in_block_past(&self, invocation: &'t Invocation) -> Option<Surroundings<'t>>
         ensures { option_map context_of result
             ≡ inside (opened_past (invocation_tree invocation.now)) (context_of self.now) }
@@ -300,7 +301,7 @@ impl<'t> Surroundings<'t> {
         Some(self.within(loops))
     }
 
-    /// Those of the first command of the block of a command. Nothing where more loops would be open than may be.
+    /// The surroundings of the first command of the block of a command; `None` if too many loops would be open.
     pub fn in_block(
         &self,
         name: Option<CommandName>,
@@ -314,7 +315,7 @@ impl<'t> Surroundings<'t> {
         Some(self.within(loops))
     }
 
-    /// Whether the block of a command of which that is known would have more loops around it than there may be.
+    /// Whether the block of a command with this row would have more loops around it than there can be.
     pub fn opens_many(&self, row: &Row) -> bool
         ensures { (args : List ArgumentTree)
             → result ≡ opens_many (opened_by (row_view row.now) args) (context_of self.now) }
@@ -322,7 +323,8 @@ impl<'t> Surroundings<'t> {
         row.opens && self.loops.are_full()
     }
 
-    // Goes on behind a command of that name that begins so: where none is known, nothing changes. The loops stay in any case.
+    // Continues after a command with this name and head: if none is known, nothing changes. The loops stay in any
+    // case.
     fn follow(&mut self, name: Option<CommandName>, head: &Head)
         ensures { context_of self.new
             ≡ following (context_of self.old) (option_map command_row name)
@@ -347,7 +349,7 @@ impl<'t> Surroundings<'t> {
         }
     }
 
-    // With a command of that name that was read as the test of the one before it.
+    // With a command of this name that was read as the test of the one before it.
     fn swallow(&mut self, name: Option<CommandName>, head: &Head)
         ensures { context_of self.new
             ≡ swallowing (context_of self.old) (option_map command_row name)
@@ -363,7 +365,7 @@ impl<'t> Surroundings<'t> {
         }
     }
 
-    // After the test of a command of that name.
+    // After the test of a command with this name.
     #[cycle(swallowed)]
     fn pass_test(&mut self, name: Option<CommandName>, test: &Invocation)
         ensures { context_of self.new
@@ -394,8 +396,8 @@ impl<'t> Surroundings<'t> {
         }
     }
 
-    /// Goes on behind a command of that name, and behind the commands that it swallowed: where a `;` is forgotten, the next command
-    /// reads as the test of the one before it.
+    /// Continues after a command with this name, and after the commands that it swallowed: if a `;` is forgotten, the
+    /// next command is read as the test of the one before it.
     pub fn pass(&mut self, name: Option<CommandName>, invocation: &Invocation)
         requires { name ≡ command_named (name_of (invocation_tree invocation.now)) }
         ensures { context_of self.new
@@ -411,7 +413,7 @@ impl<'t> Surroundings<'t> {
         }
     }
 
-    /// Goes on behind this command of that name, which swallowed none.
+    /// Continues after this command with this name, which swallowed none.
     pub fn pass_one(&mut self, name: Option<CommandName>, command: &Command)
         requires { name ≡ command_named (name_of (invocation_of (command_tree command.now))) }
         ensures { context_of self.new

@@ -1,10 +1,10 @@
-// The names of commands and tests, and what is known of each, one row each (RFC 5228, sections 3 to 5; RFC 5229,
+// The names of commands and tests, and the properties of each, one row each (RFC 5228, sections 3 to 5; RFC 5229,
 // sections 4 and 5; RFC 5703, sections 3 and 4).
 ghost use Rattle.std.specs.Prelude.{◌≡◌, option_map};
 ghost use Rattle.std.specs.List.{find};
 ghost use Rattle.octets.specs.Ascii.{is_word};
 ghost use Rattle.sieve_check.specs.Private.{row_view};
-ghost use Rattle.sieve_check.specs.Rows.{all_commands, all_tests, bare, command_row, command_word, is_test, test_row, test_word};
+ghost use Rattle.sieve_check.specs.Rows.{all_commands, all_tests, block, command, command_row, command_word, is_test, part_test, test, test_row, test_word};
 ghost use Rattle.sieve_check.specs.Names.{command_named, test_known, test_named};
 ghost use Rattle.sieve_check.specs.Signatures.{command_signature, test_signature};
 
@@ -12,7 +12,7 @@ use crate::names::Capability;
 use crate::signature::{Ending, Positional, Signature, Tests};
 use octets::is_word;
 
-/// The commands that are known.
+/// A command of the language. [`command_named`] finds it by its name.
 #[derive(Clone, Copy, PartialEq, Eq)]
 pub enum CommandName {
     /// `require` (RFC 5228, section 3.2).
@@ -43,7 +43,7 @@ pub enum CommandName {
     Take,
 }
 
-/// The tests that are known.
+/// A test of the language. [`test_named`] finds it by its name.
 #[derive(Clone, Copy)]
 pub enum TestName {
     /// `true` and `false` (RFC 5228, sections 5.10 and 5.6).
@@ -62,15 +62,15 @@ pub enum TestName {
     Size,
     /// `string` (RFC 5229, section 5).
     String,
-    /// `partsize`, of our own, as the two that follow.
+    /// `partsize`, of our own, like the two below.
     PartSize,
-    /// `partbody`.
+    /// `partbody`, of our own.
     PartBody,
-    /// `partdigest`.
+    /// `partdigest`, of our own.
     PartDigest,
 }
 
-/// Where a command or test may stand.
+/// Where a command or test is allowed.
 #[derive(Clone, Copy)]
 pub enum Place {
     Anywhere,
@@ -80,7 +80,7 @@ pub enum Place {
     AfterIf,
     /// In a loop.
     InLoop,
-    /// Where it has a loop to leave: the nearest, or the nearest of the name that it gives.
+    /// Where there is a loop to leave: the nearest, or the nearest with the name that it gives.
     ToLeave,
 }
 
@@ -97,389 +97,283 @@ pub enum Role {
     NameAlone,
 }
 
-/// What a command means for those after it.
+/// The effect of a command on those after it.
 #[derive(Clone, Copy)]
 pub enum Follows {
-    /// What it names is required, and more may be required after it.
+    /// What it names is required, and more can be required after it.
     Requires,
-    /// An `elsif` or `else` may stand directly after it.
+    /// An `elsif` or `else` is allowed directly after it.
     Branches,
-    /// Neither.
+    /// It has neither effect.
     Others,
 }
 
-/// What is known of a command or test.
+/// The properties of a command or test.
 #[derive(Clone, Copy)]
 pub struct Row {
-    /// What it is called, in lower case.
+    /// Its name, in lower case.
     pub word: &'static str,
-    /// What has to be required for it; `:mime` needs its own capability besides.
+    /// What has to be required for it; `:mime` also needs its own capability.
     pub needs: &'static [Capability],
     /// The arguments and tests that it takes.
     pub signature: Signature,
-    /// How a command ends; a test has no ending.
+    /// How a command ends. A test has no ending, and at most [`MAX_TEST_STRINGS`](crate::MAX_TEST_STRINGS) strings.
     pub ending: Option<Ending>,
     pub place: Place,
     pub role: Role,
-    /// Its strings are counted: a test may have [`MAX_TEST_STRINGS`](crate::MAX_TEST_STRINGS).
-    pub counted: bool,
-    /// A loop is open around its block.
+    /// Whether a loop is open around its block.
     pub opens: bool,
     pub follows: Follows,
 }
 
-// What takes tests alone.
-fn bare(tests: Tests) -> Signature
-    ensures { result ≡ bare tests }
+// Takes nothing.
+const NOTHING: Signature = Signature {
+    order: false,
+    matching: false,
+    modifying: false,
+    scoped: false,
+    selecting: false,
+    naming: false,
+    limiting: false,
+    positional: Positional::Nothing,
+    tests: Tests::Nothing,
+};
+
+// Takes one test.
+const ONE_TEST: Signature = Signature {
+    tests: Tests::One,
+    ..NOTHING
+};
+
+// Takes tests in parentheses.
+const TESTS_IN_PARENTHESES: Signature = Signature {
+    tests: Tests::Bracketed,
+    ..NOTHING
+};
+
+// Takes a string.
+const TEXT: Signature = Signature {
+    positional: Positional::Text,
+    ..NOTHING
+};
+
+// Takes a list.
+const LIST: Signature = Signature {
+    positional: Positional::OneList,
+    ..NOTHING
+};
+
+// Takes values and keys, and how they are matched.
+const MATCH: Signature = Signature {
+    matching: true,
+    positional: Positional::TwoLists,
+    ..NOTHING
+};
+
+// Takes a number, and the order that a size is compared with it by.
+const SIZE: Signature = Signature {
+    order: true,
+    positional: Positional::Number,
+    ..NOTHING
+};
+
+// Takes the name of a loop.
+const LOOP_NAME: Signature = Signature {
+    naming: true,
+    ..NOTHING
+};
+
+// The row of a command with this name that is allowed anywhere, takes nothing, and ends with a semicolon.
+#[inline(always)]
+fn command(word: &'static str) -> Row
+    ensures { row_view result ≡ command word.now }
 {
-    Signature {
-        order: false,
-        matching: false,
-        modifying: false,
-        scoped: false,
-        selecting: false,
-        naming: false,
-        limiting: false,
-        positional: Positional::Nothing,
-        tests,
+    Row {
+        ending: Some(Ending::Semicolon),
+        ..test(word)
     }
 }
 
-/// What is known of the command. Inlined, so that who looks at one field alone makes no row.
+// The row of a command that ends with a block, else as above.
+#[inline(always)]
+fn block(word: &'static str) -> Row
+    ensures { row_view result ≡ block word.now }
+{
+    Row {
+        ending: Some(Ending::Block),
+        ..test(word)
+    }
+}
+
+// The row of a test with this name that is allowed anywhere and takes nothing.
+#[inline(always)]
+fn test(word: &'static str) -> Row
+    ensures { row_view result ≡ test word.now }
+{
+    Row {
+        word,
+        needs: &[],
+        signature: NOTHING,
+        ending: None,
+        place: Place::Anywhere,
+        role: Role::Expanded,
+        opens: false,
+        follows: Follows::Others,
+    }
+}
+
+// The row of a test of the current part that takes nothing.
+#[inline(always)]
+fn part_test(word: &'static str) -> Row
+    ensures { row_view result ≡ part_test word.now }
+{
+    Row {
+        needs: &[Capability::Depot],
+        place: Place::InLoop,
+        ..test(word)
+    }
+}
+
+/// The row of a command. It is inlined, so that a caller that reads only one field makes no row.
 #[inline(always)]
 pub fn command_row(name: CommandName) -> Row
     ensures { row_view result ≡ command_row name }
 {
     match name {
         CommandName::Require => Row {
-            word: "require",
-            needs: &[],
-            signature: Signature {
-                positional: Positional::OneList,
-                ..bare(Tests::Nothing)
-            },
-            ending: Some(Ending::Semicolon),
+            signature: LIST,
             place: Place::AtTop,
             role: Role::AsWritten,
-            counted: false,
-            opens: false,
             follows: Follows::Requires,
+            ..command("require")
         },
         CommandName::If => Row {
-            word: "if",
-            needs: &[],
-            signature: bare(Tests::One),
-            ending: Some(Ending::Block),
-            place: Place::Anywhere,
-            role: Role::Expanded,
-            counted: false,
-            opens: false,
+            signature: ONE_TEST,
             follows: Follows::Branches,
+            ..block("if")
         },
         CommandName::Elsif => Row {
-            word: "elsif",
-            needs: &[],
-            signature: bare(Tests::One),
-            ending: Some(Ending::Block),
+            signature: ONE_TEST,
             place: Place::AfterIf,
-            role: Role::Expanded,
-            counted: false,
-            opens: false,
             follows: Follows::Branches,
+            ..block("elsif")
         },
         CommandName::Else => Row {
-            word: "else",
-            needs: &[],
-            signature: bare(Tests::Nothing),
-            ending: Some(Ending::Block),
             place: Place::AfterIf,
-            role: Role::Expanded,
-            counted: false,
-            opens: false,
-            follows: Follows::Others,
+            ..block("else")
         },
-        CommandName::Stop => Row {
-            word: "stop",
-            needs: &[],
-            signature: bare(Tests::Nothing),
-            ending: Some(Ending::Semicolon),
-            place: Place::Anywhere,
-            role: Role::Expanded,
-            counted: false,
-            opens: false,
-            follows: Follows::Others,
-        },
-        CommandName::Keep => Row {
-            word: "keep",
-            needs: &[],
-            signature: bare(Tests::Nothing),
-            ending: Some(Ending::Semicolon),
-            place: Place::Anywhere,
-            role: Role::Expanded,
-            counted: false,
-            opens: false,
-            follows: Follows::Others,
-        },
-        CommandName::Discard => Row {
-            word: "discard",
-            needs: &[],
-            signature: bare(Tests::Nothing),
-            ending: Some(Ending::Semicolon),
-            place: Place::Anywhere,
-            role: Role::Expanded,
-            counted: false,
-            opens: false,
-            follows: Follows::Others,
-        },
+        CommandName::Stop => command("stop"),
+        CommandName::Keep => command("keep"),
+        CommandName::Discard => command("discard"),
         CommandName::FileInto => Row {
-            word: "fileinto",
             needs: &[Capability::FileInto],
-            signature: Signature {
-                positional: Positional::Text,
-                ..bare(Tests::Nothing)
-            },
-            ending: Some(Ending::Semicolon),
-            place: Place::Anywhere,
-            role: Role::Expanded,
-            counted: false,
-            opens: false,
-            follows: Follows::Others,
+            signature: TEXT,
+            ..command("fileinto")
         },
         CommandName::Set => Row {
-            word: "set",
             needs: &[Capability::Variables],
             signature: Signature {
                 modifying: true,
                 positional: Positional::TwoTexts,
-                ..bare(Tests::Nothing)
+                ..NOTHING
             },
-            ending: Some(Ending::Semicolon),
-            place: Place::Anywhere,
             role: Role::NameThenValue,
-            counted: false,
-            opens: false,
-            follows: Follows::Others,
+            ..command("set")
         },
         CommandName::ForEveryPart => Row {
-            word: "foreverypart",
             needs: &[Capability::ForEveryPart],
-            signature: Signature {
-                naming: true,
-                ..bare(Tests::Nothing)
-            },
-            ending: Some(Ending::Block),
-            place: Place::Anywhere,
-            role: Role::Expanded,
-            counted: false,
+            signature: LOOP_NAME,
             opens: true,
-            follows: Follows::Others,
+            ..block("foreverypart")
         },
         CommandName::Break => Row {
-            word: "break",
             needs: &[Capability::ForEveryPart],
-            signature: Signature {
-                naming: true,
-                ..bare(Tests::Nothing)
-            },
-            ending: Some(Ending::Semicolon),
+            signature: LOOP_NAME,
             place: Place::ToLeave,
-            role: Role::Expanded,
-            counted: false,
-            opens: false,
-            follows: Follows::Others,
+            ..command("break")
         },
         CommandName::Store => Row {
-            word: "store",
             needs: &[Capability::Depot],
-            signature: Signature {
-                positional: Positional::Text,
-                ..bare(Tests::Nothing)
-            },
-            ending: Some(Ending::Semicolon),
+            signature: TEXT,
             place: Place::InLoop,
-            role: Role::Expanded,
-            counted: false,
-            opens: false,
-            follows: Follows::Others,
+            ..command("store")
         },
         CommandName::Take => Row {
-            word: "take",
             needs: &[Capability::Variables, Capability::Depot],
             signature: Signature {
                 limiting: true,
-                positional: Positional::Text,
-                ..bare(Tests::Nothing)
+                ..TEXT
             },
-            ending: Some(Ending::Semicolon),
             place: Place::InLoop,
             role: Role::NameAlone,
-            counted: false,
-            opens: false,
-            follows: Follows::Others,
+            ..command("take")
         },
     }
 }
 
-/// What is known of the test. Inlined as [`command_row`].
+/// The row of a test. It is inlined like [`command_row`].
 #[inline(always)]
 pub fn test_row(name: TestName) -> Row
     ensures { row_view result ≡ test_row name }
 {
     match name {
-        TestName::Constant(value) => Row {
-            word: if value { "true" } else { "false" },
-            needs: &[],
-            signature: bare(Tests::Nothing),
-            ending: None,
-            place: Place::Anywhere,
-            role: Role::Expanded,
-            counted: true,
-            opens: false,
-            follows: Follows::Others,
-        },
+        TestName::Constant(true) => test("true"),
+        TestName::Constant(false) => test("false"),
         TestName::Not => Row {
-            word: "not",
-            needs: &[],
-            signature: bare(Tests::One),
-            ending: None,
-            place: Place::Anywhere,
-            role: Role::Expanded,
-            counted: true,
-            opens: false,
-            follows: Follows::Others,
+            signature: ONE_TEST,
+            ..test("not")
         },
         TestName::AllOf => Row {
-            word: "allof",
-            needs: &[],
-            signature: bare(Tests::Bracketed),
-            ending: None,
-            place: Place::Anywhere,
-            role: Role::Expanded,
-            counted: true,
-            opens: false,
-            follows: Follows::Others,
+            signature: TESTS_IN_PARENTHESES,
+            ..test("allof")
         },
         TestName::AnyOf => Row {
-            word: "anyof",
-            needs: &[],
-            signature: bare(Tests::Bracketed),
-            ending: None,
-            place: Place::Anywhere,
-            role: Role::Expanded,
-            counted: true,
-            opens: false,
-            follows: Follows::Others,
+            signature: TESTS_IN_PARENTHESES,
+            ..test("anyof")
         },
         TestName::Header => Row {
-            word: "header",
-            needs: &[],
             signature: Signature {
-                matching: true,
                 scoped: true,
                 selecting: true,
-                positional: Positional::TwoLists,
-                ..bare(Tests::Nothing)
+                ..MATCH
             },
-            ending: None,
-            place: Place::Anywhere,
-            role: Role::Expanded,
-            counted: true,
-            opens: false,
-            follows: Follows::Others,
+            ..test("header")
         },
         TestName::Exists => Row {
-            word: "exists",
-            needs: &[],
             signature: Signature {
                 scoped: true,
-                positional: Positional::OneList,
-                ..bare(Tests::Nothing)
+                ..LIST
             },
-            ending: None,
-            place: Place::Anywhere,
-            role: Role::Expanded,
-            counted: true,
-            opens: false,
-            follows: Follows::Others,
+            ..test("exists")
         },
         TestName::Size => Row {
-            word: "size",
-            needs: &[],
-            signature: Signature {
-                order: true,
-                positional: Positional::Number,
-                ..bare(Tests::Nothing)
-            },
-            ending: None,
-            place: Place::Anywhere,
-            role: Role::Expanded,
-            counted: true,
-            opens: false,
-            follows: Follows::Others,
+            signature: SIZE,
+            ..test("size")
         },
         TestName::String => Row {
-            word: "string",
             needs: &[Capability::Variables],
-            signature: Signature {
-                matching: true,
-                positional: Positional::TwoLists,
-                ..bare(Tests::Nothing)
-            },
-            ending: None,
-            place: Place::Anywhere,
-            role: Role::Expanded,
-            counted: true,
-            opens: false,
-            follows: Follows::Others,
+            signature: MATCH,
+            ..test("string")
         },
         TestName::PartSize => Row {
-            word: "partsize",
-            needs: &[Capability::Depot],
-            signature: Signature {
-                order: true,
-                positional: Positional::Number,
-                ..bare(Tests::Nothing)
-            },
-            ending: None,
-            place: Place::InLoop,
-            role: Role::Expanded,
-            counted: true,
-            opens: false,
-            follows: Follows::Others,
+            signature: SIZE,
+            ..part_test("partsize")
         },
         TestName::PartBody => Row {
-            word: "partbody",
-            needs: &[Capability::Depot],
             signature: Signature {
                 matching: true,
-                positional: Positional::OneList,
-                ..bare(Tests::Nothing)
+                ..LIST
             },
-            ending: None,
-            place: Place::InLoop,
-            role: Role::Expanded,
-            counted: true,
-            opens: false,
-            follows: Follows::Others,
+            ..part_test("partbody")
         },
         TestName::PartDigest => Row {
-            word: "partdigest",
-            needs: &[Capability::Depot],
-            signature: Signature {
-                positional: Positional::OneList,
-                ..bare(Tests::Nothing)
-            },
-            ending: None,
-            place: Place::InLoop,
-            role: Role::Expanded,
-            counted: true,
-            opens: false,
-            follows: Follows::Others,
+            signature: LIST,
+            ..part_test("partdigest")
         },
     }
 }
 
-// The commands.
+// All commands.
 const COMMANDS: &[CommandName] = &[
     CommandName::Require,
     CommandName::If,
@@ -496,7 +390,7 @@ const COMMANDS: &[CommandName] = &[
     CommandName::Take,
 ];
 
-// The tests.
+// All tests.
 const TESTS: &[TestName] = &[
     TestName::Constant(true),
     TestName::Constant(false),
@@ -512,35 +406,35 @@ const TESTS: &[TestName] = &[
     TestName::PartDigest,
 ];
 
-/// All commands.
+/// Returns all commands of the language.
 pub fn all_commands() -> &'static [CommandName]
     ensures { result.now ≡ all_commands }
 {
     COMMANDS
 }
 
-/// All tests.
+/// Returns all tests of the language.
 pub fn all_tests() -> &'static [TestName]
     ensures { result.now ≡ all_tests }
 {
     TESTS
 }
 
-/// What the command is called, in lower case.
+/// Returns the name of a command, in lower case.
 pub fn command_word(name: CommandName) -> &'static str
     ensures { result.now ≡ command_word name }
 {
     command_row(name).word
 }
 
-/// What the test is called, in lower case.
+/// Returns the name of a test, in lower case.
 pub fn test_word(name: TestName) -> &'static str
     ensures { result.now ≡ test_word name }
 {
     test_row(name).word
 }
 
-// The first of the commands that is called so.
+// The first of the commands with this name.
 fn first_command(name: &[u8], commands: &[CommandName]) -> Option<CommandName>
     ensures { result ≡ find (λ known. is_word name.now (command_word known)) commands.now }
 {
@@ -552,7 +446,7 @@ fn first_command(name: &[u8], commands: &[CommandName]) -> Option<CommandName>
     None
 }
 
-// The first of the tests that is called so.
+// The first of the tests with this name.
 fn first_test(name: &[u8], tests: &[TestName]) -> Option<TestName>
     ensures { result ≡ find (λ known. is_word name.now (test_word known)) tests.now }
 {
@@ -564,49 +458,49 @@ fn first_test(name: &[u8], tests: &[TestName]) -> Option<TestName>
     None
 }
 
-/// The command of that name, if it is known. ASCII case is ignored.
+/// Returns the command with this name; `None` if there is none. ASCII case is ignored.
 pub fn command_named(name: &[u8]) -> Option<CommandName>
     ensures { result ≡ command_named name.now }
 {
     first_command(name, COMMANDS)
 }
 
-/// The test of that name, if it is known. ASCII case is ignored.
+/// Returns the test with this name; `None` if there is none. ASCII case is ignored.
 pub fn test_named(name: &[u8]) -> Option<TestName>
     ensures { result ≡ test_named name.now }
 {
     first_test(name, TESTS)
 }
 
-/// What the command takes.
+/// Returns what a command takes: its tags, arguments and tests.
 pub fn command_signature(name: CommandName) -> Signature
     ensures { result ≡ command_signature name }
 {
     command_row(name).signature
 }
 
-/// What the test takes.
+/// Returns what a test takes: its tags, arguments and tests.
 pub fn test_signature(name: TestName) -> Signature
     ensures { result ≡ test_signature name }
 {
     test_row(name).signature
 }
 
-/// Whether what ends so is a test: it has no ending.
+/// Whether this is the ending of a test, which is none.
 pub fn is_test(ending: Option<Ending>) -> bool
     ensures { result ≡ is_test ending }
 {
     ending.is_none()
 }
 
-/// What is known of the command, where that is known.
+/// The row of a command, if it is known.
 pub fn known_command(name: Option<CommandName>) -> Option<Row>
     ensures { option_map row_view result ≡ option_map command_row name }
 {
     Some(command_row(name?))
 }
 
-/// What is known of the test of that name, if one is.
+/// The row of the test with this name, if there is one.
 pub fn test_known(name: &[u8]) -> Option<Row>
     ensures { option_map row_view result ≡ test_known name.now }
 {

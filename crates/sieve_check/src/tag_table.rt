@@ -1,4 +1,5 @@
-// What is known of each tag, one row each (RFC 5228, sections 2.7 and 5.9; RFC 5229, section 4.1; RFC 5703, sections 3 and 4.1).
+// The properties of each tag, one row each (RFC 5228, sections 2.7 and 5.9; RFC 5229, section 4.1; RFC 5703, sections
+// 3 and 4.1).
 ghost use Rattle.std.specs.Prelude.{◌≡◌};
 ghost use Rattle.std.specs.List.{find};
 ghost use Rattle.octets.specs.Ascii.{is_word};
@@ -11,7 +12,7 @@ use bytecode_format::{Case, Order, Selector};
 use glob_match::MatchType;
 use octets::is_word;
 
-/// Tags that are taken together, each in its turn.
+/// Tags that are taken together, each by its own rules.
 #[derive(Clone, Copy)]
 pub enum Family {
     /// `:over` and `:under`.
@@ -30,13 +31,13 @@ pub enum Family {
     Limiting,
 }
 
-/// What is known of a tag.
+/// The properties of a tag.
 #[derive(Clone, Copy)]
 pub struct TagRow {
-    /// What it is called, without its colon and in lower case.
+    /// Its name, without the colon and in lower case.
     pub word: &'static [u8],
     pub family: Family,
-    /// An argument of its own stands behind it.
+    /// Whether it takes an argument of its own.
     pub waits: bool,
 }
 
@@ -49,7 +50,7 @@ fn order_word(order: Order) -> &'static [u8]
     }
 }
 
-/// What the tag is called that says the way of matching, without its colon and in lower case.
+/// Returns the name of the tag for a way of matching, without the colon and in lower case.
 pub fn kind_word(kind: MatchType) -> &'static [u8]
     ensures { result.now ≡ kind_word kind }
 {
@@ -78,7 +79,7 @@ fn first_letter_word(case: Case) -> &'static [u8]
     }
 }
 
-// The value is taken where no tag says otherwise: it has none.
+// The value is taken if no tag selects something else: it has no word.
 fn selector_word(selector: Selector) -> &'static [u8]
     ensures { result.now ≡ selector_word selector }
 {
@@ -91,7 +92,7 @@ fn selector_word(selector: Selector) -> &'static [u8]
     }
 }
 
-/// What is known of the tag.
+/// The row of a tag.
 #[inline(always)]
 pub fn tag_row(tag: Tag) -> TagRow
     ensures { tag_view result ≡ tag_row tag }
@@ -160,7 +161,7 @@ pub fn tag_row(tag: Tag) -> TagRow
     }
 }
 
-// Those that can be written.
+// The tags that can be written.
 const TAGS: &[Tag] = &[
     Tag::Order(Order::Over),
     Tag::Order(Order::Under),
@@ -184,7 +185,7 @@ const TAGS: &[Tag] = &[
     Tag::First,
 ];
 
-// The first of the tags that is called so.
+// The first of the tags with this name.
 fn first_tag(name: &[u8], tags: &[Tag]) -> Option<Tag>
     ensures { result ≡ find (λ known. is_word name.now (tag_word known)) tags.now }
 {
@@ -196,7 +197,7 @@ fn first_tag(name: &[u8], tags: &[Tag]) -> Option<Tag>
     None
 }
 
-/// The tag of that name, if it is known. ASCII case is ignored.
+/// The tag with this name, if there is one. ASCII case is ignored.
 pub fn tag_named(name: &[u8]) -> Option<Tag>
     ensures { result ≡ tag_named name.now }
 {

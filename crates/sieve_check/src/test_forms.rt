@@ -16,7 +16,7 @@ use crate::typed::Test;
 use sieve_parser::{Head, Invocation};
 use std::alloc::Global;
 
-// The test that this names, with its arguments as they were read.
+// The test of this head, with its arguments as they were read.
 fn test_read(head: &Head) -> Option<(TestName, Reading<'_>)>
     ensures { IsTestRead head.now result }
 {
@@ -25,7 +25,7 @@ fn test_read(head: &Head) -> Option<(TestName, Reading<'_>)>
     Some((name, reading))
 }
 
-// A test after whose arguments no test stands.
+// A test without tests after its arguments.
 fn plain_test(alloc: Global, required: Capabilities, head: &Head) -> Result<Test, FormError>
     ensures { Formed test_form (head_test required head.now none) result }
 {
@@ -43,7 +43,7 @@ fn plain_test(alloc: Global, required: Capabilities, head: &Head) -> Result<Test
     })
 }
 
-// The test that turns around the one behind it.
+// The negation of the test after it.
 fn negated(alloc: Global, head: &Head, inner: Test) -> Result<Test, FormError>
     ensures { (required : Capabilities)
         → Formed test_form (head_test required head.now (one (test_form inner))) result }
@@ -57,7 +57,7 @@ fn negated(alloc: Global, head: &Head, inner: Test) -> Result<Test, FormError>
     }
 }
 
-// The test of the tests in round brackets behind it.
+// The test made of the tests in parentheses after it.
 fn combined(alloc: Global, head: &Head, first: Test, others: Vec<Test>) -> Result<Test, FormError>
     ensures { (required : Capabilities)
         → Formed test_form (head_test required head.now
@@ -72,7 +72,7 @@ fn combined(alloc: Global, head: &Head, first: Test, others: Vec<Test>) -> Resul
     }
 }
 
-/// A test with the tests behind it.
+/// A test with the tests after it.
 #[cycle(tests)]
 pub fn test(
     alloc: Global,
@@ -89,7 +89,7 @@ pub fn test(
             negated(alloc, head, inner)
         }
         Invocation::WithTests(head, first, others) => {
-            // The others come first: behind the first test no proof is found that this ends.
+            // The others come first: after the first test no proof is found that this ends.
             let others = tests(alloc, required, others)?;
             let first = test(alloc, required, first)?;
             combined(alloc, head, first, others)

@@ -1,22 +1,22 @@
 // Scripts that were checked, in typed form: what they mean, without how they are written.
 //
-// The typed form of an `if` is its branches in order with their blocks, up to that of the `else`, so the meaning is
-// a plain recursion. A form is measured in bytes, from below: a name, number, tag or sign counts one byte, a string
-// its value and two. So the measure of a script's form is at most the script's length, and the form's code has at
-// most as many instructions.
+// The typed form of an `if` is its branches in order with their blocks, up to that of the `else`, so the meaning is a
+// plain recursion. A form is measured in bytes, from below: a name, number, tag or sign counts one byte, a string its
+// value and two. So the measure of a script's form is at most the script's length, and the form's code has at most as
+// many instructions.
 use crate::table::CommandName;
 use bytecode_format::{Modifiers, Question};
 use octets::Octets;
 use std::slice;
 
-/// A piece of a string: text as it stands, or a reference (RFC 5229, section 3).
+/// A piece of a string: text as it is, or a reference (RFC 5229, section 3).
 #[derive(Drop)]
 pub enum Segment {
-    /// Octets that stand for themselves.
+    /// Bytes that mean themselves.
     Text(Octets),
-    /// The value of the variable of that name, which is in lower case.
+    /// The value of the variable with this name, which is in lower case.
     Variable(Octets),
-    /// What a wildcard of the last match stands for; 0 is the whole value that was matched.
+    /// The text that a wildcard of the last match matched; 0 is the whole value.
     Capture(u8),
 }
 
@@ -27,58 +27,69 @@ pub struct Strings {
     pub names: Vec<Vec<Segment>>,
     /// The names of parameters.
     pub params: Vec<Vec<Segment>>,
-    /// What values are compared with.
+    /// The keys that values are compared with.
     pub keys: Vec<Vec<Segment>>,
 }
 
-/// A test, with the number of the token at which it begins.
+/// A test of a checked script, with the number of the token at which it begins.
 #[derive(Drop)]
 pub enum Test {
-    /// A simple test: what it asks, with its strings.
+    /// A simple test: its question, with its strings.
     Asks {
+        /// What it asks.
         question: Question,
+        /// The strings that it asks it with.
         strings: Strings,
+        /// The number of its first token, counted from 0.
         at: usize,
     },
-    /// `not`.
+    /// `not`: true if its test is false.
     Not {
+        /// The test that is negated.
         test: Box<Test>,
+        /// The number of its first token, counted from 0.
         at: usize,
     },
     /// `allof`: the first test, and those after it.
     AllOf {
+        /// The first test of the list.
         first: Box<Test>,
+        /// The tests after it.
         others: Vec<Test>,
+        /// The number of its first token, counted from 0.
         at: usize,
     },
     /// `anyof`: the first test, and those after it.
     AnyOf {
+        /// The first test of the list.
         first: Box<Test>,
+        /// The tests after it.
         others: Vec<Test>,
+        /// The number of its first token, counted from 0.
         at: usize,
     },
 }
 
-/// What an action does, apart from its string.
+/// The effect of an action, apart from its string. [`Command::Does`] has it.
 #[derive(Drop)]
 pub enum Act {
-    /// `keep`.
+    /// `keep`: files the message in the inbox.
     Keep,
-    /// `discard`.
+    /// `discard`: cancels the implicit keep.
     Discard,
-    /// `fileinto`, with the folder.
+    /// `fileinto`; its string is the folder.
     FileInto,
-    /// `set`: its string, after the modifiers, becomes the value of the variable of the name, which is in lower case
-    /// (RFC 5229, section 4).
+    /// `set`: its string, after the modifiers, becomes the value of the variable with the name, which is in lower
+    /// case (RFC 5229, section 4).
     Set { modifiers: Modifiers, name: Octets },
-    /// `take`: the first octets of the current part's content, at most so many, become the value of the variable of the
-    /// name, which is in lower case. Ours.
+    /// `take`, of our own: the first bytes of the current part's content, at most so many, become the value of the
+    /// variable with the name, which is in lower case.
     Take { most: u16, name: Octets },
-    /// `store`: the current part, with the folder. Ours.
+    /// `store`, of our own: stores the current part; its string is the folder.
     Store,
     /// `break`: how many of the loops around it are left, the innermost first (RFC 5703, section 3).
     Leave(u8),
-    /// `stop`.
+    /// `stop`: ends the script.
     Stop,
 }
 
@@ -89,7 +100,7 @@ impl Act {
     ghost use Rattle.sieve_check.specs.Acts.{act_row, act_strings, left_by};
     ghost use Rattle.sieve_check.specs.TypedView.{templates_of};
 
-    /// The command that does it.
+    /// Returns the command that has this effect.
     pub fn name(&self) -> CommandName
         ensures { result ≡ (act_row self.now).name }
     {
@@ -105,7 +116,7 @@ impl Act {
         }
     }
 
-    /// Whether it takes a string.
+    /// Returns whether the act takes a string.
     pub fn takes_string(&self) -> bool
         ensures { result ≡ (act_row self.now).string }
     {
@@ -115,7 +126,7 @@ impl Act {
         }
     }
 
-    /// The strings of this with that one: it alone, or none, where it takes none.
+    /// Returns the strings of the act: `string` alone, or none if it takes none.
     pub fn strings<'s>(&self, string: &'s Vec<Segment>) -> &'s [Vec<Segment>]
         ensures { templates_of result.now ≡ act_strings self.now string.now.items }
     {
@@ -126,7 +137,7 @@ impl Act {
         }
     }
 
-    /// The name of the variable that it sets, if it sets one.
+    /// Returns the name of the variable that the act sets; `None` if it sets none.
     pub fn sets(&self) -> Option<&Octets>
         ensures { option_to_list (option_map (λ (name : Bor (List ℕ)). name.now) result)
             ≡ (act_row self.now).sets }
@@ -138,7 +149,7 @@ impl Act {
         }
     }
 
-    /// How many of the loops around it are left, if any are.
+    /// Returns how many of the loops around the act are left; `None` if none are.
     pub fn left(&self) -> Option<u8>
         ensures { result ≡ left_by (act_row self.now).bound }
     {
@@ -155,21 +166,24 @@ impl Act {
     }
 }
 
-/// A test of an `if` or `elsif`, and the block that it guards, with the number of the token at which it begins.
+/// A test of an `if` or `elsif`, with the block that runs if it is true.
 #[cycle(typed)]
 #[derive(Drop)]
 pub struct Branch {
+    /// The test of the `if` or `elsif`.
     pub test: Test,
+    /// The commands that run if the test is true.
     pub block: Vec<Command>,
+    /// The number of its first token, counted from 0.
     pub at: usize,
 }
 
-/// A command, with the number of the token at which it begins; a choice begins where its first branch does. `require`
-/// says nothing here.
+/// A command of a checked script, with the number of the token at which it begins; a choice begins with its first
+/// branch. `require` has no typed form.
 #[cycle(typed)]
 #[derive(Drop)]
 pub enum Command {
-    /// An action: what it does, with its string as its segments; no segments, where it takes none.
+    /// An action: its act, with its string as segments; no segments if it takes no string.
     Does {
         act: Act,
         string: Vec<Segment>,

@@ -1,8 +1,8 @@
-// The names of variables, as they are met.
+// The names of variables, in the order of their use.
 //
-// The limit of variables is a fold over the visits, each of which brings the names in its strings and the one that
-// it sets. So the 129th name is found at the visit that brings it, and `check` names no later fault. Names are in
-// lower case from the typed form on, so the meaning and the compiler compare them byte by byte.
+// The limit of variables is a fold over the visits, each of which brings the names in its strings and the one that it
+// sets. So the 129th name is found at the visit that brings it, and `check` names no later fault. Names are in lower
+// case from the typed form on, so the meaning and the compiler compare them byte by byte.
 ghost use Rattle.std.specs.Prelude.{◌≤◌, length};
 ghost use Rattle.octets.specs.Limits.{max_variables};
 
@@ -14,9 +14,9 @@ use octets::{Octets, is_word};
 use sieve_parser::Argument;
 use sieve_references::{Segment, first_segment};
 
-/// The different names of variables so far, in the order of their first use, lent by the script. Case doesn't matter.
+/// The different names of variables, in the order of their first use, lent by the script. Case doesn't matter.
 ///
-/// A name takes as many comparisons as there are names.
+/// To add a name takes as many comparisons as there are names.
 #[derive(Drop)]
 pub struct VariableNames<'t> {
     names: ArrayVec<&'t [u8], MAX_VARIABLES>,
@@ -33,7 +33,7 @@ impl<'t> VariableNames<'t> {
     ghost use Rattle.sieve_check.specs.Refusing.{Adds, listed};
     ghost use Rattle.sieve_check.specs.Rules.{strings_in, strings_of};
 
-    /// No name.
+    /// No names.
     pub fn new() -> VariableNames<'t>
         ensures { listed result ≡ [] }
     {
@@ -54,7 +54,11 @@ impl<'t> VariableNames<'t> {
         false
     }
 
-    /// Adds the name, unless it is among them. Where there would be too many, that is [`ReasonKind::ManyVariables`].
+    /// Adds the name, unless it is among them.
+    ///
+    /// # Errors
+    ///
+    /// `ReasonKind::ManyVariables` if there would be too many.
     pub fn add(&mut self, name: &'t [u8]) -> Result<(), ReasonKind>
         ensures { Adds (listed self.old) (lowercase_of name.now ∷ []) result (listed self.new) }
     {
@@ -107,7 +111,7 @@ impl<'t> VariableNames<'t> {
         }
     }
 
-    // Adds the names in the strings of arguments. Inlined, so that lists without arguments cost no call.
+    // Adds the names in the strings of arguments. It is inlined, so that lists without arguments need no call.
     #[inline(always)]
     fn add_arguments(&mut self, arguments: &'t [Argument]) -> Result<(), ReasonKind>
         ensures { Adds (listed self.old)
@@ -120,8 +124,11 @@ impl<'t> VariableNames<'t> {
         Ok(())
     }
 
-    /// Adds the names in the strings of lists. Where there would be too many, that is [`ReasonKind::ManyVariables`]. Inlined as
-    /// [`add_arguments`](VariableNames::add_arguments).
+    /// Adds the names in the strings of lists. It is inlined like [`add_arguments`](VariableNames::add_arguments).
+    ///
+    /// # Errors
+    ///
+    /// `ReasonKind::ManyVariables` if there would be too many.
     #[inline(always)]
     pub fn add_lists(&mut self, lists: Lists<'t>) -> Result<(), ReasonKind>
         ensures { Adds (listed self.old) (flat_map names_in (strings_of (all_lists lists.entry)))

@@ -18,7 +18,7 @@ use bytecode_format::{Instruction, Operation, Question};
 use sieve_check::{Branch, Command, Segment, Strings, Test};
 use std::alloc::{AllocError, Global};
 
-/// The code so far, and the tables of the whole script.
+/// The code up to a place, and the tables of the whole script.
 #[derive(Drop)]
 pub struct Coder<'t, 's> {
     pub tables: &'t Tables<'s>,
@@ -41,7 +41,7 @@ impl<'t, 's> Coder<'t, 's> {
     ghost use Rattle.sieve_compiler.specs.Aiming.{aimed, with_target, branch_code, unaimed_code};
     ghost use Rattle.sieve_compiler.specs.Putting.{Puts};
 
-    /// No code. Takes no memory.
+    /// No code. It takes no memory.
     pub fn new(alloc: Global, tables: &'t Tables<'s>) -> Coder<'t, 's>
         requires numbers { length tables.now.numbers < 2 ^ 32 }
         requires strings { length tables.now.strings < 2 ^ 32 }
@@ -63,7 +63,11 @@ impl<'t, 's> Coder<'t, 's> {
         self.instructions.len() as u32
     }
 
-    /// Puts an instruction.
+    /// Appends an instruction.
+    ///
+    /// # Errors
+    ///
+    /// `AllocError` if memory is refused.
     pub fn put(&mut self, instruction: Instruction) -> Result<(), AllocError>
         ensures code { OnOk result (Puts self.old self.new (instruction ∷ [])) }
         ensures room { OnOk result (length self.new.instructions.items
@@ -108,7 +112,7 @@ impl<'t, 's> Coder<'t, 's> {
         self.put(instruction(Operation::Literal, 0, place))
     }
 
-    // Pushes what a segment stands for.
+    // Pushes the value of a segment.
     fn put_segment(&mut self, segment: &Segment) -> Result<(), AllocError>
         ensures code { OnOk result (Puts self.old self.new
             (push_segment self.old.tables.now segment.now ∷ [])) }
@@ -125,7 +129,7 @@ impl<'t, 's> Coder<'t, 's> {
         }
     }
 
-    // Pushes what segments stand for, one after the other.
+    // Pushes the values of segments, one after the other.
     fn put_segments(&mut self, segments: &[Segment]) -> Result<(), AllocError>
         ensures code { OnOk result (Puts self.old self.new
             (map (push_segment self.old.tables.now) segments.now)) }
@@ -205,7 +209,11 @@ impl<'t, 's> Coder<'t, 's> {
         self.put(jump_if(exit))
     }
 
-    /// Puts the code of a test, which jumps as the exit says.
+    /// Appends the code of a test, which jumps according to the exit.
+    ///
+    /// # Errors
+    ///
+    /// `AllocError` if memory is refused.
     #[cycle(tests)]
     pub fn put_test(&mut self, test: &Test, exit: Exit) -> Result<(), AllocError>
         requires room { length self.old.instructions.items + test_length (test_form test.now)
@@ -259,7 +267,7 @@ impl<'t, 's> Coder<'t, 's> {
         Ok(())
     }
 
-    // How a list of tests jumps whose code begins here.
+    // The exit of a list of tests whose code begins here.
     fn list_exit(&self, first: &Test, others: &[Test], deciding: bool, exit: Exit) -> ListExit
         requires { length self.now.instructions.items + (test_length
             (test_form first.now) + tests_length (tests_of (map test_form others.now)))
@@ -352,7 +360,11 @@ impl<'t, 's> Coder<'t, 's> {
         self.put(instruction(Operation::Next, 0, each))
     }
 
-    /// Puts the code of commands, one after the other.
+    /// Appends the code of commands, one after the other.
+    ///
+    /// # Errors
+    ///
+    /// `AllocError` if memory is refused.
     #[cycle(commands)]
     pub fn put_commands(&mut self, commands: &[Command]) -> Result<(), AllocError>
         requires room { length self.old.instructions.items + commands_length
@@ -371,7 +383,8 @@ impl<'t, 's> Coder<'t, 's> {
         Ok(())
     }
 
-    // Puts the code of a branch. Its test jumps behind its block, and is aimed when that stands.
+    // Appends the code of a branch. Its test jumps to the place after the block and the jump that leaves it, and is
+    // aimed when these are out.
     #[cycle(commands)]
     fn put_branch(
         &mut self,
@@ -411,7 +424,7 @@ impl<'t, 's> Coder<'t, 's> {
         Ok(())
     }
 
-    // Puts the jump after a block, which waits for the end of its `if`, where branches or an `else` are left.
+    // Appends the jump after a block, which waits for the end of its `if`, if branches or an `else` are left.
     fn put_leave(
         &mut self,
         after: &[Branch],

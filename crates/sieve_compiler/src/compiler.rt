@@ -19,11 +19,16 @@ use std::alloc::{AllocError, Global};
 /// The version of the format that programs are written in.
 const WRITTEN_VERSION: u8 = bytecode_format::VERSION_TWO;
 
-/// The program of a checked script: exactly its code, which is accepted, and whose run on every message ends with
-/// the final actions of the script's meaning.
+/// Returns the program of a checked script: exactly its code. The verifier accepts it, and on every message its run
+/// ends with the final actions of the script's meaning.
 ///
-/// An error comes only where memory was refused: the code of every checked script is within the limits of a
-/// program. The time is linear in the size of the code, but for the nesting, which has a limit.
+/// The code of every checked script is within the limits of a program. It takes time linear in the size of the code,
+/// apart from the nesting, which has a limit. For example, the program of the empty script is written in 23 bytes: 15
+/// before the instructions, and one instruction, HALT.
+///
+/// # Errors
+///
+/// `AllocError` if memory is refused.
 pub fn compile(alloc: Global, checked: &Checked) -> Result<Program, AllocError>
     ensures code { IfOk result (λ program. program ≡ code_of (commands_form checked.now.commands)) }
     ensures accepted { IfOk result (λ program. IsAccepted program) }
@@ -34,7 +39,7 @@ pub fn compile(alloc: Global, checked: &Checked) -> Result<Program, AllocError>
     compile_commands(alloc, checked.commands())
 }
 
-// The program of a script's commands, of which there are no more than of a script within the limits.
+// The program of a script's commands, if they are at most those of a script within the limits.
 fn compile_commands(alloc: Global, commands: &[Command]) -> Result<Program, AllocError>
     requires { IsBounded (commands_form commands.now) }
     ensures code { IfOk result (λ p. p ≡ code_of (commands_form commands.now)) }

@@ -1,9 +1,9 @@
-// Where the code of tests goes on.
+// Where the code of tests continues.
 ghost use Rattle.std.specs.Prelude.{◌≡◌};
 
 use sieve_check::Test;
 
-/// Where a test jumps to, and for which of its values: else it goes on after its code.
+/// Where a test jumps to, and for which of its values: otherwise it continues after its code.
 #[derive(Clone, Copy)]
 pub struct Exit {
     pub asked: bool,
@@ -13,7 +13,7 @@ pub struct Exit {
 impl Exit {
     ghost use Rattle.std.specs.Prelude.{not};
 
-    /// The same for a test of which this one is the negation.
+    /// The same for a test whose negation this one is.
     pub fn turned(self) -> Exit
         ensures asked { result.asked ≡ not self.asked }
         ensures target { result.target ≡ self.target }
@@ -41,7 +41,7 @@ impl ListExit {
     ghost use Rattle.sieve_check.specs.TypedView.{test_form, tests_of};
     ghost use Rattle.sieve_compiler.specs.Coding.{asked_of, aim_of};
 
-    /// Where a test jumps to that stands before these others.
+    /// Where a test jumps to that comes before these others.
     pub fn before(self, others: &[Test]) -> Exit
         ensures asked { result.asked
             ≡ asked_of self.deciding self.exit.asked (tests_of (map test_form others.now)) }

@@ -1,4 +1,4 @@
-// The instructions of which code is made.
+// The instructions that code consists of.
 ghost use Rattle.std.specs.Prelude.{◌≡◌, ◌+◌, ◌<◌, ◌≤◌, ◌^◌, length, map};
 ghost use Rattle.octets.specs.Limits.{max_test_strings};
 ghost use Rattle.bytecode_format.specs.Questions.{row_of};
@@ -42,7 +42,7 @@ pub fn jump_if(exit: Exit) -> Instruction
     instruction(operation, 0, exit.target)
 }
 
-// The place of the number that a question compares with, if it does; else 0.
+// The place of the number that a question compares with, if it does, otherwise 0.
 fn compared_place(tables: &Tables<'_>, question: Question) -> u32
     requires { length tables.now.numbers < 2 ^ 32 }
     ensures { result ≡ place_of_first tables.now (row_of question).numbers }
@@ -91,7 +91,7 @@ pub fn act_code(tables: &Tables<'_>, act: &Act) -> Instruction
     }
 }
 
-/// Makes one text of so many.
+/// Joins so many texts into one.
 pub fn join_texts(texts: u16) -> Instruction
     ensures { result ≡ join_texts texts }
 {
@@ -101,7 +101,7 @@ pub fn join_texts(texts: u16) -> Instruction
 /// The target of a jump that waits for one: no jump leads to the first instruction.
 pub const NO_TARGET: u32 = 0;
 
-// Whether the octet names a jump.
+// Whether the byte names a jump.
 fn is_jump(octet: u8) -> bool
     ensures { result ≡ is_jump octet }
 {
@@ -110,7 +110,7 @@ fn is_jump(octet: u8) -> bool
         || octet == Operation::JumpIfFalse.octet()
 }
 
-// The instruction, with the target where it is a jump that waits for one.
+// The instruction, with the target if it is a jump that waits for one.
 fn aimed(instruction: Instruction, target: u32) -> Instruction
     ensures { result ≡ aimed target instruction }
 {

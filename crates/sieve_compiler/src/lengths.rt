@@ -1,7 +1,7 @@
-// How many instructions the code of strings and tests has.
+// The number of instructions in the code of strings and tests.
 //
-// Measuring goes down the whole piece. A test is measured once for each list of tests around it, and these are
-// nested at most 32 deep in a script, so the time stays linear in the script's length.
+// Measuring goes down the whole piece. A test is measured once for each list of tests around it, and these are nested
+// at most 32 deep in a script, so the time stays linear in the script's length.
 ghost use Rattle.std.specs.Prelude.{◌≡◌, ◌<◌, ◌^◌, map, if◌then◌else◌};
 ghost use Rattle.sieve_check.specs.TypedView.{templates_of, strings_form, test_form, tests_of, command_form};
 ghost use Rattle.sieve_check.specs.Private.{branch_forms, else_form};
@@ -70,7 +70,7 @@ pub fn tests_length(tests: &[Test]) -> u32
     total
 }
 
-/// Whether branches, or the block of an `else`, are left: then a jump leads after the block before them.
+/// Whether branches, or the block of an `else`, are left: then a jump follows the block before them.
 pub fn is_left(branches: &[Branch], otherwise: &Option<Vec<Command>>) -> bool
     ensures { leave_length (branch_forms branches.now (else_form otherwise.now))
         ≡ (if result then 1 else 0) }

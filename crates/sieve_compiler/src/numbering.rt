@@ -15,9 +15,12 @@ impl<'a> Tables<'a> {
     ghost use Rattle.sieve_compiler.specs.Tables.{tables_of};
     ghost use Rattle.sieve_compiler.specs.Growing.{uses_with, segment_uses, segments_uses, string_uses, strings_uses, test_uses, tests_uses, command_uses, commands_uses, with_uses};
 
-    /// The tables of a script: each of its numbers, texts and variables once, in the order of their first use in its code.
+    /// The tables of a script: each of its numbers, texts and variables once, in the order of their first use in its
+    /// code.
     ///
-    /// An error comes only where memory was refused.
+    /// # Errors
+    ///
+    /// `AllocError` if memory is refused.
     pub fn of_script(alloc: Global, commands: &'a [Command]) -> Result<Tables<'a>, AllocError>
         ensures { IfOk result (λ tables. tables ≡ tables_of (commands_form commands.now)) }
     {
@@ -33,7 +36,7 @@ impl<'a> Tables<'a> {
         self.variables.add(name)
     }
 
-    // Adds what a segment uses.
+    // Adds what a segment refers to.
     fn add_segment(&mut self, segment: &'a Segment) -> Result<(), AllocError>
         ensures { OnOk result (self.new ≡ with_uses self.old (segment_uses segment.now)) }
     {
@@ -44,7 +47,7 @@ impl<'a> Tables<'a> {
         }
     }
 
-    // Adds what segments use, one after the other.
+    // Adds what segments refer to, one after the other.
     fn add_segments(&mut self, segments: &'a [Segment]) -> Result<(), AllocError>
         ensures { OnOk result (self.new ≡ with_uses self.old (segments_uses segments.now)) }
     {
@@ -54,7 +57,7 @@ impl<'a> Tables<'a> {
         Ok(())
     }
 
-    // Adds what a string uses. The empty string is a text.
+    // Adds what a string refers to. The empty string is a text.
     fn add_string(&mut self, string: &'a [Segment]) -> Result<(), AllocError>
         ensures { OnOk result (self.new ≡ with_uses self.old (string_uses string.now)) }
     {
@@ -64,7 +67,7 @@ impl<'a> Tables<'a> {
         }
     }
 
-    // Adds what strings use, one after the other.
+    // Adds what strings refer to, one after the other.
     fn add_strings(&mut self, strings: &'a [Vec<Segment>]) -> Result<(), AllocError>
         ensures { OnOk result (self.new
             ≡ with_uses self.old (strings_uses (templates_of strings.now))) }
@@ -75,7 +78,7 @@ impl<'a> Tables<'a> {
         Ok(())
     }
 
-    // Adds what the strings of a question use.
+    // Adds what the strings of a question refer to.
     fn add_lists(&mut self, strings: &'a Strings) -> Result<(), AllocError>
         ensures { OnOk result (self.new
             ≡ with_uses self.old (strings_uses (in_order (strings_form strings.now)))) }
@@ -92,7 +95,7 @@ impl<'a> Tables<'a> {
         self.numbers.add(number)
     }
 
-    // Adds the number that a question compares with, where it does.
+    // Adds the number that a question compares with, if it does.
     fn add_compared(&mut self, question: Question) -> Result<(), AllocError>
         ensures { OnOk result (self.new
             ≡ with_uses self.old (uses_with (row_of question).numbers [] [])) }
@@ -137,7 +140,7 @@ impl<'a> Tables<'a> {
         Ok(())
     }
 
-    // Adds the variable that an act sets, where it does.
+    // Adds the variable that an act sets, if it sets one.
     fn add_set(&mut self, act: &'a Act) -> Result<(), AllocError>
         ensures { OnOk result (self.new
             ≡ with_uses self.old (uses_with [] [] (act_row act.now).sets)) }

@@ -7,11 +7,11 @@ use std::marker::Model;
 
 /// The different numbers of a script, in the order of their first use.
 ///
-/// A contract sees the list of them. A number takes time in the logarithm of their number.
+/// A contract sees the list of them. To add or find a number takes time in the logarithm of their number.
 #[derive(Drop)]
 pub struct Numbers {
     listed: Vec<u64>,
-    // Where each of them stands in the list.
+    // The place of each of them in the list.
     places: BTreeMap<u64, usize>,
 }
 
@@ -34,7 +34,7 @@ impl Numbers {
     ghost use Rattle.octets.specs.Once.{place_in};
     ghost use Rattle.sieve_compiler.specs.Growing.{with_number};
 
-    /// No number. Takes no memory.
+    /// No numbers. It takes no memory.
     pub fn new(alloc: Global) -> Numbers
         ensures { result ≡ [] }
     {
@@ -44,9 +44,11 @@ impl Numbers {
         }
     }
 
-    /// Lists the number, unless it is listed.
+    /// Adds the number, unless it is in the list.
     ///
-    /// An error comes only where memory was refused; the list is then as it was.
+    /// # Errors
+    ///
+    /// `AllocError` if memory is refused. The list is then as it was before.
     pub fn add(&mut self, number: u64) -> Result<(), AllocError>
         ensures ok { OnOk result (self.new ≡ with_number self.old number) }
         ensures err { OnErr result (self.new ≡ self.old) }
@@ -60,7 +62,7 @@ impl Numbers {
         Ok(())
     }
 
-    /// The place of the number; the list's end, where it isn't listed.
+    /// The place of the number; the end of the list if it isn't in it.
     pub fn place_of(&self, number: u64) -> usize
         ensures place { result ≡ place_in nat_eq self.now number }
         ensures within { result ≤ length self.now }
@@ -69,7 +71,7 @@ impl Numbers {
         place.unwrap_or(self.listed.len())
     }
 
-    /// The numbers in order.
+    /// The numbers, in order.
     pub fn into_list(self) -> Vec<u64>
         ensures list { result.items ≡ self }
         ensures numbers { All (λ n. n < 2 ^ 64) result.items }

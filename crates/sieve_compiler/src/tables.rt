@@ -10,7 +10,7 @@ use octets::Octets;
 use std::alloc::{AllocError, Global};
 use std::marker::Model;
 
-/// What the instructions of a script name by its place: its numbers, its texts and its variables.
+/// What the instructions of a script refer to by its place: its numbers, its texts and its variables.
 ///
 /// A contract sees the tables of the definition.
 #[derive(Drop)]
@@ -32,7 +32,7 @@ impl<'a> Tables<'a> {
     ghost use Rattle.std.specs.Prelude.{[]};
     ghost use Rattle.sieve_compiler.specs.Tables.{tables_with, place_of_number, place_of_string, place_of_variable};
 
-    /// No number, no text and no variable. Takes no memory.
+    /// No numbers, texts or variables. It takes no memory.
     pub fn new(alloc: Global) -> Tables<'a>
         ensures { result ≡ tables_with [] [] [] }
     {
@@ -43,7 +43,7 @@ impl<'a> Tables<'a> {
         }
     }
 
-    /// The place of the number; the table's end, where it isn't there.
+    /// The place of the number; the end of the table if it isn't in it.
     pub fn place_of_number(&self, number: u64) -> usize
         ensures place { result ≡ place_of_number self.now number }
         ensures within { result ≤ length self.now.numbers }
@@ -51,7 +51,7 @@ impl<'a> Tables<'a> {
         self.numbers.place_of(number)
     }
 
-    /// The place of the variable of that name; the table's end, where it isn't there.
+    /// The place of the variable with this name; the end of the table if it isn't in it.
     pub fn place_of_variable(&self, name: &[u8]) -> usize
         ensures place { result ≡ place_of_variable self.now name.now }
         ensures within { result ≤ length self.now.variables }
@@ -59,7 +59,7 @@ impl<'a> Tables<'a> {
         self.variables.place_of(name)
     }
 
-    /// The place of the text; the table's end, where it isn't there.
+    /// The place of the text; the end of the table if it isn't in it.
     pub fn place_of_string(&self, text: &[u8]) -> usize
         ensures place { result ≡ place_of_string self.now text.now }
         ensures within { result ≤ length self.now.strings }
@@ -74,16 +74,18 @@ impl<'a> Tables<'a> {
         self.variables.count()
     }
 
-    /// The texts in order, as copies.
+    /// Copies of the texts, in order.
     ///
-    /// An error comes only where memory was refused.
+    /// # Errors
+    ///
+    /// `AllocError` if memory is refused.
     pub fn strings(&self, alloc: Global) -> Result<Vec<Octets>, AllocError>
         ensures { IfOk result (λ list. list.items ≡ self.now.strings) }
     {
         self.strings.to_list(alloc)
     }
 
-    /// The numbers in order.
+    /// The numbers, in order.
     pub fn into_numbers(self) -> Vec<u64>
         ensures list { result.items ≡ self.entry.numbers }
         ensures numbers { All (λ n. n < 2 ^ 64) result.items }

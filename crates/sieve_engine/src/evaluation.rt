@@ -1,4 +1,4 @@
-// Running scripts, by way of their code.
+// Running scripts by running their code.
 ghost use Rattle.std.specs.Prelude.{◌≡◌, ◌<◌, length, IfOk, IfErr, IsErrAnd};
 ghost use Rattle.octets.specs.Limits.{max_script};
 ghost use Rattle.bytecode_format.specs.Code.{Code};
@@ -18,10 +18,18 @@ use sieve_compiler::compile;
 use sieve_parser::parse;
 use std::alloc::Global;
 
-/// The script that the octets are, with its typed form.
+/// Reads and checks a script, and returns it with its typed form. Explanations and traces start from it.
 ///
-/// Else the first refusal of the script: of its length, then its tokens, its grammar and its rules.
-/// [`Refusal::Memory`] comes only where an allocation was refused, and never for more octets than the limit.
+/// # Errors
+///
+/// The first fault of the script: its length, then its tokens, its grammar and its rules.
+///
+/// - `ScriptTooLong` if it is longer than 65,536 bytes, whatever memory there is.
+/// - `Lexical` at the byte at which no token begins.
+/// - `Syntax` or `TooDeep` at the token with which no script begins, or that is nested too deep.
+/// - `UnknownCommand`, `MissingCapability`, `UnknownCapability`, `BadArguments` or `Limit` at a token, if the script
+///   breaks a rule.
+/// - `Memory` if memory is refused; never for more than 65,536 bytes.
 pub fn check_script(alloc: Global, script: &[u8]) -> Result<Checked, Refusal>
     ensures checked { IfOk result
         (λ checked. IsScript script.now (commands_form checked.commands)) }
@@ -34,10 +42,12 @@ pub fn check_script(alloc: Global, script: &[u8]) -> Result<Checked, Refusal>
     Ok(check(alloc, script)?)
 }
 
-/// The program of the script that the octets are: its code, which is accepted, and whose run on every message
-/// ends with the final actions of the script's meaning.
+/// Compiles a script. The returned program is accepted by the verifier, and on every message its run ends with the
+/// final actions that the script means.
 ///
-/// Else the first refusal of the script, as [`check_script`] gives it.
+/// # Errors
+///
+/// Those of [`check_script`].
 pub fn compile_script(alloc: Global, script: &[u8]) -> Result<Program, Refusal>
     ensures compiled { IfOk result (λ program. IsCompiled script.now program) }
     ensures refused { IfErr result (λ e. IsScriptRefusal script.now e) }
@@ -48,9 +58,12 @@ pub fn compile_script(alloc: Global, script: &[u8]) -> Result<Program, Refusal>
     Ok(compile(alloc, &checked)?)
 }
 
-/// The octets that spell the program of the script that the octets are, which is [`compile_script`]'s.
+/// Compiles a script and returns the bytes of its program, that of [`compile_script`]. `depot compile` writes them to a
+/// file, and [`execute`] and [`check_program`] read them.
 ///
-/// Else the first refusal of the script, as [`check_script`] gives it.
+/// # Errors
+///
+/// Those of [`check_script`].
 pub fn code_octets(alloc: Global, script: &[u8]) -> Result<Vec<u8>, Refusal>
     ensures compiled { IfOk result (λ octets. (code : Code) × IsCompiled script.now code
         × (octets.items ≡ spelling code)) }
@@ -62,10 +75,19 @@ pub fn code_octets(alloc: Global, script: &[u8]) -> Result<Vec<u8>, Refusal>
     Ok(code.write(alloc)?)
 }
 
-/// Evaluates the script that the octets are on the message that the other octets are.
+/// Evaluates a script on a message: returns the final actions that the script means, with the charge of its code's run
+/// and the limit of that charge.
 ///
-/// The answer is the first refusal of the script, then of the message; else the final actions of the script's
-/// meaning on the message, with the charge and the limit of its code's run.
+/// For example, the script `keep; keep;` on a message of ten digits results in one action, keep, and a charge of 3 with
+/// the limit 3.
+///
+/// # Errors
+///
+/// Those of [`check_script`]; for a script without faults those of the message:
+///
+/// - `MessageTooLarge` if it is longer than 67,108,864 bytes.
+/// - `TooManyParts` if it has more than 4,096 parts.
+/// - `Memory` if memory is refused.
 pub fn evaluate(alloc: Global, script: &[u8], message: &[u8]) -> Result<Report, Refusal>
     ensures evaluated { IfOk result
         (λ report. IsEvaluation script.now message.now report.outcome.actions.items
@@ -77,7 +99,7 @@ pub fn evaluate(alloc: Global, script: &[u8], message: &[u8]) -> Result<Report, 
     let program = compile_script(alloc, script)?;
     match verify(alloc, program) {
         Ok(verified) => run_on(alloc, &verified, message),
-        // An accepted program is refused for want of memory alone.
+        // An accepted program is refused only if memory is refused.
         Err(_) => Err(Refusal::Memory),
     }
 }

@@ -1,4 +1,4 @@
-//! The law of written code: octets that spell a script's code do what the script means.
+//! The law of written code: bytes that spell a script's code do what the script means.
 ghost use Rattle.std.specs.Prelude.{◌≡◌, ℕ, ◌≤◌, List};
 ghost use Rattle.bytecode_format.specs.declared.action.Action.{Action};
 ghost use Rattle.mime_decode.specs.Mail.{IsReadable, mail_of};
@@ -9,9 +9,9 @@ ghost use Rattle.sieve_engine.specs.Evaluation.{IsEvaluation, IsScript};
 ghost use Rattle.sieve_engine.specs.Execution.{IsChecked, IsExecution, IsRefusal, IsUnread, Spells};
 ghost use Rattle.sieve_meaning.specs.Meaning.{meaning};
 
-/// Octets that spell the code of a script without faults are accepted as a program. Executing them on a message is evaluating the
-/// script on it: they come to the final actions of the script's meaning, charge no more than the budget, and are refused for the
-/// message alone.
+/// Bytes that spell the code of a script without faults are accepted as a program. Executing them on a message is
+/// evaluating the script on it: the result is the final actions that the script means, the charge is at most the
+/// budget, and a refusal is one of the message, or of memory.
 pub fn written_code_means_its_script()
     ensures accepted { (script program : List ℕ) (form : CommandForms) → IsScript script form
         → Spells program (code_of form) → IsChecked program (code_of form) }

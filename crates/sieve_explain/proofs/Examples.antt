@@ -49,15 +49,15 @@ delimits = (refl, refl, refl)
 -- what can't be a token, or can't stand where it does
 faults_said :
     (filled (lexical_blanks (codes "\"a;")) ≡ codes "a string is never closed: this quote, or one before it, has no partner")
-    × (filled (lexical_blanks (codes "18446744073709551616")) ≡ codes "a number is above 18446744073709551615")
-    × (filled (lexical_blanks (codes "*;")) ≡ codes "`*` begins nothing that a script may have here")
-    × (filled (lexical_blanks (239 ∷ 187 ∷ 191 ∷ codes "keep;")) ≡ codes "a byte order mark stands here: save the script as UTF-8 without one")
+    × (filled (lexical_blanks (codes "18446744073709551616")) ≡ codes "this number is too large: the largest is 18446744073709551615")
+    × (filled (lexical_blanks (codes "*;")) ≡ codes "`*` isn't allowed outside of strings and comments")
+    × (filled (lexical_blanks (239 ∷ 187 ∷ 191 ∷ codes "keep;")) ≡ codes "this is a byte order mark: save the script as UTF-8 without one")
     × (filled (lexical_blanks (codes ">= 5")) ≡ codes "Sieve has no `>=`: write `:over` before the number, as in `size :over 100K`")
     × (filled (lexical_blanks (codes "&& x")) ≡ codes "Sieve has no `&&`: write `allof (.., ..)`, which is true if all of its tests are")
-    × (filled (lexical_blanks (codes "// bills")) ≡ codes "no comment begins so: one begins with `#`, or stands between `/*` and `*/`")
-    × (filled (lexical_blanks (codes "/* bills")) ≡ codes "a comment is never closed")
-    × (filled (end_blanks) ≡ codes "the script ends before its last command does")
-    × (filled (token_blanks (codes "stop }") (record { kind = ClosingBrace; start = 5; end = 6 })) ≡ codes "`}` can't stand here: is a semicolon missing before it, or its opening brace?")
+    × (filled (lexical_blanks (codes "// bills")) ≡ codes "this begins no comment: write `#` before it, or put it between `/*` and `*/`")
+    × (filled (lexical_blanks (codes "/* bills")) ≡ codes "this comment is never closed: add `*/` at its end")
+    × (filled (end_blanks) ≡ codes "the script ends before its last command is complete")
+    × (filled (token_blanks (codes "stop }") (record { kind = ClosingBrace; start = 5; end = 6 })) ≡ codes "`}` isn't allowed here: is a semicolon missing before it, or its opening brace?")
 unfolding digits lexical_blanks misplaced_token filled_octet shown_octet shown_start beginnings
 faults_said = (refl, refl, refl, refl, refl, refl, refl, refl, refl, refl)
 
@@ -69,30 +69,30 @@ unknown_said :
     (said UnknownCommand (codes "ElseIf") [] ≡ codes "unknown command `ElseIf`, did you mean `elsif`?")
     × (said UnknownCommand (codes "kp") [] ≡ codes "unknown command `kp`")
     × (said UnknownCommand (codes "Stor") [] ≡ codes "unknown command `Stor`, did you mean `stop` or `store`?")
-    × (said UnknownTag (codes "header") (codes "ower") ≡ codes "depot knows no tag `:ower`, did you mean `:over` or `:lower`?")
-    × (said UnknownCapability (codes "require") (codes "FileInto") ≡ codes "depot knows no capability \"FileInto\", did you mean \"fileinto\"?")
-    × (said UnknownCapability (codes "require") (codes "vacation") ≡ codes "depot has no \"vacation\": it sends no mail, leave that to the mail server")
-    × (said UnknownTag (codes "header") (codes "contain") ≡ codes "depot knows no tag `:contain`, did you mean `:contains`?")
-    × (said UnknownCommand (codes "Vacation") [] ≡ codes "depot has no `Vacation`: it sends no mail, leave that to the mail server")
+    × (said UnknownTag (codes "header") (codes "ower") ≡ codes "unknown tag `:ower`, did you mean `:over` or `:lower`?")
+    × (said UnknownCapability (codes "require") (codes "FileInto") ≡ codes "unknown capability \"FileInto\", did you mean \"fileinto\"?")
+    × (said UnknownCapability (codes "require") (codes "vacation") ≡ codes "depot has no \"vacation\": it sends no mail, the mail server can do that")
+    × (said UnknownTag (codes "header") (codes "contain") ≡ codes "unknown tag `:contain`, did you mean `:contains`?")
+    × (said UnknownCommand (codes "Vacation") [] ≡ codes "depot has no `Vacation`: it sends no mail, the mail server can do that")
     × (said UnknownTest (codes "address") [] ≡ codes "depot has no `address`: `header` tests the whole value of a field, as in `header :matches \"From\" [\"a@b\", \"*<a@b>*\"]`")
     × (said UnknownCommand (codes "header") [] ≡ codes "`header` is a test: is an `if` missing before it?")
-    × (said UnknownTest (codes "keep") [] ≡ codes "`keep` is a command, and a test is needed here")
+    × (said UnknownTest (codes "keep") [] ≡ codes "`keep` is a command, but a test is needed here")
 unfolding unknown_command unknown_test unknown_tag unknown_capability filled_octet shown_octet shown_start is_near differ_at begin_off lacking meant meant_too
 unknown_said = (refl, refl, refl, refl, refl, refl, refl, refl, refl, refl, refl)
 
 -- other reasons
 reasons_said :
-    (said (WrongTests Nothing) (codes "ELSE") [] ≡ codes "`ELSE` takes no test: is `elsif` meant, or its opening brace missing?")
+    (said (WrongTests Nothing) (codes "ELSE") [] ≡ codes "`ELSE` takes no test: did you mean `elsif`, or is its opening brace missing?")
     × (said (WrongTests Nothing) (codes "keep") [] ≡ codes "`keep` takes no test: is a semicolon missing at its end?")
-    × (said (WrongTests Nothing) (codes "header") [] ≡ codes "`header` takes no test: is a comma or a brace missing behind it, or `allof` or `anyof` before it?")
+    × (said (WrongTests Nothing) (codes "header") [] ≡ codes "`header` takes no test: is a comma or a brace missing after it, or `allof` or `anyof` before it?")
     × (said (MissingCapability FileInto) (codes "fileinto") [] ≡ codes "`fileinto` needs `require \"fileinto\"` before it")
     × (said ForeignTag (codes "fileinto") (codes "is") ≡ codes "`fileinto` takes no tag `:is`")
     × (said (ExtraArgument Text) (codes "fileinto") [] ≡ codes "`fileinto` has too many arguments: it takes one string without brackets")
-    × (said LongString (codes "fileinto") (codes "a@b") ≡ codes "the string \"a@b\" has more than 16384 octets")
+    × (said LongString (codes "fileinto") (codes "a@b") ≡ codes "the string \"a@b\" has more than 16384 bytes")
     × (said (MissingCapability capability.Depot) (codes "take") [] ≡ codes "`take` needs `require \"vnd.depot\"` before it")
     × (said (MissingCapability capability.Variables) (codes "set") [] ≡ codes "`set` needs `require \"variables\"` before it")
     × (said (ExtraArgument positional.Nothing) (codes "if") [] ≡ codes "`if` has too many arguments: it takes none before its test")
-    × (said Misplaced (codes "else") [] ≡ codes "`else` stands directly after an `if` or `elsif`")
+    × (said Misplaced (codes "else") [] ≡ codes "`else` is allowed only directly after the block of an `if` or `elsif`")
 unfolding digits other_blanks filled_octet shown_octet shown_start place_text no_test_words no_argument_words
 reasons_said = (refl, refl, refl, refl, refl, refl, refl, refl, refl, refl, refl)
 
@@ -171,9 +171,9 @@ labels = (refl, refl, refl, refl)
 
 -- that there is more, and what a file looks like: a program, a mail, and others
 notes :
-    (note (codes "my.sieve") more_blanks ≡ line (codes "my.sieve: note: more is refused than this: the first 20 are told"))
-    × (look_text (codes "SVBC" ++ 2 ∷ []) ≡ codes "the file begins as a compiled program does: `depot disassemble` shows what is in one")
-    × (look_text (codes "Return-Path: <a@b>") ≡ codes "the file begins with a header field, as a mail does: is it a script?")
+    (note (codes "my.sieve") more_blanks ≡ line (codes "my.sieve: note: only the first 20 errors are shown"))
+    × (look_text (codes "SVBC" ++ 2 ∷ []) ≡ codes "the file begins like a compiled program: `depot disassemble` prints the instructions of one")
+    × (look_text (codes "Return-Path: <a@b>") ≡ codes "the file begins with a header field, like a mail: is it a script?")
     × (look_text (codes "keep:x") ≡ [])
     × (look_text (codes ": x") ≡ [])
     × (look_text (codes "# Note: x") ≡ [])
@@ -183,6 +183,6 @@ notes = (refl, refl, refl, refl, refl, refl, refl)
 
 -- all of it
 whole : told (codes "my.sieve") (codes "keep;\nstop }\n") 11 (token_blanks (codes "keep;\nstop }\n") (record { kind = ClosingBrace; start = 11; end = 12 }))
-    ≡ line (codes "my.sieve:2:6: error: `}` can't stand here: is a semicolon missing before it, or its opening brace?") ++ line (codes "  stop }") ++ line (codes "       ^")
+    ≡ line (codes "my.sieve:2:6: error: `}` isn't allowed here: is a semicolon missing before it, or its opening brace?") ++ line (codes "  stop }") ++ line (codes "       ^")
 unfolding digits remark excerpt misplaced_token marked filled_octet shown_octet shown_start shown_end heading numbered line_number octets_before octets_after without_return
 whole = refl

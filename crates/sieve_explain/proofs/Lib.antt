@@ -8,4 +8,7 @@ pub mod Printing
 pub mod PrintingTables
 pub mod PrintableText
 pub mod NoteLemmas
+pub mod Levels
+pub mod Naming
+pub mod Chains
 mod Examples

@@ -1,13 +1,14 @@
 -- The notes that are found have those first that are told, and say whether there are more.
-use Rattle.std.proofs.Common.{◌≡◌, ◌∙◌, ◌<◌, ℕ, Bool, ◌≤◌, List, [], ◌∷◌, ◌++◌, length, nat_lt, take, ap, sym, arith, inl, inr}
+use Rattle.std.proofs.Common.{◌≡◌, ◌∙◌, ◌<◌, ◌+◌, ℕ, Bool, ◌≤◌, List, [], ◌∷◌, ◌++◌, drop, get_or, length, nat_lt, take, ap, sym, arith, inl, inr}
 use Rattle.std.proofs.lemmas.Bool.{cases_lt, lt-ltb}
-use Rattle.std.proofs.lemmas.List.{append-nil, append_assoc, length-take, take-take, take_all}
+use Rattle.std.proofs.lemmas.List.{append-nil, append_assoc, drop_more, length-take, take-take, take_all}
 use Rattle.std.proofs.Math.Seq.{take-append_seam}
-use Rattle.std.specs.Prelude.{Option, Some, None, flat_map}
+use Rattle.std.specs.Prelude.{Err, IfOk, None, Ok, Option, Result, Some, flat_map}
 use Rattle.sieve_explain.specs.Explaining.{listed_told, more_notes_told, note_told}
-use Rattle.sieve_explain.specs.Notes.{max_notes, onto}
+use Rattle.sieve_explain.specs.Notes.{Known, inside_behind, max_notes, note_at, notes_from, onto}
 use Rattle.sieve_explain.specs.Private.{max_noted}
 use Rattle.sieve_explain.specs.declared.notes.Noted.{Noted}
+use Rattle.sieve_lexer.specs.declared.token.Token.{Token}
 
 pub first_notes : (found all : List Noted) → found ≡ take max_noted all → take max_notes found ≡ take max_notes all
 first_notes found all is = ap (take max_notes) is ∙ take-take max_notes max_noted all (omega arith)
@@ -27,6 +28,21 @@ pub onto_next : (found : List Noted) (o : Option Noted) (left : List Noted) → 
 onto_next found None left = ap (λ (l : List Noted). l ++ left) (append-nil found)
 onto_next found (Some noted) left = append_assoc found (noted ∷ []) left
 
+-- those so far, and those of the command or test at this place
+pub notes_more : (script : List ℕ) (known : Known) (tokens rest : List Token) (found new : List Noted) (place inside behind : ℕ) (d : Token) (o : Option Noted)
+    → place < length tokens → rest ≡ drop (place + 1) tokens → o ≡ note_at script known inside (get_or tokens place d) rest
+    → behind ≡ inside_behind script (get_or tokens place d) inside → new ≡ found ++ onto o []
+    → found ++ notes_from script known inside (drop place tokens) ≡ notes_from script known 0 tokens
+    → new ++ notes_from script known behind (drop (place + 1) tokens) ≡ notes_from script known 0 tokens
+notes_more script known tokens rest found new place inside behind d o within is_rest is_note is_behind is_new whole =
+    let left = notes_from script known behind (drop (place + 1) tokens) in
+    let noted : o ≡ note_at script known inside (get_or tokens place d) (drop (place + 1) tokens) =
+    is_note ∙ ap (note_at script known inside (get_or tokens place d)) is_rest in
+    let step : onto o left ≡ notes_from script known inside (drop place tokens) =
+    (λ i. onto (noted i) (notes_from script known (is_behind i) (drop (place + 1) tokens)))
+    ∙ sym (ap (notes_from script known inside) (drop_more tokens place d within)) in
+    ap (λ (l : List Noted). l ++ left) is_new ∙ onto_next found o left ∙ ap (λ (l : List Noted). found ++ l) step ∙ whole
+
 -- as many were found as are looked for; or all were looked at
 pub found_enough : (found left all : List Noted) → found ++ left ≡ all → length found ≡ max_noted → found ≡ take max_noted all
 found_enough found left all is full = sym (take-append_seam found left) ∙ ap (take (length found)) is ∙ ap (λ n. take n all) full
@@ -41,3 +57,8 @@ pub listed_first : (name script : List ℕ) (found all : List Noted) → found �
 listed_first name script found all is =
     ap (λ (l : List Noted). flat_map (note_told name script) l ++ more_notes_told name (nat_lt max_notes (length found))) (first_notes found all is)
     ∙ ap (λ (b : Bool). flat_map (note_told name script) (take max_notes all) ++ more_notes_told name b) (more_notes found all is)
+
+-- what is known of a value, if there is one, follows
+pub if_ok_more : {T E : Type 0} {P Q : T → Type 0} (r : Result T E) → ((x : T) → P x → Q x) → IfOk r P → IfOk r Q
+if_ok_more (Ok x) follows p = follows x p
+if_ok_more (Err e) follows p = p

@@ -15,7 +15,7 @@ use Rattle.sieve_parser.specs.Tree.{ArgumentTree, label, InvocationTree, invocat
 use Rattle.sieve_check.specs.Arguments.{Awaiting, arguments_cause, arguments_read, awaiting, expected, first_label, is_second_modifier, missing_cause, number_of, positional_cause, reading, rest_read, sound}
 use Rattle.sieve_check.specs.Causes.{Cause, Refused, about, plain, refused_for}
 use Rattle.sieve_check.specs.Names.{row_named, tag_named}
-use Rattle.sieve_check.specs.Rows.{Row}
+use Rattle.sieve_check.specs.Rows.{Row, is_test}
 use Rattle.sieve_check.specs.Rules.{Mentions, Visit, are_many, capability_arguments, cause_of, causes_by, command_visits, commands_visits, ending_cause, ill_formed, invocation_of, kind_of, known_cause, lacking, lacking_cause, lacking_causes, lacks_by, large_cause, large_mention_cause, long_name, long_string_cause, looks_inside, opened_past, many_strings_cause, may_stand, mention_cause, mentions_of, misplaced, more_visits, names_past, names_with, needs_of, opened_by, past_invocation, place_cause, read_cause, reasons_of, reference_cause, reference_kind, refused_after, refused_among, same_ending, same_reason, same_tests, string_has, strings_of, tests_cause, tests_visits, unknown_as, unknown_cause, unknown_causes, visit_causes, visit_of, visits_of, where_required}
 use Rattle.sieve_check.specs.Signatures.{Given, Read, add_tag, asks_for_mime, is_positional, no_tag, nothing_given, takes_tag, with_argument}
 use Rattle.sieve_check.specs.Surroundings.{Context, at_start, first_lacking, has_capability, in_block, opens_many}
@@ -164,7 +164,7 @@ other_read s row args tests end read =
     (other_or (ending_cause row.ending end) _ (other_ending row.ending end) (other_mention mentions)))
     (other_or (place_cause s row.place read.name) _ (other_if (may_stand s row.place read.name) None _ tt (other_misplaced row.place read.name))
     (other_or (long_string_cause args) _ (other_long_string args)
-    (other_or (many_strings_cause row.counted read) _ (other_if (are_many row.counted read) _ None refl tt)
+    (other_or (many_strings_cause (is_test row.ending) read) _ (other_if (are_many (is_test row.ending) read) _ None refl tt)
     (other_or (large_mention_cause mentions) _ (other_large_mention mentions)
     (other_if (opens_many (opened_by row args) s) _ None refl tt)))))
 

@@ -21,22 +21,22 @@ abbrev pub beginning : List ℕ → List ℕ → Beginning
 beginning octets text = record { octets = octets; text = text }
 
 abbrev pub typographic : List ℕ
-typographic = codes "a typographic quote stands here: strings stand between straight double quotes, \"like this\""
+typographic = codes "this is a typographic quote: put strings in straight double quotes, \"like this\""
 
 -- a byte order mark, the four typographic quotes, a single quote, and two slashes; then what is never closed, a colon alone, and
 -- what other languages have for operators
 unfoldable pub beginnings : List Beginning
 beginnings =
-    beginning (239 ∷ 187 ∷ 191 ∷ []) (codes "a byte order mark stands here: save the script as UTF-8 without one")
+    beginning (239 ∷ 187 ∷ 191 ∷ []) (codes "this is a byte order mark: save the script as UTF-8 without one")
     ∷ beginning (226 ∷ 128 ∷ 152 ∷ []) typographic
     ∷ beginning (226 ∷ 128 ∷ 153 ∷ []) typographic
     ∷ beginning (226 ∷ 128 ∷ 156 ∷ []) typographic
     ∷ beginning (226 ∷ 128 ∷ 157 ∷ []) typographic
-    ∷ beginning (codes "'") (codes "a single quote stands here: strings stand between double quotes, \"like this\"")
-    ∷ beginning (codes "//") (codes "no comment begins so: one begins with `&`, or stands between `/*` and `*/`")
+    ∷ beginning (codes "'") (codes "this is a single quote: put strings in double quotes, \"like this\"")
+    ∷ beginning (codes "//") (codes "this begins no comment: write `&` before it, or put it between `/*` and `*/`")
     ∷ beginning (codes "\"") (codes "a string is never closed: this quote, or one before it, has no partner")
-    ∷ beginning (codes "/*") (codes "a comment is never closed")
-    ∷ beginning (codes ":") (codes "a colon stands here without the name of a tag behind it")
+    ∷ beginning (codes "/*") (codes "this comment is never closed: add `*/` at its end")
+    ∷ beginning (codes ":") (codes "this colon has no tag name directly after it")
     ∷ beginning (codes "&") (codes "Sieve has no @: write `allof (.., ..)`, which is true if all of its tests are")
     ∷ beginning (codes "|") (codes "Sieve has no @: write `anyof (.., ..)`, which is true if one of its tests is")
     ∷ beginning (codes ">") (codes "Sieve has no @: write `:over` before the number, as in `size :over 100K`")
@@ -54,9 +54,9 @@ text_at rest (row ∷ rows) = if bytes_eq (take (length row.octets) rest) row.oc
 abbrev pub other_text : List ℕ → List ℕ
 other_text rest =
     let octet = slice_index rest 0 in
-    if is_ascii_digit octet then codes "a number is above %" else
-    if begins_identifier octet then codes "a multi-line string is never closed: it needs a line that is a dot alone, with its line break" else
-    codes "@ begins nothing that a script may have here"
+    if is_ascii_digit octet then codes "this number is too large: the largest is %" else
+    if begins_identifier octet then codes "this multi-line string is never closed: end it with a line that has only a dot, and a line break after it" else
+    codes "@ isn't allowed outside of strings and comments"
 
 -- operators of other languages are written with it
 abbrev pub is_symbol : ℕ → Bool
@@ -79,23 +79,23 @@ lexical_blanks rest = let text = text_at rest beginnings in record {
 
 -- 12
 abbrev pub too_long_blanks : Blanks
-too_long_blanks = record (plain (codes "the script has more than % octets")) { number = max_script }
+too_long_blanks = record (plain (codes "the script has more than % bytes")) { number = max_script }
 
 -- 13, of a token of the kind
 unfoldable pub misplaced_token : TokenKind → List ℕ
-misplaced_token Identifier = codes "@ can't stand here: is a brace or a semicolon missing before it?"
-misplaced_token Tag = codes "@ can't stand here: arguments stand directly behind the name that they belong to"
-misplaced_token Number = codes "@ can't stand here: arguments stand directly behind the name that they belong to"
-misplaced_token QuotedString = codes "@ can't stand here: is a comma missing before it, or the name that it belongs to?"
-misplaced_token MultiLineString = codes "@ can't stand here: is a comma missing before it, or the name that it belongs to?"
-misplaced_token Semicolon = codes "@ can't stand here: is it one too many, or is a bracket missing before it?"
-misplaced_token Comma = codes "@ can't stand here: strings of a list stand in square brackets, tests in round ones behind `allof` or `anyof`"
-misplaced_token OpeningBrace = codes "@ can't stand here: is a bracket missing before it, or the command that it belongs to?"
-misplaced_token ClosingBrace = codes "@ can't stand here: is a semicolon missing before it, or its opening brace?"
-misplaced_token OpeningParenthesis = codes "@ can't stand here: round brackets stand behind the name of a test, around tests"
-misplaced_token ClosingParenthesis = codes "@ can't stand here: is a test missing before it, or its opening bracket?"
-misplaced_token OpeningBracket = codes "@ can't stand here: square brackets stand behind a name, around strings"
-misplaced_token ClosingBracket = codes "@ can't stand here: is a string missing before it, or its opening bracket?"
+misplaced_token Identifier = codes "@ isn't allowed here: is a brace or a semicolon missing before it?"
+misplaced_token Tag = codes "@ isn't allowed here: arguments come directly after the name of their command or test"
+misplaced_token Number = codes "@ isn't allowed here: arguments come directly after the name of their command or test"
+misplaced_token QuotedString = codes "@ isn't allowed here: is a comma missing before it, or the name of its command or test?"
+misplaced_token MultiLineString = codes "@ isn't allowed here: is a comma missing before it, or the name of its command or test?"
+misplaced_token Semicolon = codes "@ isn't allowed here: is it one too many, or is a bracket missing before it?"
+misplaced_token Comma = codes "@ isn't allowed here: put a list of strings in square brackets, and tests in round ones after `allof` or `anyof`"
+misplaced_token OpeningBrace = codes "@ isn't allowed here: is a bracket missing before it, or its command?"
+misplaced_token ClosingBrace = codes "@ isn't allowed here: is a semicolon missing before it, or its opening brace?"
+misplaced_token OpeningParenthesis = codes "@ isn't allowed here: round brackets come after the name of a test, around tests"
+misplaced_token ClosingParenthesis = codes "@ isn't allowed here: is a test missing before it, or its opening bracket?"
+misplaced_token OpeningBracket = codes "@ isn't allowed here: square brackets come after a name, around strings"
+misplaced_token ClosingBracket = codes "@ isn't allowed here: is a string missing before it, or its opening bracket?"
 
 -- 13, of the token at fault
 abbrev pub token_blanks : List ℕ → Token → Blanks
@@ -103,11 +103,11 @@ token_blanks script token = record (plain (misplaced_token token.kind)) { name =
 
 -- 13, of the end
 abbrev pub end_blanks : Blanks
-end_blanks = plain (codes "the script ends before its last command does")
+end_blanks = plain (codes "the script ends before its last command is complete")
 
 -- 14
 abbrev pub too_deep_blanks : Blanks
-too_deep_blanks = record (plain (codes "braces and tests are nested more than % deep here")) { number = max_nesting }
+too_deep_blanks = record (plain (codes "braces and tests are nested more than % levels deep here")) { number = max_nesting }
 
 -- 13 at the end, of an opening brace that has no partner
 abbrev pub unclosed_blanks : Blanks
@@ -115,7 +115,7 @@ unclosed_blanks = plain (codes "this brace is never closed")
 
 -- 18, where a unit has more letters, or stands apart from its number
 abbrev pub unit_blanks : Blanks
-unit_blanks = plain (codes "the units of a number are K, M and G, with no blank before the letter and nothing behind it, as in 5M")
+unit_blanks = plain (codes "the units of a number are K, M and G: write the letter directly after the number, with nothing after it, as in 5M")
 
 -- 18, of a test that has the name of a tag, behind what takes none
 abbrev pub colon_blanks : List ℕ → Blanks
@@ -123,11 +123,11 @@ colon_blanks label = record (plain (codes "@ is a tag: is a colon missing before
 
 -- 18, of a word that stands in the place of a string
 abbrev pub word_blanks : List ℕ → Blanks
-word_blanks word = record (plain (codes "@ stands where a string has to: put it in quotation marks, \"like this\"")) { name = word }
+word_blanks word = record (plain (codes "@ should be a string: put it in quotation marks, \"like this\"")) { name = word }
 
 -- behind the last of the reasons that are told
 abbrev pub more_blanks : Blanks
-more_blanks = record (plain (codes "more is refused than this: the first % are told")) { number = max_reasons }
+more_blanks = record (plain (codes "only the first % errors are shown")) { number = max_reasons }
 
 -- ---- a file that is no script
 
@@ -145,9 +145,9 @@ begins_as_mail file =
 unfoldable pub look_text : List ℕ → List ℕ
 look_text file =
     if bytes_eq (take 4 file) (codes "SVBC")
-    then codes "the file begins as a compiled program does: `depot disassemble` shows what is in one"
+    then codes "the file begins like a compiled program: `depot disassemble` prints the instructions of one"
     else if begins_as_mail file
-    then codes "the file begins with a header field, as a mail does: is it a script?"
+    then codes "the file begins with a header field, like a mail: is it a script?"
     else []
 
 -- ---- of a listing
@@ -162,18 +162,18 @@ dark_at (octet ∷ rest) = take (suc (length (take_while is_dark rest))) (octet 
 
 -- the text for what can't stand there, by the octets from the place on
 abbrev pub misplaced_text : List ℕ → List ℕ
-misplaced_text [] = codes "the listing ends before its program does"
+misplaced_text [] = codes "the listing ends before its program is complete"
 misplaced_text (octet ∷ rest) =
     if octet == 34
-    then codes "no string can stand here, or this one is never closed, too long, or has a backslash without two hexadecimal digits"
-    else codes "@ can't stand here: after version and variables stand numbers, strings, and then instructions with their fields"
+    then codes "no string is allowed here, or this one is never closed, too long, or has a backslash without two hexadecimal digits"
+    else codes "@ isn't allowed here: the version and the variables are followed by numbers, strings, and then instructions with their fields"
 
 -- the text for a fault of the kind
 abbrev pub listing_text : FaultKind → List ℕ → List ℕ
 listing_text Misplaced rest = misplaced_text rest
-listing_text SecondLabel rest = codes "the label @ is there a second time: a label stands once"
-listing_text NoLabel rest = codes "@ is no number, and no label of this listing"
-listing_text Limits rest = codes "the program exceeds the limits of programs"
+listing_text SecondLabel rest = codes "the label @ is defined a second time"
+listing_text NoLabel rest = codes "@ is neither a number nor a label of this listing"
+listing_text Limits rest = codes "the program exceeds the limits for programs"
 
 -- 28, by the kind of the fault, and the octets from its place on
 unfoldable pub listing_blanks : FaultKind → List ℕ → Blanks

@@ -13,35 +13,35 @@ abbrev pub lacking_rows : List Hint
 lacking_rows =
     hint (codes "vacation" ∷ codes "vacation-seconds" ∷ codes "redirect" ∷ codes "reject" ∷ codes "ereject"
     ∷ codes "notify" ∷ codes "enotify" ∷ [])
-    (codes "it sends no mail, leave that to the mail server")
+    (codes "it sends no mail, the mail server can do that")
     ∷ hint (codes "addflag" ∷ codes "setflag" ∷ codes "removeflag" ∷ codes "hasflag" ∷ codes "flags"
     ∷ codes "imap4flags" ∷ codes "imapflags" ∷ [])
-    (codes "what it files has no flags, file into a folder instead")
+    (codes "its entries have no flags, file into a folder instead")
     ∷ hint (codes "addheader" ∷ codes "deleteheader" ∷ codes "editheader" ∷ codes "replace" ∷ codes "enclose" ∷ [])
-    (codes "it changes no message")
+    (codes "it doesn't change messages")
     ∷ hint (codes "extracttext" ∷ [])
-    (codes "`take` gives the content of a part to a variable, inside of a `foreverypart`")
-    ∷ hint (codes "include" ∷ []) (codes "a script stands alone, put all of it into one file")
-    ∷ hint (codes "copy" ∷ []) (codes "`keep` beside `fileinto` files a message twice")
+    (codes "`take` sets a variable to the content of a part, inside a `foreverypart`")
+    ∷ hint (codes "include" ∷ []) (codes "a script is a single file, put all commands into it")
+    ∷ hint (codes "copy" ∷ []) (codes "a `keep` and a `fileinto` together file a message twice")
     ∷ hint (codes "address" ∷ codes "subaddress" ∷ codes "localpart" ∷ codes "domain" ∷ codes "detail" ∷ [])
     (codes "`header` tests the whole value of a field, as in `header :matches \"From\" [\"a@b\", \"*<a@b>*\"]`")
     ∷ hint (codes "index" ∷ []) (codes "`header` tests all fields of a name")
     ∷ hint (codes "envelope" ∷ [])
-    (codes "it sees the message alone, `header` tests \"Delivered-To\" where the mail server writes that")
-    ∷ hint (codes "environment" ∷ []) (codes "it sees the message alone")
+    (codes "it sees only the message, `header` can test \"Delivered-To\" if the mail server adds it")
+    ∷ hint (codes "environment" ∷ []) (codes "it sees only the message")
     ∷ hint (codes "body" ∷ [])
-    (codes "`partbody` tests the content of a part, inside of a `foreverypart`")
-    ∷ hint (codes "date" ∷ codes "currentdate" ∷ []) (codes "it compares no times")
+    (codes "`partbody` tests the content of a part, inside a `foreverypart`")
+    ∷ hint (codes "date" ∷ codes "currentdate" ∷ []) (codes "it doesn't compare times")
     ∷ hint (codes "relational" ∷ codes "count" ∷ codes "value" ∷ codes "comparator-i;ascii-numeric" ∷ [])
-    (codes "`size` and `partsize` alone compare numbers")
-    ∷ hint (codes "regex" ∷ []) (codes "patterns are those of `:matches`")
+    (codes "only `size` and `partsize` compare numbers")
+    ∷ hint (codes "regex" ∷ []) (codes "use the wildcards of `:matches`")
     ∷ hint (codes "spamtest" ∷ codes "spamtestplus" ∷ codes "virustest" ∷ [])
-    (codes "`header` tests what a scanner wrote into a field")
+    (codes "`header` can test the field that a scanner adds")
     ∷ hint (codes "mailbox" ∷ codes "mailboxexists" ∷ codes "create" ∷ [])
-    (codes "a folder is there once something is filed into it")
-    ∷ hint (codes "duplicate" ∷ []) (codes "a script knows no earlier message")
-    ∷ hint (codes "ihave" ∷ []) (codes "what a script requires has to be there")
-    ∷ hint (codes "encoded-character" ∷ []) (codes "write the character itself, a string may hold any")
+    (codes "a folder exists once something is filed into it")
+    ∷ hint (codes "duplicate" ∷ []) (codes "a script doesn't see earlier messages")
+    ∷ hint (codes "ihave" ∷ []) (codes "every capability that a script requires has to exist")
+    ∷ hint (codes "encoded-character" ∷ []) (codes "write the character itself, strings can contain any")
     ∷ []
 
 unfoldable pub lacking : List ℕ → List ℕ
@@ -97,9 +97,9 @@ known_tags = record {
   elsewhere = [];
   names = map tag_word all_tags;
   lacks = codes "depot has no #: &";
-  hinting = codes "depot knows no tag #, did you mean `:&`?";
-  hinting_two = codes "depot knows no tag #, did you mean `:&` or `:~`?";
-  alone = codes "depot knows no tag #";
+  hinting = codes "unknown tag #, did you mean `:&`?";
+  hinting_two = codes "unknown tag #, did you mean `:&` or `:~`?";
+  alone = codes "unknown tag #";
 }
 
 -- all of them are listed where none comes near
@@ -110,9 +110,9 @@ known_capabilities = record {
       codes "fileinto" ∷ codes "variables" ∷ codes "mime" ∷ codes "foreverypart" ∷ codes "vnd.depot" ∷ codes "comparator-i;octet"
       ∷ codes "comparator-i;ascii-casemap" ∷ [];
   lacks = codes "depot has no $: &";
-  hinting = codes "depot knows no capability $, did you mean \"&\"?";
-  hinting_two = codes "depot knows no capability $, did you mean \"&\" or \"~\"?";
-  alone = codes "depot knows no capability $: there are \"fileinto\", \"variables\", \"mime\", \"foreverypart\", \"vnd.depot\", \"comparator-i;octet\" and \"comparator-i;ascii-casemap\"";
+  hinting = codes "unknown capability $, did you mean \"&\"?";
+  hinting_two = codes "unknown capability $, did you mean \"&\" or \"~\"?";
+  alone = codes "unknown capability $: depot has \"fileinto\", \"variables\", \"mime\", \"foreverypart\", \"vnd.depot\", \"comparator-i;octet\" and \"comparator-i;ascii-casemap\"";
 }
 
 -- ---- sentences
@@ -155,7 +155,7 @@ unknown_command name =
 -- a name in a test's place
 unfoldable pub unknown_test : List ℕ → Blanks
 unknown_test name =
-    if is_some (command_named name) then record (plain (codes "@ is a command, and a test is needed here")) { name = name }
+    if is_some (command_named name) then record (plain (codes "@ is a command, but a test is needed here")) { name = name }
     else unknown name known_tests
 
 -- a tag

@@ -1,5 +1,5 @@
 -- Private: how tables and sentences of the code are seen, and what is told of a fault first.
-use Rattle.std.specs.Prelude.{ℕ, List, map, ◌≢◌, Option, Some, None, ◌≤◌, length, IfSome}
+use Rattle.std.specs.Prelude.{ℕ, List, map, ◌≡◌, ◌≢◌, Option, Some, None, ◌≤◌, length, IfSome}
 use Rattle.std.specs.Borrow.{Bor}
 use Rattle.sieve_explain.specs.Words.{Hint, hint}
 use Rattle.refusals.specs.Scripts.{IsScriptRefusal}
@@ -9,6 +9,8 @@ use Rattle.refusals.specs.declared.refusal.Refusal.TheVariants as refused
 use Rattle.sieve_explain.specs.Faults.{Beginning, beginning}
 use Rattle.sieve_explain.specs.Hints.{Vocabulary}
 use Rattle.sieve_explain.specs.declared.hints.Vocabulary as code
+use Rattle.sieve_explain.specs.Notes.{Known, first_named, is_named_by, is_read}
+use Rattle.sieve_explain.specs.declared.notes.Known as notes
 use Rattle.sieve_explain.specs.declared.words.Names.{Names}
 use Rattle.sieve_explain.specs.declared.words.Names.TheVariants.{Commands, Tests, Words}
 use Rattle.sieve_check.specs.Rows.{all_commands, all_tests, command_word, test_word}
@@ -56,6 +58,21 @@ Stands script token = IfSome token (λ t. (t.start ≤ t.end) × (t.end ≤ leng
 abbrev pub blanks_of : Sentence → Blanks
 blanks_of s = record { text = s.text.now; name = s.name.now; subject = s.subject.now; words = s.words.now; others = s.others.now; number = s.number }
 
--- how many notes are looked for: one more than are told says that there are more
+-- what the code knows of a whole script
+abbrev pub known_view : List ℕ → notes.Known → Known
+known_view script known = record {
+  expands = known.expands;
+  matches = known.matches;
+  most = known.most;
+  has = is_named_by script known.given.now;
+  first = first_named script known.given.now;
+  read = is_read script known.tokens.now;
+}
+
+-- the same strings are the first that may be each name: the code leaves out one whose name another has before it
+abbrev pub NameAlike : List ℕ → List Token → List Token → Type 0
+NameAlike script a b = (name : List ℕ) → first_named script a name ≡ first_named script b name
+
+-- how many notes are looked for: one more than are printed shows that there are more
 abbrev pub max_noted : ℕ
 max_noted = 21

@@ -54,20 +54,20 @@ extra_words taken name = positional_words taken
 -- what takes no test, by its name: what may be missing before the test behind it
 unfoldable pub no_test_words : List ℕ → List ℕ
 no_test_words name =
-    if is_word name (codes "else") then codes "takes no test: is `elsif` meant, or its opening brace missing?" else
+    if is_word name (codes "else") then codes "takes no test: did you mean `elsif`, or is its opening brace missing?" else
     if is_word name (codes "foreverypart") then codes "takes no test: is its opening brace missing?" else
     if is_some (command_named name) then codes "takes no test: is a semicolon missing at its end?" else
-    codes "takes no test: is a comma or a brace missing behind it, or `allof` or `anyof` before it?"
+    codes "takes no test: is a comma or a brace missing after it, or `allof` or `anyof` before it?"
 
 -- the tests that stand behind the arguments
 abbrev pub tests_words : Tests → List ℕ → List ℕ
 tests_words tests.Nothing name = no_test_words name
-tests_words tests.One name = codes "needs one test behind it, without brackets around it"
+tests_words tests.One name = codes "needs one test after it, without brackets around it"
 tests_words tests.Bracketed name = codes "takes tests in round brackets, with commas between them"
 
 -- how a command ends
 abbrev pub ending_words : Ending → List ℕ
-ending_words ending.Semicolon = codes "ends with a semicolon"
+ending_words ending.Semicolon = codes "has to end with a semicolon"
 ending_words ending.Block = codes "needs a block in braces"
 
 -- the argument of a tag
@@ -75,7 +75,7 @@ abbrev pub tag_words : Tag → List ℕ
 tag_words tag.Comparator = codes "the name of a comparator, \"i;octet\" or \"i;ascii-casemap\""
 tag_words (tag.Select piece) = codes "the names of parameters, a string or list of strings"
 tag_words tag.Name = codes "the name of a loop, one string without brackets"
-tag_words tag.First = codes "a number of octets, 1 or more"
+tag_words tag.First = codes "a number of bytes, 1 or more"
 tag_words (tag.Order order) = codes "its argument"
 tag_words (tag.Kind kind) = codes "its argument"
 tag_words (tag.Letters case) = codes "its argument"
@@ -98,35 +98,35 @@ reason_limit _ = 0
 -- where a command or test may stand that stands elsewhere
 unfoldable pub place_text : List ℕ → List ℕ
 place_text name =
-    if is_word name (codes "require") then codes "@ stands before all other commands, outside of blocks" else
-    if is_word name (codes "elsif") || is_word name (codes "else") then codes "@ stands directly after an `if` or `elsif`" else
-    codes "@ stands only inside of a `foreverypart`"
+    if is_word name (codes "require") then codes "@ is allowed only before all other commands, outside of blocks" else
+    if is_word name (codes "elsif") || is_word name (codes "else") then codes "@ is allowed only directly after the block of an `if` or `elsif`" else
+    codes "@ is allowed only inside a `foreverypart`"
 
 -- the text for a reason, by the name of the command or test; none for a name that isn't known
 abbrev pub reason_text : ReasonKind → List ℕ → List ℕ
 reason_text (MissingCapability needed) name = codes "@ needs `require \"&\"` before it"
 reason_text ForeignTag name = codes "@ takes no tag #"
-reason_text RepeatedTag name = codes "# is repeated, or stands beside another of its kind"
-reason_text TwoModifiers name = codes "# can't stand beside another modifier of its precedence"
+reason_text RepeatedTag name = codes "# is repeated, or used with another tag of its kind"
+reason_text TwoModifiers name = codes "# can't be used with another modifier of the same precedence"
 reason_text (TagArgument given) name = codes "# needs &"
 reason_text MissingOrder name = codes "@ needs `:over` or `:under`"
-reason_text MissingMime name = codes "# stands only beside `:mime`, which needs `require \"mime\"`"
-reason_text LateTag name = codes "the tag # stands after an argument that is no tag"
+reason_text MissingMime name = codes "# is allowed only with `:mime`, which needs `require \"mime\"`"
+reason_text LateTag name = codes "the tag # has to come before the other arguments"
 reason_text (MissingArgument taken) name = codes "@ has too few arguments: it takes &"
 reason_text (ExtraArgument taken) name = codes "@ has too many arguments: it takes &"
-reason_text (WrongArgument taken) name = codes "@ has an argument of a wrong kind: it takes &"
+reason_text (WrongArgument taken) name = codes "@ has an argument of the wrong kind: it takes &"
 reason_text (WrongTests taken) name = codes "@ &"
 reason_text (WrongEnding taken) name = codes "@ &"
-reason_text Namespace name = codes "$ refers into a namespace, and there is none"
-reason_text CaptureIndex name = codes "$ refers to a capture above 9"
-reason_text VariableName name = codes "$ is no name of a variable"
+reason_text Namespace name = codes "$ refers to a namespace, but depot has none"
+reason_text CaptureIndex name = codes "$ refers to a number above 9, but there are only 0 to 9"
+reason_text VariableName name = codes "$ isn't a valid name of a variable"
 reason_text NoSuchLoop name = codes "no `foreverypart` around this @ has the name $"
 reason_text Misplaced name = place_text name
-reason_text LongString name = codes "the string $ has more than % octets"
+reason_text LongString name = codes "the string $ has more than % bytes"
 reason_text ManyStrings name = codes "the lists of @ have more than % strings"
-reason_text ManySegments name = codes "the string $ has more than % references and stretches between them"
-reason_text LongName name = codes "the name of a variable, $, has more than % octets"
-reason_text ManyLoops name = codes "more than % loops stand inside of one another here"
+reason_text ManySegments name = codes "the string $ has more than % references and pieces of text between them"
+reason_text LongName name = codes "the name of a variable, $, has more than % bytes"
+reason_text ManyLoops name = codes "more than % loops are nested here"
 reason_text ManyVariables name = codes "with this @ the script has more than % variables"
 reason_text _ name = []
 

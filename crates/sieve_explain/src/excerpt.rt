@@ -1,4 +1,4 @@
-// The line of a place, and a mark under it.
+// The line of a place, and a mark under the place.
 ghost use Rattle.std.specs.Prelude.{◌≡◌, ◌≤◌, ◌++◌, IfOk, OnOk, length, replicate};
 ghost use Rattle.sieve_explain.specs.Shown.{excerpt, marked, shown_end};
 
@@ -6,10 +6,10 @@ use crate::shown::{Style, push_end, push_start};
 use readable_text::places::{around, line_at, octets_before};
 use std::alloc::AllocError;
 
-// Stands before each line of a script, so that no such line begins as a remark does.
+// Printed before each line of a script, so that no such line begins as a remark does.
 const MARGIN: &[u8] = b"  ";
 
-// Appends that many spaces.
+// Appends this many spaces.
 fn push_spaces(out: &mut Vec<u8>, n: usize) -> Result<(), AllocError>
     ensures { OnOk result (out.new.items ≡ out.old.items ++ replicate n 32) }
 {
@@ -19,7 +19,7 @@ fn push_spaces(out: &mut Vec<u8>, n: usize) -> Result<(), AllocError>
     Ok(())
 }
 
-// Appends the end of a text, and gives how many octets that are.
+// Appends the end of a text, and returns how many bytes that are.
 fn push_measured(out: &mut Vec<u8>, text: &[u8]) -> Result<usize, AllocError>
     ensures appended { OnOk result (out.new.items ≡ out.old.items ++ shown_end text.now) }
     ensures width { IfOk result (λ width. width ≡ length (shown_end text.now)) }
@@ -44,7 +44,15 @@ fn push_marked(out: &mut Vec<u8>, line: &[u8], place: usize) -> Result<(), Alloc
     out.extend_from_slice(b"^\n")
 }
 
-// Appends the line of a place of the script, and a mark under the place.
+/// Appends the line of a place of the script, and a mark under the place.
+///
+/// # Requires
+///
+/// The place is in the script or at its end: `place` is at most the script's length.
+///
+/// # Errors
+///
+/// `AllocError` if memory is refused.
 #[tactic(auto, unfolding(crate::specs::Shown::excerpt))]
 pub fn push_excerpt(out: &mut Vec<u8>, script: &[u8], place: usize) -> Result<(), AllocError>
     requires { place ≤ length script.now }

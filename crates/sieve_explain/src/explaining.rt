@@ -1,4 +1,4 @@
-// Why a script is refused, and what is told of it.
+// Why a script is refused, and the text that describes it.
 ghost use Rattle.std.specs.Prelude.{◌≡◌, ◌≤◌, ◌++◌, IfOk, None, OnOk, drop, flat_map, length, map, nat_lt, take};
 ghost use Rattle.std.specs.List.{slice_get};
 ghost use Rattle.octets.specs.Limits.{max_script};
@@ -33,15 +33,17 @@ use sieve_lexer::{LexicalError, MAX_SCRIPT, Token, tokens};
 use sieve_parser::{ParseError, Script, parse_tokens};
 use std::alloc::{AllocError, Global};
 
-/// Why the script is refused, and a text for whoever wrote it: where, a sentence, the line and a
-/// mark under the place. Where the checker refuses it, each further command and test that is
-/// refused is told too, in order, up to [`MAX_REASONS`] reasons in all, and then whether there are more.
-/// Behind all this stands what the file looks like, where it begins as a program or a mail does.
-/// `None` where nothing is wrong with the script.
+/// Finds why a script is refused, and describes it for the person who wrote it: the place, a sentence, the line and a
+/// mark under the place. `name` is the name of the script's file. If the checker refuses the script, each further
+/// command and test that is refused is described too, in order, up to [`MAX_REASONS`] reasons in all, and then it says
+/// if there are more. At the end it says what the file looks like, if it begins as a program or a mail does. `None` if
+/// the script has no fault.
+///
+/// For example, the refusal of the script `keep; vacation;` is `UnknownCommand` at token 2.
 ///
 /// # Errors
 ///
-/// An allocation was refused.
+/// `AllocError` if memory is refused.
 pub fn explain(alloc: Global, name: &str, script: &[u8]) -> Result<Option<Explanation>, AllocError>
     ensures { IfOk result (λ found. IsExplained name.now script.now found) }
 {
@@ -56,7 +58,7 @@ pub fn explain(alloc: Global, name: &str, script: &[u8]) -> Result<Option<Explan
     }
 }
 
-// A refusal, with what is told of it, and then what the file looks like.
+// A refusal with its description, and then what the file looks like.
 fn with_look(found: Explanation, source: &Source<'_>) -> Result<Explanation, AllocError>
     ensures { IfOk result (λ all. (all.refusal ≡ found.refusal) × (all.text.items ≡ found.text.items
         ++ look_told source.now.name.now (look_text source.now.octets.now))) }
@@ -66,7 +68,7 @@ fn with_look(found: Explanation, source: &Source<'_>) -> Result<Explanation, All
     Ok(all)
 }
 
-// Appends what the file looks like, where that is said.
+// Appends what the file looks like, if there is something to say.
 fn push_look(out: &mut Vec<u8>, source: &Source<'_>, text: &'static str) -> Result<(), AllocError>
     ensures { OnOk result (out.new.items ≡ out.old.items
         ++ look_told source.now.name.now text.now) }
@@ -77,7 +79,7 @@ fn push_look(out: &mut Vec<u8>, source: &Source<'_>, text: &'static str) -> Resu
     push_note(out, source, &plain(text))
 }
 
-// Why the script is refused, and what is told of that.
+// Why the script is refused, and the description of that.
 fn explain_fault(source: &Source<'_>) -> Result<Option<Explanation>, AllocError>
     ensures { IfOk result (λ found. IsFaultTold source.now.name.now source.now.octets.now found) }
 {
@@ -91,7 +93,7 @@ fn explain_fault(source: &Source<'_>) -> Result<Option<Explanation>, AllocError>
     }
 }
 
-// The same of a script with these tokens.
+// The same for a script with these tokens.
 fn explain_tokens(source: &Source<'_>, tokens: &[Token]) -> Result<Option<Explanation>, AllocError>
     requires tokens { AreTokens source.now.octets.now tokens.now }
     requires short { length source.now.octets.now ≤ max_script }
@@ -107,7 +109,7 @@ fn explain_tokens(source: &Source<'_>, tokens: &[Token]) -> Result<Option<Explan
     }
 }
 
-// The same of a script with this tree.
+// The same for a script with this tree.
 fn explain_tree(
     source: &Source<'_>,
     tokens: &[Token],
@@ -126,7 +128,7 @@ fn explain_tree(
     Ok(Some(Explanation { refusal, text }))
 }
 
-// What is told of a script that has no tokens.
+// The description of a script that isn't made of tokens.
 fn lexical_told(source: &Source<'_>, error: &LexicalError) -> Result<Vec<u8>, AllocError>
     ensures { IfOk result (λ text. TellsFault source.now.name.now source.now.octets.now
         (of_parser (parse_error error.now)) text.items) }
@@ -145,7 +147,7 @@ fn lexical_told(source: &Source<'_>, error: &LexicalError) -> Result<Vec<u8>, Al
     }
 }
 
-// What is told of a script whose tokens have no tree.
+// The description of a script whose tokens have no tree.
 fn grammar_told(
     source: &Source<'_>,
     tokens: &[Token],
@@ -164,7 +166,7 @@ fn grammar_told(
     }
 }
 
-// What is told of the token with that number where it can't stand, or of the script's end.
+// The description of the token with this number, which isn't allowed in its place, or of the script's end.
 #[tactic(auto, unfolding(crate::specs::Explaining::syntax_told))]
 fn syntax_told(source: &Source<'_>, tokens: &[Token], number: usize) -> Result<Vec<u8>, AllocError>
     requires { AreTokens source.now.octets.now tokens.now }
@@ -184,7 +186,7 @@ fn syntax_told(source: &Source<'_>, tokens: &[Token], number: usize) -> Result<V
     }
 }
 
-// What is told of a script that ends too early.
+// The description of a script that ends too early.
 #[tactic(auto, unfolding(crate::specs::Explaining::end_told))]
 fn end_told(source: &Source<'_>, tokens: &[Token]) -> Result<Vec<u8>, AllocError>
     requires { AreTokens source.now.octets.now tokens.now }
@@ -194,13 +196,13 @@ fn end_told(source: &Source<'_>, tokens: &[Token]) -> Result<Vec<u8>, AllocError
     let mut text = told(
         source,
         source.octets.len(),
-        &plain("the script ends before its last command does"),
+        &plain("the script ends before its last command is complete"),
     )?;
     push_opened(&mut text, source, unclosed(source.octets, tokens))?;
     Ok(text)
 }
 
-// Appends where the brace stands that is never closed, where there is one.
+// Appends the place of the brace that is never closed, if there is one.
 #[tactic(auto, unfolding(crate::specs::Explaining::opened))]
 fn push_opened(
     out: &mut Vec<u8>,
@@ -217,7 +219,7 @@ fn push_opened(
     }
 }
 
-// What is told of the token with that number where it is nested too deep.
+// The description of the token with this number, which is nested too deep.
 #[tactic(auto, unfolding(crate::specs::Explaining::depth_told))]
 fn depth_told(source: &Source<'_>, tokens: &[Token], number: usize) -> Result<Vec<u8>, AllocError>
     requires { AreTokens source.now.octets.now tokens.now }
@@ -228,7 +230,7 @@ fn depth_told(source: &Source<'_>, tokens: &[Token], number: usize) -> Result<Ve
     told(source, start_of(source.octets, token), &too_deep_sentence())
 }
 
-// Why commands and tests are refused, the first of the reasons, and whether there are more.
+// Why commands and tests are refused: the first of the reasons, and whether there are more.
 fn reasons_told(
     source: &Source<'_>,
     tokens: &[Token],
@@ -245,7 +247,7 @@ fn reasons_told(
     Ok(text)
 }
 
-// The reasons that are told.
+// The reasons that are printed.
 #[tactic(auto, using(std::proofs::lemmas::List::take_min))]
 fn first_of<'a, 'r>(reasons: &'a [Refused<'r>]) -> &'a [Refused<'r>]
     ensures { result.now ≡ take max_reasons reasons.now }
@@ -254,7 +256,7 @@ fn first_of<'a, 'r>(reasons: &'a [Refused<'r>]) -> &'a [Refused<'r>]
     told
 }
 
-// Appends that there are more, where that is so.
+// Appends that there are more, if there are.
 fn push_more(out: &mut Vec<u8>, source: &Source<'_>, more: bool) -> Result<(), AllocError>
     ensures { OnOk result (out.new.items ≡ out.old.items ++ more_told source.now.name.now more) }
 {
@@ -306,7 +308,7 @@ fn push_reason(
     )
 }
 
-// The word in the place of a string that is missing, if there is one.
+// The word that is in the place of a missing string, if there is one.
 fn word_marked(source: &Source<'_>, tokens: &[Token], found: Refused<'_>) -> Option<Token>
     requires { AreTokens source.now.octets.now tokens.now }
     ensures token { result ≡ bare_word source.now.octets.now tokens.now (refused_view found.entry) }
@@ -315,7 +317,7 @@ fn word_marked(source: &Source<'_>, tokens: &[Token], found: Refused<'_>) -> Opt
     bare_word(source.octets, tokens, found)
 }
 
-// The token under which the mark stands.
+// The token that gets the mark.
 #[tactic(auto, unfolding(crate::specs::Explaining::marked_token))]
 fn marked_token(
     source: &Source<'_>,
@@ -333,7 +335,7 @@ fn marked_token(
     }
 }
 
-// The same by the kind of the reason.
+// The same, by the kind of the reason.
 fn marked_by(
     source: &Source<'_>,
     tokens: &[Token],
@@ -353,12 +355,16 @@ fn marked_by(
     }
 }
 
-/// What is noted of a script with which nothing is wrong: tests and commands that can't mean what they say, in order, up to
-/// [`MAX_NOTES`] of them, and then whether there are more. Nothing where there are none.
+/// Describes the notes on a script without a fault: tests and commands that can't mean what they say, in order, up to
+/// [`MAX_NOTES`] of them, and then whether there are more. The text is empty if there are none.
+///
+/// # Requires
+///
+/// The script has no fault: [`explain`] returned `None` for it.
 ///
 /// # Errors
 ///
-/// An allocation was refused.
+/// `AllocError` if memory is refused.
 pub fn remarks_on(alloc: Global, name: &str, script: &[u8]) -> Result<Vec<u8>, AllocError>
     requires { IsExplained name.now script.now None }
     ensures { IfOk result (λ text. IsRemarked name.now script.now text.items) }
@@ -377,7 +383,7 @@ pub fn remarks_on(alloc: Global, name: &str, script: &[u8]) -> Result<Vec<u8>, A
     }
 }
 
-// The same of a script with these tokens.
+// The same for a script with these tokens.
 #[tactic(auto, using(crate::proofs::NoteLemmas::listed_first))]
 fn notes_told(source: &Source<'_>, tokens: &[Token]) -> Result<Vec<u8>, AllocError>
     ensures { IfOk result (λ text.
@@ -397,7 +403,7 @@ fn listed_told(source: &Source<'_>, notes: &[Noted]) -> Result<Vec<u8>, AllocErr
     Ok(text)
 }
 
-// The notes that are told.
+// The notes that are printed.
 #[tactic(auto, using(std::proofs::lemmas::List::take_min))]
 fn first_notes(notes: &[Noted]) -> &[Noted]
     ensures { result.now ≡ take max_notes notes.now }
@@ -428,7 +434,7 @@ fn push_noted(out: &mut Vec<u8>, source: &Source<'_>, noted: Noted) -> Result<()
     push_remark(out, ": note: ", source, place, &note_sentence(noted.kind))
 }
 
-// Appends that more is noted, where that is so.
+// Appends that there are more notes, if there are.
 fn push_more_notes(out: &mut Vec<u8>, source: &Source<'_>, more: bool) -> Result<(), AllocError>
     ensures { OnOk result (out.new.items ≡ out.old.items
         ++ more_notes_told source.now.name.now more) }
@@ -439,13 +445,13 @@ fn push_more_notes(out: &mut Vec<u8>, source: &Source<'_>, more: bool) -> Result
     push_note(out, source, &more_notes_sentence())
 }
 
-/// Why a listing of a program is refused, for whoever wrote it: where, a sentence for a fault of
-/// that kind, the line and a mark under the place. The place counts octets of the listing; one
-/// beyond its end is told of the end.
+/// Describes why a program's listing is refused, for the person who wrote it: the place, a sentence for a fault of this
+/// kind, the line and a mark under the place. `place` is a byte of the listing, counted from 0; for a place beyond the
+/// end, the end is described.
 ///
 /// # Errors
 ///
-/// An allocation was refused.
+/// `AllocError` if memory is refused.
 pub fn listing_explanation(
     alloc: Global,
     name: &str,

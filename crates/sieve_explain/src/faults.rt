@@ -1,4 +1,4 @@
-// What is said of a script that isn't parsed.
+// What is said about a script that isn't parsed.
 ghost use Rattle.std.specs.Prelude.{◌≡◌, ◌≤◌, Some, bytes_eq, length, map, take, take_while};
 ghost use Rattle.sieve_explain.specs.Faults.{beginnings, begins_as_mail, dark_at, is_dark, is_field_octet, is_symbol, lexical_blanks, listing_blanks, listing_text, look_text, misplaced_text, more_blanks, misplaced_token, other_text, symbol_at, text_at, token_blanks, too_deep_blanks, too_long_blanks, unclosed_blanks, word_blanks};
 ghost use Rattle.sieve_explain.specs.Explaining.{misplaced_blanks};
@@ -13,18 +13,18 @@ use sieve_check::MAX_REASONS;
 use sieve_lexer::{MAX_SCRIPT, Token, TokenKind};
 use sieve_parser::MAX_NESTING;
 
-// What begins no token and no separator: its first octets, and what is said of it.
+// The beginning of something that is neither a token nor a separator: its first bytes, and what is said about it.
 type Beginning = (&'static [u8], &'static str);
 
 const TYPOGRAPHIC: &str =
-    "a typographic quote stands here: strings stand between straight double quotes, \"like this\"";
+    "this is a typographic quote: put strings in straight double quotes, \"like this\"";
 
-// A byte order mark, the four typographic quotes, a single quote, and two slashes; then what is never closed, a colon alone, and what
-// other languages have for operators.
+// A byte order mark, the four typographic quotes, a single quote, and two slashes; then what is never closed, a colon
+// without a name, and the operators of other languages.
 const BEGINNINGS: &[Beginning] = &[
     (
         &[0xef, 0xbb, 0xbf],
-        "a byte order mark stands here: save the script as UTF-8 without one",
+        "this is a byte order mark: save the script as UTF-8 without one",
     ),
     (&[0xe2, 0x80, 0x98], TYPOGRAPHIC),
     (&[0xe2, 0x80, 0x99], TYPOGRAPHIC),
@@ -32,21 +32,18 @@ const BEGINNINGS: &[Beginning] = &[
     (&[0xe2, 0x80, 0x9d], TYPOGRAPHIC),
     (
         b"'",
-        "a single quote stands here: strings stand between double quotes, \"like this\"",
+        "this is a single quote: put strings in double quotes, \"like this\"",
     ),
     (
         b"//",
-        "no comment begins so: one begins with `&`, or stands between `/*` and `*/`",
+        "this begins no comment: write `&` before it, or put it between `/*` and `*/`",
     ),
     (
         b"\"",
         "a string is never closed: this quote, or one before it, has no partner",
     ),
-    (b"/*", "a comment is never closed"),
-    (
-        b":",
-        "a colon stands here without the name of a tag behind it",
-    ),
+    (b"/*", "this comment is never closed: add `*/` at its end"),
+    (b":", "this colon has no tag name directly after it"),
     (
         b"&",
         "Sieve has no @: write `allof (.., ..)`, which is true if all of its tests are",
@@ -73,7 +70,7 @@ const BEGINNINGS: &[Beginning] = &[
     ),
 ];
 
-// Whether the text begins with the octets.
+// Whether the text begins with these bytes.
 fn begins_with(text: &[u8], octets: &[u8]) -> bool
     ensures { result ≡ bytes_eq (take (length octets.now) text.now) octets.now }
 {
@@ -81,7 +78,7 @@ fn begins_with(text: &[u8], octets: &[u8]) -> bool
     start == octets
 }
 
-// The text for the first of the rows with which the octets begin, or nothing.
+// The text of the first row with whose bytes `rest` begins, or nothing.
 fn text_at(rest: &[u8], rows: &[Beginning]) -> &'static str
     ensures { result.now ≡ text_at rest.now (map beginning_of rows.now) }
 {
@@ -93,7 +90,7 @@ fn text_at(rest: &[u8], rows: &[Beginning]) -> &'static str
     ""
 }
 
-// What is said of octets that begin as one of them.
+// What is said about bytes that begin as one of the rows does.
 #[tactic(auto, unfolding(crate::specs::Faults::beginnings))]
 fn beginning_text(rest: &[u8]) -> &'static str
     ensures { result.now ≡ text_at rest.now beginnings }
@@ -101,34 +98,34 @@ fn beginning_text(rest: &[u8]) -> &'static str
     text_at(rest, BEGINNINGS)
 }
 
-// The text for other octets at which neither a token nor a separator begins.
+// The text for other bytes at which neither a token nor a separator begins.
 fn other_text(rest: &[u8]) -> &'static str
     ensures { result.now ≡ other_text rest.now }
 {
     match rest {
-        [octet, ..] if octet.is_ascii_digit() => "a number is above %",
+        [octet, ..] if octet.is_ascii_digit() => "this number is too large: the largest is %",
         [octet, ..] if octet.is_ascii_alphabetic() || *octet == b'_' => {
-            "a multi-line string is never closed: it needs a line that is a dot alone, with its line break"
+            "this multi-line string is never closed: end it with a line that has only a dot, and a line break after it"
         }
-        _ => "@ begins nothing that a script may have here",
+        _ => "@ isn't allowed outside of strings and comments",
     }
 }
 
-// Whether operators of other languages are written with the octet.
+// Whether operators of other languages are written with this byte.
 fn is_symbol(octet: &&u8) -> bool
     ensures { result ≡ is_symbol octet.now.now }
 {
     matches!(**octet, b'&' | b'|' | b'<' | b'>' | b'=' | b'!')
 }
 
-// How many such octets come first.
+// How many such bytes come first.
 fn symbol_length(rest: &[u8]) -> usize
     ensures { result ≡ length (take_while is_symbol rest.now) }
 {
     rest.iter().take_while(is_symbol).count()
 }
 
-// All of the operator with which the octets begin, or the first octet.
+// The whole operator with which the bytes begin, or the first byte.
 fn symbol_at(rest: &[u8]) -> &[u8]
     ensures { result.now ≡ symbol_at rest.now }
 {
@@ -137,7 +134,7 @@ fn symbol_at(rest: &[u8]) -> &[u8]
     symbol
 }
 
-// The sentence for octets at which neither a token nor a separator begins.
+/// The sentence for bytes at which neither a token nor a separator begins.
 #[tactic(auto, unfolding(crate::specs::Faults::lexical_blanks))]
 pub fn lexical_sentence(rest: &[u8]) -> Sentence<'_>
     ensures { blanks_of result ≡ lexical_blanks rest.now }
@@ -153,24 +150,24 @@ pub fn lexical_sentence(rest: &[u8]) -> Sentence<'_>
     }
 }
 
-// The sentence behind the last of the reasons that are told.
+/// The sentence after the last reason that is printed.
 pub fn more_sentence() -> Sentence<'static>
     ensures { blanks_of result ≡ more_blanks }
 {
     Sentence {
         number: MAX_REASONS as u64,
-        ..plain("more is refused than this: the first % are told")
+        ..plain("only the first % errors are shown")
     }
 }
 
-// Whether the octet may be in the name of a header field with which a mail begins.
+// Whether the byte is allowed in the name of a header field at the beginning of a mail.
 fn is_field_octet(octet: &&u8) -> bool
     ensures { result ≡ is_field_octet octet.now.now }
 {
     octet.is_ascii_alphabetic() || **octet == b'-'
 }
 
-// How many such octets come first.
+// How many such bytes come first.
 fn name_length(file: &[u8]) -> usize
     ensures { result ≡ length (take_while is_field_octet file.now) }
 {
@@ -186,21 +183,21 @@ fn begins_as_mail(file: &[u8]) -> bool
     length > 0 && begins_with(rest, b": ")
 }
 
-/// What is said of a refused file that begins as a program or a mail does, or nothing.
+/// What is said about a refused file that begins as a program or a mail does; otherwise nothing.
 #[tactic(auto, unfolding(crate::specs::Faults::look_text))]
 pub fn look_text(file: &[u8]) -> &'static str
     ensures { result.now ≡ look_text file.now }
 {
     if begins_with(file, b"SVBC") {
-        "the file begins as a compiled program does: `depot disassemble` shows what is in one"
+        "the file begins like a compiled program: `depot disassemble` prints the instructions of one"
     } else if begins_as_mail(file) {
-        "the file begins with a header field, as a mail does: is it a script?"
+        "the file begins with a header field, like a mail: is it a script?"
     } else {
         ""
     }
 }
 
-/// The sentence for a listing's fault of that kind, by what stands at its place.
+/// The sentence for a listing's fault of this kind, with what is at its place.
 #[tactic(auto, unfolding(crate::specs::Faults::listing_blanks))]
 pub fn listing_sentence(kind: FaultKind, rest: &[u8]) -> Sentence<'_>
     ensures { blanks_of result ≡ listing_blanks kind rest.now }
@@ -211,34 +208,34 @@ pub fn listing_sentence(kind: FaultKind, rest: &[u8]) -> Sentence<'_>
     }
 }
 
-// Its text.
+// The text of that sentence.
 fn listing_text(kind: FaultKind, rest: &[u8]) -> &'static str
     ensures { result.now ≡ listing_text kind rest.now }
 {
     match kind {
         FaultKind::Misplaced => misplaced_text(rest),
-        FaultKind::SecondLabel => "the label @ is there a second time: a label stands once",
-        FaultKind::NoLabel => "@ is no number, and no label of this listing",
-        FaultKind::Limits => "the program exceeds the limits of programs",
+        FaultKind::SecondLabel => "the label @ is defined a second time",
+        FaultKind::NoLabel => "@ is neither a number nor a label of this listing",
+        FaultKind::Limits => "the program exceeds the limits for programs",
     }
 }
 
-// The text for what can't stand where it does in a listing, or for its end.
+// The text for something that isn't allowed at its place in a listing, or for the listing's end.
 fn misplaced_text(rest: &[u8]) -> &'static str
     ensures { result.now ≡ misplaced_text rest.now }
 {
     match rest {
-        [] => "the listing ends before its program does",
+        [] => "the listing ends before its program is complete",
         [b'"', ..] => {
-            "no string can stand here, or this one is never closed, too long, or has a backslash without two hexadecimal digits"
+            "no string is allowed here, or this one is never closed, too long, or has a backslash without two hexadecimal digits"
         }
         _ => {
-            "@ can't stand here: after version and variables stand numbers, strings, and then instructions with their fields"
+            "@ isn't allowed here: the version and the variables are followed by numbers, strings, and then instructions with their fields"
         }
     }
 }
 
-// What stands there up to the next blank; nothing at the end.
+// The bytes up to the next blank; none at the end.
 fn dark_at(rest: &[u8]) -> &[u8]
     ensures { result.now ≡ dark_at rest.now }
 {
@@ -248,14 +245,14 @@ fn dark_at(rest: &[u8]) -> &[u8]
     }
 }
 
-// Whether the octet is no blank.
+// Whether the byte isn't a blank.
 fn is_dark(octet: &&u8) -> bool
     ensures { result ≡ is_dark octet.now.now }
 {
     **octet > b' '
 }
 
-// How many octets there are up to the next blank.
+// How many bytes there are up to the next blank.
 fn dark_length(octets: &[u8]) -> usize
     ensures value { result ≡ length (take_while is_dark octets.now) }
     ensures bound { result ≤ length octets.now }
@@ -263,69 +260,73 @@ fn dark_length(octets: &[u8]) -> usize
     octets.iter().take_while(is_dark).count()
 }
 
-// The sentence for a script with too many octets.
+/// The sentence for a script that is too long.
 pub fn too_long_sentence() -> Sentence<'static>
     ensures { blanks_of result ≡ too_long_blanks }
 {
     Sentence {
         number: MAX_SCRIPT as u64,
-        ..plain("the script has more than % octets")
+        ..plain("the script has more than % bytes")
     }
 }
 
-// The text of the sentence for a token of the kind that can't stand where it does.
+// The text of the sentence for a token of this kind that isn't allowed in its place.
 #[tactic(auto, unfolding(crate::specs::Faults::misplaced_token))]
 fn misplaced_token(kind: TokenKind) -> &'static str
     ensures { result.now ≡ misplaced_token kind }
 {
     match kind {
         TokenKind::Identifier => {
-            "@ can't stand here: is a brace or a semicolon missing before it?"
+            "@ isn't allowed here: is a brace or a semicolon missing before it?"
         }
         TokenKind::Tag | TokenKind::Number => {
-            "@ can't stand here: arguments stand directly behind the name that they belong to"
+            "@ isn't allowed here: arguments come directly after the name of their command or test"
         }
         TokenKind::QuotedString | TokenKind::MultiLineString => {
-            "@ can't stand here: is a comma missing before it, or the name that it belongs to?"
+            "@ isn't allowed here: is a comma missing before it, or the name of its command or test?"
         }
         TokenKind::Semicolon => {
-            "@ can't stand here: is it one too many, or is a bracket missing before it?"
+            "@ isn't allowed here: is it one too many, or is a bracket missing before it?"
         }
         TokenKind::Comma => {
-            "@ can't stand here: strings of a list stand in square brackets, tests in round ones behind `allof` or `anyof`"
+            "@ isn't allowed here: put a list of strings in square brackets, and tests in round ones after `allof` or `anyof`"
         }
         TokenKind::OpeningBrace => {
-            "@ can't stand here: is a bracket missing before it, or the command that it belongs to?"
+            "@ isn't allowed here: is a bracket missing before it, or its command?"
         }
         TokenKind::ClosingBrace => {
-            "@ can't stand here: is a semicolon missing before it, or its opening brace?"
+            "@ isn't allowed here: is a semicolon missing before it, or its opening brace?"
         }
         TokenKind::OpeningParenthesis => {
-            "@ can't stand here: round brackets stand behind the name of a test, around tests"
+            "@ isn't allowed here: round brackets come after the name of a test, around tests"
         }
         TokenKind::ClosingParenthesis => {
-            "@ can't stand here: is a test missing before it, or its opening bracket?"
+            "@ isn't allowed here: is a test missing before it, or its opening bracket?"
         }
         TokenKind::OpeningBracket => {
-            "@ can't stand here: square brackets stand behind a name, around strings"
+            "@ isn't allowed here: square brackets come after a name, around strings"
         }
         TokenKind::ClosingBracket => {
-            "@ can't stand here: is a string missing before it, or its opening bracket?"
+            "@ isn't allowed here: is a string missing before it, or its opening bracket?"
         }
     }
 }
 
-// The sentence for a word that stands in the place of a string.
+/// The sentence for a word in the place of a string.
 pub fn word_sentence(word: &[u8]) -> Sentence<'_>
     ensures { blanks_of result ≡ word_blanks word.now }
 {
     Sentence {
         name: word,
-        ..plain("@ stands where a string has to: put it in quotation marks, \"like this\"")
+        ..plain("@ should be a string: put it in quotation marks, \"like this\"")
     }
 }
 
-// The sentence for a token that can't stand where it does, by the token before it.
+/// The sentence for a token that isn't allowed in its place, by the token before it.
+///
+/// # Requires
+///
+/// The token is within the script.
 pub fn misplaced_sentence(script: &[u8], before: Option<Token>, token: Token) -> Sentence<'_>
     requires { Stands script.now (Some token) }
     ensures { blanks_of result ≡ misplaced_blanks script.now before token }
@@ -337,7 +338,7 @@ pub fn misplaced_sentence(script: &[u8], before: Option<Token>, token: Token) ->
     }
 }
 
-// The sentence for a token that can't stand where it does.
+// The sentence for a token that isn't allowed in its place.
 fn token_sentence(script: &[u8], token: Token) -> Sentence<'_>
     requires { Stands script.now (Some token) }
     ensures { blanks_of result ≡ token_blanks script.now token }
@@ -348,17 +349,17 @@ fn token_sentence(script: &[u8], token: Token) -> Sentence<'_>
     }
 }
 
-// The sentence for a brace or a test that is nested too deep.
+/// The sentence for a brace or a test that is nested too deep.
 pub fn too_deep_sentence() -> Sentence<'static>
     ensures { blanks_of result ≡ too_deep_blanks }
 {
     Sentence {
         number: MAX_NESTING as u64,
-        ..plain("braces and tests are nested more than % deep here")
+        ..plain("braces and tests are nested more than % levels deep here")
     }
 }
 
-// The sentence for an opening brace that has no partner.
+/// The sentence for an opening brace without a partner.
 pub fn unclosed_sentence() -> Sentence<'static>
     ensures { blanks_of result ≡ unclosed_blanks }
 {

@@ -1,8 +1,8 @@
-// What is said of a name that isn't known where it stands.
+// What is said about a name that isn't known in its place.
 //
-// What depot lacks is a short fixed table of commands, tests, tags and capabilities of other Sieve programs, with
-// the reason or with what to write instead. Any other name is unknown; if it is one letter off from a known one,
-// that one is named.
+// A short fixed table has commands, tests, tags and capabilities of other Sieve programs that depot doesn't have, with
+// the reason or with what to write instead. Any other name is unknown; if it is one letter off from a known one, that
+// one is suggested.
 ghost use Rattle.std.specs.Prelude.{◌≡◌};
 ghost use Rattle.std.specs.List.{list_any};
 ghost use Rattle.octets.specs.Ascii.{is_word};
@@ -15,17 +15,17 @@ use sieve_check::{command_named, test_named};
 
 /// The names of one kind, and the sentences for a name that is none of them.
 pub struct Vocabulary {
-    /// What stands elsewhere for some of the names.
+    /// What depot has instead of some names of other programs.
     pub elsewhere: &'static [Row],
     /// The names.
     pub names: Names,
-    /// For a name that depot lacks.
+    /// The sentence for a name that depot doesn't have.
     pub lacks: &'static str,
-    /// For a name by which one of these is meant.
+    /// The sentence for a name that probably means one of these.
     pub hinting: &'static str,
-    /// For a name by which one of two may be meant.
+    /// The sentence for a name that can mean one of two.
     pub hinting_two: &'static str,
-    /// For any other name.
+    /// The sentence for any other name.
     pub alone: &'static str,
 }
 
@@ -64,7 +64,7 @@ const TESTS: &Vocabulary = &Vocabulary {
     alone: "unknown test @",
 };
 
-// What the tags are called.
+// The names of the tags.
 const TAG_WORDS: &[&str] = &[
     "over",
     "under",
@@ -93,12 +93,12 @@ const TAGS: &Vocabulary = &Vocabulary {
     elsewhere: &[],
     names: Names::Words(TAG_WORDS),
     lacks: "depot has no #: &",
-    hinting: "depot knows no tag #, did you mean `:&`?",
-    hinting_two: "depot knows no tag #, did you mean `:&` or `:~`?",
-    alone: "depot knows no tag #",
+    hinting: "unknown tag #, did you mean `:&`?",
+    hinting_two: "unknown tag #, did you mean `:&` or `:~`?",
+    alone: "unknown tag #",
 };
 
-// The capabilities, all of which are listed where none comes near.
+// The capabilities. All are listed if none is similar.
 const CAPABILITIES: &Vocabulary = &Vocabulary {
     elsewhere: &[],
     names: Names::Words(&[
@@ -111,12 +111,12 @@ const CAPABILITIES: &Vocabulary = &Vocabulary {
         "comparator-i;ascii-casemap",
     ]),
     lacks: "depot has no $: &",
-    hinting: "depot knows no capability $, did you mean \"&\"?",
-    hinting_two: "depot knows no capability $, did you mean \"&\" or \"~\"?",
-    alone: "depot knows no capability $: there are \"fileinto\", \"variables\", \"mime\", \"foreverypart\", \"vnd.depot\", \"comparator-i;octet\" and \"comparator-i;ascii-casemap\"",
+    hinting: "unknown capability $, did you mean \"&\"?",
+    hinting_two: "unknown capability $, did you mean \"&\" or \"~\"?",
+    alone: "unknown capability $: depot has \"fileinto\", \"variables\", \"mime\", \"foreverypart\", \"vnd.depot\", \"comparator-i;octet\" and \"comparator-i;ascii-casemap\"",
 };
 
-// Why depot lacks a command, a test, a tag or a capability that Sieve has elsewhere, or what there is in its place.
+// Why depot doesn't have a command, a test, a tag or a capability of other Sieve programs, or what it has instead.
 const LACKING: &[Row] = &[
     (
         &[
@@ -128,7 +128,7 @@ const LACKING: &[Row] = &[
             "notify",
             "enotify",
         ],
-        "it sends no mail, leave that to the mail server",
+        "it sends no mail, the mail server can do that",
     ),
     (
         &[
@@ -140,7 +140,7 @@ const LACKING: &[Row] = &[
             "imap4flags",
             "imapflags",
         ],
-        "what it files has no flags, file into a folder instead",
+        "its entries have no flags, file into a folder instead",
     ),
     (
         &[
@@ -150,17 +150,20 @@ const LACKING: &[Row] = &[
             "replace",
             "enclose",
         ],
-        "it changes no message",
+        "it doesn't change messages",
     ),
     (
         &["extracttext"],
-        "`take` gives the content of a part to a variable, inside of a `foreverypart`",
+        "`take` sets a variable to the content of a part, inside a `foreverypart`",
     ),
     (
         &["include"],
-        "a script stands alone, put all of it into one file",
+        "a script is a single file, put all commands into it",
     ),
-    (&["copy"], "`keep` beside `fileinto` files a message twice"),
+    (
+        &["copy"],
+        "a `keep` and a `fileinto` together file a message twice",
+    ),
     (
         &["address", "subaddress", "localpart", "domain", "detail"],
         "`header` tests the whole value of a field, as in `header :matches \"From\" [\"a@b\", \"*<a@b>*\"]`",
@@ -168,36 +171,39 @@ const LACKING: &[Row] = &[
     (&["index"], "`header` tests all fields of a name"),
     (
         &["envelope"],
-        "it sees the message alone, `header` tests \"Delivered-To\" where the mail server writes that",
+        "it sees only the message, `header` can test \"Delivered-To\" if the mail server adds it",
     ),
-    (&["environment"], "it sees the message alone"),
+    (&["environment"], "it sees only the message"),
     (
         &["body"],
-        "`partbody` tests the content of a part, inside of a `foreverypart`",
+        "`partbody` tests the content of a part, inside a `foreverypart`",
     ),
-    (&["date", "currentdate"], "it compares no times"),
+    (&["date", "currentdate"], "it doesn't compare times"),
     (
         &["relational", "count", "value", "comparator-i;ascii-numeric"],
-        "`size` and `partsize` alone compare numbers",
+        "only `size` and `partsize` compare numbers",
     ),
-    (&["regex"], "patterns are those of `:matches`"),
+    (&["regex"], "use the wildcards of `:matches`"),
     (
         &["spamtest", "spamtestplus", "virustest"],
-        "`header` tests what a scanner wrote into a field",
+        "`header` can test the field that a scanner adds",
     ),
     (
         &["mailbox", "mailboxexists", "create"],
-        "a folder is there once something is filed into it",
+        "a folder exists once something is filed into it",
     ),
-    (&["duplicate"], "a script knows no earlier message"),
-    (&["ihave"], "what a script requires has to be there"),
+    (&["duplicate"], "a script doesn't see earlier messages"),
+    (
+        &["ihave"],
+        "every capability that a script requires has to exist",
+    ),
     (
         &["encoded-character"],
-        "write the character itself, a string may hold any",
+        "write the character itself, strings can contain any",
     ),
 ];
 
-// Why depot lacks what has that name elsewhere, if it does.
+// Why depot doesn't have this name, which other programs have; otherwise nothing.
 #[tactic(auto, unfolding(crate::specs::Hints::lacking))]
 fn lacking(name: &[u8]) -> &'static str
     ensures { result.now ≡ lacking name.now }
@@ -205,7 +211,7 @@ fn lacking(name: &[u8]) -> &'static str
     words_for(name, LACKING)
 }
 
-// The name that is meant, or nothing where none comes near.
+// The name that is probably meant, or nothing if none is similar.
 #[tactic(auto, unfolding(crate::specs::Hints::meant))]
 fn meant(name: &[u8], known: &Vocabulary) -> &'static str
     ensures { result.now ≡ meant name.now (vocabulary_of known.now) }
@@ -214,7 +220,7 @@ fn meant(name: &[u8], known: &Vocabulary) -> &'static str
     with_words(elsewhere, elsewhere, nearest(name, &known.names))
 }
 
-// Another name that may be meant, where one comes as near, or nothing.
+// Another name that can be meant, if one is as similar; otherwise nothing.
 #[tactic(auto, unfolding(crate::specs::Hints::meant_too))]
 fn meant_too(name: &[u8], known: &Vocabulary) -> &'static str
     ensures { result.now ≡ meant_too name.now (vocabulary_of known.now) }
@@ -224,7 +230,8 @@ fn meant_too(name: &[u8], known: &Vocabulary) -> &'static str
     with_words(elsewhere, "", nearest_but(name, nearest, &known.names))
 }
 
-// The sentence for a name that nothing has: with why it is lacking, else with what is meant by it, where there is either.
+// The sentence for an unknown name: with the reason why depot doesn't have it, or else with what it probably means, if
+// there is either.
 fn unknown<'a>(name: &'a [u8], known: &Vocabulary) -> Sentence<'a>
     ensures { blanks_of result ≡ unknown name.now (vocabulary_of known.now) }
 {
@@ -243,7 +250,7 @@ fn unknown<'a>(name: &'a [u8], known: &Vocabulary) -> Sentence<'a>
     }
 }
 
-// The sentence for a name in a command's place.
+/// The sentence for a name in the place of a command.
 #[tactic(auto, unfolding(crate::specs::Hints::unknown_command))]
 pub fn unknown_command(name: &[u8]) -> Sentence<'_>
     ensures { blanks_of result ≡ unknown_command name.now }
@@ -257,7 +264,7 @@ pub fn unknown_command(name: &[u8]) -> Sentence<'_>
     unknown(name, COMMANDS)
 }
 
-// The sentence for a name in a test's place.
+/// The sentence for a name in the place of a test.
 #[tactic(auto, unfolding(crate::specs::Hints::unknown_test))]
 pub fn unknown_test(name: &[u8]) -> Sentence<'_>
     ensures { blanks_of result ≡ unknown_test name.now }
@@ -265,13 +272,13 @@ pub fn unknown_test(name: &[u8]) -> Sentence<'_>
     if command_named(name).is_some() {
         return Sentence {
             name,
-            ..plain("@ is a command, and a test is needed here")
+            ..plain("@ is a command, but a test is needed here")
         };
     }
     unknown(name, TESTS)
 }
 
-// The sentence for a tag.
+/// The sentence for a tag.
 #[tactic(auto, unfolding(crate::specs::Hints::unknown_tag))]
 pub fn unknown_tag(tag: &[u8]) -> Sentence<'_>
     ensures { blanks_of result ≡ unknown_tag tag.now }
@@ -279,14 +286,14 @@ pub fn unknown_tag(tag: &[u8]) -> Sentence<'_>
     unknown(tag, TAGS)
 }
 
-// Whether a tag has that name.
+/// Whether a tag has this name.
 pub fn is_tag(name: &[u8]) -> bool
     ensures { result ≡ list_any (is_word name.now) known_tags.names }
 {
     is_any(name, TAG_WORDS)
 }
 
-// The sentence for a capability.
+/// The sentence for a capability.
 #[tactic(auto, unfolding(crate::specs::Hints::unknown_capability))]
 pub fn unknown_capability(capability: &[u8]) -> Sentence<'_>
     ensures { blanks_of result ≡ unknown_capability capability.now }

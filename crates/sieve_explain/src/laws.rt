@@ -1,5 +1,5 @@
-//! The laws of explanations: a script has one, whose marks stand under what is at fault, and which can be printed anywhere, as that of
-//! a listing can.
+//! The laws of explanations: a script has one explanation, its marks are under what is at fault, and it can be printed
+//! anywhere, as the explanation of a listing can.
 ghost use Rattle.std.specs.Prelude.{◌≡◌, ℕ, IsTrue, List, Option};
 ghost use Rattle.std.specs.List.{All};
 ghost use Rattle.bytecode_listing.specs.declared.error.FaultKind.{FaultKind};
@@ -18,8 +18,8 @@ use sieve_parser::laws::{
     parsed_scripts_have_no_fault, parsed_trees_are_unique, refusals_are_unique,
 };
 
-/// What is told of a refusal of a script is one text, since a script has one list of tokens and one tree at most. So it also has
-/// one answer: nothing is wrong with it, or it has this refusal and this text. What is remarked of it is one text, too.
+/// The description of a script's refusal is one text, because a script has at most one list of tokens and one tree. So
+/// it also has one answer: it has no fault, or it has this refusal and this text. The text of its notes is unique too.
 pub fn explanations_are_unique()
     ensures texts { (name script : List ℕ) (refusal : Refusal) (text other : List ℕ)
         → Explains name script refusal text → Explains name script refusal other → text ≡ other }
@@ -35,8 +35,8 @@ pub fn explanations_are_unique()
     parsed_scripts_have_no_fault();
 }
 
-/// Each mark of what a script is refused for stands under the name of the command or test, under that string of its own arguments
-/// which is no capability, or under a word behind these arguments where a string is missing.
+/// Each mark for a script that the rules refuse is under the name of the command or test, under a string of its own
+/// arguments that is no capability, or under a word after these arguments that replaces a missing string.
 pub fn marks_stand_under_faults()
     ensures { (script : List ℕ) (tokens : List Token) (commands : CommandsTree)
         → AreTokens script tokens → IsParsed script commands
@@ -45,8 +45,8 @@ pub fn marks_stand_under_faults()
     tokens_are_unique();
 }
 
-/// What is told of a refusal has no control characters of ASCII but ends of lines, whoever wrote the script and named its file. It is
-/// printable characters of ASCII and ends of lines where the name is ASCII.
+/// The description of a refusal has no ASCII control characters except line breaks, whoever wrote the script and named
+/// its file. If the name is ASCII, it consists of printable ASCII characters and line breaks.
 pub fn explanations_are_printable()
     ensures whole { (name script : List ℕ) (refusal : Refusal) (text : List ℕ)
         → Explains name script refusal text → IsTrue (have_no_controls text) }
@@ -54,7 +54,7 @@ pub fn explanations_are_printable()
         → IsTrue (are_ascii name) → Explains name script refusal text → IsTrue (are_printable text) }
 {}
 
-/// What is remarked of a script can be printed as well, whoever wrote the script and named its file.
+/// The notes on a script can be printed as well, whoever wrote the script and named its file.
 pub fn remarks_are_printable()
     ensures whole { (name script text : List ℕ) → IsRemarked name script text
         → IsTrue (have_no_controls text) }
@@ -62,7 +62,7 @@ pub fn remarks_are_printable()
         → IsRemarked name script text → IsTrue (are_printable text) }
 {}
 
-/// What is told of a listing can be printed as well.
+/// The description of a listing's fault can be printed as well.
 pub fn listing_explanations_are_printable()
     ensures whole { (name listing : List ℕ) (place : ℕ) (kind : FaultKind)
         → IsTrue (have_no_controls (listing_told name listing place kind)) }

@@ -1,8 +1,8 @@
 // What an explanation looks for among the tokens of a script.
 //
-// The mark is under the name of the command or test, the place that `check` names, also if an argument is at fault;
-// the sentence names that. A second place would be a second rule of what is at fault. Only a string that is no
-// capability is marked itself.
+// The mark is under the name of the command or test, which is the place that `check` names, also if an argument is at
+// fault; the sentence names the argument. A second place would be a second rule about what is at fault. Only a string
+// that is no capability is marked itself.
 ghost use Rattle.std.specs.Prelude.{◌≡◌, ◌<◌, ◌≤◌, ◌+◌, ◌-◌, ◌^◌, IfOk, drop, is_some, length, take_while};
 ghost use Rattle.std.specs.List.{list_any, slice_get};
 ghost use Rattle.sieve_check.specs.Names.{command_named, test_named};
@@ -20,7 +20,7 @@ use sieve_check::{command_named, test_named};
 use sieve_lexer::{Token, TokenKind, string_of};
 use std::alloc::AllocError;
 
-// The tokens from that number on.
+/// The tokens from this number on.
 #[tactic(auto, using(std::proofs::lemmas::List::drop_min))]
 pub fn tokens_from(tokens: &[Token], number: usize) -> &[Token]
     ensures { result.now ≡ drop number tokens.now }
@@ -29,14 +29,18 @@ pub fn tokens_from(tokens: &[Token], number: usize) -> &[Token]
     rest
 }
 
-/// The token with that number, if there is one.
+/// The token with this number, if there is one.
 pub fn token_at(tokens: &[Token], number: usize) -> Option<Token>
     ensures { result ≡ slice_get tokens.now number }
 {
     tokens.get(number).copied()
 }
 
-// The token of the script with that number, if there is one.
+/// The token of the script with this number, if there is one.
+///
+/// # Requires
+///
+/// The tokens are those of the script.
 pub fn token_numbered(script: &[u8], tokens: &[Token], number: usize) -> Option<Token>
     requires { AreTokens script.now tokens.now }
     ensures token { result ≡ slice_get tokens.now number }
@@ -45,7 +49,11 @@ pub fn token_numbered(script: &[u8], tokens: &[Token], number: usize) -> Option<
     token_at(tokens, number)
 }
 
-// Where the token begins; behind the last one the script's end.
+/// Where the token begins; for no token, the script's end.
+///
+/// # Requires
+///
+/// The token, if there is one, is within the script.
 pub fn start_of(script: &[u8], token: Option<Token>) -> usize
     requires { Stands script.now token }
     ensures start { result ≡ start_of script.now token }
@@ -57,7 +65,7 @@ pub fn start_of(script: &[u8], token: Option<Token>) -> usize
     }
 }
 
-/// The token's octets.
+/// The token's bytes.
 pub fn text_of<'a>(script: &'a [u8], token: &Token) -> &'a [u8]
     ensures { result.now ≡ text_of script.now token.now }
 {
@@ -66,14 +74,14 @@ pub fn text_of<'a>(script: &'a [u8], token: &Token) -> &'a [u8]
     text
 }
 
-/// Whether the token is a string.
+/// Whether a token of this kind is a string.
 pub fn is_string(kind: TokenKind) -> bool
     ensures { result ≡ is_string kind }
 {
     matches!(kind, TokenKind::QuotedString | TokenKind::MultiLineString)
 }
 
-// Whether the token is a string with that value.
+// Whether the token is a string with this value.
 #[tactic(auto, unfolding(crate::specs::Marks::has_value))]
 fn has_value(source: &Source<'_>, string: &[u8], token: &Token) -> Result<bool, AllocError>
     ensures { IfOk result (λ has. has ≡ has_value source.now.octets.now string.now token.now) }
@@ -85,7 +93,7 @@ fn has_value(source: &Source<'_>, string: &[u8], token: &Token) -> Result<bool, 
     Ok(value.as_slice() == string)
 }
 
-// The first of the tokens that is such a string, if there is one.
+// The first of the tokens that is a string with this value, if there is one.
 fn string_among(
     source: &Source<'_>,
     string: &[u8],
@@ -102,7 +110,15 @@ fn string_among(
     Ok(None)
 }
 
-// The same from the token with that number on.
+/// The same among the tokens from this number on.
+///
+/// # Requires
+///
+/// The tokens are those of the script.
+///
+/// # Errors
+///
+/// `AllocError` if memory is refused.
 pub fn string_behind(
     source: &Source<'_>,
     tokens: &[Token],
@@ -117,7 +133,7 @@ pub fn string_behind(
     string_among(source, string, tokens_from(tokens, number))
 }
 
-// Whether a number stands there.
+// Whether the token is a number.
 fn is_number_at(token: Option<Token>) -> bool
     ensures { result ≡ is_number_at token }
 {
@@ -127,7 +143,7 @@ fn is_number_at(token: Option<Token>) -> bool
     }
 }
 
-// Whether it is what people write behind a number, or behind its K, M or G.
+// Whether the text is a unit that people write after a number, or after its K, M or G.
 #[tactic(auto, unfolding(crate::specs::Marks::is_unit))]
 fn is_unit(text: &[u8]) -> bool
     ensures { result ≡ is_unit text.now }
@@ -141,7 +157,7 @@ fn is_unit(text: &[u8]) -> bool
     )
 }
 
-// Whether such a unit stands there.
+// Whether the token is such a unit.
 fn is_unit_at(script: &[u8], token: Option<Token>) -> bool
     ensures { result ≡ is_unit_at script.now token }
 {
@@ -151,21 +167,21 @@ fn is_unit_at(script: &[u8], token: Option<Token>) -> bool
     }
 }
 
-// Whether the token is no identifier.
+// Whether the token isn't an identifier.
 fn is_no_name(token: &&Token) -> bool
     ensures { result ≡ is_no_name token.now.now }
 {
     !matches!(token.kind, TokenKind::Identifier)
 }
 
-// How many tokens stand before the first identifier.
+// How many tokens there are before the first identifier.
 fn named_at(tokens: &[Token]) -> usize
     ensures { result ≡ length (take_while is_no_name tokens.now) }
 {
     tokens.iter().take_while(is_no_name).count()
 }
 
-// Whether the first identifier of the tokens is such a unit, and stands behind a number.
+/// Whether the first identifier among the tokens is such a unit, directly after a number.
 pub fn has_unit(script: &[u8], tokens: &[Token]) -> bool
     ensures { result ≡ has_unit script.now tokens.now }
 {
@@ -190,7 +206,7 @@ fn is_of_arguments(token: &&Token) -> bool
     )
 }
 
-/// How many tokens of arguments stand first.
+/// How many tokens of arguments come first.
 pub fn arguments_length(tokens: &[Token]) -> usize
     ensures value { result ≡ length (take_while is_of_arguments tokens.now) }
     ensures bound { result ≤ length tokens.now }
@@ -198,7 +214,7 @@ pub fn arguments_length(tokens: &[Token]) -> usize
     tokens.iter().take_while(is_of_arguments).count()
 }
 
-// The octets of a name that a tag has, or nothing.
+// The bytes of the token, if it is a name that a tag has; otherwise nothing.
 fn label_at(script: &[u8], token: Option<Token>) -> &[u8]
     ensures { result.now ≡ label_at script.now token }
 {
@@ -210,7 +226,7 @@ fn label_at(script: &[u8], token: Option<Token>) -> &[u8]
     }
 }
 
-// The same of what stands behind the arguments with which the tokens begin.
+/// The same for the token after the arguments with which the tokens begin.
 #[tactic(auto, unfolding(crate::specs::Marks::label_behind))]
 pub fn label_behind<'a>(script: &'a [u8], tokens: &[Token]) -> &'a [u8]
     ensures { result.now ≡ label_behind script.now tokens.now }
@@ -218,7 +234,7 @@ pub fn label_behind<'a>(script: &'a [u8], tokens: &[Token]) -> &'a [u8]
     label_at(script, token_at(tokens, arguments_length(tokens)))
 }
 
-/// Whether a comma stands there.
+/// Whether the token is a comma.
 pub fn is_separator(token: Option<Token>) -> bool
     ensures { result ≡ is_separator token }
 {
@@ -228,14 +244,14 @@ pub fn is_separator(token: Option<Token>) -> bool
     }
 }
 
-// Whether strings of a list stand behind the token.
+// Whether a string of a list can come after a token of this kind.
 fn precedes_string(kind: TokenKind) -> bool
     ensures { result ≡ precedes_string kind }
 {
     matches!(kind, TokenKind::Comma | TokenKind::OpeningBracket)
 }
 
-/// Whether the token is a word where a string of a list has to stand, by the token before it.
+/// Whether the token is a word in the place of a string of a list, by the token before it.
 pub fn is_word_in_list(before: Option<Token>, token: Token) -> bool
     ensures { result ≡ is_word_in_list before token }
 {
@@ -245,28 +261,28 @@ pub fn is_word_in_list(before: Option<Token>, token: Token) -> bool
     }
 }
 
-// Whether the word begins no command and no test, and no tag has it; behind `require` any word will do.
+// Whether no command, no test and no tag has this word as its name; after `require` any word counts.
 fn is_bare(name: &[u8], word: &[u8]) -> bool
     ensures { result ≡ is_bare name.now word.now }
 {
     is_word(name, b"require") || !(is_tag(word) || is_command(word) || is_test(word))
 }
 
-// Whether a command has that name.
+// Whether a command has this name.
 fn is_command(word: &[u8]) -> bool
     ensures { result ≡ is_some (command_named word.now) }
 {
     command_named(word).is_some()
 }
 
-// Whether a test has that name.
+// Whether a test has this name.
 fn is_test(word: &[u8]) -> bool
     ensures { result ≡ is_some (test_named word.now) }
 {
     test_named(word).is_some()
 }
 
-// The token, if it is such a word behind that name.
+// The token, if it is such a word after this name.
 fn if_bare(script: &[u8], name: &[u8], token: Option<Token>) -> Option<Token>
     ensures { result ≡ if_bare script.now name.now token }
 {
@@ -276,7 +292,7 @@ fn if_bare(script: &[u8], name: &[u8], token: Option<Token>) -> Option<Token>
     }
 }
 
-/// The word that stands behind the arguments with which the tokens begin, if it is in the place of a string.
+/// The word after the arguments with which the tokens begin, if it is in the place of a string.
 pub fn bare_behind(script: &[u8], name: &[u8], tokens: &[Token]) -> Option<Token>
     ensures { result ≡ bare_behind script.now name.now tokens.now }
 {
@@ -287,7 +303,7 @@ pub fn bare_behind(script: &[u8], name: &[u8], tokens: &[Token]) -> Option<Token
     if_bare(script, name, token_at(tokens, place))
 }
 
-/// Whether the token is an identifier.
+/// Whether a token of this kind is an identifier.
 pub fn is_name(kind: TokenKind) -> bool
     ensures { result ≡ is_name kind }
 {
@@ -307,7 +323,7 @@ fn unopened_over(kind: TokenKind, waiting: usize) -> usize
     }
 }
 
-// The token, where it is an opening brace behind which none waits for a partner.
+// The token, if it is an opening brace and no closing brace after it is without a partner.
 fn if_unclosed(token: Token, waiting: usize) -> Option<Token>
     ensures { result ≡ if_unclosed token waiting }
 {
@@ -317,7 +333,11 @@ fn if_unclosed(token: Token, waiting: usize) -> Option<Token>
     }
 }
 
-// The last opening brace that has no partner, if there is one.
+/// The last opening brace without a partner, if there is one.
+///
+/// # Requires
+///
+/// The tokens are those of the script.
 pub fn unclosed(script: &[u8], tokens: &[Token]) -> Option<Token>
     requires { AreTokens script.now tokens.now }
     ensures token { result ≡ unclosed tokens.now }

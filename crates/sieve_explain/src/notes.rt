@@ -1,48 +1,51 @@
-// What is noted of a script with which nothing is wrong.
+// What is noted about a script without a fault.
 //
-// Such a filter is right by the rules and matches nothing, or something else than was meant, without a word. The notes
-// come after `ok`, with status 0, so the first line is still the answer; `check` prints none of them: what programs
-// read stays one line. They are found among the tokens of an accepted script, where each identifier begins a command
-// or test and its arguments stand directly behind it. Each kind is as narrow as real filters need: `filename*` and
-// `***SPAM***` are sensible keys of `:contains`, `ready?` is one of `:is`, and `:matches ["boss@a", "*<boss@a>*"]` is a
-// common way to match an address with and without a name. So a `?` is never noted, several stars in a row aren't, and
-// a `:matches` is noted only if none of its keys has a wildcard. A key with a reference to a variable may hold
-// anything, and isn't noted.
-ghost use Rattle.std.specs.Prelude.{◌≡◌, ◌<◌, ◌≤◌, ◌+◌, ◌++◌, ◌-◌, ◌^◌, IfOk, OnOk, [], codes, length, take, take_while};
-ghost use Rattle.std.specs.List.{find, list_all, list_any};
+// Such a filter follows the rules, and silently matches nothing, or something else than was meant. The notes come after
+// `ok`, with status 0, so the first line is still the answer; `check` prints none of them: what programs read stays one
+// line. They are found among the tokens of an accepted script, in which each identifier begins a command or test and
+// its arguments follow directly. Each kind is as narrow as real filters need: `filename*` and `***SPAM***` are sensible
+// keys of `:contains`, `ready?` is one of `:is`, and `:matches ["boss@a", "*<boss@a>*"]` is a common way to match an
+// address with and without a name. So a `?` is never noted, several stars in a row aren't, and a `:matches` is noted
+// only if none of its keys has a wildcard. A key with a reference to a variable can hold anything, and isn't noted.
+ghost use Rattle.std.specs.Prelude.{◌≡◌, ◌==◌, ◌&&◌, ◌||◌, codes, ◌<◌, ◌≤◌, ◌+◌, ◌++◌, ◌-◌, ◌^◌, IfOk, None, OnOk, [], drop, if◌then◌else◌, length, take, take_while};
+ghost use Rattle.std.specs.List.{cons_option, filter, find, list_all, list_any};
+ghost use Rattle.sieve_explain.specs.declared.notes.NoteKind.TheVariants.{AfterIf};
+ghost use Rattle.sieve_lexer.specs.Classes.{continues_identifier};
 ghost use Rattle.sieve_lexer.specs.Values.{inner};
-ghost use Rattle.sieve_explain.specs.Notes.{arguments_of, before_last, begins_capture, begins_last, begins_with_star, block_length, branch_note, capture_note, command_at, command_note, earlier_of, ends_with_colon, ends_with_star, has_capture, has_tag, has_wildcard, header_note, if_note, is_beyond, is_blank, is_capture_digit, is_digest, is_digit, is_dollar, is_inside, is_large, is_noted, is_noted_text, is_star, is_tagged, is_variables, is_wildcard, is_word_at, keys_note, lacks_captures, last_of, more_notes_blanks, names_note, next_note, note_at, note_blanks, note_in, note_text, noted_as, notes_from, notes_of, onto, open_behind, opens_list, patterns_note, size_note, test_note};
-ghost use Rattle.sieve_explain.specs.Marks.{is_amount};
-ghost use Rattle.sieve_explain.specs.Private.{blanks_of, max_noted};
+ghost use Rattle.sieve_explain.specs.Notes.{arguments_of, before_last, begins_branch, begins_capture, begins_inbox, begins_last, begins_literal, begins_with_star, behind_block, block_length, block_of, blocks_of, branch_note, capture_kind, capture_note, chain_note, closes_block, closes_group, command_at, command_note, earlier_of, ends, ends_with_colon, ends_with_star, expands_references, fields_note, first_named, given_by, given_in, given_of, gives_value, has_capture, has_empty, has_inbox, has_literal, has_no_value, has_tag, has_wildcard, header_note, if_note, inbox_note, inside_behind, is_always_false, is_always_true, is_backslash, is_beyond, is_blank, is_constant, is_digest, is_digit, is_dollar, is_else, is_ending, is_first, is_inbox, is_inside, is_large, is_literal, is_long, is_named, is_named_by, is_no_opening, is_noted, is_noted_text, is_number_above, is_other_source, is_part_field, is_read, is_reference, is_root_field, is_star, is_star_or_mark, is_tagged, is_text, is_unclear, is_unread, is_variables, is_wildcard, is_word_at, kept_note, keys_note, lacks_value, last_of, long_note, loop_note, may_name, may_refer, more_notes_blanks, most_captures, most_in, most_of, names_loop, names_note, next_note, next_of, note_at, note_blanks, note_in, note_number, note_text, noted_as, notes_from, notes_of, onto, open_behind, opens_block, opens_group, opens_list, part_note, patterns_note, precedes_test, reads, referred, refers_to, refers_to_none, requires_variables, root_note, scope_note, size_note, string_note, test_note, unread_note, value_note, wildcards_of, word_note};
+ghost use Rattle.sieve_explain.specs.Marks.{is_amount, is_name};
+ghost use Rattle.sieve_explain.specs.Private.{NameAlike, blanks_of, known_view, max_noted};
 
 use crate::marks::{
     arguments_length, is_name, is_separator, is_string, text_of, token_at, tokens_from,
 };
 use crate::remarks::Source;
 use crate::sentence::{Sentence, plain};
-use octets::is_word;
+use crate::words::is_any;
+use octets::{MAX_VALUE, is_word};
 use readable_text::places::around;
-use sieve_lexer::{Token, TokenKind, number_of};
+use sieve_lexer::{Token, TokenKind, continues_identifier, number_of};
+use sieve_references::is_identifier;
 use std::alloc::AllocError;
 
-/// How many notes are told of a script.
+/// The most notes that are printed for a script.
 pub const MAX_NOTES: usize = 20;
 
-// How many are looked for: one more says that there are more.
+// How many notes are looked for: one more shows that there are more.
 const MAX_NOTED: usize = 21;
 
-// How many octets the largest message has.
+// How many bytes the largest message has.
 const MAX_MESSAGE: u64 = 1 << 26;
 
-// The last octet of ASCII.
+// The last character of ASCII.
 const LAST_ASCII: u8 = 0x7f;
 
-/// The kinds of notes. What each says stands in `note_text`.
+/// The kinds of notes. `note_text` has the sentence of each.
 #[derive(Clone, Copy)]
 pub enum NoteKind {
     /// A string of `header` isn't ASCII.
     Foreign,
-    /// The name of a field ends in a colon.
+    /// The name of a field ends with a colon.
     Colon,
     /// The name of a field has a blank.
     Space,
@@ -54,77 +57,139 @@ pub enum NoteKind {
     NoWildcard,
     /// A key of `partdigest` is no digest.
     NoDigest,
+    /// A key of `string` is longer than the value of any variable.
+    LongKey,
     /// A message is never over that size.
     LargeSize,
-    /// A capture is referred to where no `:matches` stands.
+    /// A string refers to a capture, and the script has no `:matches`.
     NoCapture,
-    /// A branch stands behind `true`.
+    /// A string refers to a capture, and no key of a `:matches` has that many wildcards.
+    FewWildcards,
+    /// A string refers to a variable, and no command of the script gives it a value.
+    NoValue,
+    /// A command gives a variable a value, and nothing reads it.
+    Unread,
+    /// In a loop over parts a test asks for a field of parts without `:mime`.
+    PartField,
+    /// A test with `:anychild` asks for a field that other parts don't have.
+    RootField,
+    /// A `keep` and a `fileinto` into INBOX come one after the other.
+    TwoEntries,
+    /// A loop stores each part.
+    StoresAll,
+    /// A block comes after a test that is always false.
+    BehindFalse,
+    /// A branch comes after a test that is always true.
     AfterTrue,
-    /// A command stands behind `stop`.
+    /// A command comes after `stop`.
     AfterStop,
-    /// A command stands behind `break`.
+    /// A command comes after `break`.
     AfterBreak,
+    /// A command comes after an `if` whose branches all have a `stop` or `break`.
+    AfterIf,
 }
 
 /// A note, and the place of the script that it is about.
 #[derive(Clone, Copy)]
 pub struct Noted {
+    /// The byte of the script at which its token begins, counted from 0.
     pub place: usize,
+    /// What is noted.
     pub kind: NoteKind,
 }
 
-// The text of the sentence for a note of that kind.
+// The text of the sentence for a note of this kind.
 #[tactic(auto, unfolding(crate::specs::Notes::note_text))]
 fn note_text(kind: NoteKind) -> &'static str
     ensures { result.now ≡ note_text kind }
 {
     match kind {
         NoteKind::Foreign => {
-            "header fields are compared as they are written, and mail mostly writes such letters encoded, as =?UTF-8?..?=: this may never match"
+            "fields are compared without decoding, and mail usually encodes such letters, as in =?UTF-8?..?=: this rarely matches"
         }
-        NoteKind::Colon => "no field has a name that ends in a colon: leave the colon out",
-        NoteKind::Space => "no field has a name with a blank in it: leave the blank out",
+        NoteKind::Colon => "no field name ends in a colon: remove the colon",
+        NoteKind::Space => "no field name contains a blank: remove the blank",
         NoteKind::StarInContains => {
-            "a star stands for itself here: leave it out, or write `:matches` if it is to stand for any text"
+            "`*` matches only itself here: remove it, or use `:matches` if it should match any text"
         }
         NoteKind::StarInIs => {
-            "a star stands for itself here: write `:matches` if it is to stand for any text"
+            "`*` matches only itself here: use `:matches` if it should match any text"
         }
         NoteKind::NoWildcard => {
-            "this `:matches` has no `*` and no `?`, so it compares whole values as `:is` does: put `*` where any text may stand, or write `:is`"
+            "this `:matches` has no `*` and no `?`, so it compares whole values like `:is`: write `:is`, or add a wildcard"
         }
         NoteKind::NoDigest => {
-            "no part has this digest: write 64 hexadecimal digits, with letters in lower case"
+            "no part has this digest: write 64 hexadecimal digits, with lower-case letters"
+        }
+        NoteKind::LongKey => {
+            "a variable holds at most % bytes, so this key never matches: write a shorter one"
         }
         NoteKind::LargeSize => {
-            "no message is so large: the largest one has % bytes, so write a smaller number"
+            "no message is larger than % bytes, so this is never true: write a smaller number"
         }
         NoteKind::NoCapture => {
-            "a number in this string is always empty: only a test with `:matches` gives it text, and the script has none"
+            "a numbered reference in this string is always empty: the script has no test with `:matches` to set it"
         }
-        NoteKind::AfterTrue => "this branch never runs: the test before it is always true",
-        NoteKind::AfterStop => "this never runs: put it before the `stop`, which ends the script",
-        NoteKind::AfterBreak => "this never runs: put it before the `break`, which leaves the loop",
+        NoteKind::FewWildcards => {
+            "a numbered reference in this string is always empty: no test with `:matches` has that many wildcards"
+        }
+        NoteKind::NoValue => {
+            "a variable in this string is always empty: no `set` or `take` gives it a value"
+        }
+        NoteKind::Unread => {
+            "no other command or test reads this variable: remove this command, or check how references spell its name"
+        }
+        NoteKind::PartField => {
+            "without `:mime` this tests the field of the message, not of the current part: add `:mime`, or move the test out of the loop"
+        }
+        NoteKind::RootField => {
+            "parts other than attached messages don't have this field: remove `:anychild` to test only the message"
+        }
+        NoteKind::TwoEntries => {
+            "this files the message into INBOX a second time: remove this command or the one before it"
+        }
+        NoteKind::StoresAll => {
+            "this also stores each multipart, which contains its parts again: put it in an `if` that tests the type of the part"
+        }
+        NoteKind::BehindFalse => { "this test is always false, so its block never runs" }
+        NoteKind::AfterTrue => "this branch never runs, because the test before it is always true",
+        NoteKind::AfterStop =>
+            "this never runs, because `stop` ends the script: move it before the `stop`",
+        NoteKind::AfterBreak =>
+            "this never runs, because `break` leaves the loop: move it before the `break`",
+        NoteKind::AfterIf => {
+            "this never runs, because each branch of the `if` before it has a `stop` or `break`"
+        }
     }
 }
 
-/// The sentence for a note of that kind.
+// The number in the sentence for a note of this kind.
+fn note_number(kind: NoteKind) -> u64
+    ensures { result ≡ note_number kind }
+{
+    match kind {
+        NoteKind::LongKey => MAX_VALUE as u64,
+        _ => MAX_MESSAGE,
+    }
+}
+
+/// The sentence for a note of this kind.
 pub fn note_sentence(kind: NoteKind) -> Sentence<'static>
     ensures { blanks_of result ≡ note_blanks kind }
 {
     Sentence {
-        number: MAX_MESSAGE,
+        number: note_number(kind),
         ..plain(note_text(kind))
     }
 }
 
-/// The sentence behind the last of the notes that are told.
+/// The sentence after the last note that is printed.
 pub fn more_notes_sentence() -> Sentence<'static>
     ensures { blanks_of result ≡ more_notes_blanks }
 {
     Sentence {
         number: MAX_NOTES as u64,
-        ..plain("more is noted than this: the first % are told")
+        ..plain("only the first % notes are shown")
     }
 }
 
@@ -137,35 +202,35 @@ fn inner(text: &[u8]) -> &[u8]
     between
 }
 
-// Whether a text has an octet that isn't ASCII.
+// Whether a text has a byte that isn't ASCII.
 fn has_beyond(text: &[u8]) -> bool
     ensures { result ≡ list_any is_beyond text.now }
 {
     text.iter().any(|octet| *octet > LAST_ASCII)
 }
 
-// Whether it has a blank.
+// Whether a text has a blank.
 fn has_blank(text: &[u8]) -> bool
     ensures { result ≡ list_any is_blank text.now }
 {
     text.iter().any(|octet| *octet == b' ' || *octet == b'\t')
 }
 
-// Whether it may have a reference to a variable.
+// Whether a text can have a reference to a variable.
 fn has_dollar(text: &[u8]) -> bool
     ensures { result ≡ list_any is_dollar text.now }
 {
     text.iter().any(|octet| *octet == b'$')
 }
 
-// Whether it is a star alone.
+// Whether a text is just a star.
 fn is_star(text: &[u8]) -> bool
     ensures { result ≡ is_star text.now }
 {
     text == b"*".as_slice()
 }
 
-// Whether a star comes first, and something else behind it.
+// Whether a star comes first, and something else after it.
 fn begins_with_star(text: &[u8]) -> bool
     ensures { result ≡ begins_with_star text.now }
 {
@@ -198,46 +263,83 @@ fn are_digits(text: &[u8]) -> bool
     text.iter().all(|octet| octet.is_ascii_hexdigit() && !octet.is_ascii_uppercase())
 }
 
-// Whether it is a digest as `partdigest` compares it.
+// Whether a text is a digest as `partdigest` compares it.
 fn is_digest(text: &[u8]) -> bool
     ensures { result ≡ is_digest text.now }
 {
     text.len() == 64 && are_digits(text)
 }
 
-// Whether the text has a number from 1 to 9.
-fn has_capture_digit(text: &[u8]) -> bool
-    ensures { result ≡ list_any is_capture_digit text.now }
+// Whether the byte is the digit of a number above this one.
+fn is_number_above(most: usize, octet: u8) -> bool
+    ensures { result ≡ is_number_above most octet }
 {
-    text.iter().any(|octet| *octet >= b'1' && *octet <= b'9')
+    octet >= b'0' && octet <= b'9' && usize::from(octet - b'0') > most
 }
 
-// Whether a reference to what a wildcard matched comes first.
-fn begins_capture(text: &[u8]) -> bool
-    ensures { result ≡ begins_capture text.now }
+// Whether there is such a digit.
+fn has_number_above(most: usize, text: &[u8]) -> bool
+    ensures { result ≡ list_any (is_number_above most) text.now }
 {
-    let (start, behind) = around(text, 2);
-    let (digit, _) = around(behind, 1);
-    let (_, from_end) = around(text, 3);
-    let (end, _) = around(from_end, 1);
-    start == b"${".as_slice() && has_capture_digit(digit) && end == b"}".as_slice()
-}
-
-// Whether there is one anywhere.
-fn has_capture(text: &[u8]) -> bool
-    ensures { result ≡ has_capture text.now }
-{
-    for place in 0..text.len() {
-        let _octet = text[place];
-        let (_, rest) = around(text, place);
-        if begins_capture(rest) {
+    for octet in text {
+        if is_number_above(most, *octet) {
             return true;
         }
     }
     false
 }
 
-// Whether the text between a string's quotes is noted so.
+// Whether a reference to a capture above this number comes first.
+fn begins_capture(most: usize, text: &[u8]) -> bool
+    ensures { result ≡ begins_capture most text.now }
+{
+    let (start, behind) = around(text, 2);
+    let (digit, _) = around(behind, 1);
+    let (_, from_end) = around(text, 3);
+    let (end, _) = around(from_end, 1);
+    start == b"${".as_slice() && has_number_above(most, digit) && end == b"}".as_slice()
+}
+
+// Whether there is such a reference anywhere.
+fn has_capture(most: usize, text: &[u8]) -> bool
+    ensures { result ≡ has_capture most text.now }
+{
+    for place in 0..text.len() {
+        let _octet = text[place];
+        let (_, rest) = around(text, place);
+        if begins_capture(most, rest) {
+            return true;
+        }
+    }
+    false
+}
+
+// Whether each part has a field of this name.
+#[tactic(auto, unfolding(crate::specs::Notes::is_part_field))]
+fn is_part_field(name: &[u8]) -> bool
+    ensures { result ≡ is_part_field name.now }
+{
+    is_any(
+        name,
+        &[
+            "content-type",
+            "content-disposition",
+            "content-transfer-encoding",
+            "content-id",
+            "content-description",
+        ],
+    )
+}
+
+// Whether a message has a field of this name, and other parts don't.
+#[tactic(auto, unfolding(crate::specs::Notes::is_root_field))]
+fn is_root_field(name: &[u8]) -> bool
+    ensures { result ≡ is_root_field name.now }
+{
+    is_any(name, &["subject", "from", "to", "list-id"])
+}
+
+// Whether the text between a string's quotes gets a note of this kind.
 fn is_noted_text(kind: NoteKind, text: &[u8]) -> bool
     ensures { result ≡ is_noted_text kind text.now }
 {
@@ -249,13 +351,25 @@ fn is_noted_text(kind: NoteKind, text: &[u8]) -> bool
         NoteKind::StarInIs => begins_with_star(text) || ends_with_star(text),
         NoteKind::NoWildcard => true,
         NoteKind::NoDigest => !(is_digest(text) || has_dollar(text)),
-        NoteKind::NoCapture => has_capture(text),
-        NoteKind::LargeSize | NoteKind::AfterTrue | NoteKind::AfterStop | NoteKind::AfterBreak =>
-            false,
+        NoteKind::PartField => is_part_field(text),
+        NoteKind::RootField => is_root_field(text),
+        NoteKind::LongKey
+        | NoteKind::LargeSize
+        | NoteKind::NoCapture
+        | NoteKind::FewWildcards
+        | NoteKind::NoValue
+        | NoteKind::Unread
+        | NoteKind::TwoEntries
+        | NoteKind::StoresAll
+        | NoteKind::BehindFalse
+        | NoteKind::AfterTrue
+        | NoteKind::AfterStop
+        | NoteKind::AfterBreak
+        | NoteKind::AfterIf => false,
     }
 }
 
-// Whether no message's size is over the number.
+// Whether no message can be larger than the number.
 fn is_large(number: Option<u64>) -> bool
     ensures { result ≡ is_large number }
 {
@@ -265,13 +379,21 @@ fn is_large(number: Option<u64>) -> bool
     }
 }
 
-// Whether the token is noted so.
+// Whether a variable can't hold a text, and the text is compared as it is written.
+fn is_long(text: &[u8]) -> bool
+    ensures { result ≡ is_long text.now }
+{
+    text.len() > MAX_VALUE && !is_unclear(text)
+}
+
+// Whether the token gets a note of this kind.
 #[tactic(auto, unfolding(crate::specs::Notes::is_noted))]
 fn is_noted(script: &[u8], kind: NoteKind, token: &Token) -> bool
     ensures { result ≡ is_noted script.now kind token.now }
 {
     let text = text_of(script, token);
     match kind {
+        NoteKind::LongKey => matches!(token.kind, TokenKind::QuotedString) && is_long(inner(text)),
         NoteKind::LargeSize => is_amount(token.kind) && is_large(number_of(text)),
         _ => is_string(token.kind) && is_noted_text(kind, inner(text)),
     }
@@ -284,7 +406,7 @@ fn is_amount(kind: TokenKind) -> bool
     matches!(kind, TokenKind::Number)
 }
 
-// The token, noted so.
+// A note of this kind on the token.
 fn noted_as(kind: NoteKind, token: Token) -> Noted
     ensures { result ≡ noted_as kind token }
 {
@@ -294,7 +416,7 @@ fn noted_as(kind: NoteKind, token: Token) -> Noted
     }
 }
 
-// The first of the tokens that is noted so.
+// The first of the tokens that gets a note of this kind.
 fn first_noted(script: &[u8], kind: NoteKind, tokens: &[Token]) -> Option<Token>
     ensures { result ≡ find (is_noted script.now kind) tokens.now }
 {
@@ -316,7 +438,7 @@ fn note_in(script: &[u8], kind: NoteKind, tokens: &[Token]) -> Option<Noted>
     }
 }
 
-// The tokens before that number.
+// The tokens before this number.
 #[tactic(auto, using(std::proofs::lemmas::List::take_min))]
 fn tokens_before(tokens: &[Token], number: usize) -> &[Token]
     ensures { result.now ≡ take number tokens.now }
@@ -325,7 +447,7 @@ fn tokens_before(tokens: &[Token], number: usize) -> &[Token]
     before
 }
 
-// The arguments behind the name of a test, without a comma behind them.
+// The arguments after the name of a test, without a comma at their end.
 fn arguments_of(rest: &[Token]) -> &[Token]
     ensures { result.now ≡ arguments_of rest.now }
 {
@@ -338,14 +460,14 @@ fn arguments_of(rest: &[Token]) -> &[Token]
     }
 }
 
-// Whether the token is that tag.
+// Whether the token is this tag.
 fn is_tagged(script: &[u8], tag: &[u8], token: &Token) -> bool
     ensures { result ≡ is_tagged script.now tag.now token.now }
 {
     matches!(token.kind, TokenKind::Tag) && is_word(text_of(script, token), tag)
 }
 
-// Whether that tag is among the arguments.
+// Whether this tag is among the arguments.
 fn has_tag(script: &[u8], tag: &[u8], arguments: &[Token]) -> bool
     ensures { result ≡ has_tag script.now tag.now arguments.now }
 {
@@ -364,14 +486,14 @@ fn opens_list(kind: TokenKind) -> bool
     matches!(kind, TokenKind::OpeningBracket)
 }
 
-// Whether the token closes no list.
+// Whether the token doesn't close a list.
 fn is_inside(token: &&Token) -> bool
     ensures { result ≡ is_inside token.now.now }
 {
     !matches!(token.kind, TokenKind::ClosingBracket)
 }
 
-// How many tokens stand before the end of a list.
+// How many tokens there are before the end of a list.
 fn inside_length(tokens: &[Token]) -> usize
     ensures value { result ≡ length (take_while is_inside tokens.now) }
     ensures bound { result ≤ length tokens.now }
@@ -379,7 +501,7 @@ fn inside_length(tokens: &[Token]) -> usize
     tokens.iter().take_while(is_inside).count()
 }
 
-// Whether the last argument begins with the token: a string behind which nothing stands, or a list.
+// Whether the last argument begins with the token: a string with nothing after it, or a list.
 fn begins_last(token: Token, behind: &[Token]) -> bool
     ensures { result ≡ begins_last token behind.now }
 {
@@ -390,7 +512,7 @@ fn begins_last(token: Token, behind: &[Token]) -> bool
     }
 }
 
-// How many tokens of the arguments stand before the last of them.
+// How many tokens of the arguments come before the last argument.
 fn before_last(arguments: &[Token]) -> usize
     ensures { result ≡ before_last arguments.now }
 {
@@ -409,21 +531,21 @@ fn last_of(arguments: &[Token]) -> &[Token]
     tokens_from(arguments, before_last(arguments))
 }
 
-// The arguments before it.
+// The arguments before the last one.
 fn earlier_of(arguments: &[Token]) -> &[Token]
     ensures { result.now ≡ earlier_of arguments.now }
 {
     tokens_before(arguments, before_last(arguments))
 }
 
-// Of names of fields.
+// The note on names of fields.
 fn names_note(script: &[u8], names: &[Token]) -> Option<Noted>
     ensures { result ≡ names_note script.now names.now }
 {
     note_in(script, NoteKind::Colon, names).or(note_in(script, NoteKind::Space, names))
 }
 
-// Whether the text may have a wildcard or a reference.
+// Whether the text can have a wildcard or a reference.
 fn is_pattern(text: &[u8]) -> bool
     ensures { result ≡ list_any is_wildcard text.now }
 {
@@ -431,14 +553,14 @@ fn is_pattern(text: &[u8]) -> bool
         .any(|octet| *octet == b'*' || *octet == b'?' || *octet == b'$')
 }
 
-// Whether the token may have one.
+// Whether the token can have a wildcard or a reference.
 fn has_wildcard(script: &[u8], token: &Token) -> bool
     ensures { result ≡ has_wildcard script.now token.now }
 {
     is_pattern(text_of(script, token))
 }
 
-// Whether one of them has.
+// Whether one of the keys has.
 fn have_wildcard(script: &[u8], keys: &[Token]) -> bool
     ensures { result ≡ list_any (has_wildcard script.now) keys.now }
 {
@@ -450,7 +572,7 @@ fn have_wildcard(script: &[u8], keys: &[Token]) -> bool
     false
 }
 
-// Of keys of `:matches`.
+// The note on keys of `:matches`.
 fn patterns_note(script: &[u8], keys: &[Token]) -> Option<Noted>
     ensures { result ≡ patterns_note script.now keys.now }
 {
@@ -460,7 +582,7 @@ fn patterns_note(script: &[u8], keys: &[Token]) -> Option<Noted>
     note_in(script, NoteKind::NoWildcard, keys)
 }
 
-// Of the keys of a test with these arguments, by how it compares.
+// The note on the keys of a test with these arguments, by its kind of comparison.
 #[tactic(auto, unfolding(crate::specs::Notes::keys_note))]
 fn keys_note(script: &[u8], arguments: &[Token]) -> Option<Noted>
     ensures { result ≡ keys_note script.now arguments.now }
@@ -475,7 +597,7 @@ fn keys_note(script: &[u8], arguments: &[Token]) -> Option<Noted>
     }
 }
 
-// Of a `header` with these arguments.
+// The note on a `header` with these arguments.
 #[tactic(auto, unfolding(crate::specs::Notes::header_note))]
 fn header_note(script: &[u8], arguments: &[Token]) -> Option<Noted>
     ensures { result ≡ header_note script.now arguments.now }
@@ -485,7 +607,7 @@ fn header_note(script: &[u8], arguments: &[Token]) -> Option<Noted>
         .or(note_in(script, NoteKind::Foreign, arguments))
 }
 
-// Of a `size` with these arguments.
+// The note on a `size` with these arguments.
 fn size_note(script: &[u8], arguments: &[Token]) -> Option<Noted>
     ensures { result ≡ size_note script.now arguments.now }
 {
@@ -495,14 +617,55 @@ fn size_note(script: &[u8], arguments: &[Token]) -> Option<Noted>
     note_in(script, NoteKind::LargeSize, arguments)
 }
 
-// Of the test with that name and these arguments.
+// Whether the text is a reference to a variable, and nothing else.
+fn is_reference(text: &[u8]) -> bool
+    ensures { result ≡ is_reference text.now }
+{
+    let name = referred(text);
+    name.len() > 0 && text.len() == name.len().saturating_add(3)
+}
+
+// Whether the token is a source of a `string` that isn't a variable.
+fn is_other_source(script: &[u8], token: &Token) -> bool
+    ensures { result ≡ is_other_source script.now token.now }
+{
+    is_string(token.kind) && !is_reference(inner(text_of(script, token)))
+}
+
+// Whether one of the tokens is.
+fn have_other_source(script: &[u8], sources: &[Token]) -> bool
+    ensures { result ≡ list_any (is_other_source script.now) sources.now }
+{
+    for token in sources {
+        if is_other_source(script, token) {
+            return true;
+        }
+    }
+    false
+}
+
+// The note on a key of a `string` that no variable can match.
+#[tactic(auto, unfolding(crate::specs::Notes::long_note))]
+fn long_note(script: &[u8], arguments: &[Token]) -> Option<Noted>
+    ensures { result ≡ long_note script.now arguments.now }
+{
+    let sources = last_of(earlier_of(arguments));
+    if has_tag(script, b":matches", arguments) || have_other_source(script, sources) {
+        return None;
+    }
+    note_in(script, NoteKind::LongKey, last_of(arguments))
+}
+
+// The note on the test with this name and these arguments.
 #[tactic(auto, unfolding(crate::specs::Notes::test_note))]
 fn test_note(script: &[u8], name: &[u8], arguments: &[Token]) -> Option<Noted>
     ensures { result ≡ test_note script.now name.now arguments.now }
 {
     if is_word(name, b"header") {
         header_note(script, arguments)
-    } else if is_word(name, b"string") || is_word(name, b"partbody") {
+    } else if is_word(name, b"string") {
+        keys_note(script, arguments).or(long_note(script, arguments))
+    } else if is_word(name, b"partbody") {
         keys_note(script, arguments)
     } else if is_word(name, b"exists") {
         names_note(script, last_of(arguments))
@@ -515,7 +678,48 @@ fn test_note(script: &[u8], name: &[u8], arguments: &[Token]) -> Option<Noted>
     }
 }
 
-// How many braces are open behind one more token.
+// The note on names of fields in a test with these arguments; `inside` is 0 if it isn't in a loop over parts.
+fn part_note(script: &[u8], inside: usize, names: &[Token], arguments: &[Token]) -> Option<Noted>
+    ensures { result ≡ part_note script.now inside names.now arguments.now }
+{
+    if inside == 0 || has_tag(script, b":mime", arguments) {
+        return None;
+    }
+    note_in(script, NoteKind::PartField, names)
+}
+
+// The note on names of fields in a test with these arguments, if it asks for the fields of all parts.
+fn root_note(script: &[u8], names: &[Token], arguments: &[Token]) -> Option<Noted>
+    ensures { result ≡ root_note script.now names.now arguments.now }
+{
+    if !has_tag(script, b":anychild", arguments) {
+        return None;
+    }
+    note_in(script, NoteKind::RootField, names)
+}
+
+// Either of these notes.
+fn fields_note(script: &[u8], inside: usize, names: &[Token], arguments: &[Token]) -> Option<Noted>
+    ensures { result ≡ fields_note script.now inside names.now arguments.now }
+{
+    part_note(script, inside, names, arguments).or(root_note(script, names, arguments))
+}
+
+// The same for the test with this name.
+#[tactic(auto, unfolding(crate::specs::Notes::scope_note))]
+fn scope_note(script: &[u8], inside: usize, name: &[u8], arguments: &[Token]) -> Option<Noted>
+    ensures { result ≡ scope_note script.now inside name.now arguments.now }
+{
+    if is_word(name, b"exists") {
+        fields_note(script, inside, last_of(arguments), arguments)
+    } else if is_word(name, b"header") {
+        fields_note(script, inside, last_of(earlier_of(arguments)), arguments)
+    } else {
+        None
+    }
+}
+
+// How many braces are open after one more token.
 fn open_behind(kind: TokenKind, depth: usize) -> usize
     requires { depth + 1 < 2 ^ 64 }
     ensures depth { result ≡ open_behind kind depth }
@@ -528,7 +732,7 @@ fn open_behind(kind: TokenKind, depth: usize) -> usize
     }
 }
 
-// How many tokens there are up to the one behind which no brace is open.
+// How many tokens there are up to the one after which no brace is open.
 fn block_length(tokens: &[Token]) -> usize
     ensures { result ≡ block_length 0 tokens.now }
 {
@@ -542,7 +746,7 @@ fn block_length(tokens: &[Token]) -> usize
     tokens.len()
 }
 
-// Whether that word stands there.
+// Whether the token is this word.
 fn is_word_at(script: &[u8], word: &[u8], token: Option<Token>) -> bool
     ensures { result ≡ is_word_at script.now word.now token }
 {
@@ -562,46 +766,388 @@ fn command_at(kind: NoteKind, token: Option<Token>) -> Option<Noted>
     }
 }
 
-// Of an `elsif` or `else` behind the first block of the tokens.
+// Whether the token begins another branch.
+fn begins_branch(script: &[u8], token: Option<Token>) -> bool
+    ensures { result ≡ begins_branch script.now token }
+{
+    is_word_at(script, b"elsif", token) || is_word_at(script, b"else", token)
+}
+
+// Whether the token opens no block.
+fn is_no_opening(token: &&Token) -> bool
+    ensures { result ≡ is_no_opening token.now.now }
+{
+    !matches!(token.kind, TokenKind::OpeningBrace)
+}
+
+// How many tokens there are before the first brace that opens a block.
+fn opening_at(tokens: &[Token]) -> usize
+    ensures { result ≡ length (take_while is_no_opening tokens.now) }
+{
+    tokens.iter().take_while(is_no_opening).count()
+}
+
+// The tokens from that brace on.
+fn blocks_of(tokens: &[Token]) -> &[Token]
+    ensures { result.now ≡ blocks_of tokens.now }
+{
+    tokens_from(tokens, opening_at(tokens))
+}
+
+// The note on an `elsif` or `else` after the first block of the tokens.
 fn branch_note(script: &[u8], tokens: &[Token]) -> Option<Noted>
     ensures { result ≡ branch_note script.now tokens.now }
 {
     let next = token_at(tokens, block_length(tokens));
-    if is_word_at(script, b"elsif", next) || is_word_at(script, b"else", next) {
+    if begins_branch(script, next) {
         command_at(NoteKind::AfterTrue, next)
     } else {
         None
     }
 }
 
-// Of an `if` or `elsif` before these tokens.
+// Whether the tokens begin with the word, or with `not` and the other one.
+fn is_literal(script: &[u8], word: &[u8], other: &[u8], tokens: &[Token]) -> bool
+    ensures { result ≡ is_literal script.now word.now other.now tokens.now }
+{
+    let first = token_at(tokens, 0);
+    is_word_at(script, word, first)
+        || (is_word_at(script, b"not", first) && is_word_at(script, other, token_at(tokens, 1)))
+}
+
+// Whether the token opens a group of tests.
+fn opens_group(token: &Token) -> bool
+    ensures { result ≡ opens_group token.now }
+{
+    matches!(token.kind, TokenKind::OpeningParenthesis)
+}
+
+// Whether the token closes one.
+fn closes_group(token: &Token) -> bool
+    ensures { result ≡ closes_group token.now }
+{
+    matches!(token.kind, TokenKind::ClosingParenthesis)
+}
+
+// Whether the token comes directly before a test of a group.
+fn precedes_test(token: Option<Token>) -> bool
+    ensures { result ≡ precedes_test token }
+{
+    match token {
+        Some(token) => matches!(token.kind, TokenKind::Comma | TokenKind::OpeningParenthesis),
+        None => false,
+    }
+}
+
+// Whether the place after so many opening and closing brackets or braces is at the level of the first one.
+fn is_level(opened: usize, closed: usize) -> bool
+    requires { closed + 1 < 2 ^ 64 }
+    ensures { result ≡ (opened == closed + 1) }
+{
+    opened == closed + 1
+}
+
+// How many there are after one more token.
+fn counted(number: usize, counts: bool) -> usize
+    requires { number + 1 < 2 ^ 64 }
+    ensures { result ≡ number + (if counts then 1 else 0) }
+{
+    if counts { number + 1 } else { number }
+}
+
+// Whether a test of a group begins at that place of its tokens, and is the word, or `not` and the other one.
+fn begins_literal(script: &[u8], word: &[u8], other: &[u8], tokens: &[Token], place: usize) -> bool
+    ensures { result ≡ begins_literal script.now word.now other.now tokens.now place }
+{
+    precedes_test(token_at(tokens, place.saturating_sub(1)))
+        && is_literal(script, word, other, tokens_from(tokens, place))
+}
+
+// The same for a test of the group itself; `own` says whether the place is at its level.
+fn is_literal_here(
+    script: &[u8],
+    word: &[u8],
+    other: &[u8],
+    own: bool,
+    tokens: &[Token],
+    place: usize,
+) -> bool
+    ensures { result ≡ (own && begins_literal script.now word.now other.now tokens.now place) }
+{
+    own && begins_literal(script, word, other, tokens, place)
+}
+
+// Whether a test of the group with these tokens is the word, or `not` and the other one.
+fn has_literal(script: &[u8], word: &[u8], other: &[u8], tokens: &[Token]) -> bool
+    ensures { result ≡ has_literal script.now word.now other.now tokens.now }
+{
+    let mut opened = 0;
+    let mut closed = 0;
+    for place in 0..tokens.len() {
+        if is_literal_here(script, word, other, is_level(opened, closed), tokens, place) {
+            return true;
+        }
+        opened = counted(opened, opens_group(&tokens[place]));
+        closed = counted(closed, closes_group(&tokens[place]));
+    }
+    false
+}
+
+// Whether the test with these tokens is the word, or `not` and the other one, or a group with such a test.
+#[tactic(auto, unfolding(crate::specs::Notes::is_constant))]
+fn is_constant(script: &[u8], word: &[u8], other: &[u8], group: &[u8], tokens: &[Token]) -> bool
+    ensures { result ≡ is_constant script.now word.now other.now group.now tokens.now }
+{
+    is_literal(script, word, other, tokens)
+        || (is_word_at(script, group, token_at(tokens, 0))
+            && has_literal(script, word, other, tests_of(tokens)))
+}
+
+// The tokens before the first block.
+fn tests_of(tokens: &[Token]) -> &[Token]
+    ensures { result.now ≡ take_while is_no_opening tokens.now }
+{
+    tokens_before(tokens, opening_at(tokens))
+}
+
+// Whether the test with these tokens is true of every message.
+fn is_always_true(script: &[u8], tokens: &[Token]) -> bool
+    ensures { result ≡ is_always_true script.now tokens.now }
+{
+    is_constant(script, b"true", b"false", b"anyof", tokens)
+}
+
+// Whether it is false of every message.
+fn is_always_false(script: &[u8], tokens: &[Token]) -> bool
+    ensures { result ≡ is_always_false script.now tokens.now }
+{
+    is_constant(script, b"false", b"true", b"allof", tokens)
+}
+
+// The note on an `if` or `elsif` before these tokens.
+#[tactic(auto, unfolding(crate::specs::Notes::if_note))]
 fn if_note(script: &[u8], rest: &[Token]) -> Option<Noted>
     ensures { result ≡ if_note script.now rest.now }
 {
-    if !is_word_at(script, b"true", token_at(rest, 0)) {
-        return None;
+    if is_always_true(script, rest) {
+        branch_note(script, blocks_of(rest))
+    } else if is_always_false(script, rest) {
+        command_at(NoteKind::BehindFalse, token_at(rest, 0))
+    } else {
+        None
     }
-    branch_note(script, tokens_from(rest, 1))
 }
 
-// Of the command behind the arguments of one that ends with a semicolon.
+// The tokens of the first block, and those after it.
+fn block_and_rest(tokens: &[Token]) -> (&[Token], &[Token])
+    ensures block { result.0.now ≡ block_of tokens.now }
+    ensures behind { result.1.now ≡ behind_block tokens.now }
+{
+    let blocks = blocks_of(tokens);
+    let size = block_length(blocks);
+    (tokens_before(blocks, size), tokens_from(blocks, size))
+}
+
+// Whether the token opens a block.
+fn opens_block(token: &Token) -> bool
+    ensures { result ≡ opens_block token.now }
+{
+    matches!(token.kind, TokenKind::OpeningBrace)
+}
+
+// Whether the token closes one.
+fn closes_block(token: &Token) -> bool
+    ensures { result ≡ closes_block token.now }
+{
+    matches!(token.kind, TokenKind::ClosingBrace)
+}
+
+// Whether the token is a command after which no other of its block runs.
+fn is_ending(script: &[u8], token: Option<Token>) -> bool
+    ensures { result ≡ is_ending script.now token }
+{
+    is_word_at(script, b"stop", token) || is_word_at(script, b"break", token)
+}
+
+// Whether the token is such a command; `own` says whether it is at the level of its block.
+fn ends_here(script: &[u8], own: bool, token: Option<Token>) -> bool
+    ensures { result ≡ (own && is_ending script.now token) }
+{
+    own && is_ending(script, token)
+}
+
+// Whether the block has such a command at its own level.
+fn ends(script: &[u8], block: &[Token]) -> bool
+    ensures { result ≡ ends script.now block.now }
+{
+    let mut opened = 0;
+    let mut closed = 0;
+    for place in 0..block.len() {
+        if ends_here(script, is_level(opened, closed), token_at(block, place)) {
+            return true;
+        }
+        opened = counted(opened, opens_block(&block[place]));
+        closed = counted(closed, closes_block(&block[place]));
+    }
+    false
+}
+
+// Whether the branch is that of `else`.
+fn is_else(script: &[u8], branch: &[Token]) -> bool
+    ensures { result ≡ is_else script.now branch.now }
+{
+    is_word_at(script, b"else", token_at(branch, 0))
+}
+
+// Whether it is the last that can run, by whether one before it is.
+fn last_with(script: &[u8], last: bool, branch: &[Token]) -> bool
+    ensures { result ≡ (last || is_else script.now branch.now) }
+{
+    last || is_else(script, branch)
+}
+
+// The note on the token after the last branch.
+fn ended_note(last: bool, next: Option<Token>) -> Option<Noted>
+    ensures { result ≡ (if last then command_at AfterIf next else None) }
+{
+    if last {
+        command_at(NoteKind::AfterIf, next)
+    } else {
+        None
+    }
+}
+
+// The note on the command after an `if` before these tokens; `only` says that no branch after its first one runs.
+#[tactic(auto, using(crate::proofs::Chains::whole, crate::proofs::Chains::stops, crate::proofs::Chains::finishes, crate::proofs::Chains::goes_on, crate::proofs::Chains::runs_out))]
+fn chain_note(script: &[u8], only: bool, tokens: &[Token]) -> Option<Noted>
+    ensures { result ≡ chain_note script.now only tokens.now }
+{
+    let mut branch = tokens;
+    let mut last = only;
+    for turn in 0..tokens.len() {
+        let _turn = turn;
+        let (block, behind) = block_and_rest(branch);
+        if !ends(script, block) {
+            return None;
+        }
+        last = last_with(script, last, branch);
+        let next = token_at(behind, 0);
+        if !begins_branch(script, next) {
+            return ended_note(last, next);
+        }
+        branch = behind;
+    }
+    None
+}
+
+// Whether the token is a `store`; `own` says whether it is at the level of its block.
+fn stores_here(script: &[u8], own: bool, token: Option<Token>) -> bool
+    ensures { result ≡ (own && is_word_at script.now (codes "store") token) }
+{
+    own && is_word_at(script, b"store", token)
+}
+
+// The note on the first `store` at the own level of a loop's block.
+fn loop_note(script: &[u8], block: &[Token]) -> Option<Noted>
+    ensures { result ≡ loop_note script.now block.now }
+{
+    let mut opened = 0;
+    let mut closed = 0;
+    for place in 0..block.len() {
+        let token = token_at(block, place);
+        if stores_here(script, is_level(opened, closed), token) {
+            return command_at(NoteKind::StoresAll, token);
+        }
+        opened = counted(opened, opens_block(&block[place]));
+        closed = counted(closed, closes_block(&block[place]));
+    }
+    None
+}
+
+// The tokens from the command on that follows one that ends with a semicolon.
+fn next_of(rest: &[Token]) -> &[Token]
+    ensures { result.now ≡ next_of rest.now }
+{
+    tokens_from(rest, arguments_length(rest) + 1)
+}
+
+// Whether the token is the folder that `keep` files into.
+fn is_inbox(script: &[u8], token: &Token) -> bool
+    ensures { result ≡ is_inbox script.now token.now }
+{
+    is_string(token.kind) && inner(text_of(script, token)) == b"INBOX".as_slice()
+}
+
+// Whether these are the arguments of a `fileinto` with that folder.
+fn has_inbox(script: &[u8], rest: &[Token]) -> bool
+    ensures { result ≡ has_inbox script.now rest.now }
+{
+    let arguments = arguments_of(rest);
+    for token in arguments {
+        if is_inbox(script, token) {
+            return true;
+        }
+    }
+    false
+}
+
+// Whether such a `fileinto` comes first.
+fn begins_inbox(script: &[u8], tokens: &[Token]) -> bool
+    ensures { result ≡ begins_inbox script.now tokens.now }
+{
+    is_word_at(script, b"fileinto", token_at(tokens, 0))
+        && has_inbox(script, tokens_from(tokens, 1))
+}
+
+// The note on the command after a `keep`.
+fn inbox_note(script: &[u8], next: &[Token]) -> Option<Noted>
+    ensures { result ≡ inbox_note script.now next.now }
+{
+    if !begins_inbox(script, next) {
+        return None;
+    }
+    command_at(NoteKind::TwoEntries, token_at(next, 0))
+}
+
+// The note on the command after a `fileinto` with these arguments.
+fn kept_note(script: &[u8], rest: &[Token], next: &[Token]) -> Option<Noted>
+    ensures { result ≡ kept_note script.now rest.now next.now }
+{
+    let following = token_at(next, 0);
+    if has_inbox(script, rest) && is_word_at(script, b"keep", following) {
+        command_at(NoteKind::TwoEntries, following)
+    } else {
+        None
+    }
+}
+
+// The note on the command after the arguments of one that ends with a semicolon.
 fn next_note(kind: NoteKind, rest: &[Token]) -> Option<Noted>
     ensures { result ≡ next_note kind rest.now }
 {
     command_at(kind, token_at(rest, arguments_length(rest) + 1))
 }
 
-// Of the command with that name, before these tokens.
+// The note on the command with this name, before these tokens.
 #[tactic(auto, unfolding(crate::specs::Notes::command_note))]
 fn command_note(script: &[u8], name: &[u8], rest: &[Token]) -> Option<Noted>
     ensures { result ≡ command_note script.now name.now rest.now }
 {
-    if is_word(name, b"if") || is_word(name, b"elsif") {
+    if is_word(name, b"if") {
+        if_note(script, rest).or(chain_note(script, is_always_true(script, rest), rest))
+    } else if is_word(name, b"elsif") {
         if_note(script, rest)
     } else if is_word(name, b"stop") {
         next_note(NoteKind::AfterStop, rest)
     } else if is_word(name, b"break") {
         next_note(NoteKind::AfterBreak, rest)
+    } else if is_word(name, b"keep") {
+        inbox_note(script, next_of(rest))
+    } else if is_word(name, b"fileinto") {
+        kept_note(script, rest, next_of(rest))
+    } else if is_word(name, b"foreverypart") {
+        let (block, _) = block_and_rest(rest);
+        loop_note(script, block)
     } else {
         None
     }
@@ -614,11 +1160,11 @@ fn is_variables(script: &[u8], token: &Token) -> bool
     is_string(token.kind) && inner(text_of(script, token)) == b"variables".as_slice()
 }
 
-// Whether it is among the tokens.
-fn has_variables(script: &[u8], tokens: &[Token]) -> bool
-    ensures { result ≡ list_any (is_variables script.now) tokens.now }
+// Whether it is among the arguments.
+fn has_variables(script: &[u8], arguments: &[Token]) -> bool
+    ensures { result ≡ list_any (is_variables script.now) arguments.now }
 {
-    for token in tokens {
+    for token in arguments {
         if is_variables(script, token) {
             return true;
         }
@@ -626,37 +1172,516 @@ fn has_variables(script: &[u8], tokens: &[Token]) -> bool
     false
 }
 
-// Whether no test of the script gives captures a value, and references are expanded.
-fn lacks_captures(script: &[u8], tokens: &[Token]) -> bool
-    ensures { result ≡ lacks_captures script.now tokens.now }
+// Whether the token is a `require` of it.
+fn requires_variables(script: &[u8], token: &Token, rest: &[Token]) -> bool
+    ensures { result ≡ requires_variables script.now token.now rest.now }
 {
-    has_variables(script, tokens) && !has_tag(script, b":matches", tokens)
+    is_name(token.kind)
+        && is_word(text_of(script, token), b"require")
+        && has_variables(script, arguments_of(rest))
 }
 
-// Of the arguments of a command or test, in a script that lacks captures or doesn't.
-fn capture_note(script: &[u8], lacks: bool, arguments: &[Token]) -> Option<Noted>
-    ensures { result ≡ capture_note script.now lacks arguments.now }
+// Whether references of the script with these tokens are expanded.
+fn expands_references(script: &[u8], tokens: &[Token]) -> bool
+    ensures { result ≡ expands_references script.now tokens.now }
 {
-    if lacks {
-        note_in(script, NoteKind::NoCapture, arguments)
+    for place in 0..tokens.len() {
+        if requires_variables(script, &tokens[place], tokens_from(tokens, place + 1)) {
+            return true;
+        }
+    }
+    false
+}
+
+// Whether it isn't clear how many wildcards a key with this text has.
+fn is_unclear(text: &[u8]) -> bool
+    ensures { result ≡ list_any is_unclear text.now }
+{
+    text.iter().any(|octet| *octet == b'$' || *octet == b'\\')
+}
+
+// Whether the byte is a wildcard.
+fn is_star_or_mark(octet: &&u8) -> bool
+    ensures { result ≡ is_star_or_mark octet.now.now }
+{
+    **octet == b'*' || **octet == b'?'
+}
+
+// How many wildcards a text has.
+fn count_wildcards(text: &[u8]) -> usize
+    ensures { result ≡ length (filter is_star_or_mark text.now) }
+{
+    text.iter().filter(is_star_or_mark).count()
+}
+
+// How many wildcards a key has at most.
+fn wildcards_of(script: &[u8], token: &Token) -> usize
+    ensures { result ≡ wildcards_of script.now token.now }
+{
+    let text = text_of(script, token);
+    if is_unclear(text) {
+        9
+    } else {
+        count_wildcards(text)
+    }
+}
+
+// The most of these keys.
+fn most_of(script: &[u8], keys: &[Token]) -> usize
+    ensures { result ≡ most_of script.now keys.now }
+{
+    let mut most = 0;
+    for key in keys {
+        most = most.max(wildcards_of(script, key));
+    }
+    most
+}
+
+// The most of a test with these arguments, if it has `:matches`.
+fn most_in(script: &[u8], arguments: &[Token]) -> usize
+    ensures { result ≡ most_in script.now arguments.now }
+{
+    if !has_tag(script, b":matches", arguments) {
+        return 0;
+    }
+    most_of(script, last_of(arguments))
+}
+
+// The most of the test that begins with the token.
+fn most_at(script: &[u8], token: &Token, rest: &[Token]) -> usize
+    ensures { result ≡ (if is_name token.now.kind then most_in script.now (arguments_of rest.now) else 0) }
+{
+    if is_name(token.kind) {
+        most_in(script, arguments_of(rest))
+    } else {
+        0
+    }
+}
+
+// The most of all tests of a script with these tokens.
+fn most_captures(script: &[u8], tokens: &[Token]) -> usize
+    ensures { result ≡ most_captures script.now tokens.now }
+{
+    let mut most = 0;
+    for place in 0..tokens.len() {
+        let token = tokens[place];
+        most = most.max(most_at(script, &token, tokens_from(tokens, place + 1)));
+    }
+    most
+}
+
+// Whether the string has a reference to a capture that is always empty.
+fn has_empty(script: &[u8], most: usize, token: &Token) -> bool
+    ensures { result ≡ has_empty script.now most token.now }
+{
+    is_string(token.kind) && has_capture(most, inner(text_of(script, token)))
+}
+
+// The first of the tokens that has one.
+fn first_empty(script: &[u8], most: usize, tokens: &[Token]) -> Option<Token>
+    ensures { result ≡ find (has_empty script.now most) tokens.now }
+{
+    for token in tokens {
+        if has_empty(script, most, token) {
+            return Some(*token);
+        }
+    }
+    None
+}
+
+// Whether the token is a string.
+fn is_text(token: &Token) -> bool
+    ensures { result ≡ is_text token.now }
+{
+    is_string(token.kind)
+}
+
+// The first string of the tokens.
+fn first_text(tokens: &[Token]) -> Option<Token>
+    ensures { result ≡ find is_text tokens.now }
+{
+    for token in tokens {
+        if is_text(token) {
+            return Some(*token);
+        }
+    }
+    None
+}
+
+// Whether the command gives a variable its value.
+fn gives_value(name: &[u8]) -> bool
+    ensures { result ≡ gives_value name.now }
+{
+    is_word(name, b"set") || is_word(name, b"take")
+}
+
+// The string with the name of that variable.
+fn given_by(script: &[u8], token: &Token, rest: &[Token]) -> Option<Token>
+    ensures { result ≡ given_by script.now token.now rest.now }
+{
+    if !(is_name(token.kind) && gives_value(text_of(script, token))) {
+        return None;
+    }
+    first_text(rest)
+}
+
+// Whether the text has a backslash.
+fn has_backslash(text: &[u8]) -> bool
+    ensures { result ≡ list_any is_backslash text.now }
+{
+    text.iter().any(|octet| *octet == b'\\')
+}
+
+// Whether the string can be this name.
+fn may_name(script: &[u8], name: &[u8], token: &Token) -> bool
+    ensures { result ≡ may_name script.now name.now token.now }
+{
+    let text = inner(text_of(script, token));
+    is_word(text, name) || has_backslash(text)
+}
+
+// Whether one of the strings can.
+fn is_named_by(script: &[u8], given: &[Token], name: &[u8]) -> bool
+    ensures { result ≡ is_named_by script.now given.now name.now }
+{
+    for token in given {
+        if may_name(script, name, token) {
+            return true;
+        }
+    }
+    false
+}
+
+// Appends the string with a name of a variable, unless one of the others has the same name.
+#[tactic(auto, using(crate::proofs::Naming::with_none, crate::proofs::Naming::with_one, crate::proofs::Naming::without_it))]
+fn push_given(given: &mut Vec<Token>, script: &[u8], token: Option<Token>) -> Result<(), AllocError>
+    ensures { OnOk result (NameAlike script.now given.new.items (given.old.items ++ cons_option token [])) }
+{
+    match token {
+        Some(token) => {
+            if !is_named_by(script, given, inner(text_of(script, &token))) {
+                given.push(token)?;
+            }
+            Ok(())
+        }
+        None => Ok(()),
+    }
+}
+
+// The strings with the names of all variables that a command gives a value.
+fn given_of(source: &Source<'_>, tokens: &[Token]) -> Result<Vec<Token>, AllocError>
+    ensures { IfOk result (λ given. NameAlike source.now.octets.now
+        given.items (given_of source.now.octets.now tokens.now)) }
+{
+    let mut given = Vec::new(source.alloc);
+    for place in 0..tokens.len() {
+        let token = tokens[place];
+        let rest = tokens_from(tokens, place + 1);
+        push_given(
+            &mut given,
+            source.octets,
+            given_by(source.octets, &token, rest),
+        )?;
+    }
+    Ok(given)
+}
+
+// How many bytes of a name come first.
+fn name_length(text: &[u8]) -> usize
+    ensures { result ≡ length (take_while continues_identifier text.now) }
+{
+    text.iter()
+        .take_while(|octet| continues_identifier(**octet))
+        .count()
+}
+
+// The name of the variable to which a reference comes first; otherwise nothing.
+fn referred(text: &[u8]) -> &[u8]
+    ensures { result.now ≡ referred text.now }
+{
+    let (start, behind) = around(text, 2);
+    if start != b"${".as_slice() {
+        return &[];
+    }
+    let (name, rest) = around(behind, name_length(behind));
+    let (end, _) = around(rest, 1);
+    if is_identifier(name) && end == b"}".as_slice() {
+        name
+    } else {
+        &[]
+    }
+}
+
+// Whether a reference to a variable without a value comes first.
+fn refers_to_none(script: &[u8], given: &[Token], text: &[u8]) -> bool
+    ensures { result ≡ refers_to_none (is_named_by script.now given.now) text.now }
+{
+    let name = referred(text);
+    name.len() > 0 && !is_named_by(script, given, name)
+}
+
+// Whether there is such a reference anywhere.
+fn lacks_value(script: &[u8], given: &[Token], text: &[u8]) -> bool
+    ensures { result ≡ lacks_value (is_named_by script.now given.now) text.now }
+{
+    for place in 0..text.len() {
+        let _octet = text[place];
+        let (_, rest) = around(text, place);
+        if refers_to_none(script, given, rest) {
+            return true;
+        }
+    }
+    false
+}
+
+// Whether the string has such a reference.
+fn has_no_value(script: &[u8], given: &[Token], token: &Token) -> bool
+    ensures { result ≡ has_no_value script.now (is_named_by script.now given.now) token.now }
+{
+    matches!(token.kind, TokenKind::QuotedString)
+        && lacks_value(script, given, inner(text_of(script, token)))
+}
+
+// The first of the tokens that has one.
+fn first_without_value(script: &[u8], given: &[Token], tokens: &[Token]) -> Option<Token>
+    ensures { result ≡ find (has_no_value script.now (is_named_by script.now given.now)) tokens.now }
+{
+    for token in tokens {
+        if has_no_value(script, given, token) {
+            return Some(*token);
+        }
+    }
+    None
+}
+
+// Whether the text has a reference to the variable of this name.
+fn refers_to(name: &[u8], text: &[u8]) -> bool
+    ensures { result ≡ refers_to name.now text.now }
+{
+    for place in 0..text.len() {
+        let _octet = text[place];
+        let (_, rest) = around(text, place);
+        if is_word(referred(rest), name) {
+            return true;
+        }
+    }
+    false
+}
+
+// Whether the string can have one.
+fn may_refer(script: &[u8], name: &[u8], token: &Token) -> bool
+    ensures { result ≡ may_refer script.now name.now token.now }
+{
+    let text = inner(text_of(script, token));
+    is_string(token.kind) && (refers_to(name, text) || has_backslash(text))
+}
+
+// Whether one of the arguments can.
+fn some_refer(script: &[u8], name: &[u8], arguments: &[Token]) -> bool
+    ensures { result ≡ list_any (may_refer script.now name.now) arguments.now }
+{
+    for token in arguments {
+        if may_refer(script, name, token) {
+            return true;
+        }
+    }
+    false
+}
+
+// Whether the string is this name.
+fn is_named(script: &[u8], name: &[u8], token: Option<Token>) -> bool
+    ensures { result ≡ is_named script.now name.now token }
+{
+    match token {
+        Some(token) => is_word(inner(text_of(script, &token)), name),
+        None => false,
+    }
+}
+
+// Whether the token is another command or test that can read the variable of this name.
+fn reads(script: &[u8], name: &[u8], token: &Token, rest: &[Token]) -> bool
+    ensures { result ≡ reads script.now name.now token.now rest.now }
+{
+    is_name(token.kind)
+        && !is_named(script, name, given_by(script, token, rest))
+        && some_refer(script, name, arguments_of(rest))
+}
+
+// Whether one of a script with these tokens can.
+fn is_read(script: &[u8], tokens: &[Token], name: &[u8]) -> bool
+    ensures { result ≡ is_read script.now tokens.now name.now }
+{
+    for place in 0..tokens.len() {
+        if reads(script, name, &tokens[place], tokens_from(tokens, place + 1)) {
+            return true;
+        }
+    }
+    false
+}
+
+// The first of the strings that can be this name.
+fn first_named(script: &[u8], given: &[Token], name: &[u8]) -> Option<Token>
+    ensures { result ≡ first_named script.now given.now name.now }
+{
+    for token in given {
+        if may_name(script, name, token) {
+            return Some(*token);
+        }
+    }
+    None
+}
+
+// What is known of the whole script.
+#[derive(Clone, Copy)]
+struct Known<'t> {
+    // References are expanded.
+    expands: bool,
+    // A test has `:matches`.
+    matches: bool,
+    // The most wildcards of a key of such a test.
+    most: usize,
+    // Strings with the names of variables that can have a value.
+    given: &'t [Token],
+    // All tokens of the script.
+    tokens: &'t [Token],
+}
+
+// The kind of note on a capture that is always empty.
+fn capture_kind(matches: bool) -> NoteKind
+    ensures { result ≡ capture_kind matches }
+{
+    if matches {
+        NoteKind::FewWildcards
+    } else {
+        NoteKind::NoCapture
+    }
+}
+
+// The note on a capture that is always empty in the arguments of a command or test.
+fn capture_note(script: &[u8], known: Known<'_>, arguments: &[Token]) -> Option<Noted>
+    ensures { result ≡ capture_note script.now (known_view script.now known.entry) arguments.now }
+{
+    match first_empty(script, known.most, arguments) {
+        Some(token) => Some(noted_as(capture_kind(known.matches), token)),
+        None => None,
+    }
+}
+
+// The note on a variable without a value in the arguments of a command or test.
+fn value_note(script: &[u8], known: Known<'_>, arguments: &[Token]) -> Option<Noted>
+    ensures { result ≡ value_note script.now (known_view script.now known.entry) arguments.now }
+{
+    match first_without_value(script, known.given, arguments) {
+        Some(token) => Some(noted_as(NoteKind::NoValue, token)),
+        None => None,
+    }
+}
+
+// Whether the string is this one.
+fn is_first(token: &Token, first: Option<Token>) -> bool
+    ensures { result ≡ is_first token.now first }
+{
+    match first {
+        Some(first) => token.start == first.start,
+        None => false,
+    }
+}
+
+// Whether nothing reads the variable with this name, which no command before gives a value.
+fn is_unread(script: &[u8], known: Known<'_>, token: &Token) -> bool
+    ensures { result ≡ is_unread script.now (known_view script.now known.entry) token.now }
+{
+    let name = inner(text_of(script, token));
+    is_first(token, first_named(script, known.given, name))
+        && !has_backslash(name)
+        && !is_read(script, known.tokens, name)
+}
+
+// The string that names the variable to which the command with this name gives a value.
+fn given_in(name: &[u8], arguments: &[Token]) -> Option<Token>
+    ensures { result ≡ given_in name.now arguments.now }
+{
+    if gives_value(name) {
+        first_text(arguments)
     } else {
         None
     }
 }
 
-// Of the command or test that begins with the token.
+// The note on a variable with this name that nothing reads.
+fn unread_note(script: &[u8], known: Known<'_>, token: Option<Token>) -> Option<Noted>
+    ensures { result ≡ unread_note script.now (known_view script.now known.entry) token }
+{
+    match token {
+        Some(token) if is_unread(script, known, &token) => {
+            Some(noted_as(NoteKind::Unread, token))
+        }
+        _ => None,
+    }
+}
+
+// Whether the string of the command is the name of a loop, in which references aren't expanded.
+fn names_loop(name: &[u8]) -> bool
+    ensures { result ≡ names_loop name.now }
+{
+    is_word(name, b"foreverypart") || is_word(name, b"break")
+}
+
+// The note on what is between quotes in the arguments of the command or test with this name.
+#[tactic(auto, unfolding(crate::specs::Notes::string_note))]
+fn string_note(script: &[u8], known: Known<'_>, name: &[u8], arguments: &[Token]) -> Option<Noted>
+    ensures { result ≡ string_note script.now (known_view script.now known.entry) name.now arguments.now }
+{
+    if !known.expands || names_loop(name) {
+        return None;
+    }
+    capture_note(script, known, arguments)
+        .or(value_note(script, known, arguments))
+        .or(unread_note(script, known, given_in(name, arguments)))
+}
+
+// The note on the command or test with this name, before these tokens.
+#[tactic(auto, unfolding(crate::specs::Notes::word_note))]
+fn word_note(script: &[u8], inside: usize, name: &[u8], rest: &[Token]) -> Option<Noted>
+    ensures { result ≡ word_note script.now inside name.now rest.now }
+{
+    let arguments = arguments_of(rest);
+    test_note(script, name, arguments)
+        .or(command_note(script, name, rest))
+        .or(scope_note(script, inside, name, arguments))
+}
+
+// The note on the command or test that begins with the token.
 #[tactic(auto, unfolding(crate::specs::Notes::note_at))]
-fn note_at(script: &[u8], lacks: bool, token: Token, rest: &[Token]) -> Option<Noted>
-    ensures { result ≡ note_at script.now lacks token rest.now }
+fn note_at(
+    script: &[u8],
+    known: Known<'_>,
+    inside: usize,
+    token: Token,
+    rest: &[Token],
+) -> Option<Noted>
+    ensures { result ≡ note_at script.now (known_view script.now known.entry) inside token rest.now }
 {
     if !is_name(token.kind) {
         return None;
     }
     let name = text_of(script, &token);
-    let arguments = arguments_of(rest);
-    test_note(script, name, arguments)
-        .or(command_note(script, name, rest))
-        .or(capture_note(script, lacks, arguments))
+    word_note(script, inside, name, rest).or(string_note(script, known, name, arguments_of(rest)))
+}
+
+// How many braces are open after one more token, from the outermost loop over parts on, whose name counts as one.
+fn inside_behind(script: &[u8], token: &Token, inside: usize) -> usize
+    requires { inside + 1 < 2 ^ 64 }
+    ensures depth { result ≡ inside_behind script.now token.now inside }
+    ensures few { result ≤ inside + 1 }
+{
+    if inside == 0 {
+        return usize::from(is_word(text_of(script, token), b"foreverypart"));
+    }
+    if closes_block(token) && inside <= 2 {
+        return 0;
+    }
+    open_behind(token.kind, inside)
 }
 
 // Appends the note, if there is one.
@@ -673,34 +1698,51 @@ fn push_noted(out: &mut Vec<Noted>, noted: Option<Noted>) -> Result<(), AllocErr
     }
 }
 
-// The notes of a script with these tokens, in order, the first ones up to one more than are told.
+// The notes on a script with these tokens, in order: the first ones, up to one more than are printed.
 #[tactic(auto, using(crate::proofs::NoteLemmas::found_enough, crate::proofs::NoteLemmas::found_all, crate::proofs::NoteLemmas::onto_next))]
-fn notes_from(source: &Source<'_>, lacks: bool, tokens: &[Token]) -> Result<Vec<Noted>, AllocError>
+fn notes_from(
+    source: &Source<'_>,
+    known: Known<'_>,
+    tokens: &[Token],
+) -> Result<Vec<Noted>, AllocError>
     ensures { IfOk result (λ found.
-        found.items ≡ take max_noted (notes_from source.now.octets.now lacks tokens.now)) }
+        found.items ≡ take max_noted
+        (notes_from source.now.octets.now
+        (known_view source.now.octets.now known.entry) 0 tokens.now)) }
 {
     let mut found = Vec::new(source.alloc);
+    let mut inside = 0;
     for place in 0..tokens.len() {
         if found.len() == MAX_NOTED {
             return Ok(found);
         }
+        let token = tokens[place];
         let rest = tokens_from(tokens, place + 1);
         push_noted(
             &mut found,
-            note_at(source.octets, lacks, tokens[place], rest),
+            note_at(source.octets, known, inside, token, rest),
         )?;
+        inside = inside_behind(source.octets, &token, inside);
     }
     Ok(found)
 }
 
-/// The notes of a script with these tokens, in order, the first ones up to [`MAX_NOTES`] and one more.
+/// The notes on a script with these tokens, in order: the first ones, up to [`MAX_NOTES`] and one more.
 ///
 /// # Errors
 ///
-/// An allocation was refused.
+/// `AllocError` if memory is refused.
 pub fn notes_of(source: &Source<'_>, tokens: &[Token]) -> Result<Vec<Noted>, AllocError>
     ensures { IfOk result (λ found.
         found.items ≡ take max_noted (notes_of source.now.octets.now tokens.now)) }
 {
-    notes_from(source, lacks_captures(source.octets, tokens), tokens)
+    let given = given_of(source, tokens)?;
+    let known = Known {
+        expands: expands_references(source.octets, tokens),
+        matches: has_tag(source.octets, b":matches", tokens),
+        most: most_captures(source.octets, tokens),
+        given: &given,
+        tokens,
+    };
+    notes_from(source, known, tokens)
 }

@@ -1,4 +1,4 @@
-// What is said of a command or test that isn't accepted.
+// What is said about a command or test that isn't accepted.
 ghost use Rattle.std.specs.Prelude.{◌≡◌};
 ghost use Rattle.sieve_check.specs.declared.causes.ReasonKind.TheVariants.{MissingArgument};
 ghost use Rattle.sieve_check.specs.ReasonView.{reason_view, refused_view};
@@ -33,7 +33,7 @@ fn capability_words(capability: Capability) -> &'static str
     }
 }
 
-// What stands behind the tags.
+// What comes after the tags.
 fn positional_words(taken: Positional) -> &'static str
     ensures { result.now ≡ positional_words taken }
 {
@@ -47,7 +47,7 @@ fn positional_words(taken: Positional) -> &'static str
     }
 }
 
-// The same of what was given too many arguments, by its name: they may stand before its test.
+// The same for a command or test with too many arguments, by its name: some can be before its test.
 fn extra_words(taken: Positional, name: &[u8]) -> &'static str
     ensures { result.now ≡ extra_words taken name.now }
 {
@@ -57,7 +57,7 @@ fn extra_words(taken: Positional, name: &[u8]) -> &'static str
     }
 }
 
-// Of one that takes none.
+// The words for a command or test that takes no argument.
 #[tactic(auto, unfolding(crate::specs::Reasons::no_argument_words))]
 fn no_argument_words(name: &[u8]) -> &'static str
     ensures { result.now ≡ no_argument_words name.now }
@@ -71,29 +71,29 @@ fn no_argument_words(name: &[u8]) -> &'static str
     }
 }
 
-// What takes no test, by its name: what may be missing before the test behind it.
+// The words for a command or test that takes no test, by its name: what can be missing before the test.
 #[tactic(auto, unfolding(crate::specs::Reasons::no_test_words))]
 fn no_test_words(name: &[u8]) -> &'static str
     ensures { result.now ≡ no_test_words name.now }
 {
     if is_word(name, b"else") {
-        "takes no test: is `elsif` meant, or its opening brace missing?"
+        "takes no test: did you mean `elsif`, or is its opening brace missing?"
     } else if is_word(name, b"foreverypart") {
         "takes no test: is its opening brace missing?"
     } else if command_named(name).is_some() {
         "takes no test: is a semicolon missing at its end?"
     } else {
-        "takes no test: is a comma or a brace missing behind it, or `allof` or `anyof` before it?"
+        "takes no test: is a comma or a brace missing after it, or `allof` or `anyof` before it?"
     }
 }
 
-// The tests that stand behind the arguments.
+// The tests that come after the arguments.
 fn tests_words(taken: Tests, name: &[u8]) -> &'static str
     ensures { result.now ≡ tests_words taken name.now }
 {
     match taken {
         Tests::Nothing => no_test_words(name),
-        Tests::One => "needs one test behind it, without brackets around it",
+        Tests::One => "needs one test after it, without brackets around it",
         Tests::Bracketed => "takes tests in round brackets, with commas between them",
     }
 }
@@ -103,7 +103,7 @@ fn ending_words(ending: Ending) -> &'static str
     ensures { result.now ≡ ending_words ending }
 {
     match ending {
-        Ending::Semicolon => "ends with a semicolon",
+        Ending::Semicolon => "has to end with a semicolon",
         Ending::Block => "needs a block in braces",
     }
 }
@@ -116,7 +116,7 @@ fn tag_words(tag: Tag) -> &'static str
         Tag::Comparator => "the name of a comparator, \"i;octet\" or \"i;ascii-casemap\"",
         Tag::Select(_) => "the names of parameters, a string or list of strings",
         Tag::Name => "the name of a loop, one string without brackets",
-        Tag::First => "a number of octets, 1 or more",
+        Tag::First => "a number of bytes, 1 or more",
         Tag::Order(_)
         | Tag::Kind(_)
         | Tag::Letters(_)
@@ -128,7 +128,7 @@ fn tag_words(tag: Tag) -> &'static str
     }
 }
 
-// The limit that a reason speaks of.
+// The limit that a reason mentions.
 fn reason_limit(kind: ReasonKind) -> u64
     ensures { result ≡ reason_limit kind }
 {
@@ -143,21 +143,21 @@ fn reason_limit(kind: ReasonKind) -> u64
     }
 }
 
-// Where a command or test may stand that stands elsewhere.
+// Where a command or test is allowed that is in another place.
 #[tactic(auto, unfolding(crate::specs::Reasons::place_text))]
 fn place_text(name: &[u8]) -> &'static str
     ensures { result.now ≡ place_text name.now }
 {
     if is_word(name, b"require") {
-        "@ stands before all other commands, outside of blocks"
+        "@ is allowed only before all other commands, outside of blocks"
     } else if is_word(name, b"elsif") || is_word(name, b"else") {
-        "@ stands directly after an `if` or `elsif`"
+        "@ is allowed only directly after the block of an `if` or `elsif`"
     } else {
-        "@ stands only inside of a `foreverypart`"
+        "@ is allowed only inside a `foreverypart`"
     }
 }
 
-// The text for a reason, by the name of the command or test; none for a name that isn't known.
+// The text for a reason, by the name of the command or test; none for an unknown name.
 fn reason_text(kind: ReasonKind, name: &[u8]) -> &'static str
     ensures { result.now ≡ reason_text kind name.now }
 {
@@ -168,33 +168,33 @@ fn reason_text(kind: ReasonKind, name: &[u8]) -> &'static str
         | ReasonKind::UnknownTag => "",
         ReasonKind::MissingCapability(_) => "@ needs `require \"&\"` before it",
         ReasonKind::ForeignTag => "@ takes no tag #",
-        ReasonKind::RepeatedTag => "# is repeated, or stands beside another of its kind",
-        ReasonKind::TwoModifiers => "# can't stand beside another modifier of its precedence",
+        ReasonKind::RepeatedTag => "# is repeated, or used with another tag of its kind",
+        ReasonKind::TwoModifiers => "# can't be used with another modifier of the same precedence",
         ReasonKind::TagArgument(_) => "# needs &",
         ReasonKind::MissingOrder => "@ needs `:over` or `:under`",
-        ReasonKind::MissingMime => "# stands only beside `:mime`, which needs `require \"mime\"`",
-        ReasonKind::LateTag => "the tag # stands after an argument that is no tag",
+        ReasonKind::MissingMime => "# is allowed only with `:mime`, which needs `require \"mime\"`",
+        ReasonKind::LateTag => "the tag # has to come before the other arguments",
         ReasonKind::MissingArgument(_) => "@ has too few arguments: it takes &",
         ReasonKind::ExtraArgument(_) => "@ has too many arguments: it takes &",
-        ReasonKind::WrongArgument(_) => "@ has an argument of a wrong kind: it takes &",
+        ReasonKind::WrongArgument(_) => "@ has an argument of the wrong kind: it takes &",
         ReasonKind::WrongTests(_) | ReasonKind::WrongEnding(_) => "@ &",
-        ReasonKind::Namespace => "$ refers into a namespace, and there is none",
-        ReasonKind::CaptureIndex => "$ refers to a capture above 9",
-        ReasonKind::VariableName => "$ is no name of a variable",
+        ReasonKind::Namespace => "$ refers to a namespace, but depot has none",
+        ReasonKind::CaptureIndex => "$ refers to a number above 9, but there are only 0 to 9",
+        ReasonKind::VariableName => "$ isn't a valid name of a variable",
         ReasonKind::NoSuchLoop => "no `foreverypart` around this @ has the name $",
         ReasonKind::Misplaced => place_text(name),
-        ReasonKind::LongString => "the string $ has more than % octets",
+        ReasonKind::LongString => "the string $ has more than % bytes",
         ReasonKind::ManyStrings => "the lists of @ have more than % strings",
         ReasonKind::ManySegments => {
-            "the string $ has more than % references and stretches between them"
+            "the string $ has more than % references and pieces of text between them"
         }
-        ReasonKind::LongName => "the name of a variable, $, has more than % octets",
-        ReasonKind::ManyLoops => "more than % loops stand inside of one another here",
+        ReasonKind::LongName => "the name of a variable, $, has more than % bytes",
+        ReasonKind::ManyLoops => "more than % loops are nested here",
         ReasonKind::ManyVariables => "with this @ the script has more than % variables",
     }
 }
 
-// The words for it.
+// The words for a reason.
 fn reason_words(kind: ReasonKind, name: &[u8]) -> &'static str
     ensures { result.now ≡ reason_words kind name.now }
 {
@@ -224,7 +224,7 @@ fn reason_sentence(reason: Reason<'_>) -> Sentence<'_>
     }
 }
 
-// The sentence for a reason that is no unknown name.
+// The sentence for a reason that isn't an unknown name.
 #[tactic(auto, unfolding(crate::specs::Reasons::other_blanks))]
 fn other_sentence(reason: Reason<'_>) -> Sentence<'_>
     ensures { blanks_of result ≡ other_blanks (reason_view reason.entry) }
@@ -249,7 +249,7 @@ fn lacks_strings(kind: ReasonKind) -> bool
     }
 }
 
-// Whether these are strings.
+// Whether these arguments are strings.
 fn takes_strings(taken: Positional) -> bool
     ensures { result ≡ lacks_strings (MissingArgument taken) }
 {
@@ -260,14 +260,14 @@ fn takes_strings(taken: Positional) -> bool
     }
 }
 
-// The tokens behind the one with that number.
+// The tokens after the one with this number.
 fn tokens_behind(tokens: &[Token], number: usize) -> &[Token]
     ensures { result.now ≡ tokens_behind tokens.now number }
 {
     tokens_from(tokens_from(tokens, number), 1)
 }
 
-// The word that stands in the place of a string that is missing, behind a name with the number of its token, if there is one.
+// The word in the place of a missing string, after the name that has this token number, if there is one.
 #[tactic(auto, unfolding(crate::specs::Explaining::word_behind))]
 fn word_behind(
     script: &[u8],
@@ -284,7 +284,7 @@ fn word_behind(
     bare_behind(script, name, tokens_behind(tokens, number))
 }
 
-/// The word that stands in the place of a string that is missing, if there is one.
+/// The word in the place of a missing string, if there is one.
 pub fn bare_word(script: &[u8], tokens: &[Token], found: Refused<'_>) -> Option<Token>
     ensures { result ≡ bare_word script.now tokens.now (refused_view found.entry) }
 {
@@ -297,7 +297,7 @@ pub fn bare_word(script: &[u8], tokens: &[Token], found: Refused<'_>) -> Option<
     )
 }
 
-// The sentence for a word in a string's place, for what else is wrong with the arguments, or for another reason.
+/// The sentence for a word in the place of a string, for another fault of the arguments, or for another reason.
 pub fn fault_sentence<'a>(script: &'a [u8], tokens: &[Token], found: Refused<'a>) -> Sentence<'a>
     ensures { blanks_of result ≡ fault_blanks script.now tokens.now (refused_view found.entry) }
 {
@@ -305,7 +305,7 @@ pub fn fault_sentence<'a>(script: &'a [u8], tokens: &[Token], found: Refused<'a>
     word_or(script, bare_word(script, tokens, found), other)
 }
 
-// The sentence for a word in a string's place, if there is one, or the other sentence.
+// The sentence for a word in the place of a string, if there is one, or the other sentence.
 fn word_or<'a>(script: &'a [u8], word: Option<Token>, other: Sentence<'a>) -> Sentence<'a>
     ensures { blanks_of result ≡ word_or script.now word (blanks_of other.entry) }
 {
@@ -315,13 +315,13 @@ fn word_or<'a>(script: &'a [u8], word: Option<Token>, other: Sentence<'a>) -> Se
     }
 }
 
-// The sentence for arguments with a wrong unit, for a tag without its colon behind them, or for another reason.
+// The sentence for arguments with a wrong unit, for a tag without its colon after them, or for another reason.
 fn argument_sentence<'a>(script: &'a [u8], behind: &[Token], found: Refused<'a>) -> Sentence<'a>
     ensures { blanks_of result ≡ argument_blanks script.now behind.now (refused_view found.entry) }
 {
     if is_argument_fault(found.reason.kind.fault()) && has_unit(script, behind) {
         return plain(
-            "the units of a number are K, M and G, with no blank before the letter and nothing behind it, as in 5M",
+            "the units of a number are K, M and G: write the letter directly after the number, with nothing after it, as in 5M",
         );
     }
     label_sentence(label_behind(script, behind), found.reason)
@@ -340,7 +340,7 @@ fn label_sentence<'a>(label: &'a [u8], reason: Reason<'a>) -> Sentence<'a>
     reason_sentence(reason)
 }
 
-// Whether an argument may be missing, or it has a test that it doesn't take.
+// Whether an argument can be missing, or there is a test that isn't taken.
 fn may_lack_label(kind: ReasonKind) -> bool
     ensures { result ≡ may_lack_label kind }
 {
@@ -350,7 +350,7 @@ fn may_lack_label(kind: ReasonKind) -> bool
     }
 }
 
-// Whether something is wrong with arguments.
+// Whether something is wrong with the arguments.
 fn is_argument_fault(fault: Fault) -> bool
     ensures { result ≡ is_argument_fault fault }
 {

@@ -10,11 +10,14 @@ use itoa::Buffer;
 use readable_text::places::{line_number, octets_before};
 use std::alloc::{AllocError, Global};
 
-/// A script, or a listing, and the name that it is told by; and where memory for the text comes from.
+/// A script or a listing, the name under which it is described, and where memory for the text comes from.
 #[derive(Clone, Copy)]
 pub struct Source<'a> {
+    /// Where memory for the text comes from.
     pub alloc: Global,
+    /// The name under which the script or listing is described.
     pub name: &'a str,
+    /// The bytes of the script or listing.
     pub octets: &'a [u8],
 }
 
@@ -27,7 +30,9 @@ fn push_number(out: &mut Vec<u8>, number: u128) -> Result<(), AllocError>
     out.extend_from_slice(Buffer::new().format(number).as_bytes())
 }
 
-// Appends the script's name, the line and the column of the place, and what kind of remark it is.
+// Appends the script's name, the line and the column of the place, and the kind of the remark.
+//
+// The place is at most the script's length.
 fn push_heading(
     out: &mut Vec<u8>,
     kind: &str,
@@ -46,6 +51,14 @@ fn push_heading(
 }
 
 /// Appends a remark about a place of the script, with the line of the place and a mark under it.
+///
+/// # Requires
+///
+/// The place is in the script or at its end: `place` is at most the script's length.
+///
+/// # Errors
+///
+/// `AllocError` if memory is refused.
 #[tactic(auto, unfolding(crate::specs::Explaining::remark))]
 pub fn push_remark(
     out: &mut Vec<u8>,
@@ -66,6 +79,10 @@ pub fn push_remark(
 }
 
 /// Appends a remark about the whole script.
+///
+/// # Errors
+///
+/// `AllocError` if memory is refused.
 #[tactic(auto, unfolding(crate::specs::Explaining::note))]
 pub fn push_note(
     out: &mut Vec<u8>,
@@ -81,7 +98,15 @@ pub fn push_note(
     out.extend_from_slice(b"\n")
 }
 
-/// What is wrong at a place of the script.
+/// What is wrong at a place of the script, with the line of the place and a mark under it.
+///
+/// # Requires
+///
+/// The place is in the script or at its end: `place` is at most the script's length.
+///
+/// # Errors
+///
+/// `AllocError` if memory is refused.
 pub fn told(
     source: &Source<'_>,
     place: usize,

@@ -1,6 +1,6 @@
 // Sentences with blanks.
 //
-// Sentences are templates with gaps, one for each reason, so that the definition is a table that a person can read.
+// Sentences are templates with blanks, one for each reason, so that the definition is a table that a person can read.
 ghost use Rattle.std.specs.Prelude.{◌≡◌, ◌++◌, OnOk};
 ghost use Rattle.sieve_explain.specs.Sentences.{filled, filled_octet, plain};
 ghost use Rattle.sieve_explain.specs.Private.{blanks_of};
@@ -9,24 +9,25 @@ use crate::shown::push_between;
 use itoa::Buffer;
 use std::alloc::AllocError;
 
-/// A sentence: its text, in which some octets are blanks, and what goes into them.
+/// A sentence: its text, in which some characters are blanks, and what goes into the blanks. The modules about faults
+/// make it, and [`crate::explain`] prints it.
 #[derive(Clone, Copy)]
 pub struct Sentence<'a> {
-    /// The text with its blanks, as `specs/Sentences` has them: `@`, `#`, `$`, `&`, `~` and `%`.
+    /// The text with its blanks, as in `specs/Sentences`: `@`, `#`, `$`, `&`, `~` and `%`.
     pub text: &'static str,
-    /// The name of a command or test, or the text of a token: for `@`.
+    /// The name of a command or test, or the text of a token, for `@`.
     pub name: &'a [u8],
-    /// A tag or a string: for `#` and `$`.
+    /// A tag or a string, for `#` and `$`.
     pub subject: &'a [u8],
-    /// Words of our own: for `&`.
+    /// Words of ours, for `&`.
     pub words: &'static str,
-    /// Other such words beside them: for `~`.
+    /// Further words of ours, for `~`.
     pub others: &'static str,
-    /// A number: for `%`.
+    /// A number, for `%`.
     pub number: u64,
 }
 
-// A sentence without blanks.
+/// A sentence without blanks.
 pub fn plain(text: &'static str) -> Sentence<'static>
     ensures { blanks_of result ≡ plain text.now }
 {
@@ -40,7 +41,7 @@ pub fn plain(text: &'static str) -> Sentence<'static>
     }
 }
 
-// Appends what stands in the sentence for an octet of its text.
+// Appends what the sentence has for a byte of its text.
 #[tactic(auto, unfolding(crate::specs::Sentences::filled_octet))]
 fn push_filled(out: &mut Vec<u8>, sentence: &Sentence<'_>, octet: u8) -> Result<(), AllocError>
     ensures { OnOk result (out.new.items ≡ out.old.items
@@ -57,7 +58,11 @@ fn push_filled(out: &mut Vec<u8>, sentence: &Sentence<'_>, octet: u8) -> Result<
     }
 }
 
-// Appends the sentence.
+/// Appends the sentence.
+///
+/// # Errors
+///
+/// `AllocError` if memory is refused.
 pub fn push_sentence(out: &mut Vec<u8>, sentence: &Sentence<'_>) -> Result<(), AllocError>
     ensures { OnOk result (out.new.items ≡ out.old.items ++ filled (blanks_of sentence.now)) }
 {

@@ -1,28 +1,28 @@
-// Printing octets: escaped, and cut where there are many.
+// Printing bytes: escaped, and cut if there are many.
 ghost use Rattle.std.specs.Prelude.{◌≡◌, ◌<◌, ◌++◌, OnOk, false};
 ghost use Rattle.std.specs.Fmt.{digit_glyph};
 ghost use Rattle.sieve_explain.specs.Shown.{between, escaped, is_blank, is_graphic, is_plain, shown, shown_end, shown_octet, shown_start};
 
 use std::alloc::AllocError;
 
-// How many octets are printed of a name or a string, and of a line on either side of a place.
+// How many bytes are printed of a name or a string, and of a line on either side of a place.
 const MAX_SHOWN: usize = 60;
 
-/// Where octets are printed, on which depends how.
+/// Where bytes are printed; it decides how.
 #[derive(Clone, Copy)]
 pub enum Style {
     /// In a line of a script.
     Line,
-    /// In a sentence, between two marks, of which this is the second.
+    /// In a sentence, between two marks. This is the second mark.
     Between(u8),
     /// As the name of a file.
     Name,
 }
 
-// The last octet of ASCII, a control character.
+// The last character of ASCII, a control character.
 const DELETE: u8 = 127;
 
-// Whether the octet is a printable character of ASCII.
+// Whether the byte is a printable ASCII character.
 fn is_graphic(octet: u8) -> bool
     ensures { result ≡ is_graphic octet }
 {
@@ -37,14 +37,14 @@ fn digit(n: u8) -> u8
     if n < 10 { b'0' + n } else { b'a' - 10 + n }
 }
 
-// Appends an octet as a backslash and its two hexadecimal digits.
+// Appends a byte as a backslash and its two hexadecimal digits.
 fn push_escaped(out: &mut Vec<u8>, octet: u8) -> Result<(), AllocError>
     ensures { OnOk result (out.new.items ≡ out.old.items ++ escaped octet) }
 {
     out.extend_from_slice(&[b'\\', digit(octet / 16), digit(octet % 16)])
 }
 
-// Whether the octet is printed as it is.
+// Whether the byte is printed unchanged.
 fn is_plain(style: Style, octet: u8) -> bool
     ensures { result ≡ is_plain style octet }
 {
@@ -55,7 +55,7 @@ fn is_plain(style: Style, octet: u8) -> bool
     }
 }
 
-// Whether the octet is printed as a space.
+// Whether the byte is printed as a space.
 fn is_blank(style: Style, octet: u8) -> bool
     ensures { result ≡ is_blank style octet }
 {
@@ -65,7 +65,7 @@ fn is_blank(style: Style, octet: u8) -> bool
     }
 }
 
-// Appends an octet as it is printed.
+// Appends a byte as it is printed.
 #[tactic(auto, unfolding(crate::specs::Shown::shown_octet))]
 fn push_octet(out: &mut Vec<u8>, style: Style, octet: u8) -> Result<(), AllocError>
     ensures { OnOk result (out.new.items ≡ out.old.items ++ shown_octet style octet) }
@@ -79,7 +79,11 @@ fn push_octet(out: &mut Vec<u8>, style: Style, octet: u8) -> Result<(), AllocErr
     }
 }
 
-// Appends octets as they are printed.
+/// Appends bytes as they are printed.
+///
+/// # Errors
+///
+/// `AllocError` if memory is refused.
 pub fn push_shown(out: &mut Vec<u8>, style: Style, text: &[u8]) -> Result<(), AllocError>
     ensures { OnOk result (out.new.items ≡ out.old.items ++ shown style text.now) }
 {
@@ -89,7 +93,11 @@ pub fn push_shown(out: &mut Vec<u8>, style: Style, text: &[u8]) -> Result<(), Al
     Ok(())
 }
 
-// Appends a text, cut after its first octets.
+/// Appends a text, cut after its first bytes.
+///
+/// # Errors
+///
+/// `AllocError` if memory is refused.
 #[tactic(auto, unfolding(crate::specs::Shown::shown_start))]
 pub fn push_start(out: &mut Vec<u8>, style: Style, text: &[u8]) -> Result<(), AllocError>
     ensures { OnOk result (out.new.items ≡ out.old.items ++ shown_start style text.now) }
@@ -102,7 +110,11 @@ pub fn push_start(out: &mut Vec<u8>, style: Style, text: &[u8]) -> Result<(), Al
     out.extend_from_slice(b"...")
 }
 
-// Appends the start of a line's text before a place, cut before its last octets.
+/// Appends the start of a line's text before a place, cut before its last bytes.
+///
+/// # Errors
+///
+/// `AllocError` if memory is refused.
 #[tactic(auto, unfolding(crate::specs::Shown::shown_end))]
 pub fn push_end(out: &mut Vec<u8>, text: &[u8]) -> Result<(), AllocError>
     ensures { OnOk result (out.new.items ≡ out.old.items ++ shown_end text.now) }
@@ -114,7 +126,11 @@ pub fn push_end(out: &mut Vec<u8>, text: &[u8]) -> Result<(), AllocError>
     push_shown(out, Style::Line, &text[text.len() - MAX_SHOWN..])
 }
 
-// Appends a text, cut after its first octets, between what opens it and the mark that closes it.
+/// Appends a text, cut after its first bytes, between what opens it and the mark that closes it.
+///
+/// # Errors
+///
+/// `AllocError` if memory is refused.
 pub fn push_between(
     out: &mut Vec<u8>,
     opening: &[u8],

@@ -12,18 +12,18 @@ use sieve_check::{CommandName, TestName, all_commands, all_tests, command_word, 
 
 /// The names of one kind.
 pub enum Names {
-    /// Those of all commands.
+    /// The names of all commands.
     Commands,
-    /// Those of all tests.
+    /// The names of all tests.
     Tests,
-    /// These.
+    /// These names.
     Words(&'static [&'static str]),
 }
 
 /// A row of a table: names, and the words for each of them.
 pub type Row = (&'static [&'static str], &'static str);
 
-// Whether the name is one of the words but for the case of ASCII letters.
+/// Whether the name is one of the words, apart from the case of ASCII letters.
 pub fn is_any(name: &[u8], words: &[&str]) -> bool
     ensures { result ≡ list_any (is_word name.now) (texts_of words.now) }
 {
@@ -35,7 +35,7 @@ pub fn is_any(name: &[u8], words: &[&str]) -> bool
     false
 }
 
-// The words of the first row that has the name, or none.
+/// The words of the first row that has the name; otherwise none.
 pub fn words_for(name: &[u8], rows: &[Row]) -> &'static str
     ensures { result.now ≡ words_for name.now (map hint_of rows.now) }
 {
@@ -47,14 +47,14 @@ pub fn words_for(name: &[u8], rows: &[Row]) -> &'static str
     ""
 }
 
-// One text where there are words, and another where there are none.
+/// `some` if there are words, and `none` if there are none.
 pub fn with_words(words: &'static str, some: &'static str, none: &'static str) -> &'static str
     ensures { result.now ≡ with_words words.now some.now none.now }
 {
     if words.is_empty() { none } else { some }
 }
 
-// Whether the first two octets are swapped, and all else is the same.
+// Whether the first two bytes are swapped, and everything else is the same.
 fn begin_swapped(a: &[u8], b: &[u8]) -> bool
     ensures { result ≡ begin_swapped a.now b.now }
 {
@@ -67,7 +67,8 @@ fn begin_swapped(a: &[u8], b: &[u8]) -> bool
     is_word(first_a, second_b) && is_word(second_a, first_b) && is_word(rest_a, rest_b)
 }
 
-// Whether the first octet is another one, is missing, is one too many, or is swapped with the next, and all else is the same.
+// Whether the first byte is different, is missing, is one too many, or is swapped with the next, and everything else is
+// the same.
 #[tactic(auto, unfolding(crate::specs::Words::begin_off))]
 fn begin_off(a: &[u8], b: &[u8]) -> bool
     ensures { result ≡ begin_off a.now b.now }
@@ -80,7 +81,7 @@ fn begin_off(a: &[u8], b: &[u8]) -> bool
         || begin_swapped(a, b)
 }
 
-// Whether it is so at the place, before which both are the same.
+// Whether this holds at the place before which both are the same.
 #[tactic(auto, unfolding(crate::specs::Words::differ_at))]
 fn differ_at(a: &[u8], b: &[u8], place: usize) -> bool
     ensures { result ≡ differ_at a.now b.now place }
@@ -90,7 +91,7 @@ fn differ_at(a: &[u8], b: &[u8], place: usize) -> bool
     is_word(before_a, before_b) && begin_off(from_a, from_b)
 }
 
-// Whether the name is the word but for one letter, or but for the case of ASCII letters.
+// Whether the name is the word, apart from one letter or from the case of ASCII letters.
 #[tactic(auto, unfolding(crate::specs::Words::is_near))]
 fn is_near(name: &[u8], word: &[u8]) -> bool
     ensures { result ≡ is_near name.now word.now }
@@ -102,7 +103,7 @@ fn is_near(name: &[u8], word: &[u8]) -> bool
     near
 }
 
-// The first of the words that is near and isn't a word that was found before, or nothing.
+// The first of the words that is near and wasn't found before; otherwise nothing.
 fn nearest_word(name: &[u8], found: &str, words: &[&'static str]) -> &'static str
     ensures { result.now ≡ nearest_but name.now found.now (texts_of words.now) }
 {
@@ -114,7 +115,7 @@ fn nearest_word(name: &[u8], found: &str, words: &[&'static str]) -> &'static st
     ""
 }
 
-// The same of the words of commands.
+// The same for the names of commands.
 fn nearest_command(name: &[u8], found: &str, commands: &[CommandName]) -> &'static str
     ensures { result.now ≡ nearest_but name.now found.now (map command_word commands.now) }
 {
@@ -127,7 +128,7 @@ fn nearest_command(name: &[u8], found: &str, commands: &[CommandName]) -> &'stat
     ""
 }
 
-// The same of the words of tests.
+// The same for the names of tests.
 fn nearest_test(name: &[u8], found: &str, tests: &[TestName]) -> &'static str
     ensures { result.now ≡ nearest_but name.now found.now (map test_word tests.now) }
 {
@@ -140,7 +141,7 @@ fn nearest_test(name: &[u8], found: &str, tests: &[TestName]) -> &'static str
     ""
 }
 
-// The first of the names that is near and isn't a word that was found before, or nothing.
+/// The first of the names that is near and wasn't found before; otherwise nothing.
 pub fn nearest_but(name: &[u8], found: &str, names: &Names) -> &'static str
     ensures { result.now ≡ nearest_but name.now found.now (names_of names.now) }
 {
@@ -151,7 +152,7 @@ pub fn nearest_but(name: &[u8], found: &str, names: &Names) -> &'static str
     }
 }
 
-// The first of the names that is near, or nothing.
+/// The first of the names that is near; otherwise nothing.
 pub fn nearest(name: &[u8], names: &Names) -> &'static str
     ensures { result.now ≡ nearest name.now (names_of names.now) }
 {

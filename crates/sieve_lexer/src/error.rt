@@ -5,16 +5,16 @@ ghost use Rattle.sieve_lexer.specs.declared.error.LexicalError.TheVariants.{Memo
 use std::alloc::{AllocError, AllocFailed};
 use thiserror::Error;
 
-/// Why a script has no list of tokens.
+/// Why a script has no list of tokens. [`crate::tokens`] returns it.
 #[derive(Debug, Drop, Error)]
 pub enum LexicalError {
-    /// An allocation was refused.
+    /// Memory is refused, so there is no result.
     #[error("an allocation was refused")]
     Memory,
-    /// The script has more octets than the limit.
+    /// The script has more than [`MAX_SCRIPT`](crate::MAX_SCRIPT) bytes.
     #[error("the script is longer than a script may be")]
     ScriptTooLong,
-    /// At this octet begins neither a token nor white space nor a comment.
+    /// Neither a token nor white space nor a comment begins at this byte, counted from 0.
     #[error("no token begins at octet {place}")]
     Lexical { place: usize },
 }

@@ -9,7 +9,7 @@ pub fn tokens_are_unique()
         → AreTokens script others → tokens ≡ others }
 {}
 
-/// A script has its fault at one place at most.
+/// A script has its fault at only one place.
 pub fn fault_is_unique()
     ensures { (script : List ℕ) (place other : ℕ) → IsFault script place → IsFault script other
         → place ≡ other }

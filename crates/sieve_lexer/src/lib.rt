@@ -1,9 +1,18 @@
 //! The tokens of a Sieve script (RFC 5228, sections 2.1 to 2.4 and 8.1).
 //!
-//! [`tokens`] cuts a script into its tokens or names the octet at which none begins. What a token is
-//! stands in `specs/Texts`, what may stand between tokens in `specs/Separators`, and that the list is
-//! taken by longest match in `specs/Tokens`. The laws say that a script has one list of tokens or one
-//! fault. [`number_of`] and [`string_of`] give the value of a token's text, by `specs/Values`.
+//! [`tokens`] cuts a script into its tokens or names the octet at which none begins. `specs/Texts` defines tokens,
+//! `specs/Separators` what can be between two of them, and `specs/Tokens` the longest match. [`number_of`] and
+//! [`string_of`] give the value of a token's text, by `specs/Values`.
+//!
+//! # Promises
+//!
+//! ## Tokens
+//!
+//! The tokens of a script are those of the definition by longest match, or the first byte is named at which none
+//! begins. A script has at most one list of tokens. A script above the limit is refused as such even if memory has run
+//! out.
+//!
+//! By `tokens`, `number_of`, `string_of`; laws `tokens_are_unique`, `fault_is_unique`, `tokens_have_no_fault`.
 #![tactic(auto)]
 
 mod error;
@@ -22,5 +31,5 @@ pub use token::{Token, TokenKind};
 pub use value::{number_of, string_of};
 pub use word::{begins_identifier, continues_identifier};
 
-/// How many octets a script may have.
+/// The largest number of bytes of a script.
 pub const MAX_SCRIPT: usize = 65536;

@@ -7,7 +7,7 @@ use crate::separators::line_end;
 use crate::word::blanks_end;
 use octets::equal_ignoring_case;
 
-// Where the line ends that begins at this place, with its break, or nothing where no break ends it.
+// Where the line that begins at this place ends, including its break; `None` if no break ends it.
 fn line_stop(script: &[u8], place: usize) -> Option<usize>
     requires { place ≤ length script.now }
     ensures { MatchOption result (Stops (IsLine script.now) place) (IsLine script.now place) }
@@ -20,7 +20,7 @@ fn line_stop(script: &[u8], place: usize) -> Option<usize>
     }
 }
 
-// Whether the line is a lone dot.
+// Whether the line is a single dot.
 fn is_lone_dot(script: &[u8], start: usize, stop: usize) -> bool
     requires { IsLine script.now start stop }
     ensures { IsTrue result ↔ IsClosingLine script.now start stop }
@@ -29,7 +29,7 @@ fn is_lone_dot(script: &[u8], start: usize, stop: usize) -> bool
         && (stop == start + 2 || (stop == start + 3 && script[start + 1] == b'\r'))
 }
 
-// Where the line ends that closes the multi-line string whose lines begin at this place, if one does.
+// The end of the line that closes a multi-line string, if one does; the string's lines begin at this place.
 pub fn closing_line_end(script: &[u8], place: usize) -> Option<usize>
     requires { place ≤ length script.now }
     ensures rest { MatchOption result (Stops (IsMultiLineRest script.now) place)
@@ -64,7 +64,7 @@ fn opening_end(script: &[u8], place: usize) -> Option<usize>
     }
 }
 
-// Where the line ends that opens a multi-line string at this place, if one does.
+// The end of the line that opens a multi-line string at this place, if one does.
 pub fn opening_line_end(script: &[u8], place: usize) -> Option<usize>
     requires { place ≤ length script.now }
     ensures line { MatchOption result (Stops (IsOpeningLine script.now) place)

@@ -3,7 +3,7 @@ ghost use Rattle.std.specs.Prelude.{◌≡◌, ◌<◌, ◌≤◌, length, Match
 ghost use Rattle.sieve_lexer.specs.Chain.{Stops};
 ghost use Rattle.sieve_lexer.specs.Strings.{IsQuotedRest};
 
-// Where the quoted string ends whose characters begin at this place, or nothing where no quote closes it.
+// Where the quoted string ends whose characters begin at this place; `None` if no quote closes it.
 pub fn quoted_end(script: &[u8], place: usize) -> Option<usize>
     requires { place ≤ length script.now }
     ensures rest { MatchOption result (Stops (IsQuotedRest script.now) place)

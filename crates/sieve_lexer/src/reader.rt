@@ -58,7 +58,7 @@ fn tag_at(script: &[u8], place: usize) -> Option<Token>
     })
 }
 
-// Where a number ends whose digits end at this place: after K, M or G, where one stands there.
+// Where a number ends whose digits end at this place: after K, M or G, if one of them follows.
 fn suffix_end(script: &[u8], digits: usize) -> usize
     requires { digits ≤ length script.now }
     ensures suffix { IsSuffix script.now digits result }
@@ -102,7 +102,7 @@ fn quoted_at(script: &[u8], place: usize) -> Option<Token>
     })
 }
 
-// The kind of token that is this octet alone.
+// The kind of token that is this byte alone.
 fn sign_kind(octet: u8) -> Option<TokenKind>
     ensures { MatchOption result ((kind : TokenKind) → sign_octet kind ≡ Some octet → ⊥)
         (λ kind. sign_octet kind ≡ Some octet) }
@@ -144,12 +144,17 @@ fn token_at(script: &[u8], place: usize) -> Option<Token>
     }
 }
 
-/// The tokens of a script, each by longest match, in order (RFC 5228, sections 2.1 to 2.4 and 8.1).
+/// Returns the tokens of a script, each as long as possible, in order (RFC 5228, sections 2.1 to 2.4 and 8.1).
 ///
-/// A script above [`MAX_SCRIPT`] octets is refused as [`LexicalError::ScriptTooLong`], before anything else.
-/// Otherwise [`LexicalError::Lexical`] names the first octet at which neither a token nor white space nor a
-/// comment begins: an octet of no token, a number above 2^64 - 1, a string or comment that isn't closed.
-/// [`LexicalError::Memory`] comes only where memory was refused, after the number of octets was judged.
+/// For example, `keep;` has two tokens: an identifier from byte 0 up to 4, and a semicolon from 4 up to 5.
+///
+/// # Errors
+///
+/// - `LexicalError::ScriptTooLong` if the script has more than [`MAX_SCRIPT`](crate::MAX_SCRIPT) bytes, before
+///   anything else and whatever memory there is.
+/// - `LexicalError::Lexical` with the first byte at which neither a token nor white space nor a comment begins: a
+///   byte that no token has, a number greater than 2^64 - 1, or a string or comment that isn't closed.
+/// - `LexicalError::Memory` if memory is refused.
 pub fn tokens(alloc: Global, script: &[u8]) -> Result<Vec<Token>, LexicalError>
     ensures tokens { IfOk result
         (λ v. (length script.now ≤ max_script) × AreTokens script.now v.items) }

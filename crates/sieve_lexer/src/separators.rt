@@ -1,10 +1,10 @@
-// What may stand between tokens: white space and comments.
+// White space and comments, which can be between tokens.
 ghost use Rattle.std.specs.Prelude.{◌≡◌, ◌+◌, ◌<◌, ◌≤◌, length, slice_index, MatchOption, IfSome};
 ghost use Rattle.sieve_lexer.specs.Classes.{is_not_line_feed};
 ghost use Rattle.sieve_lexer.specs.Chain.{IsRun, Stops};
 ghost use Rattle.sieve_lexer.specs.Separators.{IsBracketComment, IsSeparator, IsGap};
 
-// The place of the next LF, or the script's length where there is none.
+// The place of the next LF, or the script's length if there is none.
 pub fn line_end(script: &[u8], place: usize) -> usize
     requires { place ≤ length script.now }
     ensures { IsRun is_not_line_feed script.now place result }
@@ -16,7 +16,7 @@ pub fn line_end(script: &[u8], place: usize) -> usize
     end
 }
 
-// Where the bracket comment ends whose `/` stands at this place, or nothing where it isn't one or isn't closed.
+// Where the bracket comment ends whose `/` is at this place; `None` if it isn't one or isn't closed.
 fn bracket_comment_end(script: &[u8], place: usize) -> Option<usize>
     requires within { place < length script.now }
     requires slash { slice_index script.now place ≡ 47 }
@@ -37,7 +37,7 @@ fn bracket_comment_end(script: &[u8], place: usize) -> Option<usize>
     None
 }
 
-// Where the white space or comment ends that begins at this place, if one does.
+// The end of the white space or comment that begins at this place, if one does.
 fn separator_end(script: &[u8], place: usize) -> Option<usize>
     requires { place ≤ length script.now }
     ensures separator { MatchOption result (Stops (IsSeparator script.now) place)
@@ -55,7 +55,7 @@ fn separator_end(script: &[u8], place: usize) -> Option<usize>
     }
 }
 
-// Where the white space and comments end that begin at this place.
+// The end of the white space and comments that begin at this place.
 pub fn gap_end(script: &[u8], place: usize) -> usize
     requires { place ≤ length script.now }
     ensures gap { IsGap script.now place result }

@@ -8,14 +8,14 @@ use crate::word::digits_end;
 use octets::Octets;
 use std::alloc::{AllocError, Global};
 
-// Whether the octet is K, M or G, in either case.
+// Whether the byte is K, M or G, in either case.
 pub fn is_unit(octet: u8) -> bool
     ensures { result ≡ is_unit octet }
 {
     matches!(octet, b'K' | b'k' | b'M' | b'm' | b'G' | b'g')
 }
 
-// What the suffix K, M or G multiplies by, and 1 for any other octet.
+// The factor of the suffix K, M or G, and 1 for any other byte.
 fn unit_of(octet: u8) -> u64
     ensures { result ≡ unit_value octet }
 {
@@ -27,7 +27,7 @@ fn unit_of(octet: u8) -> u64
     }
 }
 
-// The number that decimal digits spell, or nothing where it is above 2^64 - 1.
+// The number that decimal digits spell; `None` if it is greater than 2^64 - 1.
 fn decimal_of(digits: &[u8]) -> Option<u64>
     requires { (i : ℕ) → i < length digits.now → 48 ≤ slice_index digits.now i }
     ensures { result ≡ below_limit (decimal_value digits.now) }
@@ -41,7 +41,8 @@ fn decimal_of(digits: &[u8]) -> Option<u64>
     Some(value)
 }
 
-/// The value of a number's text, or nothing where it is above 2^64 - 1 (RFC 5228, section 2.4.1).
+/// Returns the value of a number's text (RFC 5228, section 2.4.1); `None` if it is greater than 2^64 - 1. For
+/// example, `3g` is 3,221,225,472.
 pub fn number_of(text: &[u8]) -> Option<u64>
     ensures { result ≡ below_limit (number_value text.now) }
 {
@@ -53,7 +54,7 @@ pub fn number_of(text: &[u8]) -> Option<u64>
     }
 }
 
-// Appends the octets, where a backslash stands for the octet after it.
+// Appends the bytes; a backslash is dropped, and the byte after it kept.
 fn push_unescaped(value: &mut Vec<u8>, text: &[u8]) -> Result<(), AllocError>
     ensures { OnOk result (value.new.items ≡ value.old.items ++ unescaped text.now) }
 {
@@ -73,7 +74,7 @@ fn push_unescaped(value: &mut Vec<u8>, text: &[u8]) -> Result<(), AllocError>
     Ok(())
 }
 
-// A line without its first dot, where another dot follows.
+// A line without its first dot, if another dot follows.
 fn without_stuffing(line: &[u8]) -> &[u8]
     ensures { result.now ≡ unstuffed line.now }
 {
@@ -83,7 +84,7 @@ fn without_stuffing(line: &[u8]) -> &[u8]
     }
 }
 
-// The first line of a text with its break, and what follows it.
+// The first line of a text with its break, and the text after it.
 fn first_line(text: &[u8]) -> (&[u8], &[u8])
     ensures lines { 0 < length text.now → lines_of text.now ≡ result.0.now ∷ lines_of result.1.now }
     ensures shorter { length result.1.now ≤ length text.now - 1 }
@@ -92,7 +93,7 @@ fn first_line(text: &[u8]) -> (&[u8], &[u8])
     text.split_at(if end < text.len() { end + 1 } else { end })
 }
 
-// Appends the lines but the first and the last one, each without its stuffing.
+// Appends the lines except the first and the last one, each without its stuffing.
 fn push_unstuffed(value: &mut Vec<u8>, text: &[u8]) -> Result<(), AllocError>
     ensures { OnOk result (value.new.items ≡ value.old.items
         ++ flat_map unstuffed (inner (lines_of text.now))) }
@@ -108,7 +109,7 @@ fn push_unstuffed(value: &mut Vec<u8>, text: &[u8]) -> Result<(), AllocError>
     }
 }
 
-// What stands between the first and the last octet.
+// The bytes between the first and the last one.
 fn between_quotes(text: &[u8]) -> &[u8]
     ensures { result.now ≡ inner text.now }
 {
@@ -118,11 +119,15 @@ fn between_quotes(text: &[u8]) -> &[u8]
     }
 }
 
-/// The value of a string's text (RFC 5228, sections 2.4.2 and 8.1): of a quoted string the octets between
-/// the quotes, each backslash taken away and the octet after it kept; of a multi-line string the lines between
-/// the first and the last one, a leading dot taken away where another dot follows. Line breaks stay as they stand.
+/// Returns the value of a string's text (RFC 5228, sections 2.4.2 and 8.1).
 ///
-/// An error comes only where memory was refused.
+/// For a quoted string it is the bytes between the quotes, where each backslash is removed and the byte after it
+/// kept. For a multi-line string it is the lines between the first and the last one, where a leading dot is removed
+/// if another dot follows. Line breaks stay as they are.
+///
+/// # Errors
+///
+/// `AllocError` if memory is refused.
 pub fn string_of(alloc: Global, kind: TokenKind, text: &[u8]) -> Result<Octets, AllocError>
     ensures { IfOk result (λ octets. octets ≡ string_value kind text.now) }
 {

@@ -1,11 +1,11 @@
-// Where runs of octets of one class end.
+// Runs of bytes of one class.
 ghost use Rattle.std.specs.Prelude.{◌≡◌, ◌≤◌, length};
 ghost use Rattle.std.specs.Char.{is_ascii_digit};
 ghost use Rattle.octets.specs.Blank.{is_blank};
 ghost use Rattle.sieve_lexer.specs.Classes.{begins_identifier, continues_identifier};
 ghost use Rattle.sieve_lexer.specs.Chain.{IsRun};
 
-// The class of each octet: 1 for letters and `_`, 2 for digits, 0 for all others.
+// The class of each byte: 1 for letters and `_`, 2 for digits, 0 for all others.
 static CLASSES: [u8; 256] = *b"\
     \x00\x00\x00\x00\x00\x00\x00\x00\x00\x00\x00\x00\x00\x00\x00\x00\
     \x00\x00\x00\x00\x00\x00\x00\x00\x00\x00\x00\x00\x00\x00\x00\x00\
@@ -24,21 +24,21 @@ static CLASSES: [u8; 256] = *b"\
     \x00\x00\x00\x00\x00\x00\x00\x00\x00\x00\x00\x00\x00\x00\x00\x00\
     \x00\x00\x00\x00\x00\x00\x00\x00\x00\x00\x00\x00\x00\x00\x00\x00";
 
-/// Whether an identifier may begin with the octet: a letter of ASCII or `_` (RFC 5228, section 8.1).
+/// Returns whether an identifier can begin with the byte: an ASCII letter or `_` (RFC 5228, section 8.1).
 pub fn begins_identifier(octet: u8) -> bool
     ensures { result ≡ begins_identifier octet }
 {
     CLASSES[octet as usize] == 1
 }
 
-/// Whether an identifier may go on with the octet: a letter or digit of ASCII or `_`.
+/// Returns whether the byte can be in an identifier after the first one: an ASCII letter or digit, or `_`.
 pub fn continues_identifier(octet: u8) -> bool
     ensures { result ≡ continues_identifier octet }
 {
     CLASSES[octet as usize] != 0
 }
 
-// Where the letters, digits and `_` end that begin at this place.
+// The end of the letters, digits and `_` that begin at this place.
 pub fn word_end(script: &[u8], place: usize) -> usize
     requires { place ≤ length script.now }
     ensures { IsRun continues_identifier script.now place result }
@@ -50,7 +50,7 @@ pub fn word_end(script: &[u8], place: usize) -> usize
     end
 }
 
-// Where the decimal digits end that begin at this place.
+// The end of the decimal digits that begin at this place.
 pub fn digits_end(script: &[u8], place: usize) -> usize
     requires { place ≤ length script.now }
     ensures { IsRun is_ascii_digit script.now place result }
@@ -62,7 +62,7 @@ pub fn digits_end(script: &[u8], place: usize) -> usize
     end
 }
 
-// Where the SP and TAB end that begin at this place.
+// The end of the spaces and tabs that begin at this place.
 pub fn blanks_end(script: &[u8], place: usize) -> usize
     requires { place ≤ length script.now }
     ensures { IsRun is_blank script.now place result }

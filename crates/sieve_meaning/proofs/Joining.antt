@@ -12,8 +12,7 @@ use Rattle.sieve_check.specs.declared.typed.Segment.{Segment}
 use Rattle.sieve_check.specs.declared.typed.Segment.TheVariants.{Text, Variable, Capture}
 use Rattle.sieve_check.specs.Typed.{Template}
 use Rattle.sieve_check.specs.TypedView.{templates_of}
-use Rattle.sieve_meaning.specs.Expanded.{written}
-use Rattle.sieve_meaning.specs.Private.{is_written}
+use Rattle.sieve_meaning.specs.Expanded.{is_written, written}
 use Rattle.sieve_meaning.specs.Meaning.{Effects, all_expanded, expanded, value_of, with_value}
 
 taken_up_to : (xs : List ℕ) (n : ℕ) → take (min (length xs) n) xs ≡ take n xs

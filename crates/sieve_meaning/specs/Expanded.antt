@@ -1,5 +1,5 @@
 -- How the code's expanded strings stand for texts.
-use Rattle.std.specs.Prelude.{ℕ, List, [], ◌∷◌, map, take}
+use Rattle.std.specs.Prelude.{ℕ, Bool, true, false, List, [], ◌∷◌, map, take}
 use Rattle.std.specs.Global.{Vec}
 use Rattle.octets.specs.Limits.{max_string}
 use Rattle.sieve_check.specs.declared.typed.Segment.{Segment}
@@ -14,6 +14,12 @@ use Rattle.sieve_meaning.specs.declared.expanded_list.ExpandedList.TheVariants.{
 abbrev pub octets_of : ExpandedText → List ℕ
 octets_of (Lent octets) = octets.now
 octets_of (Made octets) = octets
+
+-- whether a string is text as it stands, without references, and in one piece
+abbrev pub is_written : Template → Bool
+is_written [] = true
+is_written (Text octets ∷ []) = true
+is_written _ = false
 
 -- the text of a string that is one piece of text, cut; of any other none
 abbrev pub written : Template → List ℕ

@@ -5,5 +5,3 @@ pub mod Traced
 pub mod Values
 pub mod Expanded
 pub mod Evaluation
--- private: how the code goes; no public contract names this
-pub mod Private

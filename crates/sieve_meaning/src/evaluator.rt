@@ -1,4 +1,4 @@
-// Scripts evaluated.
+// The evaluator of scripts.
 //
 // The evaluator copies freely. Only `trace` of a script runs it; deliveries, `eval` and `run` execute the compiled
 // code.
@@ -14,27 +14,36 @@ use octets::{MAX_VALUE, Octets};
 use sieve_check::{Act, Checked, Command};
 use std::alloc::{AllocError, Global};
 
-/// What was done so far.
+/// The state of a script that is evaluated: its actions, variables and captures.
+///
+/// Make one with [`Evaluator::new`], and call [`Evaluator::commands`] for a whole script; a trace calls
+/// [`Evaluator::act`], [`Evaluator::asks_and_finds`] and others step by step. The fields are the result.
 #[derive(Drop)]
 pub struct Evaluator<'s, 'm> {
+    /// The listed actions, each once.
     pub actions: ActionList,
+    /// Whether the implicit keep still holds.
     pub implicit_keep: bool,
+    /// The values of the variables.
     pub variables: Variables<'s>,
-    /// Those that the last match has set, if one has.
+    /// The captures of the last match that has set them, if there is one.
     pub captures: Option<Captured<'m>>,
 }
 
-/// How the script goes on after a command.
+/// How a script continues after a command.
 #[derive(Clone, Copy)]
 pub enum Flow {
+    /// With the next command.
     GoesOn,
+    /// The script has stopped.
     Stopped,
     /// So many loops are left, the innermost first; at least one.
     Leaves(usize),
 }
 
 impl Flow {
-    /// How a loop ends from which so many are left, itself the first.
+    /// Returns how the script continues after a loop, if so many loops are left and it is the first of them: the next
+    /// loop is left if there is more than one.
     pub fn left(loops: usize) -> Flow
         ensures { result ≡ (if nat_lt 1 loops then Leaves (loops - 1) else GoesOn) }
     {
@@ -57,7 +66,7 @@ impl<'s, 'm> Evaluator<'s, 'm> {
     ghost use Rattle.sieve_meaning.specs.Evaluation.{HasEvaluated, StandsAt};
     ghost use Rattle.mime_decode.specs.Visited.{visited};
 
-    /// Before the first command.
+    /// Returns the state before the first command. It takes no memory.
     pub fn new(alloc: Global) -> Evaluator<'s, 'm>
         ensures { HasEvaluated no_effects result }
     {
@@ -69,7 +78,7 @@ impl<'s, 'm> Evaluator<'s, 'm> {
         }
     }
 
-    // Lists an action, and takes the implicit keep away.
+    // Adds an action, and cancels the implicit keep.
     fn list(&mut self, action: Action) -> Result<(), AllocError>
         ensures { (e : Effects) → HasEvaluated e self.old
             → OnOk result (HasEvaluated (record
@@ -101,7 +110,7 @@ impl<'s, 'm> Evaluator<'s, 'm> {
         Ok(())
     }
 
-    // Gives a variable the first octets of the current part's content, at most so many; nothing, where there is no part.
+    // Gives a variable the first bytes of the current part's content, at most so many; no bytes if there is no part.
     fn take(
         &mut self,
         alloc: Global,
@@ -127,7 +136,7 @@ impl<'s, 'm> Evaluator<'s, 'm> {
         Ok(())
     }
 
-    // Lists that the part is stored in the folder; nothing, where there is no part.
+    // Adds the action that stores the part in the folder; nothing if there is no part.
     fn store(&mut self, part: Option<usize>, folder: Octets) -> Result<(), AllocError>
         ensures { (e : Effects) → HasEvaluated e self.old
             → OnOk result (HasEvaluated (record e { actions = e.actions ++ stored part folder })
@@ -139,9 +148,11 @@ impl<'s, 'm> Evaluator<'s, 'm> {
         Ok(())
     }
 
-    /// Does what the action does with its string, expanded.
+    /// Carries out an action. `text` is its string, expanded.
     ///
-    /// An error comes only where memory was refused.
+    /// # Errors
+    ///
+    /// `AllocError` if memory is refused.
     pub fn act(
         &mut self,
         alloc: Global,
@@ -169,7 +180,8 @@ impl<'s, 'm> Evaluator<'s, 'm> {
         Ok(Flow::GoesOn)
     }
 
-    // Does what the commands do, on each part that a loop visits, up to a turn that stops the script or leaves the loop.
+    // Carries out the commands on each part that a loop visits, up to a turn that stops the script or leaves the
+    // loop.
     #[cycle(commands)]
     fn for_every_part(
         &mut self,
@@ -195,7 +207,15 @@ impl<'s, 'm> Evaluator<'s, 'm> {
         Ok(Flow::GoesOn)
     }
 
-    /// Does what a command does.
+    /// Carries out a command.
+    ///
+    /// # Requires
+    ///
+    /// The command is part of the typed form of a checked script (`IsBoundedCommand`).
+    ///
+    /// # Errors
+    ///
+    /// `AllocError` if memory is refused.
     #[cycle(commands)]
     fn command(
         &mut self,
@@ -229,7 +249,15 @@ impl<'s, 'm> Evaluator<'s, 'm> {
         }
     }
 
-    /// Does what the commands do, one after the other, up to one that stops the script.
+    /// Carries out commands, one after the other, up to one that stops the script or leaves a loop.
+    ///
+    /// # Requires
+    ///
+    /// The commands are part of the typed form of a checked script (`AreBoundedCommands`).
+    ///
+    /// # Errors
+    ///
+    /// `AllocError` if memory is refused.
     #[cycle(commands)]
     pub fn commands(
         &mut self,
@@ -272,9 +300,13 @@ fn eval_commands(
     evaluator.actions.into_final(evaluator.implicit_keep)
 }
 
-/// The final actions of the script on the message: exactly those of the meaning.
+/// Returns the final actions of the script on the message: exactly those of its meaning.
 ///
-/// An error comes only where memory was refused.
+/// For example, the empty script keeps the message: its one action is Keep.
+///
+/// # Errors
+///
+/// `AllocError` if memory is refused.
 pub fn plain_eval(
     alloc: Global,
     checked: &Checked,

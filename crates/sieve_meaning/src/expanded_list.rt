@@ -7,8 +7,7 @@ ghost use Rattle.std.specs.Global.{Vec};
 ghost use Rattle.std.specs.List.{list_all};
 ghost use Rattle.octets.specs.Limits.{max_string};
 ghost use Rattle.sieve_check.specs.declared.typed.Segment.{Segment};
-ghost use Rattle.sieve_meaning.specs.Expanded.{items_of, octets_of, written};
-ghost use Rattle.sieve_meaning.specs.Private.{is_written};
+ghost use Rattle.sieve_meaning.specs.Expanded.{is_written, items_of, octets_of, written};
 
 use mail_matching::Texts;
 use octets::{MAX_STRING, Octets};
@@ -17,22 +16,22 @@ use sieve_check::Segment;
 /// A string, expanded.
 #[derive(Drop)]
 pub enum ExpandedText<'t> {
-    /// Octets that the script, a variable or a capture lends.
+    /// Bytes that the script, a variable or a capture lends.
     Lent(&'t [u8]),
-    /// Octets of its own, of several segments.
+    /// Bytes of its own, made of several segments.
     Made(Octets),
 }
 
 /// The strings of a list, expanded.
 #[derive(Drop)]
 pub enum ExpandedList<'t> {
-    /// Strings without references, which stay where the script has them.
+    /// Strings without references, which stay in the script.
     Written(&'t [Vec<Segment>]),
     Expanded(Vec<ExpandedText<'t>>),
 }
 
 impl<'t> ExpandedText<'t> {
-    /// The octets of the text.
+    /// The bytes of the text.
     pub fn as_slice(&self) -> &[u8]
         ensures { result.now ≡ octets_of self.now }
     {
@@ -61,7 +60,7 @@ impl<'t> Texts for ExpandedList<'t> {
     }
 }
 
-/// The first octets of a text, as many as a string may have when it is expanded.
+/// The first bytes of a text, as many as an expanded string can have.
 #[tactic(auto, using(std::proofs::lemmas::List::take_min))]
 pub fn cut(text: &[u8]) -> &[u8]
     ensures { result.now ≡ take max_string text.now }
@@ -69,7 +68,7 @@ pub fn cut(text: &[u8]) -> &[u8]
     &text[..MAX_STRING.min(text.len())]
 }
 
-/// Whether each string is text as it stands, without references, and in one piece.
+/// Whether each string is plain text, without references, and in one piece.
 #[inline(always)]
 pub fn are_written(strings: &[Vec<Segment>]) -> bool
     ensures { result ≡ list_all (λ (string : Vec Segment). is_written string.items) strings.now }
@@ -77,7 +76,7 @@ pub fn are_written(strings: &[Vec<Segment>]) -> bool
     strings.iter().all(|string| is_written(string.as_slice()))
 }
 
-// Whether the string is.
+// Whether the string is plain text in one piece.
 #[inline(always)]
 fn is_written(string: &[Segment]) -> bool
     ensures { result ≡ is_written string.now }
@@ -98,7 +97,7 @@ fn written_at(strings: &[Vec<Segment>], place: usize) -> &[u8]
     written(strings[place].as_slice())
 }
 
-// The text of such a string; of any other none.
+// The text of such a string; empty for any other.
 fn written(string: &[Segment]) -> &[u8]
     ensures { result.now ≡ written string.now }
 {

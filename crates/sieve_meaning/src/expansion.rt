@@ -1,7 +1,10 @@
 // Strings, expanded (RFC 5229, section 3).
-ghost use Rattle.std.specs.Prelude.{◌≡◌, ◌≤◌, ◌++◌, length, map, take, OnOk};
+ghost use Rattle.std.specs.Prelude.{◌≡◌, ◌≤◌, ◌++◌, true, length, map, take, IsOk, OnOk};
+ghost use Rattle.std.specs.Global.{Vec};
+ghost use Rattle.std.specs.List.{list_all};
 ghost use Rattle.octets.specs.Limits.{max_stack, max_string};
 ghost use Rattle.mail_matching.specs.Texts.{AreTexts};
+ghost use Rattle.sieve_check.specs.declared.typed.Segment.{Segment};
 
 use crate::evaluator::Evaluator;
 use crate::expanded_list::{ExpandedList, ExpandedText, are_written, cut};
@@ -25,9 +28,9 @@ impl<'s, 'm> Evaluator<'s, 'm> {
     ghost use Rattle.sieve_check.specs.TypedView.{templates_of};
     ghost use Rattle.sieve_meaning.specs.Meaning.{Effects, all_expanded, expanded, value_of};
     ghost use Rattle.sieve_meaning.specs.Evaluation.{HasEvaluated};
-    ghost use Rattle.sieve_meaning.specs.Expanded.{items_of, octets_of};
+    ghost use Rattle.sieve_meaning.specs.Expanded.{is_written, items_of, octets_of};
 
-    // What stands for a segment.
+    // The value of a segment.
     fn value<'t>(&'t self, segment: &'t Segment) -> &'t [u8]
         ensures { (e : Effects) → HasEvaluated e self.now → result.now ≡ value_of e segment.now }
     {
@@ -41,9 +44,11 @@ impl<'s, 'm> Evaluator<'s, 'm> {
         }
     }
 
-    /// The string with the values of its references, cut.
+    /// Returns the string with the values of its references, cut to 16,384 bytes.
     ///
-    /// An error comes only where memory was refused.
+    /// # Errors
+    ///
+    /// `AllocError` if memory is refused.
     pub fn expanded(&self, alloc: Global, string: &[Segment]) -> Result<Octets, AllocError>
         ensures text { (e : Effects) → HasEvaluated e self.now
             → IfOk result (λ text. text ≡ expanded e string.now) }
@@ -51,13 +56,13 @@ impl<'s, 'm> Evaluator<'s, 'm> {
     {
         let mut text = Vec::new(alloc);
         for segment in string {
-            // Lent again, as the value is lent by the segment too.
+            // Lent again, because the segment lends the value too.
             append((&*self).value(segment), &mut text)?;
         }
         Ok(Octets::from_vec(text))
     }
 
-    // The same, where a string of a single segment is lent.
+    // The same; a string of a single segment is lent.
     fn text<'t>(
         &'t self,
         alloc: Global,
@@ -73,7 +78,7 @@ impl<'s, 'm> Evaluator<'s, 'm> {
         }
     }
 
-    // Each of the strings, expanded. Apart, so that strings without references cost next to nothing.
+    // Each of the strings, expanded. It is apart, so that strings without references cost next to nothing.
     #[inline(never)]
     fn each_expanded<'t>(
         &'t self,
@@ -93,9 +98,16 @@ impl<'s, 'm> Evaluator<'s, 'm> {
         Ok(texts)
     }
 
-    /// Each of the strings, expanded. Takes no memory where none has references.
+    /// Returns each of the strings, expanded. It takes no memory if each is empty or one piece of plain text, without
+    /// references.
     ///
-    /// An error comes only where memory was refused.
+    /// # Requires
+    ///
+    /// There are at most 1,024 strings.
+    ///
+    /// # Errors
+    ///
+    /// `AllocError` if memory is refused.
     #[inline(always)]
     pub fn all_expanded<'t>(
         &'t self,
@@ -106,6 +118,8 @@ impl<'s, 'm> Evaluator<'s, 'm> {
         ensures expanded { (e : Effects) → HasEvaluated e self.now
             → IfOk result (λ list. items_of list ≡ all_expanded e (templates_of strings.now)) }
         ensures texts { IfOk result (λ list. AreTexts (items_of list)) }
+        ensures no_memory { list_all (λ (string : Vec Segment). is_written string.items) strings.now ≡ true
+            → IsOk result }
     {
         if are_written(strings) {
             return Ok(ExpandedList::Written(strings));

@@ -16,11 +16,13 @@ use std::alloc::{AllocError, Global};
 /// The strings of a test, expanded.
 pub type Lists<'l, 't> = TestTexts<'l, ExpandedList<'t>, ExpandedList<'t>, ExpandedList<'t>>;
 
-/// What a question that needs to know of the current part's content comes to, with its texts, and what it finds. Of that the first
-/// octets are kept, at most so many of the value and of the key.
+/// The outcome of a question that needs to know of the current part's content, with its texts, and what it finds. The
+/// first bytes of that are kept, at most `most` of the value and of the key. It is apart, because most questions don't
+/// need the content.
 ///
-/// An error comes only where memory was refused.
-// Apart, since most questions need no such thing.
+/// # Errors
+///
+/// `AllocError` if memory is refused.
 #[inline(never)]
 pub fn asked_of_part<'m>(
     alloc: Global,

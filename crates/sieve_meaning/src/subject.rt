@@ -1,4 +1,4 @@
-// What commands and tests are about.
+// The subject of commands and tests.
 ghost use Rattle.std.specs.Prelude.{◌≡◌, ◌<◌, ◌≤◌, ◌-◌, None, Some, IfOk, IfSome, length, option_map};
 ghost use Rattle.std.proofs.Props.{props};
 ghost use Rattle.std.specs.Cow.{cow_slice_items};
@@ -11,16 +11,20 @@ use std::alloc::{AllocError, Global};
 use std::borrow::CowSlice;
 use std::ops::Range;
 
-/// The message, and its current part, that of the innermost loop, by its number; none outside of loops.
+/// The message, and the number of its current part, which is that of the innermost loop; `None` outside of loops.
+///
+/// [`Subject::of`] makes it for a whole script, and [`Subject::at`] for a turn of a loop. Commands and tests take it.
 #[derive(Clone, Copy)]
 pub struct Subject<'a, 'm> {
+    /// The message that the script runs on.
     pub message: &'a Message<'m>,
+    /// The number of the current part, counted from 0.
     pub part: Option<usize>,
     ghost within: { IfSome part (λ number. number < length message.now.parts) } by { Prim.hlevel props },
 }
 
 impl<'a, 'm> Subject<'a, 'm> {
-    /// The message, outside of loops.
+    /// Returns the subject of the message outside of loops.
     pub fn of(message: &'a Message<'m>) -> Subject<'a, 'm>
         ensures message { result.message.now ≡ message.now }
         ensures part { result.part ≡ None }
@@ -31,7 +35,11 @@ impl<'a, 'm> Subject<'a, 'm> {
         }
     }
 
-    /// The message in a turn of a loop, on this part of it.
+    /// Returns the subject of a turn of a loop on this part of the message.
+    ///
+    /// # Requires
+    ///
+    /// The part is in the message: `part < message.parts()`.
     pub fn at(self, part: usize) -> Subject<'a, 'm>
         requires { part < length self.message.now.parts }
         ensures message { result.message.now ≡ self.entry.message.now }
@@ -43,9 +51,11 @@ impl<'a, 'm> Subject<'a, 'm> {
         }
     }
 
-    /// The content of the current part, if there is one.
+    /// Returns the content of the current part; `None` if there is none.
     ///
-    /// An error comes only where memory was refused.
+    /// # Errors
+    ///
+    /// `AllocError` if memory is refused.
     pub fn content(self, alloc: Global) -> Result<Option<CowSlice<'m, u8>>, AllocError>
         ensures content { IfOk result
             (λ content. option_map cow_slice_items content
@@ -61,7 +71,7 @@ impl<'a, 'm> Subject<'a, 'm> {
         }
     }
 
-    /// The parts that a loop visits which begins here, by their numbers.
+    /// Returns the numbers of the parts that a loop visits if it begins here.
     pub fn visited(self) -> Range<usize>
         ensures parts { numbers_from result.start (result.end - result.start)
             ≡ visited self.entry.part self.entry.message.now }

@@ -1,4 +1,4 @@
-// Whether tests are true.
+// The truth of tests.
 use crate::evaluator::Evaluator;
 use crate::questions::asked_of_part;
 use crate::subject::Subject;
@@ -18,9 +18,15 @@ impl<'s, 'm> Evaluator<'s, 'm> {
     ghost use Rattle.sieve_meaning.specs.Meaning.{Effects, all_do, any_do, matched, test_does, texts_of};
     ghost use Rattle.sieve_meaning.specs.Evaluation.{Gives, HasEvaluated};
 
-    /// Whether the test is true of the message.
+    /// Returns whether the test is true for the message.
     ///
-    /// An error comes only where memory was refused.
+    /// # Requires
+    ///
+    /// The test is part of the typed form of a checked script (`IsBoundedTest`).
+    ///
+    /// # Errors
+    ///
+    /// `AllocError` if memory is refused.
     #[cycle(tests)]
     pub fn is_true(
         &mut self,
@@ -56,7 +62,7 @@ impl<'s, 'm> Evaluator<'s, 'm> {
         }
     }
 
-    // Whether all tests are true, up to the first that isn't.
+    // Whether all tests are true; it stops at the first that isn't.
     #[cycle(tests)]
     fn all_true(
         &mut self,
@@ -78,7 +84,7 @@ impl<'s, 'm> Evaluator<'s, 'm> {
         Ok(true)
     }
 
-    // Whether a test is true, up to the first that is.
+    // Whether one of the tests is true; it stops at the first that is.
     #[cycle(tests)]
     fn any_true(
         &mut self,
@@ -100,9 +106,15 @@ impl<'s, 'm> Evaluator<'s, 'm> {
         Ok(false)
     }
 
-    /// Whether what a simple test asks is true. A match may set captures.
+    /// Returns whether the question of a simple test is true. A match can set captures.
     ///
-    /// An error comes only where memory was refused.
+    /// # Requires
+    ///
+    /// The strings are those of a checked script's test with this question (`AreBoundedStrings`).
+    ///
+    /// # Errors
+    ///
+    /// `AllocError` if memory is refused.
     pub fn asks(
         &mut self,
         alloc: Global,
@@ -120,10 +132,17 @@ impl<'s, 'm> Evaluator<'s, 'm> {
         Ok(value)
     }
 
-    /// The same, and what the test finds, if it compares values with keys: the first octets of the value and of the key that
-    /// match, at most so many of each; or how many values there are.
+    /// Returns whether the question of a simple test is true, and what the test finds if it compares values with
+    /// keys: the value and the key that match, each cut to `most` bytes, or how many values there are. A match can
+    /// set captures.
     ///
-    /// An error comes only where memory was refused.
+    /// # Requires
+    ///
+    /// The strings are those of a checked script's test with this question (`AreBoundedStrings`).
+    ///
+    /// # Errors
+    ///
+    /// `AllocError` if memory is refused.
     pub fn asks_and_finds(
         &mut self,
         alloc: Global,
@@ -148,7 +167,7 @@ impl<'s, 'm> Evaluator<'s, 'm> {
         Ok((self.settle(outcome), found))
     }
 
-    // What the question comes to, with the strings of its test, expanded, and what it finds.
+    // The outcome of a question, with the strings of its test, expanded, and what it finds.
     #[inline(always)]
     fn answered(
         &self,
@@ -186,7 +205,7 @@ impl<'s, 'm> Evaluator<'s, 'm> {
         }
     }
 
-    // Keeps the captures that a test has set, and says whether it has matched.
+    // Keeps the captures that a test has set, and returns whether it has matched.
     #[inline(always)]
     fn settle(&mut self, outcome: Outcome<'m>) -> bool
         ensures { (e : Effects) → HasEvaluated e self.old

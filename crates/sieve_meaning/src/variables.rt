@@ -9,14 +9,14 @@ use std::collections::BTreeMap;
 
 /// The values of the variables that were set, by their names, which are lent by the script.
 ///
-/// The value of a name is what the map holds for it; one that was never set is empty.
+/// A variable that was never set is empty.
 #[derive(Drop)]
 pub struct Variables<'s> {
     pub values: BTreeMap<&'s [u8], Octets>,
 }
 
 impl<'s> Variables<'s> {
-    /// No variable was set. Takes no memory.
+    /// No variables are set. It takes no memory.
     pub fn new(alloc: Global) -> Variables<'s>
         ensures { (name : List ℕ) → found_in result.values name ≡ [] }
     {
@@ -27,7 +27,9 @@ impl<'s> Variables<'s> {
 
     /// Gives a variable its value.
     ///
-    /// An error comes only where memory was refused.
+    /// # Errors
+    ///
+    /// `AllocError` if memory is refused.
     pub fn set(&mut self, name: &'s [u8], value: Octets) -> Result<(), AllocError>
         ensures { OnOk result ((other : List ℕ)
             → found_in self.new.values other
@@ -37,7 +39,7 @@ impl<'s> Variables<'s> {
         Ok(())
     }
 
-    /// The value of a variable.
+    /// The value of a variable; empty if it was never set.
     pub fn value(&self, name: &[u8]) -> &[u8]
         ensures { result.now ≡ found_in self.now.values name.now }
     {

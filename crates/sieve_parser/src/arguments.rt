@@ -11,7 +11,7 @@ use crate::tree::Argument;
 use sieve_lexer::{Token, TokenKind, number_of, string_of};
 use std::alloc::Global;
 
-// The argument that begins at this number, and the number after it; nothing where none begins.
+// The argument that begins at this number, and the number after it; `None` if none begins there.
 fn argument_at(
     alloc: Global,
     script: &[u8],

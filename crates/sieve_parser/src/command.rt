@@ -14,7 +14,7 @@ use octets::Octets;
 use sieve_lexer::{Token, TokenKind};
 use std::alloc::Global;
 
-// The command whose identifier, of this name and number, stands at this depth, and the number after it.
+// The command at this depth whose identifier has this name and number, and the number after it.
 #[cycle(blocks)]
 fn command(
     alloc: Global,

@@ -7,22 +7,22 @@ use sieve_lexer::LexicalError;
 use std::alloc::{AllocError, AllocFailed};
 use thiserror::Error;
 
-/// Why a script isn't parsed.
+/// Why a script isn't parsed. [`crate::parse`] returns it.
 #[derive(Debug, Drop, Error)]
 pub enum ParseError {
-    /// An allocation was refused.
+    /// Memory is refused, so there is no result.
     #[error("an allocation was refused")]
     Memory,
-    /// The script has more octets than the limit.
+    /// The script has more than 65,536 bytes.
     #[error("the script is longer than a script may be")]
     ScriptTooLong,
-    /// At this octet begins neither a token nor white space nor a comment.
+    /// Neither a token nor white space nor a comment begins at this byte, counted from 0.
     #[error("no token begins at octet {place}")]
     Lexical { place: usize },
-    /// With this token the tokens begin no script; the end counts as a token.
+    /// With this token, counted from 0, the tokens don't begin a script; the end counts as a token.
     #[error("no script goes on with token {place}")]
     Syntax { place: usize },
-    /// This token is the brace or test name that would be nested too deep.
+    /// This token, counted from 0, is the brace or test name that would be nested too deep.
     #[error("token {place} is nested too deep")]
     TooDeep { place: usize },
 }

@@ -14,7 +14,7 @@ use octets::Octets;
 use sieve_lexer::{Token, TokenKind};
 use std::alloc::Global;
 
-// The invocation whose identifier, of this name and number, stands at this depth, and the number after it.
+// The invocation at this depth whose identifier has this name and number, and the number after it.
 #[cycle(tests)]
 pub fn invocation(
     alloc: Global,
@@ -53,7 +53,7 @@ pub fn invocation(
     Ok((Invocation::Plain(head), next))
 }
 
-// The test whose identifier has to stand at this number, below this depth, and the number after it.
+// The test whose identifier has to be at this number, below this depth, and the number after it.
 #[cycle(tests)]
 fn test_at(
     alloc: Global,
@@ -77,7 +77,7 @@ fn test_at(
     invocation(alloc, script, tokens, name, at, depth + 1)
 }
 
-// The tests of a list whose first test has to stand at this number, below this depth, and the number after its bracket.
+// The tests of a list whose first test has to be at this number, below this depth, and the number after its bracket.
 #[cycle(tests)]
 fn test_list(
     alloc: Global,

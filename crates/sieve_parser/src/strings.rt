@@ -11,7 +11,7 @@ use octets::Octets;
 use sieve_lexer::{Token, TokenKind};
 use std::alloc::Global;
 
-// The string that has to stand at this number.
+// The string that has to be at this number.
 fn expected_string(
     alloc: Global,
     script: &[u8],
@@ -29,7 +29,7 @@ fn expected_string(
     }
 }
 
-// The list of strings whose first string has to stand at this number, and the number after its bracket.
+// The list of strings whose first string has to be at this number, and the number after its bracket.
 pub fn string_list(
     alloc: Global,
     script: &[u8],

@@ -1,4 +1,4 @@
-// What stands at a token's number.
+// The token with a number.
 ghost use Rattle.std.specs.Prelude.{◌≡◌, ◌↔◌, IsTrue, IfOk};
 ghost use Rattle.std.specs.List.{slice_get};
 ghost use Rattle.sieve_lexer.specs.Tokens.{AreTokens};
@@ -30,14 +30,14 @@ pub fn stands(tokens: &[Token], at: usize, kind: TokenKind) -> bool
     }
 }
 
-// The octets as an owned string.
+// The bytes as an owned string.
 pub fn owned(alloc: Global, octets: &[u8]) -> Result<Octets, AllocError>
     ensures { IfOk result (λ o. o ≡ octets.now) }
 {
     Ok(Octets::from_vec(Vec::from_slice(alloc, octets)?))
 }
 
-// The value of the string with this number, or nothing where no string stands there.
+// The value of the string with this number; `None` if the token isn't a string.
 pub fn string_at(
     alloc: Global,
     script: &[u8],
@@ -58,7 +58,7 @@ pub fn string_at(
     }
 }
 
-// The name of the identifier with this number, or nothing where no identifier stands there.
+// The name of the identifier with this number; `None` if the token isn't an identifier.
 pub fn identifier_at(
     alloc: Global,
     script: &[u8],

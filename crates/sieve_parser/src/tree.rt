@@ -9,21 +9,24 @@ use std::marker::Model;
 /// An argument of a command or test (RFC 5228, section 8.2).
 #[derive(Drop)]
 pub enum Argument {
-    /// A string that stands without brackets.
+    /// A string without brackets.
     Text(Octets),
     /// The strings of a list in square brackets: the first, and those after it.
     TextList(Octets, Vec<Octets>),
+    /// The value of a number.
     Number(u64),
-    /// The identifier after the colon.
+    /// A tag: the identifier after the colon.
     Tag(Octets),
 }
 
-/// What a command or a test begins with: its identifier, the number of the identifier's token, and the
-/// arguments that stand before its tests.
+/// The beginning of a command or a test: its identifier and the arguments before its tests.
 #[derive(Drop)]
 pub struct Head {
+    /// The identifier, as it is written.
     pub name: Octets,
+    /// The number of the identifier's token in the script, counted from 0.
     pub token: usize,
+    /// The arguments before the tests.
     pub arguments: Vec<Argument>,
 }
 
@@ -32,13 +35,13 @@ pub struct Head {
 pub enum Invocation {
     /// No test follows the arguments.
     Plain(Head),
-    /// One test follows.
+    /// One test follows the arguments.
     WithTest(Head, Box<Invocation>),
-    /// A list of tests in round brackets follows: the first, and those after it.
+    /// A list of tests in parentheses follows: the first, and those after it.
     WithTests(Head, Box<Invocation>, Vec<Invocation>),
 }
 
-/// A command (RFC 5228, section 8.2).
+/// A command (RFC 5228, section 8.2). Its name isn't checked; the checker does that.
 #[derive(Drop)]
 pub enum Command {
     /// It ends in a semicolon.
@@ -47,7 +50,7 @@ pub enum Command {
     Block(Invocation, Vec<Command>),
 }
 
-/// The syntax tree of a script that was parsed. A contract sees its commands.
+/// The syntax tree of a script. [`crate::parse`] makes it, and the checker takes it. A contract sees its commands.
 #[derive(Drop)]
 pub struct Script {
     commands: Vec<Command>,
@@ -83,7 +86,7 @@ impl Script {
         Script { commands }
     }
 
-    /// The commands, in order.
+    /// Returns the commands, in order.
     pub fn commands(&self) -> &[Command]
         ensures value { result.now ≡ self.now }
         ensures tree { IsTree (commands_tree self.now) }

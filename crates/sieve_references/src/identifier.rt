@@ -11,14 +11,15 @@ use sieve_lexer::{begins_identifier, continues_identifier};
 /// The last capture that a reference can name.
 pub(crate) const LAST_CAPTURE: u8 = 9;
 
-// Whether all of them may stand in a name or a number.
+// Whether all of the bytes are allowed in a name or a number.
 fn are_word_octets(octets: &[u8]) -> bool
     ensures { result ≡ list_all continues_identifier octets.now }
 {
     octets.iter().all(|octet| continues_identifier(*octet))
 }
 
-/// Whether the name is an identifier: a letter of ASCII or `_`, then such letters and digits (RFC 5229, section 3).
+/// Returns whether the name is an identifier: an ASCII letter or `_`, then letters, digits and `_` (RFC 5229, section
+/// 3).
 pub fn is_identifier(name: &[u8]) -> bool
     ensures { result ≡ is_identifier name.now }
 {
@@ -28,7 +29,7 @@ pub fn is_identifier(name: &[u8]) -> bool
     }
 }
 
-/// The number that a word of digits spells, or the one after the last capture where it is above that. None where the word
+/// The number that a word of digits spells, or the one after the last capture if it is greater. `None` if the word
 /// isn't one or more digits.
 pub(crate) fn number(word: &[u8]) -> Option<u8>
     ensures { result ≡ (if is_number word.now then Some

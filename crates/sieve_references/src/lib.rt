@@ -1,10 +1,18 @@
 //! References to variables and captures in the strings of a script (RFC 5229, section 3).
 //!
-//! [`first_segment`] cuts a string into its references and the stretches between them, one after the other, without memory.
-//! What a reference is, and which segments a string has, stands in `specs/References`; the laws say how long they are.
+//! [`first_segment`] cuts a string into its references and the stretches between them, one after the other, without
+//! memory. `specs/References` defines references and the segments of a string. The rules ask for them to find faults
+//! and names, the typed form to get its pieces; both use this call.
 //!
-//! What a string consists of is asked by the rules, for faults and names, and by the typed form, for its pieces.
-//! Both go over the string by one call, without memory.
+//! # Promises
+//!
+//! ## References to variables
+//!
+//! A string is cut into its references and the longest stretches between them, one after another, without memory; they
+//! are written with no more bytes than the string has.
+//!
+//! By `first_segment`, `is_identifier`; laws `segments_are_within_their_text`, `each_segment_is_within_its_text`,
+//! `segments_are_well_formed`.
 #![tactic(auto)]
 
 mod identifier;

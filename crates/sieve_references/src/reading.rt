@@ -1,4 +1,4 @@
-// References, read word by word. A reader stops at the first octet with which none can go on.
+// References, read word by word. A reader stops at the first byte with which no reference can continue.
 ghost use Rattle.std.specs.Prelude.{◌≡◌, ◌∷◌, [], MatchOption, Some, None};
 ghost use Rattle.sieve_references.specs.References.{reference_of};
 ghost use Rattle.sieve_references.specs.Reading.{elements, found_at, reference, reference_behind};
@@ -9,7 +9,7 @@ use crate::run::word;
 use crate::segment::Segment;
 use octets::first;
 
-// What the one word between the braces of a reference refers to.
+// The segment that the one word between the braces of a reference refers to.
 fn named(word: &[u8]) -> Option<Segment<'_>>
     ensures { MatchOption result (reference_of (word.now ∷ []) ≡ None)
         (λ segment. reference_of (word.now ∷ []) ≡ Some (segment_of segment)) }
@@ -24,7 +24,7 @@ fn named(word: &[u8]) -> Option<Segment<'_>>
     Some(Segment::Capture(capture))
 }
 
-// What stands behind the closing brace, where each of the words before it is a name or a number.
+// The text after the closing brace, if each of the words before it is a name or a number.
 fn elements(text: &[u8]) -> Option<&[u8]>
     ensures { MatchOption result (elements text.now ≡ None)
         (λ after. elements text.now ≡ Some after.now) }
@@ -45,7 +45,7 @@ fn elements(text: &[u8]) -> Option<&[u8]>
     None
 }
 
-// The reference whose `${` stands before the text, and what stands after its closing brace.
+// The reference whose `${` comes before the text, and the text after its closing brace.
 fn reference(text: &[u8]) -> Option<(Segment<'_>, &[u8])>
     ensures { MatchOption result (reference text.now ≡ None)
         (λ found. reference text.now
@@ -61,7 +61,7 @@ fn reference(text: &[u8]) -> Option<(Segment<'_>, &[u8])>
     None
 }
 
-/// The reference whose `$` stands before the text, and what stands after it.
+/// The reference whose `$` comes before the text, and the text after it.
 pub(crate) fn reference_behind(text: &[u8]) -> Option<(Segment<'_>, &[u8])>
     ensures { MatchOption result (reference_behind text.now ≡ None)
         (λ found. reference_behind text.now
@@ -74,7 +74,7 @@ pub(crate) fn reference_behind(text: &[u8]) -> Option<(Segment<'_>, &[u8])>
     reference(inside)
 }
 
-/// The reference that the text begins with, and what stands after it.
+/// The reference at the start of the text, and the text after it.
 pub(crate) fn reference_at(text: &[u8]) -> Option<(Segment<'_>, &[u8])>
     ensures { MatchOption result (found_at text.now ≡ None)
         (λ found. found_at text.now

@@ -7,24 +7,25 @@ ghost use Rattle.sieve_references.specs.SegmentView.{segment_of};
 use crate::reading::{reference_at, reference_behind};
 use crate::run::up_to_dollar;
 
-/// A piece of a string: a reference, or a stretch between references (RFC 5229, section 3).
+/// A piece of a string: a reference, or a stretch between references (RFC 5229, section 3). [`first_segment`] makes
+/// it.
 #[derive(Clone, Copy)]
 pub enum Segment<'s> {
-    /// Octets that stand for themselves.
+    /// Bytes that mean themselves.
     Text(&'s [u8]),
-    /// A reference to the variable of that name, which is as it is written.
+    /// A reference to the variable with this name, as it is written.
     Variable(&'s [u8]),
-    /// A reference to the capture of that number, which is 9 at most.
+    /// A reference to the capture with this number, at most 9.
     Capture(u8),
-    /// A reference to a capture after the last one.
+    /// A reference to a capture after the last one, which is never there.
     Beyond,
-    /// A reference into a namespace.
+    /// A reference into a namespace, which the checker refuses.
     Foreign,
 }
 
-/// The first segment of a string, and what is after it, which is the end of the text; none where nothing is left.
+/// Returns the first segment of a string and the rest of the string after it; `None` if the string is empty.
 ///
-/// Segments that are taken one after the other cost time in proportion to the string's length, whatever it has.
+/// All segments of a string, taken one after the other, take time linear in its length.
 pub fn first_segment(text: &[u8]) -> Option<(Segment<'_>, &[u8])>
     ensures { MatchOption result (text.now ≡ [])
         (λ f. (segments text.now ≡ segment_of f.0 ∷ segments f.1.now)
@@ -41,7 +42,7 @@ pub fn first_segment(text: &[u8]) -> Option<(Segment<'_>, &[u8])>
     Some((Segment::Text(octets), rest))
 }
 
-// How many octets stand before the first reference, or in the whole text where it has none.
+// How many bytes come before the first reference, or in the whole text if it has none.
 fn stretch_len(text: &[u8]) -> usize
     ensures { result ≡ octets_before text.now }
 {

@@ -1,4 +1,4 @@
-// Commands, done and told.
+// Commands, done and reported.
 ghost use Rattle.std.specs.Prelude.{◌∷◌, IfErr, IfOk};
 ghost use Rattle.mime_decode.specs.Visited.{visited};
 ghost use Rattle.sieve_check.specs.Bounded.{AreBoundedCommands, IsBoundedCommand};
@@ -22,8 +22,8 @@ use octets::Octets;
 use sieve_check::{Act, Command};
 use sieve_meaning::{Evaluator, Flow, Subject};
 
-// Does what an action does with its string, expanded. Of one that sets a variable the value is told that this has
-// then.
+// Does what an action does with its string, expanded. For an action that sets a variable, the value that the variable
+// has then is reported.
 fn act<'s, 'm, O: Sink>(
     run: &mut Evaluator<'s, 'm>,
     page: &Page<'_>,
@@ -63,7 +63,7 @@ fn act<'s, 'm, O: Sink>(
 }
 
 // Does what the commands do, on each part that a loop visits, up to a turn that stops the script or leaves the loop.
-// Each turn is told before what is done in it.
+// Each turn is reported before what is done in it.
 #[cycle(commands)]
 fn for_every_part<'s, 'm, O: Sink>(
     run: &mut Evaluator<'s, 'm>,
@@ -104,7 +104,7 @@ fn for_every_part<'s, 'm, O: Sink>(
     Ok(Flow::GoesOn)
 }
 
-// Tells a turn of a loop, and does what the commands do.
+// Reports a turn of a loop, and does what the commands do.
 #[cycle(commands)]
 fn turn<'s, 'm, O: Sink>(
     run: &mut Evaluator<'s, 'm>,
@@ -191,7 +191,16 @@ fn command<'s, 'm, O: Sink>(
     }
 }
 
-/// Does what the commands do, one after the other, up to one that stops the script or leaves a loop, and tells it.
+/// Does what the commands do, one after the other, up to one that stops the script or leaves a loop, and reports it.
+///
+/// # Requires
+///
+/// The commands are within the limits of scripts, as those of every checked script.
+///
+/// # Errors
+///
+/// - `Write` if a call of `out` fails.
+/// - `Memory` if memory is refused.
 #[cycle(commands)]
 pub fn commands<'s, 'm, O: Sink>(
     run: &mut Evaluator<'s, 'm>,

@@ -1,4 +1,4 @@
-// Why a trace isn't written to its end.
+// Why a trace broke off.
 ghost use Rattle.std.specs.Prelude.{◌≡◌};
 ghost use Rattle.sieve_trace.specs.declared.error.TraceError.TheVariants.{Memory, Write};
 
@@ -6,13 +6,13 @@ use encodings::DeviceFailed;
 use std::alloc::AllocError;
 use thiserror::Error;
 
-/// Why a trace isn't written to its end. What was written is its beginning.
+/// Why a trace broke off. The beginning of the trace was written. [`crate::trace`] returns it.
 #[derive(Debug, Drop, Error)]
 pub enum TraceError {
-    /// An allocation was refused.
+    /// Memory was refused.
     #[error("memory was refused")]
     Memory,
-    /// The sink failed.
+    /// A call of the sink failed.
     #[error("a line can't be written")]
     Write,
 }

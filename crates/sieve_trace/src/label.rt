@@ -5,17 +5,17 @@ ghost use Rattle.sieve_trace.specs.Printed.{is_plain, named, named_octet};
 use readable_text::quoting::escape;
 use std::alloc::{AllocError, Global};
 
-// The last octet of ASCII, a control character.
+// The last character of ASCII, a control character.
 const DELETE: u8 = 127;
 
-// Whether an octet of a name is printed as it is.
+// Whether a byte of a name is printed unchanged.
 fn is_plain(octet: u8) -> bool
     ensures { result ≡ is_plain octet }
 {
     octet >= b' ' && octet != DELETE
 }
 
-// Appends an octet of a name.
+// Appends a byte of a name.
 #[tactic(auto, unfolding(crate::specs::Printed::named_octet))]
 fn push_octet(out: &mut Vec<u8>, octet: u8) -> Result<(), AllocError>
     ensures { OnOk result (out.new.items ≡ out.old.items ++ named_octet octet) }
@@ -38,6 +38,10 @@ fn push_name(out: &mut Vec<u8>, name: &[u8]) -> Result<(), AllocError>
 }
 
 /// The name of a script, as lines begin with it.
+///
+/// # Errors
+///
+/// `AllocError` if memory is refused.
 pub fn label_of(alloc: Global, name: &str) -> Result<Vec<u8>, AllocError>
     ensures { IfOk result (λ label. label.items ≡ named name.now) }
 {

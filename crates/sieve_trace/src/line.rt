@@ -1,7 +1,7 @@
 // The line of an event.
 //
-// Lines are made in one buffer, which is kept from line to line. The script's name is escaped once, and the words of
-// a part are made once a turn. Without that half of the instructions for a line were the growth of a new buffer.
+// Lines are made in one buffer, which is kept from line to line. The script's name is escaped once, and the words of a
+// part are made once a turn. Without that, half of the instructions for a line would be the growth of a new buffer.
 ghost use Rattle.std.specs.Prelude.{◌≡◌, ◌<◌, ◌++◌, IfOk, IfSome, OnOk, codes, length};
 ghost use Rattle.std.specs.Prelude.{option_map, slice_get};
 ghost use Rattle.std.specs.Borrow.{Bor};
@@ -23,20 +23,21 @@ use sieve_check::Act;
 use sieve_meaning::Subject;
 use std::alloc::{AllocError, Global};
 
-/// How many octets are kept of a text that is to be printed: one more shows that it goes on.
+/// How many bytes are kept of a text that is to be printed: one more shows that it continues.
 pub(crate) const MAX_KEPT: usize = MAX_START + 1;
 
-/// What lines are printed by; and where memory comes from.
+/// What lines are printed with, and where memory comes from.
 #[derive(Drop)]
 pub struct Page<'a> {
+    /// Where memory comes from.
     pub alloc: Global,
     /// The name of the script, as lines begin with it.
     pub label: &'a [u8],
-    /// The places of its tokens.
+    /// The places of the script's tokens.
     pub places: &'a Places,
 }
 
-/// What came of a test or a command.
+/// The result of a test or a command, to be printed.
 #[derive(Clone, Copy)]
 pub enum Told<'a> {
     /// A simple test was asked, is true or not, and has found this.
@@ -47,7 +48,7 @@ pub enum Told<'a> {
     AllOf(bool),
     /// `anyof`, and whether it is true.
     AnyOf(bool),
-    /// An action, with its string, expanded, or the value of the variable that it has set.
+    /// An action, with its expanded string, or the value of the variable that it has set.
     Acted(&'a Act, &'a [u8]),
 }
 
@@ -124,7 +125,7 @@ fn push_test(out: &mut Vec<u8>, word: &[u8], value: bool) -> Result<(), AllocErr
     push_value(out, value)
 }
 
-// Appends what came of a test or a command, behind its word.
+// Appends the result of a test or a command after its word.
 #[inline(always)]
 #[tactic(auto, unfolding(crate::specs::Printed::occurrence_text))]
 fn push_occurrence(out: &mut Vec<u8>, what: Told<'_>) -> Result<(), AllocError>
@@ -166,7 +167,11 @@ fn push_part(out: &mut Vec<u8>, message: &Message<'_>, number: usize) -> Result<
     Ok(())
 }
 
-/// The current part by its number and media type, with a space before; nothing outside of loops.
+/// The current part by its number and media type, with a space before them; empty outside of loops.
+///
+/// # Errors
+///
+/// `AllocError` if memory is refused.
 #[tactic(auto, unfolding(crate::specs::Printed::part_text))]
 pub fn part_of(alloc: Global, subject: Subject<'_, '_>) -> Result<Vec<u8>, AllocError>
     ensures { IfOk result (λ part. part.items
@@ -182,7 +187,7 @@ pub fn part_of(alloc: Global, subject: Subject<'_, '_>) -> Result<Vec<u8>, Alloc
     }
 }
 
-// Makes a line what all lines of a token begin with. What it held is gone, but for the memory.
+// Makes `line` the beginning that all lines of a token have. Only the memory of what it held is used again.
 #[inline(always)]
 fn begin_line(line: &mut Vec<u8>, page: &Page<'_>, at: usize) -> Result<(), AllocError>
     ensures { OnOk result (line.new.items
@@ -193,7 +198,11 @@ fn begin_line(line: &mut Vec<u8>, page: &Page<'_>, at: usize) -> Result<(), Allo
     line.extend_from_slice(page.places.text(at))
 }
 
-/// Makes a line that of an event, other than a turn of a loop.
+/// Makes `line` the line of an event other than a turn of a loop.
+///
+/// # Errors
+///
+/// `AllocError` if memory is refused.
 #[inline(always)]
 #[tactic(auto, using(crate::proofs::Shown::text_told), unfolding(crate::specs::Printed::event_line))]
 pub fn set_line(
@@ -213,7 +222,15 @@ pub fn set_line(
     line.extend_from_slice(b"\n")
 }
 
-/// Makes a line that of a turn of a loop, on the part whose text this is.
+/// Makes `line` the line of a turn of a loop on the part with this text.
+///
+/// # Requires
+///
+/// `part` is the text of the subject's part, as [`part_of`] makes it.
+///
+/// # Errors
+///
+/// `AllocError` if memory is refused.
 #[tactic(auto, unfolding(crate::specs::Printed::event_line, crate::specs::Printed::event_text, crate::specs::Printed::occurrence_text))]
 pub fn set_turn_line(
     line: &mut Vec<u8>,

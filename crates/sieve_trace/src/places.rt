@@ -1,4 +1,4 @@
-// Where the tokens of a script stand.
+// The places of a script's tokens.
 ghost use Rattle.std.specs.Prelude.{◌≡◌, ◌≤◌, ◌<◌, ◌+◌, ◌++◌, ◌^◌, List, IfOk, IfErr, OnOk, length, min};
 ghost use Rattle.std.specs.Prelude.{if◌then◌else◌, slice_get, slice_range};
 ghost use Rattle.octets.specs.Limits.{max_script};
@@ -14,15 +14,15 @@ use sieve_lexer::{LexicalError, Token, tokens};
 use std::alloc::{AllocError, Global};
 use std::marker::Model;
 
-/// The places of a script's tokens, each as lines of a trace have it: its line and its column in octets, counted from
-/// 1, with a colon before, between and behind them.
+/// The places of a script's tokens, each as the lines of a trace have it: its line and its column in bytes, counted
+/// from 1, with a colon before, between and after them. [`token_places`] makes it; [`crate::trace`] reads it.
 ///
 /// A contract sees the list of these texts.
 #[derive(Drop)]
 pub struct Places {
     // All texts, one after the other.
     texts: Vec<u8>,
-    // Where each begins; and where the last one ends.
+    // Where each text begins, and where the last one ends.
     bounds: Vec<u32>,
 }
 
@@ -38,7 +38,7 @@ impl Model for Places {
 }
 
 impl Places {
-    /// The text of a token's place; a colon, where it has none.
+    /// The text of a token's place; a colon if the token has none.
     #[inline(always)]
     pub(crate) fn text(&self, at: usize) -> &[u8]
         ensures { result.now ≡ place_in (slice_get self.now at) }
@@ -63,21 +63,23 @@ fn piece(text: &[u8], start: usize, end: usize) -> &[u8]
     &text[start..end]
 }
 
-/// A place in a script: its line and its column in octets, each counted from 1.
+/// A place in a script: its line and its column in bytes, both counted from 1.
 #[derive(Clone, Copy)]
 pub struct Place {
+    /// The line, counted from 1.
     pub line: usize,
+    /// The column in bytes, counted from 1.
     pub column: usize,
 }
 
 // Where a script begins.
 const FIRST: Place = Place { line: 1, column: 1 };
 
-/// The place of each token of a script, in one walk over it.
+/// Finds the place of each token of a script, reading it once.
 ///
 /// # Errors
 ///
-/// As [`tokens`]: memory was refused, or the script is too long or isn't one of tokens.
+/// Those of [`tokens`]: memory is refused, the script is too long, or it isn't made of tokens.
 pub fn token_places(alloc: Global, script: &[u8]) -> Result<Places, LexicalError>
     ensures places { IfOk result (λ places. (pieces : List Piece) × AreTokens script.now pieces
         × (places ≡ places_of script.now pieces)) }
@@ -126,14 +128,14 @@ fn push_place(out: &mut Vec<u8>, place: Place) -> Result<(), AllocError>
     out.extend_from_slice(b":")
 }
 
-// Where a token begins; at the end of the script, if that is before.
+// Where a token begins, or the end of the script if that comes first.
 fn start_in(script: &[u8], token: &Token) -> usize
     ensures { result ≡ min token.now.start (length script.now) }
 {
     token.start.min(script.len())
 }
 
-// The place of an octet, from that of another; mostly a later one.
+// The place of a byte, from the place of another one, which is usually earlier.
 fn moved(script: &[u8], from: usize, place: Place, to: usize) -> Place
     requires from { place ≡ place_at script.now from }
     requires within { to ≤ length script.now }
@@ -147,7 +149,7 @@ fn moved(script: &[u8], from: usize, place: Place, to: usize) -> Place
     }
 }
 
-// The place of an octet, from that of one that isn't behind it.
+// The place of a byte, from the place of one that isn't after it.
 fn forward(script: &[u8], from: usize, place: Place, to: usize) -> Place
     requires from { place ≡ place_at script.now from }
     requires forward { from ≤ to }
@@ -162,7 +164,7 @@ fn forward(script: &[u8], from: usize, place: Place, to: usize) -> Place
     place
 }
 
-// The place behind an octet.
+// The place after a byte.
 fn next(place: Place, octet: u8) -> Place
     requires line { place.line + 1 < 2 ^ 64 }
     requires column { place.column + 1 < 2 ^ 64 }

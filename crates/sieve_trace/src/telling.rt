@@ -1,4 +1,4 @@
-// Telling an event.
+// Writing the line of an event.
 ghost use Rattle.std.specs.Prelude.{◌≡◌, IfErr, OnOk};
 ghost use Rattle.encodings.specs.Device.{HasTaken};
 ghost use Rattle.sieve_meaning.specs.Traced.{event, turned};
@@ -12,7 +12,12 @@ use crate::scene::Scene;
 use encodings::{Sink, put};
 use sieve_meaning::Subject;
 
-/// Writes the line of an event, other than a turn of a loop. It is made in the memory of the one before it.
+/// Writes the line of an event other than a turn of a loop. It is made in the memory of the line before it.
+///
+/// # Errors
+///
+/// - `Write` if a call of `out` fails.
+/// - `Memory` if memory is refused.
 #[inline(always)]
 pub fn tell<O: Sink>(
     page: &Page<'_>,
@@ -32,7 +37,16 @@ pub fn tell<O: Sink>(
     Ok(put(out, line)?)
 }
 
-/// The same of a turn of a loop, on the part whose text this is.
+/// Writes the line of a turn of a loop on the part with this text.
+///
+/// # Requires
+///
+/// `part` is the text of the subject's part.
+///
+/// # Errors
+///
+/// - `Write` if a call of `out` fails.
+/// - `Memory` if memory is refused.
 pub fn tell_turn<O: Sink>(
     page: &Page<'_>,
     subject: Subject<'_, '_>,

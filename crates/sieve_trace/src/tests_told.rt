@@ -1,4 +1,4 @@
-// Tests, asked and told.
+// Tests, asked and reported.
 ghost use Rattle.std.specs.Prelude.{◌≡◌, IfErr, IfOk, map};
 ghost use Rattle.encodings.specs.Device.{HasTaken};
 ghost use Rattle.sieve_check.specs.Bounded.{AreBoundedStrings, AreBoundedTests, IsBoundedTest};
@@ -21,7 +21,16 @@ use encodings::Sink;
 use sieve_check::{Strings, Test};
 use sieve_meaning::Evaluator;
 
-/// Whether the test is true of the message. It is told after the tests that it is made of.
+/// Whether the test is true for the message. It is reported after the tests that it consists of.
+///
+/// # Requires
+///
+/// The test is within the limits of scripts, as those of every checked script.
+///
+/// # Errors
+///
+/// - `Write` if a call of `out` fails.
+/// - `Memory` if memory is refused.
 #[cycle(tests)]
 pub fn is_true<'s, 'm, O: Sink>(
     run: &mut Evaluator<'s, 'm>,
@@ -72,7 +81,7 @@ pub fn is_true<'s, 'm, O: Sink>(
     }
 }
 
-// Tells what came of a test of other tests, and answers its value.
+// Reports the result of a test of other tests, and returns it.
 fn say<O: Sink>(
     page: &Page<'_>,
     scene: &Scene<'_, '_>,

@@ -1,7 +1,7 @@
 // The trace of a script.
 //
-// A trace is written as it is made: three loops over 4,096 parts have more lines than memory. So it is the one
-// answer that can break off for lack of memory after some of it was written.
+// A trace is written as it is made: three loops over 4,096 parts have more lines than memory can hold. So it is the
+// only answer that can break off because memory is refused after some of it was written.
 ghost use Rattle.std.specs.Prelude.{◌≡◌, IfErr, IfOk};
 ghost use Rattle.encodings.specs.Device.{HasTaken};
 ghost use Rattle.sieve_check.specs.Bounded.{AreBoundedCommands};
@@ -24,20 +24,23 @@ use sieve_check::{Checked, Command};
 use sieve_meaning::Evaluator;
 use std::alloc::Global;
 
-/// Writes the trace of a script on a message, each event as it comes, and answers the script's final actions: exactly
-/// those of its meaning.
+/// Writes the trace of a script on a message, each event as it comes, and returns the script's final actions: exactly
+/// those that the script means.
 ///
-/// A line begins with the name, as far as it can be printed, and the line and the column of the token at which the
-/// test or the command begins, by the places of the script's tokens ([`token_places`](crate::token_places)). In a
-/// loop the part follows, by its number and media type. Then comes the word of the test or command, and what came of
-/// it: of a test `yes` or `no`, and of one that compares values with keys also what it found, which is the first
-/// value and key that match with the word of the comparison between them, or how many values were looked at where
-/// none matches; of an action the folder after expansion, the value that a variable has then, or how many loops are
-/// left. A text is printed between quotes: its first 80 octets, and two dots behind them where there are more.
+/// A line begins with the name, as far as it can be printed, and the line and the column of the token at which the test
+/// or the command begins ([`token_places`](crate::token_places)). In a loop the part follows, by its number and media
+/// type. Then come the word of the test or command, and its result. For a test, the result is `yes` or `no`; for a test
+/// that compares values with keys, it also has what was found: the first value and key that match, with the word of the
+/// comparison between them, or how many values were compared if none matches. For an action it has the folder after
+/// expansion, the value that a variable has then, or how many loops are left. A text is printed between quotes: its
+/// first 80 bytes, followed by two dots if there are more.
 ///
 /// # Errors
 ///
-/// The sink failed, or an allocation was refused. Then the beginning of the trace was written.
+/// The beginning of the trace was written then.
+///
+/// - [`TraceError::Write`] if a call of `out` fails.
+/// - [`TraceError::Memory`] if memory is refused.
 pub fn trace<O: Sink>(
     alloc: Global,
     name: &str,
@@ -64,7 +67,7 @@ pub fn trace<O: Sink>(
     trace_commands(&page, checked.commands(), message, out)
 }
 
-// The same of the script's commands.
+// The same for the script's commands.
 fn trace_commands<O: Sink>(
     page: &Page<'_>,
     list: &[Command],

@@ -22,7 +22,7 @@ pub fn question_word(question: Question) -> &'static [u8]
     test_word(name_of(question)).as_bytes()
 }
 
-/// How the values of a question are compared with its keys, in a word.
+/// How the values of a question are compared with its keys, in one word.
 pub fn comparison_word(question: Question) -> &'static [u8]
     ensures { result.now ≡ comparison_word question }
 {
@@ -32,7 +32,7 @@ pub fn comparison_word(question: Question) -> &'static [u8]
     }
 }
 
-/// The variable that an action sets, by its name, if it sets one.
+/// The name of the variable that an action sets, if it sets one.
 #[tactic(auto, using(crate::proofs::WordLemmas::only_one))]
 pub fn variable_of(act: &Act) -> Option<&Octets>
     ensures { option_map (λ (name : Bor (List ℕ)). name.now) result ≡ variable_of act.now }
@@ -41,6 +41,10 @@ pub fn variable_of(act: &Act) -> Option<&Octets>
 }
 
 /// Appends a number in decimal digits.
+///
+/// # Errors
+///
+/// `AllocError` if memory is refused.
 #[tactic(auto, using(std::proofs::lemmas::Fmt::decimal_digit))]
 pub fn push_number(out: &mut Vec<u8>, number: u64) -> Result<(), AllocError>
     ensures { OnOk result (out.new.items ≡ out.old.items ++ decimal number) }
@@ -52,6 +56,10 @@ pub fn push_number(out: &mut Vec<u8>, number: u64) -> Result<(), AllocError>
 }
 
 /// Appends a word and a text between quotes.
+///
+/// # Errors
+///
+/// `AllocError` if memory is refused.
 pub fn push_with_text(out: &mut Vec<u8>, word: &[u8], text: &[u8]) -> Result<(), AllocError>
     ensures { OnOk result (out.new.items ≡ out.old.items ++ (word.now ++ quoted_start text.now)) }
 {
@@ -91,7 +99,11 @@ fn push_left(out: &mut Vec<u8>, left: Option<u8>) -> Result<(), AllocError>
     }
 }
 
-/// Appends an action with what is told of it.
+/// Appends an action with what is reported about it.
+///
+/// # Errors
+///
+/// `AllocError` if memory is refused.
 #[tactic(auto, unfolding(crate::specs::Words::act_text))]
 pub fn push_act(out: &mut Vec<u8>, act: &Act, text: &[u8]) -> Result<(), AllocError>
     ensures { OnOk result (out.new.items ≡ out.old.items ++ act_text act.now text.now) }

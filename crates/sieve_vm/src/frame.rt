@@ -1,7 +1,7 @@
 // An open loop.
 //
-// The parts that a loop has left are two numbers, the current part and the last one, because what is below a part
-// comes right after it.
+// The parts that a loop has left are two numbers, the current part and the last one, because the parts below a part
+// come right after it.
 ghost use Rattle.sieve_vm.specs.Visits.{GoesOn, frame_of};
 
 use std::borrow::CowSlice;
@@ -9,21 +9,21 @@ use std::borrow::CowSlice;
 /// An open loop, and the content of its current part.
 #[derive(Default, Drop)]
 pub struct Frame<'m> {
-    /// The place of its Each.
+    /// The place of its EACH.
     pub each: usize,
-    /// The place of its Next.
+    /// The place of its NEXT.
     pub next: usize,
     /// The number of the current part.
     pub part: usize,
-    /// That of the last part to visit: the parts not yet visited are those after the current one up to it.
+    /// The number of the last part to visit: the parts that are left are those after the current one, up to this one.
     pub last: usize,
-    /// The content of the current part, if it was asked for since the loop came to it.
+    /// The content of the current part, if it was needed since the loop came to it.
     pub content: Option<CowSlice<'m, u8>>,
 }
 
 impl<'m> Frame<'m> {
-    /// Goes on with the next part, and forgets the content of the one before; or stays as it is, where none
-    /// is left. Answers whether it has gone on.
+    /// Moves to the next part, and drops the content of the one before; stays as it is if no part is left. Returns
+    /// whether it has moved.
     #[inline(always)]
     pub fn go_on(&mut self) -> bool
         ensures { GoesOn (frame_of self.old).rest result self.old self.new }

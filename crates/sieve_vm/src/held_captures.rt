@@ -1,9 +1,9 @@
-// The captures that a run has.
+// The captures of a run.
 //
 // Captures are the value with its stretches if it is lent, here and in the evaluator of the meaning: a slice of the
 // message. Of any other value the stretches alone are copied, so that a decoded content isn't kept for them. Before
 // the first match there are none. Contracts see ten texts in each case, so an edit that loses them is refused. A
-// capture that is pushed is copied once, at most 4,096 bytes, and shared from then on: an entry that held the whole
+// capture that is pushed is copied once, at most 4,096 bytes, and shared after that: an entry that held the whole
 // value would keep a copy of up to the message's size, and a program can have 500 of them on its stack.
 ghost use Rattle.std.specs.Prelude.{◌≡◌, [], None, IfOk, IfSome, IsNone, IsSomeAnd, slice_index_or};
 ghost use Rattle.mail_matching.specs.FirstMatch.{no_captures};
@@ -17,8 +17,8 @@ use std::marker::Model;
 
 /// The captures of the last match that has set them. A contract sees ten texts.
 ///
-/// What the match has captured is kept once, however often captures of it are pushed: what is pushed is a text of the
-/// capture's own, which is made where it is pushed first.
+/// The captures of the match are kept once, however often they are pushed: what is pushed is a text of the capture's
+/// own, which is made at the first push.
 #[derive(Drop)]
 pub struct HeldCaptures<'p, 'm> {
     captured: Option<Captured<'m>>,
@@ -39,7 +39,7 @@ impl<'p, 'm> Model for HeldCaptures<'p, 'm> {
 }
 
 impl<'p, 'm> HeldCaptures<'p, 'm> {
-    /// Ten empty captures. Takes no memory.
+    /// Ten empty captures. It takes no memory.
     pub fn new(alloc: Global) -> HeldCaptures<'p, 'm>
         ensures { result ≡ no_captures }
     {
@@ -57,9 +57,11 @@ impl<'p, 'm> HeldCaptures<'p, 'm> {
         self.captured = Some(captured);
     }
 
-    /// The text of a capture, for one more to hold.
+    /// The text of a capture, shared with one more holder.
     ///
-    /// An error comes only where memory was refused.
+    /// # Errors
+    ///
+    /// `AllocError` if memory is refused.
     pub fn share(&mut self, alloc: Global, number: u8) -> Result<SharedText<'p>, AllocError>
         ensures same { self.new ≡ self.old }
         ensures text { IfOk result (λ text. items_of text ≡ slice_index_or self.old number []) }
@@ -73,7 +75,7 @@ impl<'p, 'm> HeldCaptures<'p, 'm> {
         Ok(text)
     }
 
-    // The octets of a capture.
+    // The bytes of a capture.
     fn octets(&self, place: usize) -> &[u8]
         ensures { result.now ≡ slice_index_or self.now place [] }
     {

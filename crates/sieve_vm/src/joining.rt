@@ -8,7 +8,7 @@ use mail_matching::Texts;
 use octets::{MAX_STRING, MAX_VALUE};
 use std::alloc::{AllocError, Global};
 
-/// As many octets as a variable's value has at most.
+/// The first bytes, as many as a variable's value can have.
 #[tactic(auto, using(std::proofs::lemmas::List::take_min))]
 pub fn first(octets: &[u8]) -> &[u8]
     ensures { result.now ≡ take max_value octets.now }
@@ -16,7 +16,7 @@ pub fn first(octets: &[u8]) -> &[u8]
     &octets[..MAX_VALUE.min(octets.len())]
 }
 
-/// So many of the first octets, or all where there are fewer.
+/// The first `most` bytes, or all if there are fewer.
 #[tactic(auto, using(std::proofs::lemmas::List::take_min))]
 pub fn as_many(octets: &[u8], most: usize) -> &[u8]
     ensures { result.now ≡ take most octets.now }
@@ -24,7 +24,7 @@ pub fn as_many(octets: &[u8], most: usize) -> &[u8]
     &octets[..most.min(octets.len())]
 }
 
-/// How many octets texts have.
+/// How many bytes texts have.
 pub fn total_len<T: Texts>(texts: &T) -> usize
     requires { AreTexts (T.texts texts.now) }
     ensures { result ≡ sum_by length (T.texts texts.now) }
@@ -36,7 +36,11 @@ pub fn total_len<T: Texts>(texts: &T) -> usize
     total
 }
 
-/// Texts, one after the other, of which the first octets stay.
+/// Texts, one after the other, cut to the length of the longest string.
+///
+/// # Errors
+///
+/// `AllocError` if memory is refused.
 pub fn joined<T: Texts>(alloc: Global, texts: &T) -> Result<Vec<u8>, AllocError>
     requires { AreTexts (T.texts texts.now) }
     ensures { IfOk result (λ octets. octets.items ≡ take max_string (concat (T.texts texts.now))) }
@@ -48,7 +52,7 @@ pub fn joined<T: Texts>(alloc: Global, texts: &T) -> Result<Vec<u8>, AllocError>
     Ok(out)
 }
 
-// How many octets there are of texts that are joined.
+// How many bytes the joined texts have.
 fn joined_len<T: Texts>(texts: &T) -> usize
     requires { AreTexts (T.texts texts.now) }
     ensures { result ≡ min (sum_by length (T.texts texts.now)) max_string }
@@ -56,7 +60,7 @@ fn joined_len<T: Texts>(texts: &T) -> usize
     total_len(texts).min(MAX_STRING)
 }
 
-// Puts a text at the end, as far as there is room.
+// Appends a text, as far as there is room.
 fn put(out: &mut Vec<u8>, text: &[u8]) -> Result<(), AllocError>
     requires { length out.old.items ≤ max_string }
     ensures { OnOk result (out.new.items ≡ take max_string (out.old.items ++ text.now)) }

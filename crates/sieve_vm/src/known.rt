@@ -1,4 +1,4 @@
-// What is known of parts, once it was found.
+// What is known of parts, after it was found.
 //
 // TAKE keeps the first 4,096 bytes of each part that had to be decoded for the whole run, because three loops can
 // visit one part 465 times and its cap has no bytes of the message in it.
@@ -7,7 +7,7 @@ ghost use Rattle.std.specs.Prelude.{◌≡◌, ◌<◌, ◌≤◌, ◌==◌, ℕ
 use octets::Octets;
 use std::alloc::AllocError;
 
-/// What is known of a part. The list is empty as long as nothing is known of any.
+/// What is known of a part. The list is empty as long as nothing is known of any part.
 #[inline(always)]
 pub fn known<T: Copy>(list: &[Option<T>], part: usize) -> Option<T>
     ensures { result ≡ slice_index_or list.now part None }
@@ -30,7 +30,7 @@ pub fn digest_known(list: &[Option<[u8; 64]>], part: usize) -> Option<&[u8; 64]>
     }
 }
 
-/// The octets that are known of a part.
+/// The bytes that are known of a part.
 pub fn octets_known(list: &[Option<Octets>], part: usize) -> Option<&[u8]>
     ensures some { IfSome result (λ octets. slice_index_or list.now part None ≡ Some octets.now) }
     ensures none { IsNone result → slice_index_or list.now part None ≡ None }
@@ -45,6 +45,10 @@ pub fn octets_known(list: &[Option<Octets>], part: usize) -> Option<&[u8]>
 }
 
 /// Keeps what was found of one of so many parts.
+///
+/// # Errors
+///
+/// `AllocError` if memory is refused. What was known before is unchanged.
 pub fn keep<T: Drop>(
     list: &mut Vec<Option<T>>,
     parts: usize,

@@ -25,7 +25,7 @@ pub fn accepted_programs_never_trap()
         → Reaches code mail steps state → step code mail state ≢ traps }
 {}
 
-/// The potential is the budget at the start, and falls by each charge.
+/// The potential is the budget at the start, and decreases by at least each charge.
 pub fn potential_falls_by_each_charge()
     ensures start { (code : Code) (mail : Mail) → IsAccepted code
         → potential code mail (start code) ≡ limit_of code mail }
@@ -37,8 +37,7 @@ pub fn potential_falls_by_each_charge()
         → end.charge ≤ potential code mail state + state.charge }
 {}
 
-/// Each prefix of a run charges at most the budget, and a run has at most as many steps, that to its end
-/// included.
+/// Each prefix of a run charges at most the budget, and a run has at most as many steps, including the last one.
 pub fn runs_stay_within_the_budget()
     ensures charge { (code : Code) (mail : Mail) (steps : ℕ) (state : State)
         → Reaches code mail steps state → state.charge ≤ limit_of code mail }
@@ -49,8 +48,8 @@ pub fn runs_stay_within_the_budget()
         → suc steps ≤ limit_of code mail }
 {}
 
-/// Turns are chains of parts: the current part of each open loop is below that of the loop around it, what a
-/// loop has left comes after its current part, and what is below that part is among it. At a place inside `k`
+/// Turns are chains of parts: the current part of each open loop is below that of the loop around it, the parts that
+/// a loop has left come after its current part, and the parts below that one are among them. At a place inside `k`
 /// loops of the program `k` loops are open, so such a chain has `k` parts.
 pub fn turns_are_chains()
     ensures chain { (code : Code) (mail : Mail) (steps : ℕ) (state : State)
@@ -60,16 +59,15 @@ pub fn turns_are_chains()
         → length state.frames ≡ length (open_loops code state.place) }
 {}
 
-/// A run lists at most as many actions as the instructions that list one may run, each once for each
-/// of its turns, and stores parts at most as often as those that do may.
+/// A run lists at most as many actions as the instructions that list one have turns together, and stores parts at most
+/// as often as the instructions that store one have turns.
 pub fn runs_list_what_is_counted()
     ensures { (code : Code) (mail : Mail) (steps : ℕ) (state : State)
         → Reaches code mail steps state → (counted : Counted)
         → number_of counted state.actions ≤ times_at counted code (length mail.parts) }
 {}
 
-/// Its final actions are at most one more, for the implicit keep, and those of them that store a part
-/// aren't more.
+/// The final actions are at most one more, for the implicit keep, and there are no more of them that store a part.
 pub fn outcomes_have_few_actions()
     ensures actions { (code : Code) (mail : Mail) (actions : List Action) (charged : ℕ)
         → IsAccepted code → IsMail mail → IsOutcome code mail actions charged
@@ -91,19 +89,20 @@ pub fn runs_have_one_end()
         → RunEnds code mail other → one ≡ other }
 {}
 
-/// Each action of a run that stores a part names one of the message.
+/// Each action of a run that stores a part names a part of the message.
 pub fn runs_store_parts_of_the_message()
     ensures { (code : Code) (mail : Mail) (steps : ℕ) (state : State)
         → Reaches code mail steps state → All (NamesPart mail) state.actions }
 {}
 
-/// And so does each final action.
+/// Each final action that stores a part names a part of the message.
 pub fn outcomes_store_parts_of_the_message()
     ensures { (code : Code) (mail : Mail) (actions : List Action) (charged : ℕ) → IsAccepted code
         → IsMail mail → IsOutcome code mail actions charged → All (NamesPart mail) actions }
 {}
 
-/// What is accepted in one version runs the same in version 2: each step is the same, from every state, and so is the end.
+/// A program that is accepted in one version runs the same in version 2: each step is the same, from every state, and
+/// so is the end.
 pub fn programs_run_the_same_in_version_two()
     ensures step { (code : Code) (mail : Mail) → IsAccepted code → (state : State)
         → step (record code { version = version_two }) mail state ≡ step code mail state }
@@ -113,16 +112,16 @@ pub fn programs_run_the_same_in_version_two()
         → RunEnds (record code { version = version_two }) mail end → RunEnds code mail end }
 {}
 
-/// A program of version 2 of which each operation runs once in each turn, and has texts of the program alone, charges exactly its
-/// budget on a message whose parts are a chain.
+/// A program of version 2 charges exactly its budget on a message whose parts are a chain, if each of its operations
+/// runs once in each turn and its texts are those of the program alone.
 pub fn plain_programs_charge_their_budget_on_chains()
     ensures { (code : Code) (mail : Mail) → IsAccepted code → IsMail mail → code.version ≡ 2
         → IsPlain code → IsChain mail → (end : State) → RunEnds code mail end
         → end.charge ≡ limit_of code mail }
 {}
 
-/// In a run the length of a part's content is found at most once, and so is its digest, and so are the first octets of a content that
-/// has to be decoded: a step that looks for one of them later knows it.
+/// Among looks that follow each other as those of a run do, the length of a part's content is found at most once, and so
+/// is its digest, and so are the first bytes of a content that has to be decoded: a later look that needs one knows it.
 pub fn what_is_sought_is_found_once()
     ensures { (from : Visits) (looks : List Look) → AreLooks from looks → (sought : Sought) (part : ℕ)
         → times_found sought part looks ≤ 1 }

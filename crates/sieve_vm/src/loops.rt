@@ -1,9 +1,9 @@
 // The open loops, and what is known of the parts that they visit.
 //
-// A part's content is decoded when it is asked for, and kept as long as a loop is at the part. Its length and its
-// digest are kept for the whole run. So a part that comes up 465 times in three nested loops is decoded at most once
-// for each stay of a loop. A content that a loop has left is decoded again if it is asked for again: keeping all
-// would take as much memory as the message.
+// A part's content is decoded when it is needed, and kept as long as a loop is at the part. Its length and its digest
+// are kept for the whole run. So a part that comes up 465 times in three nested loops is decoded at most once for
+// each stay of a loop. A content that a loop has left is decoded again if it is needed again: keeping all would take
+// as much memory as the message.
 ghost use Rattle.std.specs.Prelude.{◌≡◌, ◌<◌, ◌≤◌, ◌+◌, ◌-◌, ℕ, suc, false, true, List, [], ◌∷◌, None, Some, IfOk, OnErr, OnOk, IfSome, IsOk, IsSome, length, drop, take};
 ghost use Rattle.std.specs.Cow.{cow_slice_items};
 ghost use Rattle.octets.specs.Limits.{max_loops, max_parts, max_value};
@@ -30,11 +30,11 @@ use std::alloc::{AllocError, Global};
 use std::borrow::CowSlice;
 use std::marker::Model;
 
-/// The open loops of a run on a message, which of them hold the content of their current part, and what is known of the parts' contents.
-/// A contract sees all of that.
+/// The open loops of a run on a message, which of them hold the content of their current part, and what is known of
+/// the parts' contents. A contract sees all of that.
 ///
-/// A part's content is decoded where it is asked for, and kept as long as a loop stays on the part. How long it is, its digest, and
-/// the first octets of one that had to be decoded are kept for the whole run.
+/// A part's content is decoded when it is needed, and kept as long as a loop stays on the part. Its length, its
+/// digest, and the first bytes of a content that had to be decoded are kept for the whole run.
 #[derive(Drop)]
 pub struct Loops<'s, 'm> {
     message: &'s Message<'m>,
@@ -42,7 +42,7 @@ pub struct Loops<'s, 'm> {
     frames: ArrayVec<Frame<'m>, MAX_LOOPS>,
     lengths: Vec<Option<usize>>,
     digests: Vec<Option<[u8; 64]>>,
-    // The first octets, as many as a variable's value has at most.
+    // The first bytes, as many as a variable's value can have.
     beginnings: Vec<Option<Octets>>,
 }
 
@@ -67,7 +67,7 @@ impl<'s, 'm> Model for Loops<'s, 'm> {
 }
 
 impl<'s, 'm> Loops<'s, 'm> {
-    /// No loop is open on the message.
+    /// No open loops on the message.
     pub fn new(alloc: Global, message: &'s Message<'m>) -> Loops<'s, 'm>
         ensures { result ≡ record {
           mail = message.now;
@@ -87,7 +87,7 @@ impl<'s, 'm> Loops<'s, 'm> {
         }
     }
 
-    /// The current part, that of the innermost loop.
+    /// The current part, which is that of the innermost loop.
     #[inline(always)]
     pub fn current(&self) -> Option<usize>
         ensures { result ≡ current_part self.now.frames }
@@ -98,7 +98,7 @@ impl<'s, 'm> Loops<'s, 'm> {
         }
     }
 
-    // The first of the parts that a loop visits which is opened here, and how many they are.
+    // The first of the parts that a loop opened here visits, and how many they are.
     fn visited(&self) -> (usize, usize)
         requires { IfSome (current_part self.now.frames)
             (λ part. part < length self.now.mail.parts) }
@@ -133,7 +133,8 @@ impl<'s, 'm> Loops<'s, 'm> {
         true
     }
 
-    /// Goes on with the next part of the innermost loop, and answers the place of its Each; or closes it.
+    /// Moves to the next part of the innermost loop, and returns the place of its EACH; or closes it, and returns
+    /// `None`.
     #[inline(always)]
     pub fn next_part(&mut self) -> Option<usize>
         requires { 0 < length self.old.frames }
@@ -151,7 +152,7 @@ impl<'s, 'm> Loops<'s, 'm> {
         None
     }
 
-    /// Closes so many loops, and answers the place of the last one's Next.
+    /// Closes so many loops, and returns the place of the last one's NEXT.
     pub fn close(&mut self, number: usize) -> usize
         requires some { 0 < number }
         requires there { number ≤ length self.old.frames }
@@ -167,9 +168,9 @@ impl<'s, 'm> Loops<'s, 'm> {
         next
     }
 
-    // Holds the content of the current part from now on, as long as the loop stays on it. It is decoded only where it isn't held.
+    // Holds the content of the current part, as long as the loop stays on it. It is decoded only if it isn't held.
     //
-    // An error comes only where memory was refused, and none where the content is held.
+    // The only error is a refusal of memory; there is none if the content is held.
     fn fetch(&mut self, alloc: Global) -> Result<(), AllocError>
         requires { IsSome (part_in self.old) }
         ensures held { OnOk result (self.new ≡ holding self.old) }
@@ -213,9 +214,11 @@ impl<'s, 'm> Loops<'s, 'm> {
         self.frames[innermost].content.as_ref().unwrap()
     }
 
-    /// Finds what is needed of the current part's content, unless it is known or held: then nothing is done.
+    /// Finds what is needed of the current part's content, unless it is known or held: then it does nothing.
     ///
-    /// An error comes only where memory was refused.
+    /// # Errors
+    ///
+    /// `AllocError` if memory is refused.
     #[inline(always)]
     pub fn find(&mut self, alloc: Global, need: Need) -> Result<(), AllocError>
         requires { HasPartFor need self.old }
@@ -246,7 +249,7 @@ impl<'s, 'm> Loops<'s, 'm> {
         }
     }
 
-    // The same as `find`. It isn't inlined, since it is rare.
+    // The same as `find`. It isn't inlined, because it is rare.
     #[inline(never)]
     fn make(&mut self, alloc: Global, need: Need) -> Result<(), AllocError>
         requires { HasPartFor need self.old }
@@ -262,7 +265,7 @@ impl<'s, 'm> Loops<'s, 'm> {
         }
     }
 
-    /// What is needed of the current part's content, which was found.
+    /// What is needed of the current part's content, after it was found.
     #[inline(always)]
     pub fn shown(&self, need: Need) -> Shown<'_, 'm>
         requires mail { IsMail self.now.mail }
@@ -279,7 +282,7 @@ impl<'s, 'm> Loops<'s, 'm> {
 
     // Finds the length of the current part's content, unless it is known.
     //
-    // Where it isn't known yet, the content is held from now on. An error comes only where memory was refused, and none where the
+    // If it isn't known, the content is held after this. The only error is a refusal of memory; there is none if the
     // length is known.
     fn find_length(&mut self, alloc: Global) -> Result<(), AllocError>
         requires { IsSome (part_in self.old) }
@@ -314,7 +317,7 @@ impl<'s, 'm> Loops<'s, 'm> {
 
     // Finds the digest of the current part's content, unless it is known.
     //
-    // Where it isn't known yet, the content is held from now on. An error comes only where memory was refused, and none where the
+    // If it isn't known, the content is held after this. The only error is a refusal of memory; there is none if the
     // digest is known.
     fn find_digest(&mut self, alloc: Global) -> Result<(), AllocError>
         requires { IsSome (part_in self.old) }
@@ -347,10 +350,14 @@ impl<'s, 'm> Loops<'s, 'm> {
         digest_known(&self.digests, self.part()).unwrap()
     }
 
-    /// A copy of the first octets of the current part's content: so many, or all where there are fewer.
+    /// A copy of the first bytes of the current part's content: so many, or all if there are fewer.
     ///
-    /// A content that has to be decoded is so once in a run. Where its first octets aren't known yet, it is held from now on. An error
-    /// comes only where memory was refused.
+    /// A content that has to be decoded is decoded at most once in a run for its first bytes. If they aren't known, it
+    /// is held after this.
+    ///
+    /// # Errors
+    ///
+    /// `AllocError` if memory is refused.
     pub fn beginning(&mut self, alloc: Global, most: usize) -> Result<Vec<u8>, AllocError>
         requires part { IsSome (part_in self.old) }
         requires few { most ≤ max_value }
@@ -393,7 +400,7 @@ impl<'s, 'm> Loops<'s, 'm> {
     }
 }
 
-// A copy of the first octets of a content.
+// A copy of the first bytes of a content.
 fn first_of(alloc: Global, content: &CowSlice<'_, u8>) -> Result<Octets, AllocError>
     ensures { IfOk result (λ octets. octets ≡ take max_value (cow_slice_items content.now)) }
 {

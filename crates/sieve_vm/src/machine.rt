@@ -1,4 +1,4 @@
-// The machine as it runs.
+// The machine of a run.
 //
 // A charge depends on what an instruction asks, so `charge_of` has the program's strings and numbers before it, as
 // `effect` has; only whether a number is there counts in it. A jump that isn't sound traps whether it is taken or
@@ -6,9 +6,9 @@
 // law that accepted programs never trap the stronger one. An instruction refers to its program by four things
 // (`Referred`): the strings, the numbers, which places have the same open loops, and which are an EACH and a NEXT of
 // each other. So it is easy to see that the version changes no effect. The position of a run is apart from the
-// machine (`Position`), so that the loop keeps place and charge in registers. A call that isn't inlined answers what
+// machine (`Position`), so that the loop keeps place and charge in registers. A call that isn't inlined returns what
 // fits into registers, mostly the number of bytes that it is charged for: the compiler also clears the room of a
-// larger answer when another instruction runs.
+// larger result when another instruction runs.
 ghost use Rattle.std.specs.Prelude.{◌≡◌};
 ghost use Rattle.sieve_vm.specs.Standing.{charged_for, once};
 
@@ -19,7 +19,8 @@ use bytecode_format::{Action, ActionList, Instruction, Modifiers, Operation, Pro
 use mime_decode::Message;
 use std::alloc::{AllocError, Global};
 
-/// What a run works on, from one instruction to the next. Texts are lent by the program and the message.
+/// The state of a run between two instructions, apart from its [`Position`]. Texts are lent by the program and the
+/// message.
 #[derive(Drop)]
 pub struct Machine<'p, 's, 'm> {
     pub work: Workspace<'p, 'm>,
@@ -28,8 +29,8 @@ pub struct Machine<'p, 's, 'm> {
     pub implicit_keep: bool,
 }
 
-/// Where a run is: the place of its instruction, and what was charged before it. It isn't part of the machine, so that a loop can keep
-/// it in registers.
+/// Where a run is: the place of its instruction, and what was charged before it. It isn't part of the machine, so
+/// that a loop can keep it in registers.
 #[derive(Clone, Copy)]
 pub struct Position {
     pub place: usize,
@@ -47,14 +48,14 @@ pub enum Flow {
     Ends,
 }
 
-/// What an instruction came to: where the run goes, and what it is charged beyond one.
+/// The result of an instruction: where the run goes, and what it is charged beyond one.
 #[derive(Clone, Copy)]
 pub struct Done {
     pub flow: Flow,
     pub cost: u128,
 }
 
-/// What a step has come to: where the run is after it, and whether it goes on from there.
+/// The result of a step: where the run is after it, and whether it continues from there.
 #[derive(Clone, Copy)]
 pub struct Turn {
     pub position: Position,
@@ -83,7 +84,7 @@ impl Position {
     ghost use Rattle.octets.specs.Limits.{max_instructions};
     ghost use Rattle.sieve_vm.specs.Going.{gone};
 
-    // What the step comes to whose instruction was done here.
+    // The result of a step whose instruction was done here.
     #[inline(always)]
     fn after(self, done: Done) -> Turn
         requires place { self.place < max_instructions }
@@ -138,9 +139,11 @@ impl<'p, 's, 'm> Machine<'p, 's, 'm> {
     ghost use Rattle.sieve_vm.specs.Machine.{branch, effect, jumps, next_part, open_loop, referred_in, step};
     ghost use Rattle.sieve_vm.specs.Standing.{IsNewMachine, Represents, IsIn, IsRunning, HasDone};
 
-    /// Goes before the first instruction of the program.
+    /// Goes to the first instruction of the program.
     ///
-    /// An error comes only where memory was refused.
+    /// # Errors
+    ///
+    /// `AllocError` if memory is refused.
     pub fn begin(&mut self, program: &Program) -> Result<(), AllocError>
         requires { IsNewMachine self.old }
         ensures { OnOk result (Represents self.old.loops.mail (start program.now) self.new) }
@@ -150,7 +153,9 @@ impl<'p, 's, 'm> Machine<'p, 's, 'm> {
 
     /// Takes the step of the instruction at the position.
     ///
-    /// An error comes only where memory was refused.
+    /// # Errors
+    ///
+    /// `AllocError` if memory is refused.
     #[inline(always)]
     pub fn advance(
         &mut self,
@@ -177,8 +182,9 @@ impl<'p, 's, 'm> Machine<'p, 's, 'm> {
         Ok(position.after(done))
     }
 
-    // What the instruction at the position does, where the run goes then, and what is charged. What a call answers that isn't inlined fits
-    // into registers, and is taken out of its result: the answer of all arms would else stand in memory for it.
+    // Does the instruction at the position, and returns where the run goes, and what is charged. The result of a call
+    // that isn't inlined fits into registers, and is taken out of its `Result`: otherwise the result of all arms
+    // would be in memory for it.
     #[inline(always)]
     fn act(
         &mut self,
@@ -295,7 +301,7 @@ impl<'p, 's, 'm> Machine<'p, 's, 'm> {
         self.work.take_truth()
     }
 
-    // Takes the truth value on top of the stack, and goes to the target where it is this one.
+    // Takes the truth value on top of the stack, and goes to the target if it is the wanted one.
     #[inline(always)]
     fn branch(&mut self, target: u32, wanted: bool) -> Done
         requires { (mail : Mail) × ((s : State)
@@ -313,7 +319,7 @@ impl<'p, 's, 'm> Machine<'p, 's, 'm> {
         }
     }
 
-    // Lists Keep, and takes the implicit keep away.
+    // Lists Keep, and cancels the implicit keep.
     #[inline(always)]
     fn keep(&mut self) -> Result<Done, AllocError>
         ensures done { IfOk result (λ done. (done ≡ once Flow.On)
@@ -327,8 +333,8 @@ impl<'p, 's, 'm> Machine<'p, 's, 'm> {
         Ok(self.discard())
     }
 
-    // Lists File for the folder on top of the stack, which is taken, and takes the implicit keep away. Answers how many octets the folder
-    // has.
+    // Lists File for the folder on top of the stack, which is taken, and cancels the implicit keep. Returns how many
+    // bytes the folder has.
     fn file(&mut self, alloc: Global) -> Result<usize, AllocError>
         requires { (mail : Mail) × ((s : State)
             × ((t : List ℕ) × ((rest : List Value)
@@ -351,7 +357,7 @@ impl<'p, 's, 'm> Machine<'p, 's, 'm> {
         Ok(octets)
     }
 
-    // Lists an action.
+    // Adds an action to the list.
     #[inline(always)]
     fn list(&mut self, action: Action) -> Result<(), AllocError>
         ensures done { OnOk result ((mail : Mail) (s : State) → Represents mail s self.old
@@ -361,7 +367,7 @@ impl<'p, 's, 'm> Machine<'p, 's, 'm> {
         Ok(self.actions.push(action)?)
     }
 
-    // Takes the implicit keep away.
+    // Cancels the implicit keep.
     #[inline(always)]
     fn discard(&mut self) -> Done
         ensures flow { result ≡ once Flow.On }
@@ -373,7 +379,8 @@ impl<'p, 's, 'm> Machine<'p, 's, 'm> {
         once(Flow::On)
     }
 
-    // Lists Store for the current part and the folder on top of the stack, which is taken. Answers how many octets the folder has.
+    // Lists Store for the current part and the folder on top of the stack, which is taken. Returns how many bytes the
+    // folder has.
     fn store(&mut self, alloc: Global) -> Result<usize, AllocError>
         requires part { IsSome (current_part self.old.loops.frames) }
         requires top { (mail : Mail)
@@ -398,7 +405,7 @@ impl<'p, 's, 'm> Machine<'p, 's, 'm> {
         Ok(octets)
     }
 
-    // Opens the loop of the Each at the place on its first part; or goes on after its Next.
+    // Opens the loop of the EACH at the place on its first part; or continues after its NEXT.
     fn each(&mut self, place: usize, next: u32) -> Done
         requires room { length self.old.loops.frames < max_loops }
         requires current { IfSome (current_part self.old.loops.frames)
@@ -417,7 +424,7 @@ impl<'p, 's, 'm> Machine<'p, 's, 'm> {
         }
     }
 
-    // Goes on with the next part of the innermost loop, or closes it.
+    // Continues with the next part of the innermost loop, or closes it.
     #[inline(always)]
     fn next(&mut self) -> Done
         requires { (frame : Frame) × ((frames : List Frame)
@@ -435,7 +442,7 @@ impl<'p, 's, 'm> Machine<'p, 's, 'm> {
         }
     }
 
-    // Closes so many loops, and goes on after the last one's Next.
+    // Closes so many loops, and continues after the last one's NEXT.
     fn close(&mut self, number: usize) -> Done
         requires some { 0 < number }
         requires there { (frame : Frame)
@@ -455,7 +462,7 @@ impl<'p, 's, 'm> Machine<'p, 's, 'm> {
         once(Flow::To(next + 1))
     }
 
-    // Joins so many texts on top of the stack. Answers how many octets they have.
+    // Joins so many texts on top of the stack. Returns how many bytes they have.
     fn join(&mut self, alloc: Global, number: usize) -> Result<usize, AllocError>
         requires { (mail : Mail) × ((s : State)
             × ((top : OnTop) × (Represents mail s self.old
@@ -472,7 +479,8 @@ impl<'p, 's, 'm> Machine<'p, 's, 'm> {
         self.work.join(alloc, number)
     }
 
-    // Takes the text on top of the stack, and gives it, modified, to a variable. Answers how many octets the text has.
+    // Takes the text on top of the stack, and assigns it, modified, to a variable. Returns how many bytes the text
+    // has.
     fn set(&mut self, alloc: Global, instruction: &Instruction) -> Result<usize, AllocError>
         requires modifiers { IsSome (modifiers_numbered instruction.now.a) }
         requires top { (mail : Mail)
@@ -494,7 +502,7 @@ impl<'p, 's, 'm> Machine<'p, 's, 'm> {
         self.work.set(alloc, instruction.c as usize, modifiers)
     }
 
-    // Gives the first octets of the current part's content to a variable. Answers how many.
+    // Assigns the first bytes of the current part's content to a variable. Returns how many.
     fn set_content(&mut self, alloc: Global, instruction: &Instruction) -> Result<usize, AllocError>
         requires part { IsSome (part_in self.old.loops) }
         requires few { instruction.now.b ≤ max_value }
@@ -527,7 +535,7 @@ pub fn once(flow: Flow) -> Done
     Done { flow, cost: 0 }
 }
 
-// An instruction that is charged for so many octets beyond one, and goes on.
+// An instruction that is charged for so many bytes beyond one, and continues.
 #[inline(always)]
 fn charged_for(octets: usize) -> Done
     ensures { result ≡ charged_for octets }

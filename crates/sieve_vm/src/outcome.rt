@@ -10,25 +10,31 @@ use bytecode_verifier::Verified;
 use mime_decode::Message;
 use std::alloc::{AllocError, Global};
 
-/// What a run came to.
+/// The result of a run: what a delivery has to do, and what the run cost.
 #[derive(Drop)]
 pub struct Outcome {
     /// The final actions, in order.
     pub actions: Vec<Action>,
-    /// What the run charged.
+    /// How many charges the run took.
     pub charged: u128,
 }
 
-/// Runs an accepted program on a message, up to its end.
+/// Runs an accepted program on a message, up to its end, and returns its final actions and its cost.
 ///
-/// The outcome is that of the one run that the definitions give. An error comes only where memory
-/// was refused. The run takes at most as many steps as the program's budget at the message.
+/// The definitions give one run, and the outcome is that of this run. It takes at most as many steps, and charges at
+/// most as much, as the program's budget for the message.
+///
+/// For example, the program `DISCARD HALT` has no actions and charges 2, which is all of its budget.
+///
+/// # Errors
+///
+/// `AllocError` if memory is refused.
 pub fn run(alloc: Global, verified: &Verified, message: &Message<'_>) -> Result<Outcome, AllocError>
     ensures { IfOk result (λ outcome. IsOutcome verified.now message.now outcome.actions.items
         outcome.charged) }
 {
     let program = verified.program();
-    // What holds of every message is known where it is asked.
+    // The contract of the call gives what holds for every message.
     let _size = message.size();
     let mut machine = Machine {
         work: Workspace::new(alloc),

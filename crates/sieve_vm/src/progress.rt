@@ -1,4 +1,4 @@
-// A run on its way.
+// A run, step by step.
 ghost use Rattle.std.specs.Prelude.{◌≡◌, ◌<◌, ℕ, suc, true, false, List, Some, IfOk, IsSome, option_map, slice_get};
 
 use crate::outcome::Outcome;
@@ -10,10 +10,12 @@ use mime_decode::Message;
 use std::alloc::{AllocError, Global};
 use std::marker::Model;
 
-/// A run on its way, which is taken step by step. A contract sees the program, the message, and how many steps were taken: so what
-/// the run has come to is what the definitions say it comes to in so many steps.
+/// A run that is taken step by step, as a trace needs it.
 ///
-/// [`run`](crate::run) takes all steps at once, and faster.
+/// [`Progress::begin`] makes it, [`Progress::advance`] takes a step as long as [`Progress::goes_on`] is true, and
+/// [`Progress::into_outcome`] ends it. [`run`](crate::run) takes all steps at once, and is faster. A contract sees
+/// the program, the message, and how many steps were taken; the state is the one that the definitions give after so
+/// many steps.
 #[derive(Drop)]
 pub struct Progress<'p, 's, 'm> {
     run: Stepping<'p, 's, 'm>,
@@ -35,9 +37,11 @@ impl<'p, 's, 'm> Progress<'p, 's, 'm> {
     ghost use Rattle.sieve_vm.specs.Potential.{limit_of};
     ghost use Rattle.sieve_vm.specs.State.{State, current_part};
 
-    /// The run of an accepted program on a message, before its first step.
+    /// Returns the run of an accepted program on a message, before its first step.
     ///
-    /// An error comes only where memory was refused.
+    /// # Errors
+    ///
+    /// `AllocError` if memory is refused.
     pub fn begin(
         alloc: Global,
         verified: &'p Verified,
@@ -50,7 +54,7 @@ impl<'p, 's, 'm> Progress<'p, 's, 'm> {
         Ok(Progress { run })
     }
 
-    /// Whether there is a step to take. Where there is none, the run is over.
+    /// Returns whether there is a step to take. If there is none, the run is over.
     pub fn goes_on(&self) -> bool
         ensures value { result ≡ goes_on (turn_at self.now) }
         ensures reached { IsSome (state_at self.now) }
@@ -59,9 +63,15 @@ impl<'p, 's, 'm> Progress<'p, 's, 'm> {
         self.run.goes_on()
     }
 
-    /// Takes a step.
+    /// Takes the next step of the run.
     ///
-    /// An error comes only where memory was refused, and ends the run.
+    /// # Requires
+    ///
+    /// The run isn't over: `goes_on()`.
+    ///
+    /// # Errors
+    ///
+    /// `AllocError` if memory is refused, which ends the run.
     pub fn advance(self, alloc: Global) -> Result<Progress<'p, 's, 'm>, AllocError>
         requires { goes_on (turn_at self) ≡ true }
         ensures { IfOk result (λ run. run ≡ record self.entry { steps = suc self.entry.steps }) }
@@ -71,7 +81,11 @@ impl<'p, 's, 'm> Progress<'p, 's, 'm> {
         Ok(Progress { run })
     }
 
-    /// The instruction that comes next.
+    /// Returns the instruction of the next step.
+    ///
+    /// # Requires
+    ///
+    /// The run isn't over: `goes_on()`.
     pub fn instruction(&self) -> Instruction
         requires { goes_on (turn_at self.now) ≡ true }
         ensures { (state : State) → state_at self.now ≡ Some state
@@ -80,21 +94,22 @@ impl<'p, 's, 'm> Progress<'p, 's, 'm> {
         self.run.instruction()
     }
 
-    /// The place of the instruction that comes next; at the end of the run, that of the last one.
+    /// Returns the place of the next step's instruction, counted in instructions from 0; at the end of the run, that
+    /// of the last one.
     pub fn place(&self) -> usize
         ensures { option_map (λ (state : State). state.place) (state_at self.now) ≡ Some result }
     {
         self.run.place()
     }
 
-    /// What the steps so far have charged.
+    /// Returns what the steps taken have charged.
     pub fn charged(&self) -> u128
         ensures { option_map (λ (state : State). state.charge) (state_at self.now) ≡ Some result }
     {
         self.run.charged()
     }
 
-    /// The number of the current part, that of the innermost open loop; none where no loop is open.
+    /// Returns the number of the current part, which is that of the innermost open loop; `None` if no loop is open.
     pub fn part(&self) -> Option<usize>
         ensures { (state : State) → state_at self.now ≡ Some state
             → result ≡ current_part state.frames }
@@ -102,7 +117,7 @@ impl<'p, 's, 'm> Progress<'p, 's, 'm> {
         self.run.part()
     }
 
-    /// The entry on top of the stack; none where it is empty.
+    /// Returns the entry on top of the stack; `None` if the stack is empty.
     pub fn top(&self) -> Option<StackValue<'_>>
         ensures { (state : State) → state_at self.now ≡ Some state
             → option_map value_of result ≡ top state.stack }
@@ -110,7 +125,7 @@ impl<'p, 's, 'm> Progress<'p, 's, 'm> {
         self.run.top()
     }
 
-    /// The value of a variable; none where the program has no such variable.
+    /// Returns the value of a variable, by its number from 0; `None` if the program has no such variable.
     pub fn variable(&self, number: usize) -> Option<&[u8]>
         ensures { (state : State) → state_at self.now ≡ Some state
             → option_map (λ (value : Bor (List ℕ)). value.now) result
@@ -119,9 +134,15 @@ impl<'p, 's, 'm> Progress<'p, 's, 'm> {
         self.run.variable(number)
     }
 
-    /// What the run came to.
+    /// Returns the outcome of the run.
     ///
-    /// An error comes only where memory was refused.
+    /// # Requires
+    ///
+    /// The run is over: `goes_on()` is false.
+    ///
+    /// # Errors
+    ///
+    /// `AllocError` if memory is refused.
     pub fn into_outcome(self) -> Result<Outcome, AllocError>
         requires { goes_on (turn_at self) ≡ false }
         ensures { IfOk result (λ outcome. IsOutcome self.entry.code self.entry.mail

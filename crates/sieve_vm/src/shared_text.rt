@@ -1,9 +1,9 @@
-// Texts that several may hold.
+// Texts with several holders.
 //
 // A text on the stack is lent by the program, or shared (`Rc`): a variable's value, a capture or a joined text is
 // held by each entry that it was pushed to, and by the variable, as long as one of them has it. So no instruction
-// searches the stack for entries that have to be copied before a variable or the captures change. Such a search
-// would give SET a factor of 1,024 that no charge shows.
+// searches the stack for entries that have to be copied before a variable or the captures change. Such a search would
+// give SET a factor of 1,024 that no charge shows.
 ghost use Rattle.std.specs.Prelude.{◌≡◌, IfOk, length, nat_le, take};
 ghost use Rattle.octets.specs.Limits.{max_value};
 ghost use Rattle.sieve_vm.specs.SharedTexts.{items_of};
@@ -13,24 +13,28 @@ use octets::{MAX_VALUE, Octets};
 use std::alloc::{AllocError, Global};
 use std::rc::Rc;
 
-/// A text that entries of the stack and variables may hold at once, without a copy for each.
+/// A text that several entries of the stack and variables can hold, without a copy for each.
 #[derive(Drop)]
 pub enum SharedText<'p> {
-    /// Octets that the program lends.
+    /// Bytes that the program lends.
     Lent(&'p [u8]),
-    /// Octets that stay as long as one holds them.
+    /// Bytes that are kept as long as one holder has them.
     Shared(Rc<Vec<u8>>),
 }
 
 impl<'p> SharedText<'p> {
-    /// The text of these octets.
+    /// The text with these bytes.
+    ///
+    /// # Errors
+    ///
+    /// `AllocError` if memory is refused.
     pub fn new(alloc: Global, octets: Vec<u8>) -> Result<SharedText<'p>, AllocError>
         ensures { IfOk result (λ text. items_of text ≡ octets.items) }
     {
         Ok(SharedText::Shared(Rc::new(alloc, octets)?))
     }
 
-    /// The octets of the text.
+    /// The bytes of the text.
     #[inline(always)]
     pub fn as_slice(&self) -> &[u8]
         ensures { result.now ≡ items_of self.now }
@@ -41,7 +45,11 @@ impl<'p> SharedText<'p> {
         }
     }
 
-    /// The same text, for one more to hold.
+    /// The same text, with one more holder.
+    ///
+    /// # Errors
+    ///
+    /// `AllocError` if memory is refused.
     pub fn share(&self) -> Result<SharedText<'p>, AllocError>
         ensures { IfOk result (λ text. items_of text ≡ items_of self.now) }
     {
@@ -51,7 +59,11 @@ impl<'p> SharedText<'p> {
         }
     }
 
-    /// The first octets of the text; the same text where it has no more.
+    /// The first bytes of the text; the same text if it has no more.
+    ///
+    /// # Errors
+    ///
+    /// `AllocError` if memory is refused.
     pub fn cut(self, alloc: Global) -> Result<SharedText<'p>, AllocError>
         ensures { IfOk result (λ text. items_of text ≡ take max_value (items_of self.entry)) }
     {
@@ -61,7 +73,11 @@ impl<'p> SharedText<'p> {
         }
     }
 
-    /// The octets of the text, copied where others hold them too.
+    /// The bytes of the text, copied if there are other holders.
+    ///
+    /// # Errors
+    ///
+    /// `AllocError` if memory is refused.
     pub fn into_octets(self, alloc: Global) -> Result<Octets, AllocError>
         ensures { IfOk result (λ octets. octets ≡ items_of self.entry) }
     {
@@ -75,7 +91,7 @@ impl<'p> SharedText<'p> {
     }
 }
 
-// The first octets of a text that others may hold too. A short one isn't copied.
+// The first bytes of a text that can have other holders. A short one isn't copied.
 fn cut_shared<'p>(alloc: Global, octets: Rc<Vec<u8>>) -> Result<SharedText<'p>, AllocError>
     ensures { IfOk result (λ text. items_of text ≡ take max_value octets.value.items) }
 {
@@ -91,7 +107,7 @@ fn cut_shared<'p>(alloc: Global, octets: Rc<Vec<u8>>) -> Result<SharedText<'p>, 
     }
 }
 
-// The first of the octets, where they stand.
+// The first of the bytes, in place.
 fn shortened(mut octets: Vec<u8>) -> Vec<u8>
     ensures { result.items ≡ take max_value octets.items }
 {
@@ -99,14 +115,18 @@ fn shortened(mut octets: Vec<u8>) -> Vec<u8>
     octets
 }
 
-// Whether all of the octets are the first ones.
+// Whether all of the bytes are the first ones.
 fn is_short(octets: &Vec<u8>) -> bool
     ensures { result ≡ nat_le (length octets.now.items) max_value }
 {
     octets.len() <= MAX_VALUE
 }
 
-/// A copy of octets.
+/// A copy of bytes.
+///
+/// # Errors
+///
+/// `AllocError` if memory is refused.
 pub fn copied(alloc: Global, octets: &[u8]) -> Result<Octets, AllocError>
     ensures { IfOk result (λ copy. copy ≡ octets.now) }
 {

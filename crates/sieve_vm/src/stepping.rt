@@ -1,4 +1,4 @@
-// The machine of a run on its way.
+// The machine of a run that is taken step by step.
 ghost use Rattle.std.specs.Prelude.{◌≡◌, ◌<◌, ℕ, suc, true, false, List, Some, IfOk, IsSome, option_map, slice_get};
 
 use crate::loops::Loops;
@@ -12,8 +12,8 @@ use mime_decode::Message;
 use std::alloc::{AllocError, Global};
 use std::marker::Model;
 
-/// A program, a message, and the machine of the program's run on it, as it is after so many steps. A contract sees the program, the
-/// message and the number of steps.
+/// A program, a message, and the machine of the program's run on it after so many steps. A contract sees the program,
+/// the message and the number of steps.
 #[derive(Drop)]
 pub struct Stepping<'p, 's, 'm> {
     program: &'p Program,
@@ -21,7 +21,7 @@ pub struct Stepping<'p, 's, 'm> {
     machine: Machine<'p, 's, 'm>,
     // How many steps were taken.
     steps: u128,
-    // What they have come to.
+    // The result of the last step.
     turn: Turn,
 }
 
@@ -53,7 +53,9 @@ impl<'p, 's, 'm> Stepping<'p, 's, 'm> {
 
     /// The run of an accepted program on a message, before its first step.
     ///
-    /// An error comes only where memory was refused.
+    /// # Errors
+    ///
+    /// `AllocError` if memory is refused.
     pub fn begin(
         alloc: Global,
         verified: &'p Verified,
@@ -62,7 +64,7 @@ impl<'p, 's, 'm> Stepping<'p, 's, 'm> {
         ensures { IfOk result (λ run. run ≡ record { code = verified.now; mail = message.now; steps = 0 }) }
     {
         let program = verified.program();
-        // What holds of every program and of every message is known where it is asked.
+        // The contracts of the calls give what holds for every program and every message.
         let _instructions = program.instructions();
         let _size = message.size();
         let mut machine = Machine {
@@ -81,7 +83,7 @@ impl<'p, 's, 'm> Stepping<'p, 's, 'm> {
         })
     }
 
-    /// Whether there is a step to take. Where there is none, the run is over.
+    /// Whether there is a step to take. If there is none, the run is over.
     pub fn goes_on(&self) -> bool
         ensures value { result ≡ goes_on (turn_at self.now) }
         ensures reached { IsSome (state_at self.now) }
@@ -92,7 +94,9 @@ impl<'p, 's, 'm> Stepping<'p, 's, 'm> {
 
     /// Takes a step.
     ///
-    /// An error comes only where memory was refused, and ends the run.
+    /// # Errors
+    ///
+    /// `AllocError` if memory is refused, which ends the run.
     pub fn advance(self, alloc: Global) -> Result<Stepping<'p, 's, 'm>, AllocError>
         requires { goes_on (turn_at self) ≡ true }
         ensures { IfOk result (λ run. run ≡ record self.entry { steps = suc self.entry.steps }) }
@@ -114,7 +118,7 @@ impl<'p, 's, 'm> Stepping<'p, 's, 'm> {
         })
     }
 
-    /// The instruction that comes next.
+    /// The instruction of the next step.
     pub fn instruction(&self) -> Instruction
         requires { goes_on (turn_at self.now) ≡ true }
         ensures { (state : State) → state_at self.now ≡ Some state
@@ -123,35 +127,35 @@ impl<'p, 's, 'm> Stepping<'p, 's, 'm> {
         self.program.instructions()[self.turn.position.place]
     }
 
-    /// The place of the instruction that comes next; at the end of the run, that of the last one.
+    /// The place of the next step's instruction; at the end of the run, that of the last one.
     pub fn place(&self) -> usize
         ensures { option_map (λ (state : State). state.place) (state_at self.now) ≡ Some result }
     {
         self.turn.position.place
     }
 
-    /// What the steps so far have charged.
+    /// What the steps taken have charged.
     pub fn charged(&self) -> u128
         ensures { option_map (λ (state : State). state.charge) (state_at self.now) ≡ Some result }
     {
         self.turn.position.charged
     }
 
-    /// The number of the current part, that of the innermost open loop; none where no loop is open.
+    /// The number of the current part, which is that of the innermost open loop; `None` if no loop is open.
     pub fn part(&self) -> Option<usize>
         ensures { (state : State) → state_at self.now ≡ Some state → result ≡ current_part state.frames }
     {
         self.machine.loops.current()
     }
 
-    /// The entry on top of the stack; none where it is empty.
+    /// The entry on top of the stack; `None` if the stack is empty.
     pub fn top(&self) -> Option<StackValue<'_>>
         ensures { (state : State) → state_at self.now ≡ Some state → option_map value_of result ≡ top state.stack }
     {
         self.machine.work.top()
     }
 
-    /// The value of a variable; none where the program has no such variable.
+    /// The value of a variable; `None` if the program has no such variable.
     pub fn variable(&self, number: usize) -> Option<&[u8]>
         ensures { (state : State) → state_at self.now ≡ Some state
             → option_map (λ (value : Bor (List ℕ)). value.now) result ≡ slice_get state.variables number }
@@ -159,9 +163,11 @@ impl<'p, 's, 'm> Stepping<'p, 's, 'm> {
         self.machine.work.value(number)
     }
 
-    /// What the run came to.
+    /// The outcome of the run.
     ///
-    /// An error comes only where memory was refused.
+    /// # Errors
+    ///
+    /// `AllocError` if memory is refused.
     pub fn into_outcome(self) -> Result<Outcome, AllocError>
         requires { goes_on (turn_at self) ≡ false }
         ensures { IfOk result (λ outcome. IsOutcome self.entry.code self.entry.mail outcome.actions.items outcome.charged) }

@@ -1,8 +1,8 @@
 // The machine's tests.
 //
 // A question without strings is decided within the run, and one with strings in a call of its own that is never
-// inlined (`ask` and `ask_with_lists`). Two rare steps aren't inlined either: finding what isn't known of a part,
-// and putting a truth value among the entries. The compiler clears the room of an inlined call's values in the run
+// inlined (`ask` and `ask_with_lists`). Two rare steps aren't inlined either: finding what isn't known of a part, and
+// putting a truth value among the entries. The compiler clears the room of an inlined call's values in the run
 // itself: with version 0.30.0 each test cleared some 450 bytes. What a question needs of a part's content is found
 // first, and then lent, so a digest isn't copied.
 ghost use Rattle.std.specs.Prelude.{◌≡◌, ◌<◌, ◌∷◌, IfOk, IfSome, IsSome, OnOk, Some, is_some, length, if◌then◌else◌};
@@ -28,10 +28,12 @@ use mime_decode::Message;
 use std::alloc::{AllocError, Global};
 
 impl<'p, 's, 'm> Machine<'p, 's, 'm> {
-    /// Takes the lists of a test, and pushes whether what it asks is true. What that needs of the current part's content is held by the
-    /// innermost loop from then on, or was known.
+    /// Takes the lists of a test, and pushes whether its question is true. What the question needs of the current
+    /// part's content is held by the innermost loop after that, or was known.
     ///
-    /// An error comes only where memory was refused.
+    /// # Errors
+    ///
+    /// `AllocError` if memory is refused.
     #[inline(always)]
     pub fn ask(
         &mut self,
@@ -94,10 +96,10 @@ impl<'p, 's, 'm> Machine<'p, 's, 'm> {
 }
 
 impl<'p, 'm> Workspace<'p, 'm> {
-    // Takes the lists of a question, and pushes whether it is true; `shown` is what it needs of the current part's content. Says what
-    // asking it costs. A question that takes no strings is decided here, without a call.
+    // Takes the lists of a question, and pushes whether it is true; `shown` is what it needs of the current part's
+    // content. Returns the cost. A question that takes no strings is decided here, without a call.
     //
-    // An error comes only where memory was refused.
+    // The only error is a refusal of memory.
     #[inline(always)]
     fn ask(
         &mut self,
@@ -129,10 +131,10 @@ impl<'p, 'm> Workspace<'p, 'm> {
         self.ask_with_lists(alloc, message, part, question, shown, counts)
     }
 
-    // The same for any question. Captures stay where they are found. This isn't inlined, since the run would else clear the room for
-    // them for each instruction.
+    // The same for any question. Captures stay in the place where they are found. This isn't inlined, because the run
+    // would otherwise clear the room for them for each instruction.
     //
-    // An error comes only where memory was refused.
+    // The only error is a refusal of memory.
     #[inline(never)]
     fn ask_with_lists(
         &mut self,

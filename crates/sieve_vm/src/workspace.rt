@@ -1,4 +1,4 @@
-// What a run works on: the stack, the variables and the captures.
+// The workspace of a run: the stack, the variables and the captures.
 ghost use Rattle.std.specs.Prelude.{◌≡◌, ◌<◌, ◌≤◌, ℕ, List, [], ◌∷◌, ◌++◌, Bool, Some, None, IfOk, OnOk, length, map, replicate, reverse, take, slice_get, slice_index_or, slice_set, is_some, option_map, sum_by, slice_range};
 ghost use Rattle.std.specs.Borrow.{Bor};
 ghost use Rattle.std.specs.List.{concat};
@@ -26,16 +26,16 @@ use octets::{MAX_VALUE, Octets};
 use std::alloc::{AllocError, Global};
 use std::mem;
 
-/// The stack, the variables and the captures. What a variable or a capture holds isn't copied where it is pushed:
-/// the entry shares it, and so keeps it where the variable or the captures change.
+/// The stack, the variables and the captures. The value of a variable or a capture isn't copied when it is pushed:
+/// the entry shares it, and so keeps it when the variable or the captures change.
 #[derive(Drop)]
 pub struct Workspace<'p, 'm> {
-    // The truth value on top of the stack, where it stands apart. The entries are below it.
+    // The truth value on top of the stack, if it is kept apart. The entries are below it.
     pub top: Option<bool>,
-    // The uppermost is the last one.
+    // The top entry is the last one.
     pub entries: Vec<Entry<'p>>,
     pub variables: Vec<SharedText<'p>>,
-    // Those of the last match that has set them.
+    // The captures of the last match that has set them.
     pub captures: HeldCaptures<'p, 'm>,
 }
 
@@ -70,7 +70,7 @@ impl<'s, 'p> Texts for Pushed<'s, 'p> {
 }
 
 impl<'p, 'm> Workspace<'p, 'm> {
-    /// No entries, no variables, and empty captures. Takes no memory.
+    /// No entries, no variables, and empty captures. It takes no memory.
     pub fn new(alloc: Global) -> Workspace<'p, 'm>
         ensures { IsNew result }
     {
@@ -83,6 +83,10 @@ impl<'p, 'm> Workspace<'p, 'm> {
     }
 
     /// Makes so many variables, which are empty.
+    ///
+    /// # Errors
+    ///
+    /// `AllocError` if memory is refused.
     pub fn begin(&mut self, variables: u16) -> Result<(), AllocError>
         requires { IsNew self.old }
         ensures { OnOk result (held_of self.new
@@ -123,7 +127,7 @@ impl<'p, 'm> Workspace<'p, 'm> {
         Ok(self.entries.push(Entry::Text(octets))?)
     }
 
-    // Puts a truth value that stands apart among the entries.
+    // Puts a truth value that is kept apart among the entries.
     #[inline(always)]
     fn lower(&mut self) -> Result<(), AllocError>
         ensures same { OnOk result (held_of self.new ≡ held_of self.old) }
@@ -135,7 +139,7 @@ impl<'p, 'm> Workspace<'p, 'm> {
         }
     }
 
-    // Puts this truth value, which stands apart, among the entries. It is rare, and so it isn't inlined.
+    // Puts this truth value, which is kept apart, among the entries. It isn't inlined, because it is rare.
     #[inline(never)]
     fn put_below(&mut self, value: bool) -> Result<(), AllocError>
         requires { self.old.top ≡ Some value }
@@ -214,8 +218,12 @@ impl<'p, 'm> Workspace<'p, 'm> {
         octets_in(alloc, self.pop_text())
     }
 
-    /// Takes the text on top of the stack, and gives its first octets, modified, to a variable. Answers how
-    /// many octets the text has.
+    /// Takes the text on top of the stack, and assigns its first bytes, modified, to a variable. Returns how many
+    /// bytes the text has.
+    ///
+    /// # Errors
+    ///
+    /// `AllocError` if memory is refused.
     pub fn set(
         &mut self,
         alloc: Global,
@@ -242,7 +250,7 @@ impl<'p, 'm> Workspace<'p, 'm> {
         Ok(len)
     }
 
-    /// Gives a text to a variable.
+    /// Assigns a text to a variable.
     pub fn assign(&mut self, variable: usize, value: SharedText<'p>)
         requires { variable < length (held_of self.old).variables }
         ensures { held_of self.new ≡ record
@@ -254,8 +262,12 @@ impl<'p, 'm> Workspace<'p, 'm> {
         self.variables[variable] = value;
     }
 
-    /// Joins so many texts on top of the stack to one, of which the first octets stay. Answers how many
-    /// octets the texts have.
+    /// Joins so many texts on top of the stack into one, cut to the length of the longest string. Returns how many
+    /// bytes the texts have.
+    ///
+    /// # Errors
+    ///
+    /// `AllocError` if memory is refused.
     pub fn join(&mut self, alloc: Global, number: usize) -> Result<usize, AllocError>
         requires { (top : OnTop) × ((texts_on_top number (held_of self.old).stack ≡ Some top)
             × AreTexts top.texts) }
@@ -342,7 +354,8 @@ impl<'p, 'm> Workspace<'p, 'm> {
         self.entries.truncate(names);
     }
 
-    /// Keeps the captures that a test has set, and says whether it has matched. Only captures are moved, since they are large.
+    /// Keeps the captures that a test has set, and returns whether it has matched. Only captures are moved, because
+    /// they are large.
     #[inline(always)]
     pub fn settle(&mut self, outcome: &mut Outcome<'m>) -> bool
         ensures matched { result ≡ is_some (after outcome.old (held_of self.old).captures) }
@@ -377,7 +390,7 @@ impl<'p, 'm> Workspace<'p, 'm> {
         }
     }
 
-    /// The octets of a variable's value.
+    /// The bytes of a variable's value.
     pub fn value(&self, number: usize) -> Option<&[u8]>
         ensures { option_map (λ (value : Bor (List ℕ)). value.now) result
             ≡ slice_get (held_of self.now).variables number }
@@ -400,7 +413,7 @@ impl<'p, 'm> Workspace<'p, 'm> {
     }
 }
 
-// Takes the truth value that is the uppermost of the entries.
+// Takes the truth value that is the top one of the entries.
 fn pop_truth(entries: &mut Vec<Entry<'_>>) -> bool
     requires { (b : Bool)
         × ((rest : List Value) × (map value_of (reverse entries.old.items) ≡ truth b ∷ rest)) }
@@ -424,7 +437,7 @@ fn lent_of<'s>(entry: &'s Entry<'_>) -> StackValue<'s>
     }
 }
 
-/// The octets of an entry that is a text.
+/// The bytes of an entry that is a text.
 #[inline(always)]
 pub fn octets_of<'s>(entry: &'s Entry<'_>) -> &'s [u8]
     ensures { result.now ≡ octets_of entry.now }
@@ -435,7 +448,7 @@ pub fn octets_of<'s>(entry: &'s Entry<'_>) -> &'s [u8]
     }
 }
 
-// The octets of an entry, moved where it alone holds them.
+// The bytes of an entry, moved if it is their only holder.
 fn octets_in(alloc: Global, entry: Entry<'_>) -> Result<Octets, AllocError>
     ensures { IfOk result (λ octets. octets ≡ octets_of entry.entry) }
 {
@@ -445,8 +458,8 @@ fn octets_in(alloc: Global, entry: Entry<'_>) -> Result<Octets, AllocError>
     }
 }
 
-// The first octets of a text, modified: what a variable is set to. Without modifiers they aren't copied, where the
-// entry has no more.
+// The first bytes of a text, modified: the new value of a variable. Without modifiers they aren't copied if the entry
+// has no more.
 fn value_for<'p>(
     alloc: Global,
     entry: Entry<'p>,
@@ -462,7 +475,7 @@ fn value_for<'p>(
     SharedText::new(alloc, value.into_vec())
 }
 
-// The first octets of a text.
+// The first bytes of a text.
 fn cut<'p>(alloc: Global, entry: Entry<'p>) -> Result<SharedText<'p>, AllocError>
     ensures { IfOk result (λ value. items_of value ≡ take max_value (octets_of entry.entry)) }
 {

@@ -171,7 +171,7 @@ const TWO: [NewEntry<'static>; 2] = [
 ];
 
 const OTHER_OCTETS: [(&str, Step); 7] = [
-    ("bob", Holds(1, Ok(b"foobaz"))),
+    ("bob", Holds(1, Err(StoreError::Database))),
     ("ann", Add(&TWO, Err(StoreError::Collision))),
     ("ann", Holds(1, Err(NONE))),
     ("ann", Put(b"first", Ok(1))),

@@ -2,39 +2,37 @@
 use crate::printed::Printed;
 use bytecode_format::Action;
 use sieve_engine::Report;
-use std::alloc::AllocError;
 
 /// Adds actions, or that there is none.
-pub fn put_actions(actions: &[Action], answer: &mut Printed) -> Result<(), AllocError> {
+pub fn put_actions(actions: &[Action], answer: &mut Printed) {
     if actions.is_empty() {
-        answer.word("none")?;
+        answer.word("none");
     }
     for action in actions {
-        put_action(action, answer)?;
+        put_action(action, answer);
     }
-    Ok(())
 }
 
 /// Adds an action.
-pub fn put_action(action: &Action, answer: &mut Printed) -> Result<(), AllocError> {
+pub fn put_action(action: &Action, answer: &mut Printed) {
     match action {
         Action::Keep => answer.word("keep"),
         Action::File(folder) => {
-            answer.word("fileinto")?;
-            answer.text(folder.as_slice())
+            answer.word("fileinto");
+            answer.text(folder.as_slice());
         }
         Action::Store(folder, part) => {
-            answer.word("store")?;
-            answer.text(folder.as_slice())?;
-            answer.number(*part as u64)
+            answer.word("store");
+            answer.text(folder.as_slice());
+            answer.number(*part as u64);
         }
     }
 }
 
 /// Adds what a run charged, and what it may charge at most.
-pub fn put_charge(report: &Report, answer: &mut Printed) -> Result<(), AllocError> {
-    answer.word("charged")?;
-    answer.large_number(report.outcome.charged)?;
-    answer.word("of")?;
-    answer.large_number(report.limit)
+pub fn put_charge(report: &Report, answer: &mut Printed) {
+    answer.word("charged");
+    answer.large_number(report.outcome.charged);
+    answer.word("of");
+    answer.large_number(report.limit);
 }

@@ -28,31 +28,43 @@ fn encoding_of(word: &[u8]) -> Option<Encoding> {
     }
 }
 
-/// Answers a call, of which the first argument is an encoding.
-pub fn answer(
+/// Answers a call, of which the first argument is an encoding; false where there is no such call.
+pub fn answer(alloc: Global, call: &str, arguments: &[Vec<u8>], answer: &mut Printed) -> bool {
+    let [encoding, others @ ..] = arguments else {
+        return false;
+    };
+    match encoding_of(encoding) {
+        Some(encoding) => answer_in(alloc, call, encoding, others, answer),
+        None => false,
+    }
+}
+
+fn answer_in(
     alloc: Global,
     call: &str,
+    encoding: Encoding,
     arguments: &[Vec<u8>],
     answer: &mut Printed,
-) -> Result<bool, AllocError> {
-    let [encoding, others @ ..] = arguments else {
-        return Ok(false);
-    };
-    let Some(encoding) = encoding_of(encoding) else {
-        return Ok(false);
-    };
-    match (encoding, others) {
+) -> bool {
+    match (encoding, arguments) {
         (Encoding::Base64Mime, pieces) if call == "pieces" => {
-            print_mime_pieces(alloc, pieces, answer)?;
-            Ok(true)
+            unless_short(print_mime_pieces(alloc, pieces, answer), answer);
+            true
         }
         (Encoding::Qp, pieces) if call == "pieces" => {
-            print_qp_pieces(alloc, pieces, answer)?;
-            Ok(true)
+            unless_short(print_qp_pieces(alloc, pieces, answer), answer);
+            true
         }
         (Encoding::Qp, [size, text]) => answer_by_size(alloc, call, size, text, answer),
         (_, [text]) => answer_of_whole(alloc, call, encoding, text, answer),
-        _ => Ok(false),
+        _ => false,
+    }
+}
+
+// Notes where memory was refused.
+fn unless_short(outcome: Result<(), AllocError>, answer: &mut Printed) {
+    if outcome.is_err() {
+        answer.refuse();
     }
 }
 
@@ -62,14 +74,14 @@ fn answer_of_whole(
     encoding: Encoding,
     text: &[u8],
     answer: &mut Printed,
-) -> Result<bool, AllocError> {
+) -> bool {
     match call {
-        "encode" => print_encoded(alloc, encoding, text, answer)?,
-        "decode" => print_decoded(decoded(alloc, encoding, text), answer)?,
-        "lines" => print_qp_lines(alloc, text, answer)?,
-        _ => return Ok(false),
+        "encode" => print_encoded(alloc, encoding, text, answer),
+        "decode" => print_decoded(&decoded(alloc, encoding, text), answer),
+        "lines" => unless_short(print_qp_lines(alloc, text, answer), answer),
+        _ => return false,
     }
-    Ok(true)
+    true
 }
 
 fn encoded(alloc: Global, encoding: Encoding, octets: &[u8]) -> Result<Vec<u8>, AllocError> {
@@ -91,32 +103,31 @@ fn decoded(alloc: Global, encoding: Encoding, text: &[u8]) -> Result<Vec<u8>, Re
 }
 
 // The octets that a text stands for, or its refusal.
-fn print_decoded(
-    decoded: Result<Vec<u8>, Refusal>,
-    answer: &mut Printed,
-) -> Result<(), AllocError> {
+fn print_decoded(decoded: &Result<Vec<u8>, Refusal>, answer: &mut Printed) {
     match decoded {
-        Ok(octets) => answer.text(&octets),
+        Ok(octets) => answer.text(octets),
         Err(Refusal::NotCanonical) => answer.word("refused 10 NotCanonical"),
-        Err(Refusal::Memory) => Err(AllocError),
+        Err(Refusal::Memory) => answer.refuse(),
     }
 }
 
 // The text of octets; where it isn't read as them, also what it is read as.
-fn print_encoded(
-    alloc: Global,
-    encoding: Encoding,
-    octets: &[u8],
-    answer: &mut Printed,
-) -> Result<(), AllocError> {
-    let text = encoded(alloc, encoding, octets)?;
-    answer.text(&text)?;
-    let read = decoded(alloc, encoding, &text);
-    if matches!(&read, Ok(read) if read.as_slice() == octets) {
-        return Ok(());
+fn print_encoded(alloc: Global, encoding: Encoding, octets: &[u8], answer: &mut Printed) {
+    match encoded(alloc, encoding, octets) {
+        Ok(text) => {
+            answer.text(&text);
+            print_unlike(&decoded(alloc, encoding, &text), octets, answer);
+        }
+        Err(AllocError) => answer.refuse(),
     }
-    answer.word("read")?;
-    print_decoded(read, answer)
+}
+
+// What a text is read as, where it isn't read as these octets.
+fn print_unlike(read: &Result<Vec<u8>, Refusal>, octets: &[u8], answer: &mut Printed) {
+    if !matches!(read, Ok(read) if read.as_slice() == octets) {
+        answer.word("read");
+        print_decoded(read, answer);
+    }
 }
 
 // What each piece adds to the octets so far, and how many bits are left over.
@@ -129,9 +140,10 @@ fn print_mime_pieces(
     let mut decoder = Decoder::new();
     for piece in pieces {
         decoder.feed(piece, &mut out)?;
-        answer.text(&out)?;
+        answer.text(&out);
     }
-    answer.number(u64::from(decoder.finish()))
+    answer.number(u64::from(decoder.finish()));
+    Ok(())
 }
 
 // The octets so far after each piece, and those of the whole text.
@@ -144,10 +156,11 @@ fn print_qp_pieces(
     let mut decoder = QpDecoder::new(alloc);
     for piece in pieces {
         decoder.feed(piece, &mut out)?;
-        answer.text(&out)?;
+        answer.text(&out);
     }
     decoder.finish(&mut out)?;
-    answer.text(&out)
+    answer.text(&out);
+    Ok(())
 }
 
 // Answers a call on a text that comes in pieces of one size.
@@ -157,23 +170,39 @@ fn answer_by_size(
     size: &[u8],
     text: &[u8],
     answer: &mut Printed,
-) -> Result<bool, AllocError> {
+) -> bool {
     let Some(size) = number_of(size) else {
-        return Ok(false);
+        return false;
     };
     match call {
-        "by" => answer.text(&read_by(alloc, text, size)?)?,
-        "back" => {
-            let read = read_by(alloc, &encode_qp(alloc, text)?, size)?;
-            answer.word(if read.as_slice() == text {
-                "same"
-            } else {
-                "other"
-            })?;
-        }
-        _ => return Ok(false),
+        "by" => print_by(alloc, text, size, answer),
+        "back" => print_back(alloc, text, size, answer),
+        _ => return false,
     }
-    Ok(true)
+    true
+}
+
+// What a text is read as in pieces of so many octets.
+fn print_by(alloc: Global, text: &[u8], size: usize, answer: &mut Printed) {
+    match read_by(alloc, text, size) {
+        Ok(read) => answer.text(&read),
+        Err(AllocError) => answer.refuse(),
+    }
+}
+
+// Whether the text of octets is read as them in pieces of so many octets.
+fn print_back(alloc: Global, octets: &[u8], size: usize, answer: &mut Printed) {
+    match read_back(alloc, octets, size) {
+        Ok(true) => answer.word("same"),
+        Ok(false) => answer.word("other"),
+        Err(AllocError) => answer.refuse(),
+    }
+}
+
+fn read_back(alloc: Global, octets: &[u8], size: usize) -> Result<bool, AllocError> {
+    let text = encode_qp(alloc, octets)?;
+    let read = read_by(alloc, &text, size)?;
+    Ok(read.as_slice() == octets)
 }
 
 // What a text is read as in pieces of so many octets.
@@ -190,20 +219,31 @@ fn read_by(alloc: Global, text: &[u8], size: usize) -> Result<Vec<u8>, AllocErro
 // How many lines the text of octets has, and how many octets; `long` before them for each line of more than 76 octets and a break,
 // `more` where no octets have a line, `other` where the lines one by one aren't that text, `misread` where it isn't read as the octets.
 fn print_qp_lines(alloc: Global, octets: &[u8], answer: &mut Printed) -> Result<(), AllocError> {
-    let whole = encode_qp(alloc, octets)?;
     let mut text = Vec::new(alloc);
     let lines = add_qp_lines(octets, &mut text, answer)?;
-    print_size(lines, answer)?;
-    print_size(whole.len(), answer)?;
-    if encode_qp_line(b"", &mut text)? != 0 {
-        answer.word("more")?;
-    }
-    print_unless("other", text.as_slice() == whole.as_slice(), answer)?;
-    print_unless("misread", is_read_as(alloc, &whole, octets)?, answer)
+    print_size(lines, answer);
+    print_whole(alloc, octets, &mut text, answer)
 }
 
-fn print_unless(word: &str, holds: bool, answer: &mut Printed) -> Result<(), AllocError> {
-    if holds { Ok(()) } else { answer.word(word) }
+// How many octets the whole text of octets has, and what is wrong with it and with the text of its lines.
+fn print_whole(
+    alloc: Global,
+    octets: &[u8],
+    lines: &mut Vec<u8>,
+    answer: &mut Printed,
+) -> Result<(), AllocError> {
+    let whole = encode_qp(alloc, octets)?;
+    print_size(whole.len(), answer);
+    print_unless("more", encode_qp_line(b"", lines)? == 0, answer);
+    print_unless("other", lines.as_slice() == whole.as_slice(), answer);
+    print_unless("misread", is_read_as(alloc, &whole, octets)?, answer);
+    Ok(())
+}
+
+fn print_unless(word: &str, holds: bool, answer: &mut Printed) {
+    if !holds {
+        answer.word(word);
+    }
 }
 
 fn is_read_as(alloc: Global, text: &[u8], octets: &[u8]) -> Result<bool, AllocError> {
@@ -238,6 +278,6 @@ fn add_qp_line(
 ) -> Result<usize, AllocError> {
     let start = text.len();
     let taken = encode_qp_line(octets, text)?;
-    print_unless("long", text.len() <= start.saturating_add(78), answer)?;
+    print_unless("long", text.len() <= start.saturating_add(78), answer);
     Ok(taken)
 }

@@ -32,30 +32,52 @@ pub fn compare(
     table: &[u8],
     shown: &mut Printed,
 ) -> Result<Counts, AllocError> {
+    let counts = counts_of(alloc, name, family, table, shown)?;
+    shown.word(name);
+    shown.glue(b":");
+    shown.number(counts.rows);
+    shown.word("rows\n");
+    Ok(counts)
+}
+
+fn counts_of(
+    alloc: Global,
+    name: &str,
+    family: Family,
+    table: &[u8],
+    shown: &mut Printed,
+) -> Result<Counts, AllocError> {
+    match rows_of(alloc, table) {
+        Ok(rows) => compare_rows(alloc, name, family, &rows, shown),
+        Err(TableError::Memory) => Err(AllocError),
+        Err(TableError::Line(line)) => {
+            show_place(name, line, shown);
+            shown.word("no line of a table\n");
+            Ok(Counts {
+                rows: 0,
+                differing: 1,
+            })
+        }
+    }
+}
+
+fn compare_rows(
+    alloc: Global,
+    name: &str,
+    family: Family,
+    rows: &[Row],
+    shown: &mut Printed,
+) -> Result<Counts, AllocError> {
     let mut counts = Counts {
         rows: 0,
         differing: 0,
     };
-    match rows_of(alloc, table) {
-        Ok(rows) => {
-            for row in &rows {
-                counts.rows = counts.rows.wrapping_add(1);
-                if !is_as_wanted(alloc, name, family, row, shown)? {
-                    counts.differing = counts.differing.wrapping_add(1);
-                }
-            }
-        }
-        Err(TableError::Memory) => return Err(AllocError),
-        Err(TableError::Line(line)) => {
-            counts.differing = 1;
-            show_place(name, line, shown)?;
-            shown.word("no line of a table\n")?;
+    for row in rows {
+        counts.rows = counts.rows.wrapping_add(1);
+        if !is_as_wanted(alloc, name, family, row, shown)? {
+            counts.differing = counts.differing.wrapping_add(1);
         }
     }
-    shown.word(name)?;
-    shown.glue(b":")?;
-    shown.number(counts.rows)?;
-    shown.word("rows\n")?;
     Ok(counts)
 }
 
@@ -68,34 +90,36 @@ fn is_as_wanted(
     shown: &mut Printed,
 ) -> Result<bool, AllocError> {
     let mut answer = Printed::new(alloc);
-    if !has_answer(alloc, family, row, &mut answer)? {
-        answer = Printed::new(alloc);
-        answer.word("no such call")?;
-    } else if answer.as_slice() == row.wanted.as_slice() {
+    if !has_answer(alloc, family, row, &mut answer) {
+        show_row(name, row, b"no such call", shown)?;
+        return Ok(false);
+    }
+    if answer.whole()? == row.wanted.whole()? {
         return Ok(true);
     }
-    show_place(name, row.line, shown)?;
-    shown.octets(&row.call)?;
-    for argument in &row.arguments {
-        shown.text(argument)?;
-    }
-    shown.glue(b"\n  wanted ")?;
-    shown.glue(row.wanted.as_slice())?;
-    shown.glue(b"\n  got ")?;
-    shown.glue(answer.as_slice())?;
-    shown.glue(b"\n")?;
+    show_row(name, row, answer.whole()?, shown)?;
     Ok(false)
 }
 
+// Shows a row, what it wants, and what is answered.
+fn show_row(name: &str, row: &Row, answer: &[u8], shown: &mut Printed) -> Result<(), AllocError> {
+    show_place(name, row.line, shown);
+    shown.octets(&row.call);
+    for argument in &row.arguments {
+        shown.text(argument);
+    }
+    shown.glue(b"\n  wanted ");
+    shown.glue(row.wanted.whole()?);
+    shown.glue(b"\n  got ");
+    shown.glue(answer);
+    shown.glue(b"\n");
+    Ok(())
+}
+
 // Whether the family has the row's call, and then the answer.
-fn has_answer(
-    alloc: Global,
-    family: Family,
-    row: &Row,
-    answer: &mut Printed,
-) -> Result<bool, AllocError> {
+fn has_answer(alloc: Global, family: Family, row: &Row, answer: &mut Printed) -> bool {
     let Ok(call) = str::from_utf8(&row.call) else {
-        return Ok(false);
+        return false;
     };
     match family {
         Family::Programs => programs::answer(alloc, call, &row.arguments, answer),
@@ -107,9 +131,9 @@ fn has_answer(
 }
 
 // Begins what is said of a line of a table.
-fn show_place(name: &str, line: u64, shown: &mut Printed) -> Result<(), AllocError> {
-    shown.word(name)?;
-    shown.glue(b":")?;
-    shown.glue(Buffer::new().format(line).as_bytes())?;
-    shown.glue(b":")
+fn show_place(name: &str, line: u64, shown: &mut Printed) {
+    shown.word(name);
+    shown.glue(b":");
+    shown.glue(Buffer::new().format(line).as_bytes());
+    shown.glue(b":");
 }

@@ -19,7 +19,7 @@ mod script_tokens;
 mod script_trees;
 mod scripts;
 
-use crate::compare::{Family, compare};
+use crate::compare::{Counts, Family, compare};
 use crate::printed::Printed;
 use std::fs;
 use std::io::{self, Write};
@@ -56,21 +56,33 @@ fn main(rt: HostRuntime) -> ExitCode {
 
 // Whether no row of any table differs.
 fn compare_all(rt: &HostRuntime) -> io::Result<bool> {
-    let mut rows: u64 = 0;
-    let mut differing: u64 = 0;
+    let mut all = Counts {
+        rows: 0,
+        differing: 0,
+    };
     for (name, family) in TABLES {
-        let table = fs::read(rt, *name)?;
-        let mut shown = Printed::new(rt.alloc());
-        let counts = compare(rt.alloc(), *name, *family, &table, &mut shown)?;
-        rows = rows.wrapping_add(counts.rows);
-        differing = differing.wrapping_add(counts.differing);
-        rt.stdout().write_all(shown.as_slice())?;
+        let counts = compare_one(rt, *name, *family)?;
+        all.rows = all.rows.wrapping_add(counts.rows);
+        all.differing = all.differing.wrapping_add(counts.differing);
     }
+    show_all(rt, all)?;
+    Ok(all.differing == 0)
+}
+
+// Compares the rows of a table, and shows how they came out.
+fn compare_one(rt: &HostRuntime, name: &str, family: Family) -> io::Result<Counts> {
+    let table = fs::read(rt, name)?;
+    let mut shown = Printed::new(rt.alloc());
+    let counts = compare(rt.alloc(), name, family, &table, &mut shown)?;
+    rt.stdout().write_all(shown.whole()?)?;
+    Ok(counts)
+}
+
+fn show_all(rt: &HostRuntime, counts: Counts) -> io::Result<()> {
     let mut last = Printed::new(rt.alloc());
-    last.number(rows)?;
-    last.word("rows,")?;
-    last.number(differing)?;
-    last.word("differ\n")?;
-    rt.stdout().write_all(last.as_slice())?;
-    Ok(differing == 0)
+    last.number(counts.rows);
+    last.word("rows,");
+    last.number(counts.differing);
+    last.word("differ\n");
+    rt.stdout().write_all(last.whole()?)
 }

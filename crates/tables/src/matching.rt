@@ -17,15 +17,25 @@ use std::mem;
 /// No value and no key is longer.
 const MOST: usize = 100_000;
 
-/// Answers a call.
-pub fn answer(
+/// Answers a call; false where there is no such call.
+pub fn answer(alloc: Global, call: &str, arguments: &[Vec<u8>], answer: &mut Printed) -> bool {
+    match known(alloc, call, arguments, answer) {
+        Ok(known) => known,
+        Err(AllocError) => {
+            answer.refuse();
+            true
+        }
+    }
+}
+
+fn known(
     alloc: Global,
     call: &str,
     arguments: &[Vec<u8>],
     answer: &mut Printed,
 ) -> Result<bool, AllocError> {
     match call {
-        "is" | "contains" | "matches" => compared(call, arguments, answer),
+        "is" | "contains" | "matches" => Ok(compared(call, arguments, answer)),
         "contained" | "placed" => placed_everywhere(alloc, call, arguments, answer),
         "exists" => existence(alloc, arguments, answer),
         "header" => headers(alloc, arguments, answer),
@@ -58,41 +68,38 @@ fn kind_of(word: &[u8]) -> Option<MatchType> {
 }
 
 // A comparator, a value and a key.
-fn compared(call: &str, arguments: &[Vec<u8>], answer: &mut Printed) -> Result<bool, AllocError> {
+fn compared(call: &str, arguments: &[Vec<u8>], answer: &mut Printed) -> bool {
     let [comparator, value, key] = arguments else {
-        return Ok(false);
+        return false;
     };
     let Some(comparator) = comparator_of(comparator) else {
-        return Ok(false);
+        return false;
     };
     if value.len() > MOST || key.len() > MOST {
-        return Ok(false);
+        return false;
     }
     match call {
-        "is" => print_truth(is(value, key, comparator).0, answer)?,
-        "contains" => print_truth(contains(value, key, comparator).0, answer)?,
-        _ => print_captures(value, &matches(value, key, comparator).0, answer)?,
+        "is" => print_truth(is(value, key, comparator).0, answer),
+        "contains" => print_truth(contains(value, key, comparator).0, answer),
+        _ => print_captures(value, &matches(value, key, comparator).0, answer),
     }
-    Ok(true)
+    true
 }
 
-fn print_truth(holds: bool, answer: &mut Printed) -> Result<(), AllocError> {
-    answer.word(if holds { "true" } else { "false" })
+fn print_truth(holds: bool, answer: &mut Printed) {
+    answer.word(if holds { "true" } else { "false" });
 }
 
 // The whole value and what the first nine wildcards stand for.
-fn print_captures(
-    value: &[u8],
-    found: &Option<Captures>,
-    answer: &mut Printed,
-) -> Result<(), AllocError> {
-    let Some(captures) = found else {
-        return answer.word("none");
-    };
-    for number in 0..captures.stretches().len() {
-        answer.text(captures.text(value, number))?;
+fn print_captures(value: &[u8], found: &Option<Captures>, answer: &mut Printed) {
+    match found {
+        Some(captures) => {
+            for number in 0..captures.stretches().len() {
+                answer.text(captures.text(value, number));
+            }
+        }
+        None => answer.word("none"),
     }
-    Ok(())
 }
 
 // A comparator, a number, a text, a key, and places. The values are as many of `a` as the number says, with the text in one of
@@ -109,7 +116,22 @@ fn placed_everywhere(
     let (Some(comparator), Some(count)) = (comparator_of(comparator), number_of(count)) else {
         return Ok(false);
     };
-    let mut number = 0usize;
+    if call == "contained" {
+        contained_at(alloc, comparator, count, text, key, places, answer)
+    } else {
+        captured_at(alloc, comparator, count, text, key, places, answer)
+    }
+}
+
+fn contained_at(
+    alloc: Global,
+    comparator: Comparator,
+    count: usize,
+    text: &[u8],
+    key: &[u8],
+    places: &[Vec<u8>],
+    answer: &mut Printed,
+) -> Result<bool, AllocError> {
     let mut before = None;
     for place in places {
         let Some(place) = number_of(place) else {
@@ -119,16 +141,35 @@ fn placed_everywhere(
         if value.len() > MOST || key.len() > MOST {
             return Ok(false);
         }
-        if call == "contained" {
-            let holds = contains(&value, key, comparator).0;
-            if before != Some(holds) {
-                print_truth(holds, answer)?;
-            }
-            before = Some(holds);
-        } else {
-            let found = matches(&value, key, comparator).0;
-            print_last(&found, &mut number, answer)?;
+        let holds = contains(&value, key, comparator).0;
+        if before != Some(holds) {
+            print_truth(holds, answer);
         }
+        before = Some(holds);
+    }
+    Ok(true)
+}
+
+fn captured_at(
+    alloc: Global,
+    comparator: Comparator,
+    count: usize,
+    text: &[u8],
+    key: &[u8],
+    places: &[Vec<u8>],
+    answer: &mut Printed,
+) -> Result<bool, AllocError> {
+    let mut number = 0usize;
+    for place in places {
+        let Some(place) = number_of(place) else {
+            return Ok(false);
+        };
+        let value = placed(alloc, count, text, place)?;
+        if value.len() > MOST || key.len() > MOST {
+            return Ok(false);
+        }
+        let found = matches(&value, key, comparator).0;
+        number = print_last(&found, number, answer);
     }
     Ok(true)
 }
@@ -147,24 +188,22 @@ fn placed(alloc: Global, count: usize, text: &[u8], place: usize) -> Result<Vec<
 }
 
 // Where the last capture begins; before it, as in `3: 31`, how many captures there are, where it wasn't the same number before.
-fn print_last(
-    found: &Option<Captures>,
-    number: &mut usize,
-    answer: &mut Printed,
-) -> Result<(), AllocError> {
+// Answers how many there are, or were where nothing is captured.
+fn print_last(found: &Option<Captures>, before: usize, answer: &mut Printed) -> usize {
     let Some(captures) = found else {
-        return answer.word("none");
+        answer.word("none");
+        return before;
     };
     let stretches = captures.stretches();
-    if stretches.len() != *number {
-        *number = stretches.len();
-        print_size(*number, answer)?;
-        answer.glue(b":")?;
+    if stretches.len() != before {
+        print_size(stretches.len(), answer);
+        answer.glue(b":");
     }
     match stretches.last() {
         Some(last) => print_size(last.start, answer),
         None => answer.word("none"),
     }
+    stretches.len()
 }
 
 // Whether a test may have these names or keys.
@@ -178,9 +217,14 @@ fn are_texts(texts: &Vec<Octets>) -> bool
 fn texts(alloc: Global, arguments: &[Vec<u8>]) -> Result<Vec<Octets>, AllocError> {
     let mut texts = Vec::new(alloc);
     for text in arguments {
-        texts.push(Octets::from_vec(text.to_vec(alloc)?))?;
+        add_text(alloc, &mut texts, text)?;
     }
     Ok(texts)
+}
+
+fn add_text(alloc: Global, texts: &mut Vec<Octets>, text: &[u8]) -> Result<(), AllocError> {
+    let text = text.to_vec(alloc)?;
+    Ok(texts.push(Octets::from_vec(text))?)
 }
 
 // The texts between commas; none of no octets.
@@ -189,15 +233,21 @@ fn texts_of(alloc: Global, list: &[u8]) -> Result<Vec<Octets>, AllocError> {
     let mut text = Vec::new(alloc);
     for octet in list {
         if *octet == b',' {
-            texts.push(Octets::from_vec(mem::replace(&mut text, Vec::new(alloc))))?;
+            end_text(alloc, &mut texts, &mut text)?;
         } else {
             text.push(*octet)?;
         }
     }
     if !list.is_empty() {
-        texts.push(Octets::from_vec(text))?;
+        end_text(alloc, &mut texts, &mut text)?;
     }
     Ok(texts)
+}
+
+// Adds the text that was read, and begins another.
+fn end_text(alloc: Global, texts: &mut Vec<Octets>, text: &mut Vec<u8>) -> Result<(), AllocError> {
+    let whole = mem::replace(text, Vec::new(alloc));
+    Ok(texts.push(Octets::from_vec(whole))?)
 }
 
 // A message and names: whether each is that of a field of the message's own header, and what that costs.
@@ -209,19 +259,25 @@ fn existence(
     let [text, names @ ..] = arguments else {
         return Ok(false);
     };
-    let Ok(message) = Message::read(alloc, text) else {
-        return Ok(false);
-    };
     let names = texts(alloc, names)?;
-    if !are_texts(&names) {
-        return Ok(false);
+    match Message::read(alloc, text) {
+        Ok(message) => existence_answer(alloc, &message, &names, answer),
+        Err(_) => Ok(false),
     }
+}
+
+fn existence_answer(
+    alloc: Global,
+    message: &Message<'_>,
+    names: &Vec<Octets>,
+    answer: &mut Printed,
+) -> Result<bool, AllocError> {
     let none = Vec::new(alloc);
-    if !are_texts(&none) {
+    if !are_texts(names) || !are_texts(&none) {
         return Ok(false);
     }
     let texts = TestTexts {
-        names: &names,
+        names,
         params: &none,
         keys: &none,
     };
@@ -229,15 +285,15 @@ fn existence(
     let mut progress = Progress::new(Nobody);
     let cost = ask(
         alloc,
-        &message,
+        message,
         None,
         question,
         Shown::Nothing,
         texts,
         &mut progress,
     )?;
-    print_truth(progress.outcome.holds(), answer)?;
-    answer.large_number(cost)?;
+    print_truth(progress.outcome.holds(), answer);
+    answer.large_number(cost);
     Ok(true)
 }
 
@@ -291,15 +347,34 @@ fn headers(alloc: Global, arguments: &[Vec<u8>], answer: &mut Printed) -> Result
         scope,
         selector,
     };
+    match Message::read(alloc, text) {
+        Ok(message) => header_answer(alloc, &message, test, current, names, params, keys, answer),
+        Err(_) => Ok(false),
+    }
+}
+
+// The same with names and parameters as texts with commas between them.
+fn header_answer(
+    alloc: Global,
+    message: &Message<'_>,
+    test: FieldTest,
+    current: Option<usize>,
+    names: &[u8],
+    params: &[u8],
+    keys: &[Vec<u8>],
+    answer: &mut Printed,
+) -> Result<bool, AllocError> {
     let names = texts_of(alloc, names)?;
     let params = texts_of(alloc, params)?;
     let keys = texts(alloc, keys)?;
-    header_answer(alloc, text, test, current, &names, &params, &keys, answer)
+    header_test(
+        alloc, message, test, current, &names, &params, &keys, answer,
+    )
 }
 
-fn header_answer(
+fn header_test(
     alloc: Global,
-    text: &[u8],
+    message: &Message<'_>,
     test: FieldTest,
     current: Option<usize>,
     names: &Vec<Octets>,
@@ -307,9 +382,6 @@ fn header_answer(
     keys: &Vec<Octets>,
     answer: &mut Printed,
 ) -> Result<bool, AllocError> {
-    let Ok(message) = Message::read(alloc, text) else {
-        return Ok(false);
-    };
     if !are_texts(names) || !are_texts(params) || !are_texts(keys) {
         return Ok(false);
     }
@@ -327,14 +399,14 @@ fn header_answer(
     let mut progress = Progress::new(Nobody);
     let cost = ask(
         alloc,
-        &message,
+        message,
         current,
         question,
         Shown::Nothing,
         texts,
         &mut progress,
     )?;
-    print_answer(&progress.outcome, cost, answer)?;
+    print_answer(&progress.outcome, cost, answer);
     Ok(true)
 }
 
@@ -346,19 +418,18 @@ fn bodies(alloc: Global, arguments: &[Vec<u8>], answer: &mut Printed) -> Result<
     let Some(kind) = kind_of(kind) else {
         return Ok(false);
     };
-    let mail = if owner.as_slice() == b"owned".as_slice() {
-        encoded(alloc, text)?
+    let mail = mail_of(alloc, owner, text)?;
+    let question = Question::PartBody(matched(kind));
+    mail_answer(alloc, &mail, question, keys, answer)
+}
+
+// A mail of this content, which is lent, or has to be decoded where it is owned.
+fn mail_of(alloc: Global, owner: &[u8], content: &[u8]) -> Result<Vec<u8>, AllocError> {
+    if owner == b"owned".as_slice() {
+        encoded(alloc, content)
     } else {
-        plain(alloc, text)?
-    };
-    let keys = texts(alloc, keys)?;
-    content_answer(
-        alloc,
-        &mail,
-        Question::PartBody(matched(kind)),
-        &keys,
-        answer,
-    )
+        plain(alloc, content)
+    }
 }
 
 // A mail of this content, which is lent.
@@ -370,8 +441,9 @@ fn plain(alloc: Global, content: &[u8]) -> Result<Vec<u8>, AllocError> {
 
 // A mail of this content, which has to be decoded.
 fn encoded(alloc: Global, content: &[u8]) -> Result<Vec<u8>, AllocError> {
+    let text = encode_mime(alloc, content)?;
     let mut mail = Vec::from_slice(alloc, b"Content-Transfer-Encoding: base64\n\n")?;
-    mail.extend_from_slice(&encode_mime(alloc, content)?)?;
+    mail.extend_from_slice(&text)?;
     Ok(mail)
 }
 
@@ -381,28 +453,41 @@ fn digests(alloc: Global, arguments: &[Vec<u8>], answer: &mut Printed) -> Result
         return Ok(false);
     };
     let mail = plain(alloc, text)?;
-    let keys = texts(alloc, keys)?;
-    content_answer(alloc, &mail, Question::PartDigest, &keys, answer)
+    mail_answer(alloc, &mail, Question::PartDigest, keys, answer)
 }
 
 // What a question about the content of a mail's first part comes to.
-fn content_answer(
+fn mail_answer(
     alloc: Global,
     mail: &[u8],
+    question: Question,
+    keys: &[Vec<u8>],
+    answer: &mut Printed,
+) -> Result<bool, AllocError> {
+    let keys = texts(alloc, keys)?;
+    match Message::read(alloc, mail) {
+        Ok(message) => message_answer(alloc, &message, question, &keys, answer),
+        Err(_) => Ok(false),
+    }
+}
+
+fn message_answer(
+    alloc: Global,
+    message: &Message<'_>,
     question: Question,
     keys: &Vec<Octets>,
     answer: &mut Printed,
 ) -> Result<bool, AllocError> {
-    let Ok(message) = Message::read(alloc, mail) else {
+    if message.parts() == 0 {
+        return Ok(false);
+    }
+    let Some(content) = Subject::of(message).at(0).content(alloc)? else {
         return Ok(false);
     };
     let none = Vec::new(alloc);
-    if !are_texts(keys) || !are_texts(&none) || message.parts() == 0 {
+    if !are_texts(keys) || !are_texts(&none) {
         return Ok(false);
     }
-    let Some(content) = Subject::of(&message).at(0).content(alloc)? else {
-        return Ok(false);
-    };
     let texts = TestTexts {
         names: &none,
         params: &none,
@@ -417,27 +502,27 @@ fn content_answer(
     let mut progress = Progress::new(Nobody);
     let cost = ask(
         alloc,
-        &message,
+        message,
         Some(0),
         question,
         shown,
         texts,
         &mut progress,
     )?;
-    print_answer(&progress.outcome, cost, answer)?;
+    print_answer(&progress.outcome, cost, answer);
     Ok(true)
 }
 
 // What a test comes to, what it costs, and the captures that it sets, up to the last that isn't empty.
-fn print_answer(outcome: &Outcome<'_>, cost: u128, answer: &mut Printed) -> Result<(), AllocError> {
+fn print_answer(outcome: &Outcome<'_>, cost: u128, answer: &mut Printed) {
     answer.word(match outcome {
         Outcome::Fails => "fails",
         Outcome::Holds => "holds",
         Outcome::Captures(_) => "sets",
-    })?;
-    answer.large_number(cost)?;
+    });
+    answer.large_number(cost);
     let Outcome::Captures(captured) = outcome else {
-        return Ok(());
+        return;
     };
     let mut empty = 0usize;
     for number in 0..MAX_CAPTURES {
@@ -445,12 +530,16 @@ fn print_answer(outcome: &Outcome<'_>, cost: u128, answer: &mut Printed) -> Resu
         if text.is_empty() {
             empty = empty.saturating_add(1);
         } else {
-            for _ in 0..empty {
-                answer.text(b"")?;
-            }
-            answer.text(text)?;
+            print_after(empty, text, answer);
             empty = 0;
         }
     }
-    Ok(())
+}
+
+// A text after so many empty ones.
+fn print_after(empty: usize, text: &[u8], answer: &mut Printed) {
+    for _ in 0..empty {
+        answer.text(b"");
+    }
+    answer.text(text);
 }

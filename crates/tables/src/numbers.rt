@@ -1,6 +1,5 @@
 // Numbers in rows.
 use crate::printed::Printed;
-use std::alloc::AllocError;
 
 /// The number that decimal digits write; nothing where they are none, or too many.
 pub fn number_of(word: &[u8]) -> Option<usize> {
@@ -16,6 +15,6 @@ pub fn number_of(word: &[u8]) -> Option<usize> {
 }
 
 /// Adds a number of octets or items, or a place.
-pub fn print_size(size: usize, answer: &mut Printed) -> Result<(), AllocError> {
-    answer.number(size as u64)
+pub fn print_size(size: usize, answer: &mut Printed) {
+    answer.number(size as u64);
 }

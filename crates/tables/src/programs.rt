@@ -15,13 +15,23 @@ use sieve_vm::run;
 use std::alloc::{AllocError, Global};
 
 /// Answers a call about programs; false where there is no such call.
-pub fn answer(
+pub fn answer(alloc: Global, call: &str, arguments: &[Vec<u8>], answer: &mut Printed) -> bool {
+    match known(alloc, call, arguments, answer) {
+        Ok(known) => known,
+        Err(refusal) => {
+            put_refusal(&refusal, answer);
+            true
+        }
+    }
+}
+
+fn known(
     alloc: Global,
     call: &str,
     arguments: &[Vec<u8>],
     answer: &mut Printed,
-) -> Result<bool, AllocError> {
-    let known = match arguments {
+) -> Result<bool, Refusal> {
+    match arguments {
         [code, strings @ ..] if call == "verify" => put_budget(alloc, code, strings, answer),
         [octets, parts, code, strings @ ..] if call == "limit" => {
             put_limit(alloc, octets, parts, code, strings, answer)
@@ -35,19 +45,12 @@ pub fn answer(
         [modifiers, texts @ ..] if call == "modify" => {
             put_modified(alloc, modifiers, texts, answer)
         }
-        _ => answer_octets(alloc, call, arguments, answer),
-    };
-    match known {
-        Ok(known) => Ok(known),
-        Err(refusal) => {
-            put_refusal(&refusal, answer)?;
-            Ok(true)
-        }
+        _ => known_of_octets(alloc, call, arguments, answer),
     }
 }
 
 // The calls about programs as octets, and about actions and numbers.
-fn answer_octets(
+fn known_of_octets(
     alloc: Global,
     call: &str,
     arguments: &[Vec<u8>],
@@ -59,7 +62,10 @@ fn answer_octets(
             put_built(alloc, version, variables, halts, answer)
         }
         [octets] if call == "read" => put_listing(alloc, octets, answer),
-        [octets] if call == "beginnings" => put_beginnings(alloc, octets, answer),
+        [octets] if call == "beginnings" => {
+            put_beginnings(alloc, octets, answer);
+            Ok(true)
+        }
         [octets, message] if call == "execute" => put_execution(alloc, octets, message, answer),
         [implicit_keep, actions @ ..] if call == "final" => {
             put_final(alloc, implicit_keep, actions, answer)
@@ -96,18 +102,32 @@ fn put_budget(
     answer: &mut Printed,
 ) -> Result<bool, Refusal> {
     let program = program(alloc, code, strings)?;
-    let read = budget_of(alloc, reread(alloc, &program)?);
-    let built = budget_of(alloc, program);
-    let same = match (&built, &read) {
-        (Ok(built), Ok(read)) => built == read,
-        (Err(built), Err(read)) => built == read,
-        _ => false,
-    };
-    if !same {
-        answer.word("else as it is read")?;
-    }
-    answer.word(built?.as_str())?;
+    let read = reread(alloc, &program)?;
+    put_budgets(&budget_of(alloc, program), &budget_of(alloc, read), answer);
     Ok(true)
+}
+
+// Adds a budget, and before it a word where the other isn't the same.
+fn put_budgets(
+    built: &Result<String, Refusal>,
+    read: &Result<String, Refusal>,
+    answer: &mut Printed,
+) {
+    if !are_equal(built, read) {
+        answer.word("else as it is read");
+    }
+    match built {
+        Ok(budget) => answer.word(budget.as_str()),
+        Err(refusal) => put_refusal(refusal, answer),
+    }
+}
+
+fn are_equal(one: &Result<String, Refusal>, other: &Result<String, Refusal>) -> bool {
+    match (one, other) {
+        (Ok(one), Ok(other)) => one == other,
+        (Err(one), Err(other)) => one == other,
+        _ => false,
+    }
 }
 
 fn put_limit(
@@ -121,12 +141,11 @@ fn put_limit(
     let (Some(octets), Some(parts)) = (number_of(octets), number_of(parts)) else {
         return Ok(false);
     };
-    let program = program(alloc, code, strings)?;
     if octets > MAX_MESSAGE || parts > MAX_PARTS {
         return Ok(false);
     }
-    let verified = accepted(alloc, program)?;
-    answer.large_number(verified.budget().at(octets as u64, parts as u64))?;
+    let verified = accepted(alloc, program(alloc, code, strings)?)?;
+    answer.large_number(verified.budget().at(octets as u64, parts as u64));
     Ok(true)
 }
 
@@ -134,10 +153,14 @@ fn put_limit(
 fn report(alloc: Global, program: Program, message: &[u8]) -> Result<Report, Refusal> {
     let verified = accepted(alloc, program)?;
     let message = Message::read(alloc, message)?;
-    let outcome = run(alloc, &verified, &message)?;
+    report_on(alloc, &verified, &message)
+}
+
+fn report_on(alloc: Global, verified: &Verified, message: &Message<'_>) -> Result<Report, Refusal> {
     let limit = verified
         .budget()
         .at(message.size() as u64, message.parts() as u64);
+    let outcome = run(alloc, verified, message)?;
     Ok(Report { outcome, limit })
 }
 
@@ -148,12 +171,11 @@ fn put_actions_of(
     strings: &[Vec<u8>],
     answer: &mut Printed,
 ) -> Result<bool, Refusal> {
-    let program = program(alloc, code, strings)?;
-    let Report { outcome, limit } = report(alloc, program, message)?;
-    if outcome.charged > limit {
-        answer.word("above")?;
+    let report = report(alloc, program(alloc, code, strings)?, message)?;
+    if report.outcome.charged > report.limit {
+        answer.word("above");
     }
-    put_actions(&outcome.actions, answer)?;
+    put_actions(&report.outcome.actions, answer);
     Ok(true)
 }
 
@@ -182,10 +204,23 @@ fn put_run(
     let program = program(alloc, code, strings)?;
     let octets = program.write(alloc)?;
     let built = report(alloc, program, message);
-    if !are_same(&built, &execute(alloc, &octets, message)) {
-        answer.word("else as it is built")?;
+    put_either(&built, &execute(alloc, &octets, message), answer);
+    Ok(true)
+}
+
+// Adds what a run came to as the program is read, and before it a word where it isn't what it came to as it is built.
+fn put_either(
+    built: &Result<Report, Refusal>,
+    read: &Result<Report, Refusal>,
+    answer: &mut Printed,
+) {
+    if !are_same(built, read) {
+        answer.word("else as it is built");
     }
-    put_execution(alloc, &octets, message, answer)
+    match read {
+        Ok(report) => put_report(report, answer),
+        Err(refusal) => put_refusal(refusal, answer),
+    }
 }
 
 fn put_execution(
@@ -195,9 +230,13 @@ fn put_execution(
     answer: &mut Printed,
 ) -> Result<bool, Refusal> {
     let report = execute(alloc, program, message)?;
-    put_actions(&report.outcome.actions, answer)?;
-    put_charge(&report, answer)?;
+    put_report(&report, answer);
     Ok(true)
+}
+
+fn put_report(report: &Report, answer: &mut Printed) {
+    put_actions(&report.outcome.actions, answer);
+    put_charge(report, answer);
 }
 
 fn put_spelled(
@@ -206,8 +245,8 @@ fn put_spelled(
     strings: &[Vec<u8>],
     answer: &mut Printed,
 ) -> Result<bool, Refusal> {
-    let program = program(alloc, code, strings)?;
-    answer.text(&program.write(alloc)?)?;
+    let octets = program(alloc, code, strings)?.write(alloc)?;
+    answer.text(&octets);
     Ok(true)
 }
 
@@ -226,6 +265,12 @@ fn put_built(
     ) else {
         return Ok(false);
     };
+    let octets = built(alloc, version, variables, halts)?;
+    answer.text(&octets);
+    Ok(true)
+}
+
+fn built(alloc: Global, version: u8, variables: u16, halts: usize) -> Result<Vec<u8>, Refusal> {
     let halt = Instruction {
         op: Operation::Halt.octet(),
         a: 0,
@@ -240,8 +285,7 @@ fn put_built(
         Vec::new(alloc),
         instructions,
     )?;
-    answer.text(&program.write(alloc)?)?;
-    Ok(true)
+    Ok(program.write(alloc)?)
 }
 
 // The number of 8 bits that digits are.
@@ -256,20 +300,20 @@ fn short_of(digits: &[u8]) -> Option<u16> {
 
 fn put_listing(alloc: Global, octets: &[u8], answer: &mut Printed) -> Result<bool, Refusal> {
     let program = Program::read(alloc, octets)?;
-    answer.text(&listing_of(alloc, &program)?)?;
+    let listing = listing_of(alloc, &program)?;
+    answer.text(&listing);
     for string in program.strings() {
-        answer.text(string.as_slice())?;
+        answer.text(string.as_slice());
     }
     Ok(true)
 }
 
-fn put_beginnings(alloc: Global, octets: &[u8], answer: &mut Printed) -> Result<bool, Refusal> {
+fn put_beginnings(alloc: Global, octets: &[u8], answer: &mut Printed) {
     for end in 0..octets.len() + 1 {
         if Program::read(alloc, &octets[..end]).is_ok() {
-            answer.number(end as u64)?;
+            answer.number(end as u64);
         }
     }
-    Ok(true)
 }
 
 // The actions that words name as the command line prints them.
@@ -277,25 +321,38 @@ fn actions_of(alloc: Global, words: &[Vec<u8>]) -> Result<Option<Vec<Action>>, A
     let mut actions = Vec::new(alloc);
     let mut rest = words;
     for _ in 0..words.len() {
-        rest = match rest {
-            [] => rest,
-            [word, after @ ..] if word.as_slice() == b"keep".as_slice() => {
-                actions.push(Action::Keep)?;
-                after
-            }
-            [word, folder, after @ ..] if word.as_slice() == b"fileinto".as_slice() => {
-                actions.push(Action::File(Octets::from_vec(folder.clone()?)))?;
-                after
-            }
-            [word, folder, part, after @ ..] if word.as_slice() == b"store".as_slice() => {
-                let part = number_of(part).unwrap_or(usize::MAX);
-                actions.push(Action::Store(Octets::from_vec(folder.clone()?), part))?;
-                after
-            }
-            _ => return Ok(None),
+        if rest.is_empty() {
+            break;
+        }
+        let Some(after) = add_action(&mut actions, rest)? else {
+            return Ok(None);
         };
+        rest = after;
     }
     Ok(Some(actions))
+}
+
+// Adds the action that the first words name, and gives the words after them; nothing where they name none.
+fn add_action<'a>(
+    actions: &mut Vec<Action>,
+    words: &'a [Vec<u8>],
+) -> Result<Option<&'a [Vec<u8>]>, AllocError> {
+    match words {
+        [word, after @ ..] if word.as_slice() == b"keep".as_slice() => {
+            actions.push(Action::Keep)?;
+            Ok(Some(after))
+        }
+        [word, folder, after @ ..] if word.as_slice() == b"fileinto".as_slice() => {
+            actions.push(Action::File(Octets::from_vec(folder.clone()?)))?;
+            Ok(Some(after))
+        }
+        [word, folder, part, after @ ..] if word.as_slice() == b"store".as_slice() => {
+            let part = number_of(part).unwrap_or(usize::MAX);
+            actions.push(Action::Store(Octets::from_vec(folder.clone()?), part))?;
+            Ok(Some(after))
+        }
+        _ => Ok(None),
+    }
 }
 
 fn put_final(
@@ -308,7 +365,8 @@ fn put_final(
         return Ok(false);
     };
     let stands = implicit_keep == b"true".as_slice();
-    put_actions(&final_actions(alloc, actions, stands)?, answer)?;
+    let actions = final_actions(alloc, actions, stands)?;
+    put_actions(&actions, answer);
     Ok(true)
 }
 
@@ -327,26 +385,42 @@ fn put_modified(
     answer: &mut Printed,
 ) -> Result<bool, Refusal> {
     for text in texts {
-        let program = modifying(alloc, modifiers, text.clone()?)?;
-        match report(alloc, program, b"")?.outcome.actions.as_slice() {
-            [Action::File(folder)] => answer.text(folder.as_slice())?,
-            actions => put_actions(actions, answer)?,
-        }
+        put_modified_text(alloc, modifiers, text, answer)?;
     }
     Ok(true)
+}
+
+fn put_modified_text(
+    alloc: Global,
+    modifiers: &[u8],
+    text: &[u8],
+    answer: &mut Printed,
+) -> Result<(), Refusal> {
+    let program = modifying(alloc, modifiers, text.to_vec(alloc)?)?;
+    let report = report(alloc, program, b"")?;
+    match report.outcome.actions.as_slice() {
+        [Action::File(folder)] => answer.text(folder.as_slice()),
+        actions => put_actions(actions, answer),
+    }
+    Ok(())
 }
 
 // Each octet that is accepted as modifiers; and the refusal where it isn't that of a field.
 fn put_modifiers(alloc: Global, answer: &mut Printed) -> Result<bool, Refusal> {
     for modifiers in 0..256u64 {
-        let mut digits = Buffer::new();
-        let digits = digits.format(modifiers).as_bytes();
-        let program = modifying(alloc, digits, Vec::new(alloc))?;
-        match accepted(alloc, program) {
-            Ok(_verified) => answer.number(modifiers)?,
-            Err(Refusal::Form { place: 1 }) => {}
-            Err(refusal) => put_refusal(&refusal, answer)?,
-        }
+        put_modifiers_of(alloc, modifiers, answer)?;
     }
     Ok(true)
+}
+
+fn put_modifiers_of(alloc: Global, modifiers: u64, answer: &mut Printed) -> Result<(), Refusal> {
+    let mut digits = Buffer::new();
+    let digits = digits.format(modifiers).as_bytes();
+    let program = modifying(alloc, digits, Vec::new(alloc))?;
+    match accepted(alloc, program) {
+        Ok(_verified) => answer.number(modifiers),
+        Err(Refusal::Form { place: 1 }) => {}
+        Err(refusal) => put_refusal(&refusal, answer),
+    }
+    Ok(())
 }

@@ -287,7 +287,10 @@ impl Reader {
     fn add_word(&mut self, word: Vec<u8>) -> Result<(), TableError> {
         let fault = self.fault();
         match &mut self.row {
-            Some(row) if row.has_answer => Ok(row.wanted.octets(&word)?),
+            Some(row) if row.has_answer => {
+                row.wanted.octets(&word);
+                Ok(())
+            }
             Some(row) if word.as_slice() == b"=".as_slice() => {
                 row.has_answer = true;
                 Ok(())
@@ -310,7 +313,10 @@ impl Reader {
                     None => Err(fault),
                 }
             }
-            Some(row) if row.has_answer => Ok(row.wanted.text(&text)?),
+            Some(row) if row.has_answer => {
+                row.wanted.text(&text);
+                Ok(())
+            }
             Some(row) => Ok(row.arguments.push(text)?),
             None => Err(fault),
         }

@@ -9,7 +9,7 @@ use sieve_check::Checked;
 use sieve_engine::{Report, check_script, compile_script, evaluate, execute};
 use sieve_lexer::number_of;
 use sieve_meaning::plain_eval;
-use std::alloc::{AllocError, Global};
+use std::alloc::Global;
 
 /// Adds the actions of a script on a message.
 pub fn put_run(
@@ -19,7 +19,8 @@ pub fn put_run(
     answer: &mut Printed,
 ) -> Result<(), Refusal> {
     let report = agreed(alloc, script, message, answer)?;
-    Ok(put_actions(&report.outcome.actions, answer)?)
+    put_actions(&report.outcome.actions, answer);
+    Ok(())
 }
 
 /// Adds the actions of a script on a message, what they charge, and what they may charge at most.
@@ -30,8 +31,9 @@ pub fn put_report(
     answer: &mut Printed,
 ) -> Result<(), Refusal> {
     let report = agreed(alloc, script, message, answer)?;
-    put_actions(&report.outcome.actions, answer)?;
-    Ok(put_charge(&report, answer)?)
+    put_actions(&report.outcome.actions, answer);
+    put_charge(&report, answer);
+    Ok(())
 }
 
 /// Adds how many actions there are, the last two, and what they charge.
@@ -42,12 +44,17 @@ pub fn put_last(
     answer: &mut Printed,
 ) -> Result<(), Refusal> {
     let report = agreed(alloc, script, message, answer)?;
-    answer.number(report.outcome.actions.len() as u64)?;
-    if let [.., before, last] = report.outcome.actions.as_slice() {
-        put_action(before, answer)?;
-        put_action(last, answer)?;
+    answer.number(report.outcome.actions.len() as u64);
+    put_last_two(&report.outcome.actions, answer);
+    put_charge(&report, answer);
+    Ok(())
+}
+
+fn put_last_two(actions: &[Action], answer: &mut Printed) {
+    if let [.., before, last] = actions {
+        put_action(before, answer);
+        put_action(last, answer);
     }
-    Ok(put_charge(&report, answer)?)
 }
 
 // What the script's evaluation comes to. Where its program's run or its meaning differs, that is added before.
@@ -58,12 +65,24 @@ fn agreed(
     answer: &mut Printed,
 ) -> Result<Report, Refusal> {
     let report = evaluate(alloc, script, message)?;
-    put_unlike_run(alloc, script, message, &report, answer)?;
+    put_unlike(alloc, script, message, &report, answer)?;
+    Ok(report)
+}
+
+// Adds what the script's program does, and what the script means, where it isn't this.
+fn put_unlike(
+    alloc: Global,
+    script: &[u8],
+    message: &[u8],
+    report: &Report,
+    answer: &mut Printed,
+) -> Result<(), Refusal> {
+    put_unlike_run(alloc, script, message, report, answer)?;
     put_unlike_meaning(alloc, script, message, &report.outcome.actions, answer)?;
     if report.outcome.charged > report.limit {
-        answer.word("above its limit")?;
+        answer.word("above its limit");
     }
-    Ok(report)
+    Ok(())
 }
 
 // Adds what the script's program does, where it isn't this.
@@ -75,10 +94,10 @@ fn put_unlike_run(
     answer: &mut Printed,
 ) -> Result<(), Refusal> {
     let run = run_of(alloc, script, message)?;
-    if are_same(&run, report) {
-        return Ok(());
+    if !are_same(&run, report) {
+        put_other_run(&run, answer);
     }
-    Ok(put_other_run(&run, answer)?)
+    Ok(())
 }
 
 // What the script's program does, as it is read from its octets.
@@ -94,11 +113,11 @@ pub fn are_same(one: &Report, other: &Report) -> bool {
         && one.outcome.actions == other.outcome.actions
 }
 
-fn put_other_run(run: &Report, answer: &mut Printed) -> Result<(), AllocError> {
-    answer.word("by its program")?;
-    put_actions(&run.outcome.actions, answer)?;
-    put_charge(run, answer)?;
-    answer.word("else")
+fn put_other_run(run: &Report, answer: &mut Printed) {
+    answer.word("by its program");
+    put_actions(&run.outcome.actions, answer);
+    put_charge(run, answer);
+    answer.word("else");
 }
 
 // Adds the actions that the script means, where they aren't these.
@@ -109,12 +128,17 @@ fn put_unlike_meaning(
     actions: &[Action],
     answer: &mut Printed,
 ) -> Result<(), Refusal> {
-    let checked = check_script(alloc, script)?;
-    let meant = meaning_of(alloc, &checked, message)?;
-    if meant.as_slice() == actions {
-        return Ok(());
+    let meant = meant_by(alloc, script, message)?;
+    if meant.as_slice() != actions {
+        put_other_meaning(&meant, answer);
     }
-    Ok(put_other_meaning(&meant, answer)?)
+    Ok(())
+}
+
+// The actions that a script means on a message.
+fn meant_by(alloc: Global, script: &[u8], message: &[u8]) -> Result<Vec<Action>, Refusal> {
+    let checked = check_script(alloc, script)?;
+    meaning_of(alloc, &checked, message)
 }
 
 /// The actions that a checked script means on a message.
@@ -127,10 +151,10 @@ pub fn meaning_of(
     Ok(plain_eval(alloc, checked, &message)?)
 }
 
-fn put_other_meaning(meant: &[Action], answer: &mut Printed) -> Result<(), AllocError> {
-    answer.word("by its meaning")?;
-    put_actions(meant, answer)?;
-    answer.word("else")
+fn put_other_meaning(meant: &[Action], answer: &mut Printed) {
+    answer.word("by its meaning");
+    put_actions(meant, answer);
+    answer.word("else");
 }
 
 /// Adds what the script's program may charge at most, on a message of so many octets and parts.
@@ -145,7 +169,8 @@ pub fn put_budget(
         Ok(verified) => {
             let octets = number_of(octets).unwrap_or(0).min(MAX_MESSAGE as u64);
             let parts = number_of(parts).unwrap_or(0).min(MAX_PARTS as u64);
-            Ok(answer.large_number(verified.budget().at(octets, parts))?)
+            answer.large_number(verified.budget().at(octets, parts));
+            Ok(())
         }
         Err((_program, refusal)) => Err(Refusal::from(refusal)),
     }

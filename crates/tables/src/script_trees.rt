@@ -3,92 +3,90 @@ use crate::printed::Printed;
 use octets::Octets;
 use refusals::Refusal;
 use sieve_parser::{Argument, Command, Head, Invocation, parse};
-use std::alloc::{AllocError, Global};
+use std::alloc::Global;
 
 /// Adds the commands of a script.
 pub fn put_tree(alloc: Global, script: &[u8], answer: &mut Printed) -> Result<(), Refusal> {
     let script = parse(alloc, script)?;
-    Ok(put_commands(script.commands(), answer)?)
-}
-
-#[cycle(commands)]
-fn put_commands(commands: &[Command], answer: &mut Printed) -> Result<(), AllocError> {
-    for command in commands {
-        put_command(command, answer)?;
-    }
+    put_commands(script.commands(), answer);
     Ok(())
 }
 
 #[cycle(commands)]
-fn put_command(command: &Command, answer: &mut Printed) -> Result<(), AllocError> {
+fn put_commands(commands: &[Command], answer: &mut Printed) {
+    for command in commands {
+        put_command(command, answer);
+    }
+}
+
+#[cycle(commands)]
+fn put_command(command: &Command, answer: &mut Printed) {
     match command {
         Command::Simple(invocation) => {
-            put_invocation(invocation, answer)?;
-            answer.word(";")
+            put_invocation(invocation, answer);
+            answer.word(";");
         }
         Command::Block(invocation, block) => {
-            put_invocation(invocation, answer)?;
-            answer.word("{")?;
-            put_commands(block, answer)?;
-            answer.word("}")
+            put_invocation(invocation, answer);
+            answer.word("{");
+            put_commands(block, answer);
+            answer.word("}");
         }
     }
 }
 
 #[cycle(invocations)]
-fn put_invocation(invocation: &Invocation, answer: &mut Printed) -> Result<(), AllocError> {
+fn put_invocation(invocation: &Invocation, answer: &mut Printed) {
     match invocation {
         Invocation::Plain(head) => put_head(head, answer),
         Invocation::WithTest(head, test) => {
-            put_head(head, answer)?;
-            put_invocation(test, answer)
+            put_head(head, answer);
+            put_invocation(test, answer);
         }
         Invocation::WithTests(head, first, others) => {
-            put_head(head, answer)?;
-            answer.word("(")?;
-            put_invocation(first, answer)?;
-            put_others(others, answer)?;
-            answer.word(")")
+            put_head(head, answer);
+            answer.word("(");
+            put_invocation(first, answer);
+            put_others(others, answer);
+            answer.word(")");
         }
     }
 }
 
 #[cycle(invocations)]
-fn put_others(tests: &[Invocation], answer: &mut Printed) -> Result<(), AllocError> {
+fn put_others(tests: &[Invocation], answer: &mut Printed) {
     for test in tests {
-        answer.word(",")?;
-        put_invocation(test, answer)?;
+        answer.word(",");
+        put_invocation(test, answer);
     }
-    Ok(())
 }
 
 // Adds the number of an identifier's token, the identifier and the arguments.
-fn put_head(head: &Head, answer: &mut Printed) -> Result<(), AllocError> {
-    answer.number(head.token as u64)?;
-    answer.octets(head.name.as_slice())?;
+fn put_head(head: &Head, answer: &mut Printed) {
+    answer.number(head.token as u64);
+    answer.octets(head.name.as_slice());
     for argument in &head.arguments {
-        put_argument(argument, answer)?;
+        put_argument(argument, answer);
     }
-    Ok(())
 }
 
-fn put_argument(argument: &Argument, answer: &mut Printed) -> Result<(), AllocError> {
+fn put_argument(argument: &Argument, answer: &mut Printed) {
     match argument {
         Argument::Text(text) => answer.text(text.as_slice()),
         Argument::TextList(first, others) => put_list(first, others, answer),
         Argument::Number(number) => answer.number(*number),
         Argument::Tag(name) => {
-            answer.word(":")?;
-            answer.glue(name.as_slice())
+            answer.word(":");
+            answer.glue(name.as_slice());
         }
     }
 }
 
-fn put_list(first: &Octets, others: &[Octets], answer: &mut Printed) -> Result<(), AllocError> {
-    answer.word("[")?;
-    answer.text(first.as_slice())?;
+fn put_list(first: &Octets, others: &[Octets], answer: &mut Printed) {
+    answer.word("[");
+    answer.text(first.as_slice());
     for other in others {
-        answer.text(other.as_slice())?;
+        answer.text(other.as_slice());
     }
-    answer.word("]")
+    answer.word("]");
 }

@@ -9,64 +9,88 @@ use crate::script_trees::put_tree;
 use refusals::Refusal;
 use sieve_engine::{check_script, compile_script};
 use sieve_parser::parse;
-use std::alloc::{AllocError, Global};
+use std::alloc::Global;
 
 /// Adds the answer to a call; false where there is no such call.
-pub fn answer(
+pub fn answer(alloc: Global, call: &str, arguments: &[Vec<u8>], answer: &mut Printed) -> bool {
+    match (call, arguments) {
+        ("levels", tests) => unless_refused(put_levels(alloc, tests, answer), answer),
+        ("numbers", [first, end]) => {
+            unless_refused(put_numbers(alloc, first, end, answer), answer)
+        }
+        ("keys", [tests, keys, message]) => {
+            unless_refused(put_keys(alloc, tests, keys, message, answer), answer)
+        }
+        ("budget", [script, octets, parts]) => {
+            unless_refused(put_budget(alloc, script, octets, parts, answer), answer)
+        }
+        ("number", [text]) => put_number(text, answer),
+        (_, [script, message]) => return answer_on(alloc, call, script, message, answer),
+        (_, [script]) => return answer_of(alloc, call, script, answer),
+        _ => return false,
+    }
+    true
+}
+
+// Adds the answer to a call on a script and a message.
+fn answer_on(
     alloc: Global,
     call: &str,
-    arguments: &[Vec<u8>],
+    script: &[u8],
+    message: &[u8],
     answer: &mut Printed,
-) -> Result<bool, AllocError> {
-    let outcome = match (call, arguments) {
-        ("levels", tests) => put_levels(alloc, tests, answer),
-        ("numbers", [first, end]) => put_numbers(alloc, first, end, answer),
-        ("keys", [tests, keys, message]) => put_keys(alloc, tests, keys, message, answer),
-        ("budget", [script, octets, parts]) => put_budget(alloc, script, octets, parts, answer),
-        (_, [script, message]) => match call {
-            "run" => put_run(alloc, script, message, answer),
-            "report" => put_report(alloc, script, message, answer),
-            "last" => put_last(alloc, script, message, answer),
-            _ => return Ok(false),
-        },
-        (_, [script]) => match call {
-            "number" => put_number(script, answer),
-            "string" => put_string(alloc, script, answer),
-            "tokens" => put_tokens(alloc, script, answer),
-            "tree" => put_tree(alloc, script, answer),
-            "parse" => put_parsed(alloc, script, answer),
-            "check" => put_checked(alloc, script, answer),
-            "form" => put_form(alloc, script, answer),
-            "length" => put_length(alloc, script, answer),
-            "instructions" => put_instructions(alloc, script, answer),
-            _ => return Ok(false),
-        },
-        _ => return Ok(false),
+) -> bool {
+    let outcome = match call {
+        "run" => put_run(alloc, script, message, answer),
+        "report" => put_report(alloc, script, message, answer),
+        "last" => put_last(alloc, script, message, answer),
+        _ => return false,
     };
-    unless_refused(outcome, answer)?;
-    Ok(true)
+    unless_refused(outcome, answer);
+    true
+}
+
+// Adds the answer to a call on a script.
+fn answer_of(alloc: Global, call: &str, script: &[u8], answer: &mut Printed) -> bool {
+    let outcome = match call {
+        "string" => put_string(alloc, script, answer),
+        "tokens" => put_tokens(alloc, script, answer),
+        "tree" => put_tree(alloc, script, answer),
+        "parse" => put_parsed(alloc, script, answer),
+        "check" => put_checked(alloc, script, answer),
+        "form" => put_form(alloc, script, answer),
+        "length" => put_length(alloc, script, answer),
+        "instructions" => put_instructions(alloc, script, answer),
+        _ => return false,
+    };
+    unless_refused(outcome, answer);
+    true
 }
 
 // Whether a script is parsed.
 fn put_parsed(alloc: Global, script: &[u8], answer: &mut Printed) -> Result<(), Refusal> {
     let _script = parse(alloc, script)?;
-    Ok(answer.word("ok")?)
+    answer.word("ok");
+    Ok(())
 }
 
 // Whether nothing is wrong with a script.
 fn put_checked(alloc: Global, script: &[u8], answer: &mut Printed) -> Result<(), Refusal> {
     let _checked = check_script(alloc, script)?;
-    Ok(answer.word("ok")?)
+    answer.word("ok");
+    Ok(())
 }
 
 // How many octets the script's program has.
 fn put_length(alloc: Global, script: &[u8], answer: &mut Printed) -> Result<(), Refusal> {
     let program = compile_script(alloc, script)?.write(alloc)?;
-    Ok(answer.number(program.len() as u64)?)
+    answer.number(program.len() as u64);
+    Ok(())
 }
 
 // How many instructions the script's program has.
 fn put_instructions(alloc: Global, script: &[u8], answer: &mut Printed) -> Result<(), Refusal> {
     let program = compile_script(alloc, script)?;
-    Ok(answer.number(program.instructions().len() as u64)?)
+    answer.number(program.instructions().len() as u64);
+    Ok(())
 }

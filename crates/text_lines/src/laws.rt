@@ -7,7 +7,7 @@ pub fn lines_make_the_text()
     ensures { (text : List ℕ) → octets_of (lines_of text) ≡ text }
 {}
 
-/// A break ends each line of a text, but perhaps the last, and stands nowhere else.
+/// Each line of a text ends with a break, except perhaps the last, and there is no break elsewhere.
 pub fn lines_end_at_breaks()
     ensures { (text : List ℕ) → AreLines (lines_of text) }
 {}

@@ -11,9 +11,9 @@ use memchr::memchr;
 use std::iter::FusedIterator;
 use std::marker::Model;
 
-/// The lines of a text, from the first to the last. No step takes memory.
+/// An iterator over the lines of a text, from the first to the last. It takes no memory.
 ///
-/// A contract sees the text and the place up to which its lines were given.
+/// A contract sees the text and the place up to which its lines have been returned.
 #[derive(Drop)]
 pub struct Lines<'a> {
     text: &'a [u8],
@@ -32,7 +32,7 @@ impl<'a> Model for Lines<'a> {
 }
 
 impl<'a> Lines<'a> {
-    /// The lines of the text, of which none was given yet.
+    /// Returns an iterator over all lines of the text.
     pub fn new(text: &'a [u8]) -> Lines<'a>
         ensures { result ≡ record { text = text.now; place = 0 } }
     {
@@ -61,7 +61,8 @@ impl<'a> Iterator for Lines<'a> {
 
 impl<'a> FusedIterator for Lines<'a> {}
 
-// How many octets are looked at one by one before a search is called: lines with fewer cost less so, and others hardly more.
+// How many bytes are looked at one by one before a search is called: that is faster for shorter lines, and hardly
+// slower for others.
 const NEAR: usize = 4;
 
 // The line that starts at this place.

@@ -1,7 +1,7 @@
 //! What a store over files, or in memory, asks of its connection.
 //!
-//! A function over one kind of database proves anew, at each call that takes any kind, all that holds
-//! of its own. That is dear. So here is in one call what it asks, and these functions take any kind.
+//! A function over one kind of database has to prove again, at each call that takes any kind, everything about its own
+//! kind. That is expensive. So everything that it asks is in one call here, and these functions take any kind.
 ghost use Rattle.std.specs.Prelude.{◌≡◌, false, true, IsTrue, IfOk, IfErr, OnErr};
 ghost use Rattle.sqlite.specs.Held.{state};
 ghost use Rattle.sqlite.specs.State.{IsLive};
@@ -15,8 +15,8 @@ use crate::store::{PartStore, ready_tables};
 use crate::within::know_connection;
 use sqlite::{Alter, Connection};
 
-/// The store on a connection: with its tables made where it had none, or as it is. A connection that
-/// becomes no store is let go.
+/// The store on a connection: its tables are made if there are none and `makes` is true, otherwise it is taken as it
+/// is. A connection that can't become a store is dropped.
 pub(crate) fn store_on<S: Alter + Drop>(
     conn: Connection<S>,
     makes: bool,
@@ -41,7 +41,7 @@ pub(crate) fn store_on<S: Alter + Drop>(
     }
 }
 
-/// With its tables made.
+/// The store on a connection, whose tables are made if there are none.
 fn made_store<S: Alter + Drop>(conn: Connection<S>) -> Result<PartStore<S>, Unopened>
     ensures made { IfOk result
         (λ s. Always S.Store conn s (λ old new. IsBare old → IsEmptied new)) }
@@ -54,7 +54,7 @@ fn made_store<S: Alter + Drop>(conn: Connection<S>) -> Result<PartStore<S>, Unop
     Ok(PartStore { conn })
 }
 
-/// As it is (`adopt_as_is`).
+/// The store on a connection, as it is (`adopt_as_is`).
 fn found_store<S: Alter + Drop>(conn: Connection<S>) -> Result<PartStore<S>, Unopened>
     ensures same { IfOk result (λ s. s ≡ conn) }
     ensures tables { IfOk result (λ s. are_tables (state S.Store s).now.schema.tables ≡ true) }
@@ -69,7 +69,7 @@ fn found_store<S: Alter + Drop>(conn: Connection<S>) -> Result<PartStore<S>, Uno
     }
 }
 
-/// A store's connection, and what holds of every connection that is in no transaction.
+/// A store's connection, with what holds for every connection that is in no transaction.
 pub(crate) fn known_connection<S: Alter>(store: PartStore<S>) -> Connection<S>
     ensures same { result ≡ store }
     ensures settled { IsTrue (state S.Store store).is_open

@@ -9,7 +9,7 @@ use Rattle.refusals.specs.Causes.{of_verifier}
 use Rattle.sieve_engine.specs.Execution.{Spells}
 use Rattle.depot_jobs.specs.Jobs.{IsListing, commented}
 use Rattle.depot_jobs.specs.Private.{lines_text, refusal_in}
-use Rattle.depot_jobs.specs.Printed.{refusal_line}
+use Rattle.printing.specs.Printed.{refusal_line}
 use Rattle.depot_jobs.specs.declared.job.Lines.{Lines}
 use Rattle.depot_jobs.proofs.job.list_program.Goals as goal
 

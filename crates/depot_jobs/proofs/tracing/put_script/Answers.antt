@@ -1,5 +1,5 @@
 use Rattle.encodings.proofs.Outputs.{broken_later}
-use Rattle.depot_jobs.specs.Printed.{report_text}
+use Rattle.printing.specs.Printed.{report_text}
 use Rattle.sieve_check.specs.TypedView.{commands_form}
 use Rattle.sieve_trace.specs.Printed.{sheet}
 use Rattle.sieve_trace.specs.Written.{trace_text}

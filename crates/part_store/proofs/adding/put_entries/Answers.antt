@@ -4,7 +4,7 @@ use Rattle.sqlite.specs.State.{HasCleanDisk}
 use Rattle.sqlite.specs.Held.{state}
 use Rattle.part_store.specs.Causes.{TellsOfRow}
 use Rattle.part_store.specs.Filing.{Collides}
-use Rattle.part_store.specs.Standing.{draft_of}
+use Rattle.part_store.specs.Standing.{AddsVerified, draft_of}
 use Rattle.part_store.proofs.Entering.{collides_after, stands_still}
 use Rattle.part_store.proofs.NoRoom.{entries_after, entries_blamed, stood}
 use Rattle.part_store.proofs.Runs.{passed}
@@ -26,6 +26,7 @@ returns-then-branch-clause-adds g c clean before stands =
       λ h. enters.apart (collides_after old mid (map draft_of entries) (still stands.schema).1 h),
       enters.stands,
       enters.committed ∙ kept.committed enters.was_open,
+      subst (λ t. AddsVerified t (state g.S.Store c.claim_and_file.new.tx.conn.now).now.trees) (still stands.schema).1 enters.verified,
     )
 
 pub returns-else-branch-clause-adds : goal.returns-else-branch-clause-adds

@@ -1,5 +1,8 @@
-use Rattle.std.proofs.Common.{map, take, drop, ◌+◌, ◌∙◌, subst}
+use Rattle.std.proofs.Common.{map, take, drop, ◌≡◌, ◌+◌, ◌∙◌, arith, subst}
+use Rattle.std.proofs.lemmas.List.{take_all}
 use Rattle.sqlite.specs.Held.{state}
+use Rattle.part_store.specs.Entries.{with_programs}
+use Rattle.part_store.specs.Inside.{Brings}
 use Rattle.part_store.specs.Standing.{pair_of}
 use Rattle.part_store.proofs.Replacing.{Replacing, pairs_more, pairs_refused, pairs_split, replaced_more}
 use Rattle.part_store.proofs.Runs.{passed}
@@ -20,6 +23,12 @@ loop-user-preserved g c =
       so_far = subst (λ pairs. Replacing pairs old new) whole (replaced_more (map pair_of (take place programs)) (user, program) old mid new c.loop-user.invariant.so_far
           c.replace_program.ensures.within.survives c.in_ok-replace_program.ensures.step c.in_ok-replace_program.ensures.inside c.in_ok-replace_program.ensures.schema c.in_ok-replace_program.ensures.within.was_open c.replace_program.ensures.within.stays_closed c.replace_program.ensures.within.kept c.in_ok-replace_program.ensures.rowids);
     }
+
+pub returns-clause-step : goal.returns-clause-step
+returns-clause-step g c clean =
+    let programs = c.args.programs.now in
+    let all : take c.loop-user.user-index programs ≡ programs = take_all c.loop-user.user-index programs (omega (arith, c.loop-user-test.false)) in
+    subst (λ ps. Brings (with_programs (map pair_of ps)) (state g.S.Store c.args.tx.now.conn.now) (state g.S.Store c.loop-user.tx.conn.now)) all (c.loop-user.invariant.so_far.brought clean)
 
 pub returns-in_err-replace_program-clause-cause : goal.returns-in_err-replace_program-clause-cause
 returns-in_err-replace_program-clause-cause g c clean =

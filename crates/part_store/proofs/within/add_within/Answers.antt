@@ -11,6 +11,23 @@ returns-in_err-first-clause-refused g c = record {
   cause = λ clean. passed c.from_residual.result _ _ c.from_residual.ensures.1 (λ inside. c.in_err-first.ensures.cause clean inside);
 }
 
+pub returns-in-From-clause-made : goal.returns-in-From-clause-made
+returns-in-From-clause-made g c clean before stands =
+    let added = (rw c.in-From.is at (c.in_ok-first.ensures.adds clean)) before stands in
+    (added.3, added.4, added.5)
+
+pub returns-in-From-clause-adds : goal.returns-in-From-clause-adds
+returns-in-From-clause-adds g c = record {
+  first = λ clean before stands. ((rw c.in-From.is at (c.in_ok-first.ensures.adds clean)) before stands).1;
+  room = λ clean before stands. subst (HasRoom before c.args.user.now) (length-map c.args.entries.now draft_of) ((rw c.in-From.is at (c.in_ok-first.ensures.adds clean)) before stands).0;
+  apart = λ clean before stands. ((rw c.in-From.is at (c.in_ok-first.ensures.adds clean)) before stands).2;
+  full = λ _. tt;
+  collision = λ _. tt;
+  was_open = λ clean. c.in_ok-first.ensures.within.was_open clean;
+  begun = λ _. tt;
+  stays_closed = c.put_entries.ensures.within.stays_closed;
+}
+
 pub returns-in-Collision-clause-adds : goal.returns-in-Collision-clause-adds
 returns-in-Collision-clause-adds g c = record {
   first = λ _. tt;

@@ -4,4 +4,4 @@ use Rattle.sieve_explain.specs.Notes.{is_variables}
 use Rattle.sieve_explain.proofs.notes.has_variables.Given as goal
 
 abbrev pub invariant-loop-token : goal.invariant-loop-token
-invariant-loop-token l = list_any (is_variables l.script) (drop l.token-index l.tokens) ≡ list_any (is_variables l.script) l.tokens
+invariant-loop-token l = list_any (is_variables l.script) (drop l.token-index l.arguments) ≡ list_any (is_variables l.script) l.arguments

@@ -23,8 +23,8 @@ returns c =
     let mail = c.self.inside.message.now in
     let first = c.self.inside.first in
     let number = c.self.inside.number in
-    let fields = c.fields.result.now in
+    let fields = c.by_name.result.now in
     let lt : c.args.place < number = omega (arith, c.requires, ap length c.self.view_is, headers_number first number mail c.self.invariant.0) in
     let at = at_part mail c.tree.ensures.mail (λ (p : Part). fields ≡ p.fields) (first + c.args.place) (omega (arith, lt, c.self.invariant.0))
-    (λ d. let here = rw c.tree.ensures.tree at (c.header.ensures d) in rw (c.fields.ensures.fields, here) refl) in
+    (λ d. let here = rw c.tree.ensures.tree at (c.header.ensures d) in rw (c.by_name.ensures.fields, here) refl) in
     subst (λ headers. fields ≡ slice_index_or headers c.args.place []) c.self.view_is (header_at first number mail c.self.invariant.0 c.args.place lt fields at)

@@ -38,15 +38,15 @@ type_texts-requires c =
 pub new-requires : goal.new-requires
 new-requires c =
     let d : tree.Part = record { depth = 0; below = 0; place = 0; raw = []; header = c.header.result.now; media = tree.text_plain; encoding = SevenBit } in
-    subst (λ fields. AreTypeTexts fields c.type_texts.result.now) (sym (c.fields.ensures.fields ∙ ap (λ (h : Header). h.fields) (c.header.ensures d))) (c.type_texts.ensures d)
+    subst (λ fields. AreTypeTexts fields c.type_texts.result.now) (sym (c.by_name.ensures.fields ∙ ap (λ (h : Header). h.fields) (c.header.ensures d))) (c.type_texts.ensures d)
 
 pub returns : goal.returns
 returns c =
     let mail = c.self.inside.message.now in
     let first = c.self.inside.first in
     let number = c.self.inside.number in
-    let fields = c.fields.result.now in
+    let fields = c.by_name.result.now in
     let lt : c.args.place < number = omega (arith, c.requires, ap length c.self.view_is, headers_number first number mail c.self.invariant.0) in
     let at = at_part mail c.tree-tree.ensures.mail (λ (p : Part). fields ≡ p.fields) (first + c.args.place) (omega (arith, lt, c.self.invariant.0))
-    (λ d. let here = rw c.tree-tree.ensures.tree at (c.header.ensures d) in rw (c.fields.ensures.fields, here) refl) in
+    (λ d. let here = rw c.tree-tree.ensures.tree at (c.header.ensures d) in rw (c.by_name.ensures.fields, here) refl) in
     c.new.ensures ∙ subst (λ headers. fields ≡ slice_index_or headers c.args.place []) c.self.view_is (header_at first number mail c.self.invariant.0 c.args.place lt fields at)

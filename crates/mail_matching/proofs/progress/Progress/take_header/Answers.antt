@@ -16,7 +16,7 @@ take_named-requires-clause-room g c =
       arith,
       c.requires.room,
       c.loop-place.invariant.extent,
-      values_room (selected_named selector params c.args.fields.now) names c.loop-place.place c.text.result.now [] lt c.text.ensures,
+      values_room (selected_named selector params c.args.fields.now) names c.loop-place.place c.new.result [] lt (c.new.ensures ∙ c.text.ensures),
     )
 
 pub loop-place-preserved : goal.loop-place-preserved
@@ -25,14 +25,14 @@ loop-place-preserved g c =
     let params = g.P.Texts.texts c.args.test.now.params.now in
     let names = g.N.Texts.texts c.args.names.now in
     let lt : c.loop-place.place < length names = omega (arith, c.loop-place-test.true, c.count-place-end.ensures) in
-    goes_on_more g.T.Telling.knows c.args.test.now.how (g.K.Texts.texts c.args.test.now.keys.now) (selected_named selector params c.args.fields.now) names c.loop-place.place c.text.result.now [] c.args.self.now c.loop-place.self c.take_named.new.self lt c.text.ensures c.loop-place.invariant c.in_ok-take_named.ensures.goes
+    goes_on_more g.T.Telling.knows c.args.test.now.how (g.K.Texts.texts c.args.test.now.keys.now) (selected_named selector params c.args.fields.now) names c.loop-place.place c.new.result [] c.args.self.now c.loop-place.self c.take_named.new.self lt (c.new.ensures ∙ c.text.ensures) c.loop-place.invariant c.in_ok-take_named.ensures.goes
 
 pub returns-in_err-take_named-clause-no_memory : goal.returns-in_err-take_named-clause-no_memory
 returns-in_err-take_named-clause-no_memory g c = λ free value plain.
     let names = g.N.Texts.texts c.args.names.now in
     let lt : c.loop-place.place < length names = omega (arith, c.loop-place-test.true, c.count-place-end.ensures) in
     absurd (false≢true (c.in_err-take_named.ensures.no_memory free value
-    (subst (λ name. All (IsUnfolded name) c.args.fields.now) (sym c.text.ensures) (plain c.loop-place.place [] lt))))
+    (subst (λ name. All (IsUnfolded name) c.args.fields.now) (sym (c.new.ensures ∙ c.text.ensures)) (plain c.loop-place.place [] lt))))
 
 pub returns-then-is_empty-clause-goes : goal.returns-then-is_empty-clause-goes
 returns-then-is_empty-clause-goes g c =

@@ -4,5 +4,5 @@ use Rattle.mail_matching.proofs.typed.TypedFields.at.Goals as goal
 
 pub invariant_of-result : goal.invariant_of-result
 invariant_of-result c =
-    of_place c.self.inside.fields.now c.self.inside.types.now c.args.place c.index-fields-place.result (omega (arith, c.requires, ap length c.self.view_is))
-    c.index-fields-place.is c.self.invariant
+    of_place c.self.inside.fields.now c.self.inside.types.now c.args.place c.at.result (omega (arith, c.requires, ap length c.self.view_is))
+    c.at.ensures c.self.invariant

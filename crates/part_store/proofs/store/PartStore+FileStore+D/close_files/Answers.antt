@@ -8,7 +8,7 @@ use Rattle.part_store.specs.Refusals.{refusal_of}
 use Rattle.part_store.specs.declared.error.StoreError.{StoreError}
 use Rattle.part_store.specs.declared.error.StoreError.TheVariants.{Memory, Database}
 use Rattle.part_store.proofs.Crashed.{files_leave_committed, keeps_state}
-use Rattle.part_store.proofs.Opened.{keeps}
+use Rattle.part_store.proofs.Opened.{keeps, keeps_database}
 use Rattle.part_store.proofs.store.PartStore+FileStore+D.close_files.Goals as goal
 
 told : (error : Error) (e : StoreError) → e ≡ refusal_of error → (e ≡ Memory) ⊎ (e ≡ Database)
@@ -18,7 +18,12 @@ told _ e is = inr is
 pub returns-in-Ok-clause-holds : goal.returns-in-Ok-clause-holds
 returns-in-Ok-clause-holds g c clean held =
     let copied = subst (λ h. IsCopied h c.in-Ok.files) c.known_connection-conn.ensures.same (c.in-Ok.ensures.copied clean) in
-    keeps c.args.self c.in-Ok.files copied c.known_connection-conn.ensures.live c.known_connection-conn.ensures.settled held
+    keeps c.args.self c.in-Ok.files (keeps_database c.args.self c.in-Ok.files copied c.known_connection-conn.ensures.live c.known_connection-conn.ensures.settled) held
+
+pub returns-in-Ok-clause-same : goal.returns-in-Ok-clause-same
+returns-in-Ok-clause-same g c clean =
+    let copied = subst (λ h. IsCopied h c.in-Ok.files) c.known_connection-conn.ensures.same (c.in-Ok.ensures.copied clean) in
+    keeps_database c.args.self c.in-Ok.files copied c.known_connection-conn.ensures.live c.known_connection-conn.ensures.settled
 
 pub returns-in-Ok-clause-open : goal.returns-in-Ok-clause-open
 returns-in-Ok-clause-open g c clean = subst (λ h. IsTrue (file_state h).is_open) c.known_connection-conn.ensures.same (c.in-Ok.ensures.copied clean).was_open

@@ -5,11 +5,12 @@ use Rattle.part_store.specs.Access.{AddsEntries, MayMakeOpen}
 use Rattle.part_store.specs.Entries.{with_entries}
 use Rattle.part_store.specs.Inside.{Brings}
 use Rattle.part_store.specs.Refusals.{OnlyWhenFailedOrNoEntryRoom, LackRoom}
-use Rattle.part_store.specs.Standing.{draft_of}
+use Rattle.part_store.specs.Standing.{Makes, draft_of}
 use Rattle.part_store.proofs.Failing.{dropped}
 use Rattle.part_store.proofs.RefusedAdding.{refused_adds}
 use Rattle.part_store.proofs.Runs.{passed}
 use Rattle.part_store.proofs.Stored.{committed_change}
+use Rattle.part_store.proofs.Commits.{committed_made}
 use Rattle.part_store.proofs.store.PartStore.add_sharing_entries.Goals as goal
 
 pub returns-in_err-first-clause-refused : goal.returns-in_err-first-clause-refused
@@ -44,11 +45,16 @@ returns-clause-writes g c =
     let new = state g.S.Store c.commit.new.self.0 in
     let change = with_entries c.args.user.now (map draft_of c.args.entries.now) in
     let begun = c.begin-tx.ensures.begun in
-    let survives = subst (λ h. Survives (state g.S.Store h) new (λ trees. MayMakeOpen change (state g.S.Store h) trees)) c.self.view_is
-    (committed_change g.S.Store c.self.inside.conn mid new change (subst (λ h. Survives (state g.S.Store h) mid (λ _. ⊥)) begun c.add_within.ensures.within.survives)
-    (λ clean. subst (λ h. IsTrue (state g.S.Store h).is_open) begun (c.in_ok-first.ensures.within.was_open clean))
-    (λ clean. subst (λ h. Brings change (state g.S.Store h) mid) begun (c.in_ok-first.ensures.made clean)) c.commit.ensures.survives) in
-    record { made = search rules; unchanged = search rules; survives = survives }
+    let is_open = λ (clean : HasCleanDisk mid). subst (λ h. IsTrue (state g.S.Store h).is_open) begun (c.in_ok-first.ensures.within.was_open clean) in
+    let brings = λ (clean : HasCleanDisk mid). subst (λ h. Brings change (state g.S.Store h) mid) begun (c.in_ok-first.ensures.made clean) in
+    record {
+      made = λ clean.
+          let early : HasCleanDisk mid = omega (arith, clean, c.commit.ensures.survives.clean) in
+          subst (λ h. Makes change (state g.S.Store h) new) c.self.view_is (committed_made g.S.Store c.self.inside.conn mid new change (is_open early) (brings early) (c.in_ok-commit.ensures.ok clean).1);
+      unchanged = search rules;
+      survives = subst (λ h. Survives (state g.S.Store h) new (λ trees. MayMakeOpen change (state g.S.Store h) trees)) c.self.view_is
+          (committed_change g.S.Store c.self.inside.conn mid new change (subst (λ h. Survives (state g.S.Store h) mid (λ _. ⊥)) begun c.add_within.ensures.within.survives) is_open brings c.commit.ensures.survives);
+    }
 
 pub returns-in_err-first-clause-adds : goal.returns-in_err-first-clause-adds
 returns-in_err-first-clause-adds g c =

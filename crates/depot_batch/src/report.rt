@@ -1,0 +1,127 @@
+// What a line is answered with.
+//
+// A line's refusal goes to standard output, instead of the answer: with two streams nobody could match the lines of one
+// with those of the other. Standard error is for what ends the batch.
+ghost use Rattle.std.specs.Prelude.{◌≡◌, OnErr, OnOk};
+ghost use Rattle.encodings.specs.Device.{HasBroken, HasTaken};
+ghost use Rattle.encodings.specs.Pages.{Wrote};
+ghost use Rattle.printing.specs.Printed.{line as line_of};
+ghost use Rattle.depot_batch.specs.Answers.{answer_text, outcome_of, report_text, text_in};
+ghost use Rattle.depot_batch.specs.Batch.{closing, exported_text};
+ghost use Rattle.depot_batch.specs.Sentences.{wrong_line};
+
+use crate::answering::Answer;
+use crate::fault::LineFault;
+use crate::outcome::Outcome;
+use depot_cli::print_reply;
+use encodings::{DeviceFailed, Page, Sink};
+use printing::{Piece, print, print_line, print_refusal};
+use refusals::Refusal;
+
+/// What a line is answered with, before the line with its status.
+#[derive(Drop)]
+pub enum Report {
+    /// The command was done: its answer.
+    Done(Answer),
+    /// The command was refused.
+    Refused(Refusal),
+    /// The line is no command.
+    Wrong(LineFault),
+}
+
+impl Report {
+    /// Returns the outcome of the line.
+    pub fn outcome(self) -> Outcome
+        ensures { result ≡ outcome_of self }
+    {
+        match self {
+            Report::Done(_) => Outcome::Done,
+            Report::Refused(refusal) => Outcome::Refused(refusal),
+            Report::Wrong(_) => Outcome::Wrong,
+        }
+    }
+}
+
+/// Writes a report, and the line that ends the answer.
+///
+/// # Errors
+///
+/// `DeviceFailed` if a call of `out` fails; the beginning of the answer was written.
+pub fn put_report<O: Sink>(out: &mut O, report: &Report) -> Result<(), DeviceFailed>
+    ensures ok { OnOk result (HasTaken (answer_text report.now) (O.output out.old)
+        (O.output out.new)) }
+    ensures err { OnErr result (HasBroken (answer_text report.now) (O.output out.old)
+        (O.output out.new)) }
+{
+    let mut page = Page::new(out);
+    print_report(&mut page, report);
+    page.flush()
+}
+
+/// Prints a report, and the line that ends the answer.
+pub fn print_report<O: Sink>(page: &mut Page<'_, O>, report: &Report)
+    ensures { Wrote (answer_text report.now) page.old page.new }
+{
+    print_body(page, report);
+    print_line(page, status_of(report));
+}
+
+// Prints a report.
+fn print_body<O: Sink>(page: &mut Page<'_, O>, report: &Report)
+    ensures { Wrote (report_text report.now) page.old page.new }
+{
+    match report {
+        Report::Done(answer) => print_answer(page, answer),
+        Report::Refused(refusal) => print_refusal(page, refusal),
+        Report::Wrong(fault) => print_wrong(page, *fault),
+    }
+}
+
+// Prints the lines of an answer, for example `exported 1`.
+fn print_answer<O: Sink>(page: &mut Page<'_, O>, answer: &Answer)
+    ensures { Wrote (text_in answer.now) page.old page.new }
+{
+    match answer {
+        Answer::Replied(reply) => print_reply(page, reply),
+        Answer::Exported(number) => print_exported(page, *number),
+    }
+}
+
+// Prints the line of an entry that was exported.
+fn print_exported<O: Sink>(page: &mut Page<'_, O>, number: u32)
+    ensures { Wrote (exported_text number) page.old page.new }
+{
+    print(
+        page,
+        &[
+            Piece::Text("exported "),
+            Piece::Number(number as u128),
+            Piece::Text("\n"),
+        ],
+    );
+}
+
+// Prints the line about a mistake.
+fn print_wrong<O: Sink>(page: &mut Page<'_, O>, fault: LineFault)
+    ensures { Wrote (wrong_line fault) page.old page.new }
+{
+    print(
+        page,
+        &[
+            Piece::Text("? "),
+            Piece::Text(fault.sentence()),
+            Piece::Text("\n"),
+        ],
+    );
+}
+
+// The last line of an answer, with the status.
+fn status_of(report: &Report) -> &'static str
+    ensures { line_of result.now ≡ closing (outcome_of report.now) }
+{
+    match report {
+        Report::Done(_) => "= 0",
+        Report::Refused(_) => "= 1",
+        Report::Wrong(_) => "= 2",
+    }
+}
