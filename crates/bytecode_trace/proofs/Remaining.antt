@@ -4,8 +4,8 @@ use Rattle.std.proofs.lemmas.Result.{err_from_is_err_and}
 use Rattle.std.specs.List.{flat_map}
 use Rattle.bytecode_format.specs.Code.{Code}
 use Rattle.mime_decode.specs.Mail.{Mail}
-use Rattle.encodings.specs.Device.{HasStopped, Output}
-use Rattle.encodings.proofs.Outputs.{Leaves, broken_in_piece, taken_both, taken_none}
+use Rattle.devices.specs.Device.{HasStopped, Output}
+use Rattle.devices.proofs.Outputs.{Leaves, broken_in_piece, taken_both, taken_none}
 use Rattle.refusals.specs.declared.refusal.Refusal.{Refusal}
 use Rattle.refusals.specs.declared.refusal.Refusal.TheVariants.{Memory, Write}
 use Rattle.sieve_vm.specs.Machine.{step}

@@ -1,6 +1,6 @@
 // The trace of a program.
 ghost use Rattle.std.specs.Prelude.{◌≡◌, suc, true, IfErr, IfOk};
-ghost use Rattle.encodings.specs.Device.{HasStopped, HasTaken};
+ghost use Rattle.devices.specs.Device.{HasStopped, HasTaken};
 ghost use Rattle.sieve_vm.specs.Ending.{IsOutcome};
 ghost use Rattle.sieve_vm.specs.Moment.{goes_on, turn_at};
 ghost use Rattle.bytecode_trace.specs.Printed.{trace_text};
@@ -8,7 +8,7 @@ ghost use Rattle.bytecode_trace.specs.Private.{line_at};
 
 use crate::line::{begin_step, set_line};
 use bytecode_verifier::Verified;
-use encodings::{Sink, put};
+use devices::{Sink, put};
 use mime_decode::Message;
 use refusals::Refusal;
 use sieve_vm::{Outcome, Progress};

@@ -1,6 +1,6 @@
 use Rattle.std.proofs.Common.{◌≡◌, ◌∙◌, suc, false, sym, ap, subst, arith}
-use Rattle.encodings.specs.Device.{HasStopped, HasTaken}
-use Rattle.encodings.proofs.Outputs.{Leaves, leaves_all, leaves_none, leaves_rest}
+use Rattle.devices.specs.Device.{HasStopped, HasTaken}
+use Rattle.devices.proofs.Outputs.{Leaves, leaves_all, leaves_none, leaves_rest}
 use Rattle.bytecode_format.specs.Code.{Code}
 use Rattle.mime_decode.specs.Mail.{Mail}
 use Rattle.sieve_vm.specs.Moment.{Moment, come_to, goes_on}
