@@ -2,8 +2,11 @@
 //
 // The parts that a loop has left are two numbers, the current part and the last one, because the parts below a part
 // come right after it.
-ghost use Rattle.sieve_vm.specs.Visits.{GoesOn, frame_of};
+ghost use Rattle.std.specs.Prelude.{◌≡◌, None};
+ghost use Rattle.mime_decode.specs.Mail.{Mail};
+ghost use Rattle.sieve_vm.specs.Visits.{GoesOn, HasContent, KeepsContent, frame_of};
 
+use crate::last_content::LastContent;
 use std::borrow::CowSlice;
 
 /// An open loop, and the content of its current part.
@@ -22,19 +25,43 @@ pub struct Frame<'m> {
 }
 
 impl<'m> Frame<'m> {
-    /// Moves to the next part, and drops the content of the one before; stays as it is if no part is left. Returns
+    /// Moves to the next part, and lets go of the content of the one before; stays as it is if no part is left. Returns
     /// whether it has moved.
     #[inline(always)]
-    pub fn go_on(&mut self) -> bool
-        ensures { GoesOn (frame_of self.old).rest result self.old self.new }
+    pub fn go_on(&mut self, last_content: &mut LastContent) -> bool
+        ensures moves { GoesOn (frame_of self.old).rest result self.old self.new }
+        ensures kept { (mail : Mail) → HasContent mail self.old
+            → KeepsContent mail last_content.old → KeepsContent mail last_content.new }
     {
         if self.part >= self.last {
             return false;
         }
+        self.let_go(last_content);
         self.part += 1;
-        if self.content.is_some() {
-            self.content = None;
-        }
         true
+    }
+
+    /// Lets go of the content. One that was decoded is kept as the last one.
+    #[inline(always)]
+    pub fn let_go(&mut self, last_content: &mut LastContent)
+        ensures gone { self.new ≡ record self.old { content = None } }
+        ensures kept { (mail : Mail) → HasContent mail self.old
+            → KeepsContent mail last_content.old → KeepsContent mail last_content.new }
+    {
+        if self.content.is_some() {
+            self.move_content(last_content);
+        }
+    }
+
+    // The same. It isn't inlined, because it is rare.
+    #[inline(never)]
+    fn move_content(&mut self, last_content: &mut LastContent)
+        ensures gone { self.new ≡ record self.old { content = None } }
+        ensures kept { (mail : Mail) → HasContent mail self.old
+            → KeepsContent mail last_content.old → KeepsContent mail last_content.new }
+    {
+        if let Some(content) = self.content.take() {
+            last_content.keep(self.part, content);
+        }
     }
 }

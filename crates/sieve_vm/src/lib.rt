@@ -58,6 +58,7 @@ mod frame;
 mod held_captures;
 mod joining;
 mod known;
+mod last_content;
 pub mod laws;
 mod loops;
 mod machine;

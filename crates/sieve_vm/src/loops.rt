@@ -1,9 +1,9 @@
 // The open loops, and what is known of the parts that they visit.
 //
 // A part's content is decoded when it is needed, and kept as long as a loop is at the part. Its length and its digest
-// are kept for the whole run. So a part that comes up 465 times in three nested loops is decoded at most once for
-// each stay of a loop. A content that a loop has left is decoded again if it is needed again: keeping all would take
-// as much memory as the message.
+// are kept for the whole run. A content that a loop has left is decoded again if it is needed again, unless it was the
+// last one decoded. So the innermost part, which comes up 465 times in three nested loops, is decoded once if no other
+// content is. Keeping all would take as much memory as the message.
 ghost use Rattle.std.specs.Prelude.{◌≡◌, ◌<◌, ◌≤◌, ◌+◌, ◌-◌, ℕ, suc, false, true, List, [], ◌∷◌, None, Some, IfOk, OnErr, OnOk, IfSome, IsOk, IsSome, length, drop, take};
 ghost use Rattle.std.specs.Cow.{cow_slice_items};
 ghost use Rattle.octets.specs.Limits.{max_loops, max_parts, max_value};
@@ -19,6 +19,7 @@ ghost use Rattle.sieve_vm.specs.Visits.{Continues, HasPartFor, HasSameLoops, IsF
 use crate::frame::Frame;
 use crate::joining::{as_many, first};
 use crate::known::{digest_known, keep, known, octets_known};
+use crate::last_content::LastContent;
 use crate::shared_text::copied;
 use arrayvec::ArrayVec;
 use bytecode_format::MAX_LOOPS;
@@ -33,13 +34,16 @@ use std::marker::Model;
 /// The open loops of a run on a message, which of them hold the content of their current part, and what is known of
 /// the parts' contents. A contract sees all of that.
 ///
-/// A part's content is decoded when it is needed, and kept as long as a loop stays on the part. Its length, its
-/// digest, and the first bytes of a content that had to be decoded are kept for the whole run.
+/// A part's content is decoded when it is needed, and kept as long as a loop stays on the part; the one decoded last is
+/// kept after that, too, until another has to be decoded. Its length, its digest, and the first bytes of a content that
+/// had to be decoded are kept for the whole run.
 #[derive(Drop)]
 pub struct Loops<'s, 'm> {
     message: &'s Message<'m>,
     // The innermost is the last one.
     frames: ArrayVec<Frame<'m>, MAX_LOOPS>,
+    // It isn't seen by contracts, because what it saves is time alone.
+    last_content: LastContent,
     lengths: Vec<Option<usize>>,
     digests: Vec<Option<[u8; 64]>>,
     // The first bytes, as many as a variable's value can have.
@@ -49,7 +53,7 @@ pub struct Loops<'s, 'm> {
 impl<'s, 'm> Model for Loops<'s, 'm> {
     ghost use Rattle.std.specs.Prelude.{All};
     ghost use Rattle.sieve_vm.specs.Looks.{Visits};
-    ghost use Rattle.sieve_vm.specs.Visits.{HasContent, IsKnown, frames_of, held_in};
+    ghost use Rattle.sieve_vm.specs.Visits.{HasContent, IsKnown, KeepsContent, frames_of, held_in};
 
     ghost Value = { Visits };
 
@@ -63,7 +67,8 @@ impl<'s, 'm> Model for Loops<'s, 'm> {
     } };
 
     ghost invariant = { λ l. All (HasContent l.message.now) l.frames.items
-        × IsKnown l.message.now l.lengths.items l.digests.items l.beginnings.items };
+        × IsKnown l.message.now l.lengths.items l.digests.items l.beginnings.items
+        × KeepsContent l.message.now l.last_content };
 }
 
 impl<'s, 'm> Loops<'s, 'm> {
@@ -81,6 +86,7 @@ impl<'s, 'm> Loops<'s, 'm> {
         Loops {
             message,
             frames: ArrayVec::new(),
+            last_content: LastContent::new(),
             lengths: Vec::new(alloc),
             digests: Vec::new(alloc),
             beginnings: Vec::new(alloc),
@@ -145,14 +151,17 @@ impl<'s, 'm> Loops<'s, 'm> {
     {
         let innermost = self.frames.len() - 1;
         let each = self.frames[innermost].each;
-        if self.frames[innermost].go_on() {
+        if self.frames[innermost].go_on(&mut self.last_content) {
             return Some(each);
         }
-        self.frames.pop();
+        if let Some(mut frame) = self.frames.pop() {
+            frame.let_go(&mut self.last_content);
+        }
         None
     }
 
-    /// Closes so many loops, and returns the place of the last one's NEXT.
+    /// Closes so many loops, and returns the place of the last one's NEXT. Of their contents that of the innermost is
+    /// the one that can be kept.
     pub fn close(&mut self, number: usize) -> usize
         requires some { 0 < number }
         requires there { number ≤ length self.old.frames }
@@ -164,11 +173,16 @@ impl<'s, 'm> Loops<'s, 'm> {
     {
         let left = self.frames.len() - number;
         let next = self.frames[left].next;
+        let innermost = self.frames.pop();
         self.frames.truncate(left);
+        if let Some(mut frame) = innermost {
+            frame.let_go(&mut self.last_content);
+        }
         next
     }
 
-    // Holds the content of the current part, as long as the loop stays on it. It is decoded only if it isn't held.
+    // Holds the content of the current part, as long as the loop stays on it. It is decoded only if it is neither held
+    // nor the last one decoded.
     //
     // The only error is a refusal of memory; there is none if the content is held.
     fn fetch(&mut self, alloc: Global) -> Result<(), AllocError>
@@ -177,10 +191,30 @@ impl<'s, 'm> Loops<'s, 'm> {
         ensures refused { OnErr result ((self.new ≡ self.old) × (holds self.old ≡ false)) }
     {
         if !self.is_held() {
-            let content = self.message.content(alloc, self.part())?;
+            let content = self.take_or_decode(alloc)?;
             self.hold(content);
         }
         Ok(())
+    }
+
+    // The content of the current part: the last one decoded, if it is that, or decoded now. The last one is dropped
+    // before another is decoded, and stays if the part's content is lent.
+    //
+    // The only error is a refusal of memory.
+    fn take_or_decode(&mut self, alloc: Global) -> Result<CowSlice<'m, u8>, AllocError>
+        requires { IsSome (part_in self.old) }
+        ensures same { self.new ≡ self.old }
+        ensures content { IfOk result (λ content. (part : Part) → part_in self.old ≡ Some part
+            → cow_slice_items content ≡ part.content) }
+    {
+        let part = self.part();
+        if let Some(content) = self.last_content.take(part) {
+            return Ok(CowSlice::Owned(content));
+        }
+        if is_decoded(self.message.encoding(part)) {
+            self.last_content.clear();
+        }
+        self.message.content(alloc, part)
     }
 
     // Whether the content of the current part is held.
