@@ -25,19 +25,19 @@ pub struct Frame<'m> {
 }
 
 impl<'m> Frame<'m> {
-    /// Moves to the next part, and lets go of the content of the one before; stays as it is if no part is left. Returns
+    /// Moves to the next part, and drops the content of the one before; stays as it is if no part is left. Returns
     /// whether it has moved.
     #[inline(always)]
-    pub fn go_on(&mut self, last_content: &mut LastContent) -> bool
-        ensures moves { GoesOn (frame_of self.old).rest result self.old self.new }
-        ensures kept { (mail : Mail) → HasContent mail self.old
-            → KeepsContent mail last_content.old → KeepsContent mail last_content.new }
+    pub fn go_on(&mut self) -> bool
+        ensures { GoesOn (frame_of self.old).rest result self.old self.new }
     {
         if self.part >= self.last {
             return false;
         }
-        self.let_go(last_content);
         self.part += 1;
+        if self.content.is_some() {
+            self.content = None;
+        }
         true
     }
 

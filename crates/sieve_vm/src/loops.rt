@@ -149,14 +149,13 @@ impl<'s, 'm> Loops<'s, 'm> {
             → Continues frame frames frame.rest result self.old self.new }
         ensures known { Remembers self.old self.new }
     {
+        self.let_go();
         let innermost = self.frames.len() - 1;
         let each = self.frames[innermost].each;
-        if self.frames[innermost].go_on(&mut self.last_content) {
+        if self.frames[innermost].go_on() {
             return Some(each);
         }
-        if let Some(mut frame) = self.frames.pop() {
-            frame.let_go(&mut self.last_content);
-        }
+        self.frames.pop();
         None
     }
 
@@ -171,14 +170,21 @@ impl<'s, 'm> Loops<'s, 'm> {
             ≡ record self.old { frames = frames; held = drop number self.old.held }) }
         ensures known { Remembers self.old self.new }
     {
+        self.let_go();
         let left = self.frames.len() - number;
         let next = self.frames[left].next;
-        let innermost = self.frames.pop();
         self.frames.truncate(left);
-        if let Some(mut frame) = innermost {
-            frame.let_go(&mut self.last_content);
-        }
         next
+    }
+
+    // Lets go of the content of the innermost loop, which leaves its part. One that was decoded is kept as the last one.
+    #[inline(always)]
+    fn let_go(&mut self)
+        requires { 0 < length self.old.frames }
+        ensures { self.new ≡ record self.old { held = false ∷ drop 1 self.old.held } }
+    {
+        let innermost = self.frames.len() - 1;
+        self.frames[innermost].let_go(&mut self.last_content);
     }
 
     // Holds the content of the current part, as long as the loop stays on it. It is decoded only if it is neither held
@@ -191,30 +197,40 @@ impl<'s, 'm> Loops<'s, 'm> {
         ensures refused { OnErr result ((self.new ≡ self.old) × (holds self.old ≡ false)) }
     {
         if !self.is_held() {
-            let content = self.take_or_decode(alloc)?;
+            if let Some(content) = self.take_last() {
+                self.hold(content);
+                return Ok(());
+            }
+            self.make_room();
+            let content = self.message.content(alloc, self.part())?;
             self.hold(content);
         }
         Ok(())
     }
 
-    // The content of the current part: the last one decoded, if it is that, or decoded now. The last one is dropped
-    // before another is decoded, and stays if the part's content is lent.
-    //
-    // The only error is a refusal of memory.
-    fn take_or_decode(&mut self, alloc: Global) -> Result<CowSlice<'m, u8>, AllocError>
+    // Takes the last content, if it is that of the current part.
+    fn take_last(&mut self) -> Option<CowSlice<'m, u8>>
         requires { IsSome (part_in self.old) }
         ensures same { self.new ≡ self.old }
-        ensures content { IfOk result (λ content. (part : Part) → part_in self.old ≡ Some part
+        ensures content { IfSome result (λ content. (part : Part) → part_in self.old ≡ Some part
             → cow_slice_items content ≡ part.content) }
     {
         let part = self.part();
         if let Some(content) = self.last_content.take(part) {
-            return Ok(CowSlice::Owned(content));
+            return Some(CowSlice::Owned(content));
         }
-        if is_decoded(self.message.encoding(part)) {
+        None
+    }
+
+    // Drops the last content if that of the current part has to be decoded. If it is lent from the message, the last
+    // one stays.
+    fn make_room(&mut self)
+        requires { IsSome (part_in self.old) }
+        ensures { self.new ≡ self.old }
+    {
+        if is_decoded(self.message.encoding(self.part())) {
             self.last_content.clear();
         }
-        self.message.content(alloc, part)
     }
 
     // Whether the content of the current part is held.
