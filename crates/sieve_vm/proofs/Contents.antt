@@ -18,7 +18,7 @@ held_left items number there =
     let number_is : length (held_in back) ≡ number = omega (arith, length-map (reverse back) has, length-reverse back, length-drop k items) in
     sym (ap (drop number) whole ∙ drop_at (held_in back) (held_in (take k items)) number number_is)
 
--- they are the same whether or not the innermost loop has let go of its content before
+-- these are the same if the innermost loop has let go of its content before
 pub held_after : (held : List Bool) (number : ℕ) → 0 < number → drop number (false ∷ drop 1 held) ≡ drop number held
 held_after held zero some = absurd (omega arith)
 held_after [] (suc n) some = drop-nil n

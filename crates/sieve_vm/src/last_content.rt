@@ -2,7 +2,7 @@
 //
 // Nested loops come to the same part again and again: three loops visit a part inside 31 others 465 times. So a
 // decoded content is kept when a loop lets go of it, until another content has to be decoded. It is dropped before
-// that, so there are never more decoded contents than open loops had at once.
+// that, so no more decoded contents are in memory at once than loops were open at once.
 ghost use Rattle.std.specs.Prelude.{◌≡◌, Some, None, IfSome};
 ghost use Rattle.std.specs.Cow.{cow_slice_items};
 ghost use Rattle.mime_decode.specs.Mail.{Mail};

@@ -42,7 +42,7 @@ pub struct Loops<'s, 'm> {
     message: &'s Message<'m>,
     // The innermost is the last one.
     frames: ArrayVec<Frame<'m>, MAX_LOOPS>,
-    // It isn't seen by contracts, because what it saves is time alone.
+    // No contract sees it: it saves time, and changes no result.
     last_content: LastContent,
     lengths: Vec<Option<usize>>,
     digests: Vec<Option<[u8; 64]>>,
@@ -159,8 +159,8 @@ impl<'s, 'm> Loops<'s, 'm> {
         None
     }
 
-    /// Closes so many loops, and returns the place of the last one's NEXT. Of their contents that of the innermost is
-    /// the one that can be kept.
+    /// Closes so many loops, and returns the place of the last one's NEXT. Of their contents only that of the innermost
+    /// can be kept.
     pub fn close(&mut self, number: usize) -> usize
         requires some { 0 < number }
         requires there { number ≤ length self.old.frames }
@@ -177,7 +177,8 @@ impl<'s, 'm> Loops<'s, 'm> {
         next
     }
 
-    // Lets go of the content of the innermost loop, which leaves its part. One that was decoded is kept as the last one.
+    // Lets go of the content of the innermost loop, which leaves its part. One that was decoded is kept as the last
+    // one.
     #[inline(always)]
     fn let_go(&mut self)
         requires { 0 < length self.old.frames }
@@ -264,7 +265,8 @@ impl<'s, 'm> Loops<'s, 'm> {
         self.frames[innermost].content.as_ref().unwrap()
     }
 
-    /// Finds what is needed of the current part's content, unless it is known or held: then it does nothing.
+    /// Finds what is needed of the current part's content, unless it is known or held: then it does nothing. The
+    /// content is decoded for that, unless it was the last one decoded.
     ///
     /// # Errors
     ///
