@@ -41,7 +41,7 @@ impl<'m> Frame<'m> {
         true
     }
 
-    /// Lets go of the content. One that was decoded is kept as the last one.
+    /// Lets go of the content. If it was decoded, it is kept as the last one.
     #[inline(always)]
     pub fn let_go(&mut self, last_content: &mut LastContent)
         ensures gone { self.new ≡ record self.old { content = None } }

@@ -1,4 +1,4 @@
-// The content that was decoded last, after its loop has left the part.
+// The decoded content that a loop left last.
 //
 // Nested loops come to the same part again and again: three loops visit a part inside 31 others 465 times. So a
 // decoded content is kept when a loop lets go of it, until another content has to be decoded. It is dropped before
@@ -10,7 +10,7 @@ ghost use Rattle.sieve_vm.specs.Visits.{IsContentAt, KeepsContent};
 
 use std::borrow::CowSlice;
 
-/// A slot for a decoded content that no loop holds any more.
+/// A slot for the decoded content that a loop left last.
 #[derive(Drop)]
 pub struct LastContent {
     /// The number of the part that has this content; any number if there is no content.

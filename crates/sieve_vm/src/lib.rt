@@ -2,8 +2,8 @@
 //!
 //! `specs/Machine` defines a step, and `specs/Charge` its cost. [`run`] is the run of a program, and [`Progress`] the
 //! same run step by step. The machine decodes what it needs of a part's content at most once for each stay of a loop
-//! on the part, and not again if it was the last content decoded; it decodes nothing of parts that no instruction asks
-//! for.
+//! on the part, and nothing of parts that no instruction asks for. It keeps the decoded content that a loop left last
+//! until another has to be decoded, so nested loops don't decode a part each time they come to it.
 //!
 //! # Promises
 //!

@@ -1,9 +1,9 @@
 // The open loops, and what is known of the parts that they visit.
 //
-// A part's content is decoded when it is needed, and kept as long as a loop is at the part. Its length and its digest
-// are kept for the whole run. A content that a loop has left is decoded again if it is needed again, unless it was the
-// last one decoded. So the innermost part, which comes up 465 times in three nested loops, is decoded once if no other
-// content is. Keeping all would take as much memory as the message.
+// A part's content is decoded when it is needed, and held as long as a loop is at the part. The decoded content that a
+// loop left last is kept until another has to be decoded: a part that comes up 465 times in three nested loops is
+// decoded once if no other is. Any other content that loops have left is decoded again if it is needed again, because
+// keeping all would take as much memory as the message. Lengths and digests are kept for the whole run.
 ghost use Rattle.std.specs.Prelude.{◌≡◌, ◌<◌, ◌≤◌, ◌+◌, ◌-◌, ℕ, suc, false, true, List, [], ◌∷◌, None, Some, IfOk, OnErr, OnOk, IfSome, IsOk, IsSome, length, drop, take};
 ghost use Rattle.std.specs.Cow.{cow_slice_items};
 ghost use Rattle.octets.specs.Limits.{max_loops, max_parts, max_value};
@@ -34,9 +34,9 @@ use std::marker::Model;
 /// The open loops of a run on a message, which of them hold the content of their current part, and what is known of
 /// the parts' contents. A contract sees all of that.
 ///
-/// A part's content is decoded when it is needed, and kept as long as a loop stays on the part; the one decoded last is
-/// kept after that, too, until another has to be decoded. Its length, its digest, and the first bytes of a content that
-/// had to be decoded are kept for the whole run.
+/// A part's content is decoded when it is needed, and held as long as a loop stays on the part. The decoded content that
+/// a loop left last is kept until another has to be decoded. A part's length, its digest, and the first bytes of a
+/// content that had to be decoded are kept for the whole run.
 #[derive(Drop)]
 pub struct Loops<'s, 'm> {
     message: &'s Message<'m>,
@@ -177,8 +177,7 @@ impl<'s, 'm> Loops<'s, 'm> {
         next
     }
 
-    // Lets go of the content of the innermost loop, which leaves its part. One that was decoded is kept as the last
-    // one.
+    // Lets go of the content of the innermost loop, which leaves its part. If it was decoded, it is kept.
     #[inline(always)]
     fn let_go(&mut self)
         requires { 0 < length self.old.frames }
@@ -189,7 +188,7 @@ impl<'s, 'm> Loops<'s, 'm> {
     }
 
     // Holds the content of the current part, as long as the loop stays on it. It is decoded only if it is neither held
-    // nor the last one decoded.
+    // nor kept.
     //
     // The only error is a refusal of memory; there is none if the content is held.
     fn fetch(&mut self, alloc: Global) -> Result<(), AllocError>
@@ -209,7 +208,7 @@ impl<'s, 'm> Loops<'s, 'm> {
         Ok(())
     }
 
-    // Takes the last content, if it is that of the current part.
+    // Takes the content that is kept, if it is that of the current part.
     fn take_last(&mut self) -> Option<CowSlice<'m, u8>>
         requires { IsSome (part_in self.old) }
         ensures same { self.new ≡ self.old }
@@ -223,8 +222,8 @@ impl<'s, 'm> Loops<'s, 'm> {
         None
     }
 
-    // Drops the last content if that of the current part has to be decoded. If it is lent from the message, the last
-    // one stays.
+    // Drops the content that is kept if that of the current part has to be decoded. If that is lent from the message,
+    // the other one stays.
     fn make_room(&mut self)
         requires { IsSome (part_in self.old) }
         ensures { self.new ≡ self.old }
@@ -266,7 +265,7 @@ impl<'s, 'm> Loops<'s, 'm> {
     }
 
     /// Finds what is needed of the current part's content, unless it is known or held: then it does nothing. The
-    /// content is decoded for that, unless it was the last one decoded.
+    /// content is decoded for that, unless it is the one that was kept when a loop left the part.
     ///
     /// # Errors
     ///
