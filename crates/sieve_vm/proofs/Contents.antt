@@ -1,5 +1,6 @@
 -- The contents that loops hold.
-use Rattle.std.proofs.Common.{◌≡◌, ℕ, ◌-◌, ◌≤◌, Bool, List, ◌++◌, length, map, reverse, take, drop, is_some, sym, ap, ◌∙◌, arith}
+use Rattle.std.proofs.Common.{◌≡◌, ℕ, zero, suc, ◌-◌, ◌<◌, ◌≤◌, Bool, false, List, [], ◌∷◌, ◌++◌, length, map, reverse, take, drop, is_some, refl, sym, ap, ◌∙◌, arith}
+use Rattle.std.proofs.Math.Seq.{drop-nil}
 use Rattle.std.proofs.lemmas.List.{take-append-drop, drop_at, map-append, reverse-append, length-drop, length-map, length-reverse}
 use Rattle.sieve_vm.specs.declared.frame.Frame as code
 use Rattle.sieve_vm.specs.Visits.{held_in}
@@ -16,3 +17,9 @@ held_left items number there =
     ap held_in (sym (take-append-drop k items)) ∙ ap (map has) (reverse-append (take k items) back) ∙ map-append has (reverse back) (reverse (take k items)) in
     let number_is : length (held_in back) ≡ number = omega (arith, length-map (reverse back) has, length-reverse back, length-drop k items) in
     sym (ap (drop number) whole ∙ drop_at (held_in back) (held_in (take k items)) number number_is)
+
+-- these are the same if the innermost loop has let go of its content before
+pub held_after : (held : List Bool) (number : ℕ) → 0 < number → drop number (false ∷ drop 1 held) ≡ drop number held
+held_after held zero some = absurd (omega arith)
+held_after [] (suc n) some = drop-nil n
+held_after (first ∷ held) (suc n) some = refl

@@ -14,6 +14,7 @@ use Rattle.mime_decode.specs.Content.{digest_of}
 use Rattle.mime_decode.specs.Mail.{Mail, Part}
 use Rattle.mime_decode.specs.Visited.{numbers_from}
 use Rattle.sieve_vm.specs.declared.frame.Frame as code
+use Rattle.sieve_vm.specs.declared.last_content.LastContent.{LastContent}
 use Rattle.sieve_vm.specs.Looks.{Visits, StaysKnown, Sought, Length, Digest, Beginning}
 use Rattle.sieve_vm.specs.State.{Frame, current_part}
 
@@ -33,6 +34,14 @@ held_in frames = map (λ frame. is_some frame.content) (reverse frames)
 abbrev pub HasContent : Mail → code.Frame → Type 0
 HasContent mail frame = IfSome frame.content
     (λ content. (part : Part) → slice_get mail.parts frame.part ≡ Some part → cow_slice_items content ≡ part.content)
+
+-- this is the content of the part with this number, if there is one
+abbrev pub IsContentAt : Mail → ℕ → List ℕ → Type 0
+IsContentAt mail place octets = (part : Part) → slice_get mail.parts place ≡ Some part → octets ≡ part.content
+
+-- the content that is kept is that of its part
+abbrev pub KeepsContent : Mail → LastContent → Type 0
+KeepsContent mail last = IfSome last.content (λ content. IsContentAt mail last.part content.items)
 
 -- what is known of parts is so: the lengths of their contents, the digests, and the first octets,
 -- as many as a variable's value has at most

@@ -2,8 +2,11 @@
 //
 // The parts that a loop has left are two numbers, the current part and the last one, because the parts below a part
 // come right after it.
-ghost use Rattle.sieve_vm.specs.Visits.{GoesOn, frame_of};
+ghost use Rattle.std.specs.Prelude.{◌≡◌, None};
+ghost use Rattle.mime_decode.specs.Mail.{Mail};
+ghost use Rattle.sieve_vm.specs.Visits.{GoesOn, HasContent, KeepsContent, frame_of};
 
+use crate::last_content::LastContent;
 use std::borrow::CowSlice;
 
 /// An open loop, and the content of its current part.
@@ -36,5 +39,29 @@ impl<'m> Frame<'m> {
             self.content = None;
         }
         true
+    }
+
+    /// Lets go of the content. If it was decoded, it is kept as the last one.
+    #[inline(always)]
+    pub fn let_go(&mut self, last_content: &mut LastContent)
+        ensures gone { self.new ≡ record self.old { content = None } }
+        ensures kept { (mail : Mail) → HasContent mail self.old
+            → KeepsContent mail last_content.old → KeepsContent mail last_content.new }
+    {
+        if self.content.is_some() {
+            self.move_content(last_content);
+        }
+    }
+
+    // The same. It isn't inlined, because it is rare.
+    #[inline(never)]
+    fn move_content(&mut self, last_content: &mut LastContent)
+        ensures gone { self.new ≡ record self.old { content = None } }
+        ensures kept { (mail : Mail) → HasContent mail self.old
+            → KeepsContent mail last_content.old → KeepsContent mail last_content.new }
+    {
+        if let Some(content) = self.content.take() {
+            last_content.keep(self.part, content);
+        }
     }
 }

@@ -1,8 +1,9 @@
 //! The machine that runs the bytecode of mail filters.
 //!
 //! `specs/Machine` defines a step, and `specs/Charge` its cost. [`run`] is the run of a program, and [`Progress`] the
-//! same run step by step. The machine decodes what it needs of a part's content once for each stay of a loop on the
-//! part, and nothing of parts that no instruction asks for.
+//! same run step by step. The machine decodes what it needs of a part's content at most once for each stay of a loop
+//! on the part, and nothing of parts that no instruction asks for. It keeps the decoded content that a loop left last
+//! until another has to be decoded, so nested loops don't decode a part each time they come to it.
 //!
 //! # Promises
 //!
@@ -58,6 +59,7 @@ mod frame;
 mod held_captures;
 mod joining;
 mod known;
+mod last_content;
 pub mod laws;
 mod loops;
 mod machine;

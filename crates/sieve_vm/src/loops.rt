@@ -1,9 +1,9 @@
 // The open loops, and what is known of the parts that they visit.
 //
-// A part's content is decoded when it is needed, and kept as long as a loop is at the part. Its length and its digest
-// are kept for the whole run. So a part that comes up 465 times in three nested loops is decoded at most once for
-// each stay of a loop. A content that a loop has left is decoded again if it is needed again: keeping all would take
-// as much memory as the message.
+// A part's content is decoded when it is needed, and held as long as a loop is at the part. The decoded content that a
+// loop left last is kept until another has to be decoded: a part that comes up 465 times in three nested loops is
+// decoded once if no other is. Any other content that loops have left is decoded again if it is needed again, because
+// keeping all would take as much memory as the message. Lengths and digests are kept for the whole run.
 ghost use Rattle.std.specs.Prelude.{◌≡◌, ◌<◌, ◌≤◌, ◌+◌, ◌-◌, ℕ, suc, false, true, List, [], ◌∷◌, None, Some, IfOk, OnErr, OnOk, IfSome, IsOk, IsSome, length, drop, take};
 ghost use Rattle.std.specs.Cow.{cow_slice_items};
 ghost use Rattle.octets.specs.Limits.{max_loops, max_parts, max_value};
@@ -19,6 +19,7 @@ ghost use Rattle.sieve_vm.specs.Visits.{Continues, HasPartFor, HasSameLoops, IsF
 use crate::frame::Frame;
 use crate::joining::{as_many, first};
 use crate::known::{digest_known, keep, known, octets_known};
+use crate::last_content::LastContent;
 use crate::shared_text::copied;
 use arrayvec::ArrayVec;
 use bytecode_format::MAX_LOOPS;
@@ -33,13 +34,16 @@ use std::marker::Model;
 /// The open loops of a run on a message, which of them hold the content of their current part, and what is known of
 /// the parts' contents. A contract sees all of that.
 ///
-/// A part's content is decoded when it is needed, and kept as long as a loop stays on the part. Its length, its
-/// digest, and the first bytes of a content that had to be decoded are kept for the whole run.
+/// A part's content is decoded when it is needed, and held as long as a loop stays on the part. The decoded content that
+/// a loop left last is kept until another has to be decoded. A part's length, its digest, and the first bytes of a
+/// content that had to be decoded are kept for the whole run.
 #[derive(Drop)]
 pub struct Loops<'s, 'm> {
     message: &'s Message<'m>,
     // The innermost is the last one.
     frames: ArrayVec<Frame<'m>, MAX_LOOPS>,
+    // No contract sees it: it saves time, and changes no result.
+    last_content: LastContent,
     lengths: Vec<Option<usize>>,
     digests: Vec<Option<[u8; 64]>>,
     // The first bytes, as many as a variable's value can have.
@@ -49,7 +53,7 @@ pub struct Loops<'s, 'm> {
 impl<'s, 'm> Model for Loops<'s, 'm> {
     ghost use Rattle.std.specs.Prelude.{All};
     ghost use Rattle.sieve_vm.specs.Looks.{Visits};
-    ghost use Rattle.sieve_vm.specs.Visits.{HasContent, IsKnown, frames_of, held_in};
+    ghost use Rattle.sieve_vm.specs.Visits.{HasContent, IsKnown, KeepsContent, frames_of, held_in};
 
     ghost Value = { Visits };
 
@@ -63,7 +67,8 @@ impl<'s, 'm> Model for Loops<'s, 'm> {
     } };
 
     ghost invariant = { λ l. All (HasContent l.message.now) l.frames.items
-        × IsKnown l.message.now l.lengths.items l.digests.items l.beginnings.items };
+        × IsKnown l.message.now l.lengths.items l.digests.items l.beginnings.items
+        × KeepsContent l.message.now l.last_content };
 }
 
 impl<'s, 'm> Loops<'s, 'm> {
@@ -81,6 +86,7 @@ impl<'s, 'm> Loops<'s, 'm> {
         Loops {
             message,
             frames: ArrayVec::new(),
+            last_content: LastContent::new(),
             lengths: Vec::new(alloc),
             digests: Vec::new(alloc),
             beginnings: Vec::new(alloc),
@@ -143,6 +149,7 @@ impl<'s, 'm> Loops<'s, 'm> {
             → Continues frame frames frame.rest result self.old self.new }
         ensures known { Remembers self.old self.new }
     {
+        self.let_go();
         let innermost = self.frames.len() - 1;
         let each = self.frames[innermost].each;
         if self.frames[innermost].go_on() {
@@ -152,7 +159,8 @@ impl<'s, 'm> Loops<'s, 'm> {
         None
     }
 
-    /// Closes so many loops, and returns the place of the last one's NEXT.
+    /// Closes so many loops, and returns the place of the last one's NEXT. Of their contents only that of the innermost
+    /// can be kept.
     pub fn close(&mut self, number: usize) -> usize
         requires some { 0 < number }
         requires there { number ≤ length self.old.frames }
@@ -162,13 +170,25 @@ impl<'s, 'm> Loops<'s, 'm> {
             ≡ record self.old { frames = frames; held = drop number self.old.held }) }
         ensures known { Remembers self.old self.new }
     {
+        self.let_go();
         let left = self.frames.len() - number;
         let next = self.frames[left].next;
         self.frames.truncate(left);
         next
     }
 
-    // Holds the content of the current part, as long as the loop stays on it. It is decoded only if it isn't held.
+    // Lets go of the content of the innermost loop, which leaves its part. If it was decoded, it is kept.
+    #[inline(always)]
+    fn let_go(&mut self)
+        requires { 0 < length self.old.frames }
+        ensures { self.new ≡ record self.old { held = false ∷ drop 1 self.old.held } }
+    {
+        let innermost = self.frames.len() - 1;
+        self.frames[innermost].let_go(&mut self.last_content);
+    }
+
+    // Holds the content of the current part, as long as the loop stays on it. It is decoded only if it is neither held
+    // nor kept.
     //
     // The only error is a refusal of memory; there is none if the content is held.
     fn fetch(&mut self, alloc: Global) -> Result<(), AllocError>
@@ -177,10 +197,40 @@ impl<'s, 'm> Loops<'s, 'm> {
         ensures refused { OnErr result ((self.new ≡ self.old) × (holds self.old ≡ false)) }
     {
         if !self.is_held() {
+            if let Some(content) = self.take_last() {
+                self.hold(content);
+                return Ok(());
+            }
+            self.make_room();
             let content = self.message.content(alloc, self.part())?;
             self.hold(content);
         }
         Ok(())
+    }
+
+    // Takes the content that is kept, if it is that of the current part.
+    fn take_last(&mut self) -> Option<CowSlice<'m, u8>>
+        requires { IsSome (part_in self.old) }
+        ensures same { self.new ≡ self.old }
+        ensures content { IfSome result (λ content. (part : Part) → part_in self.old ≡ Some part
+            → cow_slice_items content ≡ part.content) }
+    {
+        let part = self.part();
+        if let Some(content) = self.last_content.take(part) {
+            return Some(CowSlice::Owned(content));
+        }
+        None
+    }
+
+    // Drops the content that is kept if that of the current part has to be decoded. If that is lent from the message,
+    // the other one stays.
+    fn make_room(&mut self)
+        requires { IsSome (part_in self.old) }
+        ensures { self.new ≡ self.old }
+    {
+        if is_decoded(self.message.encoding(self.part())) {
+            self.last_content.clear();
+        }
     }
 
     // Whether the content of the current part is held.
@@ -214,7 +264,8 @@ impl<'s, 'm> Loops<'s, 'm> {
         self.frames[innermost].content.as_ref().unwrap()
     }
 
-    /// Finds what is needed of the current part's content, unless it is known or held: then it does nothing.
+    /// Finds what is needed of the current part's content, unless it is known or held: then it does nothing. The
+    /// content is decoded for that, unless it is the one that was kept when a loop left the part.
     ///
     /// # Errors
     ///
