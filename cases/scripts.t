@@ -13,8 +13,14 @@
 ## the edits and the code
     $ "$TOP/checks/edits_stand"
 
-## the pages of promises, laws and edits
+## the pages of promises, laws, edits and assumed contracts
     $ "$TOP/checks/pages"
+
+## the C functions that the program links are those of the list
+Only if: command -v nm # there is no nm
+    $ { nm -D depot | grep ' U '; nm depot | grep ' T rattle_'; } | sed 's/.* //; s/@.*//' | LC_ALL=C sort > linked
+    $ awk -F '\t' '$3 == "program" { sub(/.*::/, "", $1); print $1 }' "$TOP/checks/assumed.tsv" | LC_ALL=C sort | cmp - linked
+    $ rm linked
 
 ## the lines of docs/generated/RINGS.md, docs/AUDIT.md and README.md, and the definitions
     $ "$TOP/checks/rings"

@@ -1,7 +1,8 @@
 // A depot in memory.
 use crate::checksum::REFUSED;
 use depot_actions::Depot;
-use encodings::{Encoding, OfWrite};
+use devices::OfWrite;
+use encodings::Encoding;
 use part_store::EntryRow;
 use sqlite::MemStore;
 use std::alloc::Global;

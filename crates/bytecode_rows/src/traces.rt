@@ -2,7 +2,7 @@
 use bytecode_listing::assemble;
 use bytecode_trace::trace;
 use bytecode_verifier::{Verified, verify};
-use encodings::OfWrite;
+use devices::OfWrite;
 use mime_decode::Message;
 use sieve_vm::run;
 use std::alloc::Global;

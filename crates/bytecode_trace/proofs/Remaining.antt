@@ -5,10 +5,10 @@ use Rattle.std.proofs.lemmas.Result.{err_from_is_err_and}
 use Rattle.std.specs.List.{flat_map}
 use Rattle.bytecode_format.specs.Code.{Code}
 use Rattle.mime_decode.specs.Mail.{Mail}
-use Rattle.encodings.specs.Device.{HasBroken, HasStopped, HasTaken, Output}
-use Rattle.encodings.specs.Pages.{PageView, writes}
-use Rattle.encodings.proofs.Outputs.{broken_first, taken_none}
-use Rattle.encodings.proofs.PageLemmas.{writes_both}
+use Rattle.devices.specs.Device.{HasBroken, HasStopped, HasTaken, Output}
+use Rattle.devices.specs.Pages.{PageView, writes}
+use Rattle.devices.proofs.Outputs.{broken_first, taken_none}
+use Rattle.devices.proofs.PageLemmas.{writes_both}
 use Rattle.refusals.specs.declared.refusal.Refusal.{Refusal}
 use Rattle.refusals.specs.declared.refusal.Refusal.TheVariants.{Memory}
 use Rattle.sieve_vm.specs.Machine.{step}

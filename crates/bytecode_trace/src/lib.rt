@@ -5,7 +5,7 @@
 //! a variable. `specs/Steps` defines the steps, `specs/Printed` their lines.
 //!
 //! No step is held in memory, and all lines are made in the memory of one. A line is printed on a
-//! [`Page`](encodings::Page) and flushed before the next step is taken, so it goes out in one call if the sink takes it
+//! [`Page`](devices::Page) and flushed before the next step is taken, so it goes out in one call if the sink takes it
 //! whole.
 //!
 //! # Promises

@@ -1,12 +1,12 @@
 // The trace of a program.
 ghost use Rattle.std.specs.Prelude.{◌≡◌, IfErr, IfOk};
-ghost use Rattle.encodings.specs.Device.{HasStopped, HasTaken};
+ghost use Rattle.devices.specs.Device.{HasStopped, HasTaken};
 ghost use Rattle.sieve_vm.specs.Ending.{IsOutcome};
 ghost use Rattle.bytecode_trace.specs.Printed.{trace_text};
 
 use crate::line::take_step;
 use bytecode_verifier::Verified;
-use encodings::{Page, Sink};
+use devices::{Page, Sink};
 use mime_decode::Message;
 use refusals::Refusal;
 use sieve_vm::{Outcome, Progress};

@@ -1,7 +1,7 @@
 -- Turns that one thing is taken through are turns of another that goes beside it.
 use Rattle.std.proofs.Common.{◌≡◌, ◌⊎◌, inl, inr, ℕ, List, [], ◌∷◌, length, refl, sym, subst}
-use Rattle.encodings.specs.Device.{Output}
-use Rattle.encodings.specs.Supply.{Supply}
+use Rattle.devices.specs.Device.{Output}
+use Rattle.devices.specs.Supply.{Supply}
 use Rattle.depot_batch.specs.Turns.{AreTakenBy, EndsBy, HasServedBy, HasServedLastBy, Turn}
 use Rattle.depot.specs.Batches.{LastIs, OneIs}
 

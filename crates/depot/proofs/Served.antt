@@ -12,7 +12,7 @@ use Rattle.part_store.specs.Entries.{Entries}
 use Rattle.part_store.specs.Opening.{HoldsState, IsAt}
 use Rattle.part_store.specs.Standing.{IsStored}
 use Rattle.refusals.specs.declared.refusal.Refusal.{Refusal}
-use Rattle.encodings.specs.Device.{HasBroken, HasTaken, Output}
+use Rattle.devices.specs.Device.{HasBroken, HasTaken, Output}
 use Rattle.depot_actions.specs.DepotState.{Command}
 use Rattle.depot_jobs.specs.Host.{HostState}
 use Rattle.depot_cli.specs.Requests.{request_command}

@@ -11,7 +11,7 @@ use Rattle.part_store.specs.Entries.{Entries}
 use Rattle.part_store.specs.Opening.{IsAt}
 use Rattle.part_store.specs.Standing.{Stands}
 use Rattle.refusals.specs.declared.refusal.Refusal.{Refusal}
-use Rattle.encodings.specs.Device.{Output}
+use Rattle.devices.specs.Device.{Output}
 use Rattle.depot_actions.specs.Deliveries.{AcceptsAll}
 use Rattle.depot_actions.specs.DepotState.{Accepts, Command, Export as Exports, Leaves, Listed, Text as Written}
 use Rattle.depot_cli.specs.Requests.{request_command}

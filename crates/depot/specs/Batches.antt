@@ -9,8 +9,8 @@ use Rattle.part_store.specs.Entries.{Entries, Listing}
 use Rattle.part_store.specs.Opening.{HoldsState}
 use Rattle.refusals.specs.declared.refusal.Refusal.{Refusal}
 use Rattle.refusals.specs.declared.refusal.Refusal.TheVariants.{Memory, Write}
-use Rattle.encodings.specs.Device.{HasBroken, HasTaken, Output}
-use Rattle.encodings.specs.Supply.{Supply}
+use Rattle.devices.specs.Device.{HasBroken, HasTaken, Output}
+use Rattle.devices.specs.Supply.{Supply}
 use Rattle.depot_actions.specs.Deliveries.{AcceptsAll}
 use Rattle.depot_actions.specs.DepotState.{Accepts, Command, Export as Exports, Listed, Reply, Text as Written}
 use Rattle.depot_jobs.specs.Host.{HasMade, HasNotMade, HostState, makes, with_call}

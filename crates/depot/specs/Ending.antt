@@ -13,7 +13,7 @@ use Rattle.part_store.specs.Entries.{Entries}
 use Rattle.part_store.specs.Opening.{HoldsState, IsAt, IsReadyFrom, KeepsStore}
 use Rattle.refusals.specs.declared.refusal.Refusal.{Refusal}
 use Rattle.refusals.specs.declared.refusal.Refusal.TheVariants.{Memory, Database}
-use Rattle.encodings.specs.Device.{Output}
+use Rattle.devices.specs.Device.{Output}
 use Rattle.depot_actions.specs.Causes.{HasCause, MayRefuse}
 use Rattle.depot_actions.specs.DepotState.{Command}
 use Rattle.depot_jobs.specs.Jobs.{HasTold}

@@ -12,7 +12,7 @@ use Rattle.part_store.specs.Refusals.{AreNamed}
 use Rattle.part_store.specs.declared.looking.Unopened.{Unopened}
 use Rattle.refusals.specs.declared.refusal.Refusal.{Refusal}
 use Rattle.refusals.specs.declared.refusal.Refusal.TheVariants.{Memory, Database, Write}
-use Rattle.encodings.specs.Device.{HasBroken, HasTaken, Output}
+use Rattle.devices.specs.Device.{HasBroken, HasTaken, Output}
 use Rattle.depot_actions.specs.Causes.{IsStoreFault, IsUncounted}
 use Rattle.depot_actions.specs.Overviews.{IsOverview}
 use Rattle.depot_actions.specs.declared.overview.Overview.{Overview}

@@ -8,7 +8,7 @@ use Rattle.part_store.specs.Entries.{Entries}
 use Rattle.part_store.specs.Opening.{HoldsState}
 use Rattle.refusals.specs.declared.refusal.Refusal.{Refusal}
 use Rattle.refusals.specs.declared.refusal.Refusal.TheVariants.{NoSuchEntry, Write}
-use Rattle.encodings.specs.Device.{HasBroken, HasTaken}
+use Rattle.devices.specs.Device.{HasBroken, HasTaken}
 use Rattle.depot_actions.specs.DepotState.{Accepts, Program, ProgramOf}
 use Rattle.depot_jobs.specs.Host.{HasMade, HasNotMade}
 use Rattle.depot_jobs.specs.Jobs.{HasTold, HostAndOutputs}

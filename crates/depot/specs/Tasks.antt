@@ -8,7 +8,7 @@ use Rattle.part_store.specs.Entries.{Entries}
 use Rattle.part_store.specs.Opening.{HoldsState}
 use Rattle.refusals.specs.declared.refusal.Refusal.{Refusal}
 use Rattle.refusals.specs.declared.refusal.Refusal.TheVariants.{Memory, Write}
-use Rattle.encodings.specs.Device.{HasBegun, HasBroken, HasTaken, Output}
+use Rattle.devices.specs.Device.{HasBegun, HasBroken, HasTaken, Output}
 use Rattle.depot_actions.specs.Causes.{IsExport}
 use Rattle.depot_actions.specs.DepotState.{Accepts, Command, Reply}
 use Rattle.depot_jobs.specs.Jobs.{HasTold}

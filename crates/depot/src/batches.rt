@@ -10,7 +10,7 @@ use crate::closing::{Left, close};
 use depot_actions::Depot;
 use depot_batch::batch;
 use depot_jobs::Host;
-use encodings::{OfRead, OfWrite, Sink, Source};
+use devices::{OfRead, OfWrite, Sink, Source};
 use part_store::Again;
 use refusals::Refusal;
 use sqlite::{FileFrom, FileStore, Start};

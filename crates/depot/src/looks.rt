@@ -10,7 +10,7 @@ ghost use Rattle.depot.specs.Looks.{HasEnded, look_of};
 use crate::closing::{Left, close};
 use depot_actions::Depot;
 use depot_cli::inspect_opened;
-use encodings::Sink;
+use devices::Sink;
 use part_store::Unopened;
 use sqlite::{FileFrom, FileStore, Start};
 use sqlite_disk::Disk;

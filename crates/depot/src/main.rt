@@ -69,7 +69,7 @@ use crate::streams::hold_closed;
 use crate::tasks::carry_from;
 use depot_cli::{Next, PendingTask, Saving, run, tell_no_depot};
 use depot_jobs::{Host, System, tell, tell_no_words, texts, words};
-use encodings::{OfRead, OfWrite, Sink};
+use devices::{OfRead, OfWrite, Sink};
 use refusals::Refusal;
 use sqlite::Unknown;
 use std::io::{BufReader, BufWriter};

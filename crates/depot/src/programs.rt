@@ -10,7 +10,7 @@ use crate::closing::{Left, close};
 use depot_actions::Depot;
 use depot_cli::{Saving, save};
 use depot_jobs::Host;
-use encodings::Sink;
+use devices::Sink;
 use part_store::Again;
 use refusals::Refusal;
 use sqlite::{FileFrom, FileStore, Start};

@@ -13,7 +13,7 @@ ghost use Rattle.depot.specs.Tasks.{HasEnded, answer};
 use crate::closing::{Left, close};
 use depot_actions::Depot;
 use depot_cli::{PendingTask, carry};
-use encodings::Sink;
+use devices::Sink;
 use part_store::Again;
 use refusals::Refusal;
 use sqlite::{FileFrom, FileStore, Start};

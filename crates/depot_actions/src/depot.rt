@@ -20,7 +20,7 @@ ghost use Rattle.depot_actions.specs.DepotState.{Deliver, Does, Done, Export, Li
 ghost use Rattle.depot_actions.specs.Overviews.{IsOverview};
 ghost use Rattle.sqlite.specs.Files.{file_state, IsOpened};
 ghost use Rattle.part_store.specs.Looking.{are_tables};
-ghost use Rattle.encodings.specs.Device.{HasBegun, HasBroken, HasTaken};
+ghost use Rattle.devices.specs.Device.{HasBegun, HasBroken, HasTaken};
 ghost use Rattle.encodings.specs.Texts.{text_of};
 ghost use Rattle.part_store.specs.Calls.{Always, CommitsNothing, IfDone, IfRefused, MayCommit, OnDone, OnRefused};
 
@@ -32,7 +32,8 @@ use crate::overview::Overview;
 use crate::refusing::refused;
 use crate::renewing::renewed_programs;
 use crate::user::is_user_name;
-use encodings::{Encoding, Sink, put_text};
+use devices::Sink;
+use encodings::{Encoding, put_text};
 use part_store::{Again, EntryRow, PartStore, Unopened};
 use refusals::Refusal;
 use sieve_engine::code_octets;

@@ -3,13 +3,13 @@ use Rattle.std.proofs.Common.{◌≡◌, ◌≤◌, ◌+◌, ◌-◌, ◌^◌, �
 use Rattle.std.specs.Io.KnownBytes.{Keeps}
 use Rattle.std.proofs.KnownBytes.{Consumes-kept, Consumes-nil, Consumes-trans, Keeps-trans}
 use Rattle.sqlite_trees.specs.declared.store.Store.{Ghosts}
-use Rattle.encodings.specs.Device.{Output, counted}
-use Rattle.encodings.specs.Supply.{HasGiven, HasStoppedGiving, Supply}
+use Rattle.devices.specs.Device.{Output, counted}
+use Rattle.devices.specs.Supply.{HasGiven, HasStoppedGiving, Supply}
 use Rattle.refusals.specs.declared.refusal.Refusal.{Refusal}
 use Rattle.refusals.specs.declared.refusal.Refusal.TheVariants.{Database, Memory, Read, Write}
 use Rattle.depot_jobs.specs.Jobs.{HasTold}
 use Rattle.depot_batch.specs.Batch.{AreTaken, Breaks, Happens, HasServed, IsAnsweredBy, DepotAndOutput}
-use Rattle.encodings.specs.Device.{HasTaken}
+use Rattle.devices.specs.Device.{HasTaken}
 use Rattle.depot_batch.specs.Lines.{HasNotTaken, HasShown, HasTakenAll, IsLine, IsUnfinished}
 use Rattle.depot_batch.specs.Private.{ComesNext, HasServedLast, HasTurned}
 use Rattle.depot_batch.specs.Turns.{Alone, EndsBy, GoesOn, MakeProgress, Takes, Together, Turn, Withdrawn}

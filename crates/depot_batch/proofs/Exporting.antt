@@ -5,7 +5,7 @@ use Rattle.sqlite.specs.Held.{Held, state}
 use Rattle.sqlite.specs.State.{HasCleanDisk}
 use Rattle.part_store.specs.Standing.{LeavesUnchanged}
 use Rattle.depot_actions.specs.DepotState.{Export as Exports}
-use Rattle.encodings.specs.Device.{Output, counted}
+use Rattle.devices.specs.Device.{Output, counted}
 use Rattle.depot_jobs.specs.Host.{HasNotMade, HostState, IsFreshOutput, makes, with_call, with_faults}
 use Rattle.depot_cli.specs.Tasks.{HasRefused}
 use Rattle.refusals.specs.declared.refusal.Refusal.{Refusal}

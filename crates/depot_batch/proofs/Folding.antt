@@ -4,7 +4,7 @@ use Rattle.sqlite_trees.specs.declared.store.Store.{Ghosts}
 use Rattle.sqlite_trees.specs.Tree.{Trees}
 use Rattle.sqlite.specs.Held.{Held, state}
 use Rattle.sqlite.specs.State.{HasCleanDisk, State, Survives}
-use Rattle.encodings.specs.Supply.{Supply}
+use Rattle.devices.specs.Supply.{Supply}
 use Rattle.part_store.specs.Entries.{Entries}
 use Rattle.part_store.specs.Standing.{LeavesUnchanged, Stands}
 use Rattle.depot_actions.specs.Deliveries.{calls_of}

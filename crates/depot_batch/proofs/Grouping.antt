@@ -9,7 +9,7 @@ use Rattle.sqlite.specs.State.{HasCleanDisk, State, Survives}
 use Rattle.part_store.specs.Entries.{Listing}
 use Rattle.part_store.specs.Standing.{LeavesUnchanged}
 use Rattle.part_store.specs.declared.entry.EntryRow.{EntryRow}
-use Rattle.encodings.specs.Device.{Output}
+use Rattle.devices.specs.Device.{Output}
 use Rattle.depot_actions.specs.Deliveries.{DoesAll, MayLeaveAll, reply_of}
 use Rattle.depot_actions.specs.DepotState.{Command, Listed}
 use Rattle.depot_jobs.specs.Host.{HostState}

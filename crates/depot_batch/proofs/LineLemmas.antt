@@ -6,7 +6,7 @@ use Rattle.sqlite_trees.specs.declared.store.Store.{Ghosts}
 use Rattle.sqlite_trees.specs.Tree.{Trees}
 use Rattle.sqlite.specs.Held.{Held, state}
 use Rattle.sqlite.specs.State.{State, Survives}
-use Rattle.encodings.specs.Device.{HasBroken, HasFailed, HasTaken, Output, counted}
+use Rattle.devices.specs.Device.{HasBroken, HasFailed, HasTaken, Output, counted}
 use Rattle.depot_jobs.specs.Host.{HostState}
 use Rattle.depot_batch.specs.Answers.{AreNoTexts, HasComeOf, IsReportOn, IsUnasked, answer_text, outcome_of, report_text, unasked_report}
 use Rattle.depot_batch.specs.Asked.{AskNothing}

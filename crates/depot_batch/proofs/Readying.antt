@@ -8,7 +8,7 @@ use Rattle.std.proofs.Math.Seq.{take-append_seam}
 use Rattle.std.proofs.lemmas.List.{map-append, map_more, take-append-drop, take_more}
 use Rattle.std.proofs.lemmas.List.Elements.{All-push, All-take}
 use Rattle.std.proofs.lemmas.List.Folds.{concat-append}
-use Rattle.encodings.specs.Supply.{HasGiven, Supply}
+use Rattle.devices.specs.Supply.{HasGiven, Supply}
 use Rattle.depot_batch.specs.Lines.{HasShown, IsLine}
 use Rattle.depot_batch.specs.Private.{CanTake, lines_of}
 

@@ -4,8 +4,8 @@ use Rattle.std.specs.List.{concat}
 use Rattle.std.proofs.KnownBytes.{Consumes-kept, Consumes-nil, Consumes-trans}
 use Rattle.std.proofs.lemmas.List.Folds.{concat-append}
 use Rattle.sqlite_trees.specs.declared.store.Store.{Ghosts}
-use Rattle.encodings.specs.Device.{counted}
-use Rattle.encodings.specs.Supply.{HasGiven, Supply}
+use Rattle.devices.specs.Device.{counted}
+use Rattle.devices.specs.Supply.{HasGiven, Supply}
 use Rattle.depot_batch.specs.Batch.{AreTaken, DepotAndOutput}
 use Rattle.depot_batch.specs.Lines.{HasShown}
 use Rattle.depot_batch.specs.Turns.{Alone, Takes, Together, Turn, Withdrawn, answered_in, lines_answered}

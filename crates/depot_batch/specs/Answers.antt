@@ -5,7 +5,7 @@ use Rattle.std.specs.Str.{IsUtf8}
 use Rattle.sqlite_trees.specs.declared.store.Store.{Ghosts}
 use Rattle.sqlite.specs.Held.{Held, state}
 use Rattle.sqlite.specs.State.{Survives}
-use Rattle.encodings.specs.Device.{Output}
+use Rattle.devices.specs.Device.{Output}
 use Rattle.printing.specs.Printed.{refusal_line}
 use Rattle.depot_jobs.specs.Host.{HostState}
 use Rattle.depot_cli.specs.Tasks.{text_in as reply_text}

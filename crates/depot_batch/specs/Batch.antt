@@ -13,8 +13,8 @@ use Rattle.part_store.specs.Standing.{LeavesUnchanged}
 use Rattle.depot_actions.specs.Deliveries.{DoesAll, MayLeaveAll}
 use Rattle.depot_actions.specs.DepotState.{Command, Export as Exports, Listed, Reply as DepotReply, Text as Written}
 use Rattle.depot_actions.specs.History.{Call}
-use Rattle.encodings.specs.Device.{HasBroken, HasTaken, Output}
-use Rattle.encodings.specs.Supply.{Supply}
+use Rattle.devices.specs.Device.{HasBroken, HasTaken, Output}
+use Rattle.devices.specs.Supply.{Supply}
 use Rattle.depot_jobs.specs.Host.{HasMade, HasNotMade, HostState, makes, with_call}
 use Rattle.depot_jobs.specs.Jobs.{HasTold}
 use Rattle.printing.specs.Printed.{line, refusal_line}

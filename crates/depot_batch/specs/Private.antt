@@ -7,8 +7,8 @@ use Rattle.sqlite_trees.specs.declared.store.Store.{Ghosts}
 use Rattle.part_store.specs.Entries.{Listing}
 use Rattle.part_store.specs.Standing.{listed}
 use Rattle.part_store.specs.declared.entry.EntryRow.{EntryRow}
-use Rattle.encodings.specs.Device.{HasTaken, Output}
-use Rattle.encodings.specs.Supply.{HasGiven, Supply}
+use Rattle.devices.specs.Device.{HasTaken, Output}
+use Rattle.devices.specs.Supply.{HasGiven, Supply}
 use Rattle.depot_actions.specs.DepotState.{Command, Deliver}
 use Rattle.depot_jobs.specs.Host.{HostState}
 use Rattle.depot_batch.specs.declared.ahead.Ahead.{Ahead}

@@ -1,8 +1,8 @@
 -- A batch, turn by turn.
 use Rattle.std.specs.Prelude.{◌<◌, ◌≡◌, ◌≢◌, ◌⊎◌, ℕ, ◌-◌, ◌^◌, List, [], ◌∷◌, ◌++◌, length, take}
 use Rattle.std.specs.List.{All, concat}
-use Rattle.encodings.specs.Device.{Output}
-use Rattle.encodings.specs.Supply.{HasGiven, Supply}
+use Rattle.devices.specs.Device.{Output}
+use Rattle.devices.specs.Supply.{HasGiven, Supply}
 use Rattle.depot_jobs.specs.Jobs.{HasTold}
 use Rattle.refusals.specs.declared.refusal.Refusal.{Refusal}
 use Rattle.refusals.specs.declared.refusal.Refusal.TheVariants.{Database, Write}

@@ -2,13 +2,13 @@
 ghost use Rattle.std.specs.Prelude.{◌≡◌, ◌⊎◌, ◌++◌, ◌<◌, ◌^◌, [], IfErr, IfOk, IfSome, length};
 ghost use Rattle.std.specs.Io.KnownBytes.{Keeps};
 ghost use Rattle.std.specs.List.{concat};
-ghost use Rattle.encodings.specs.Supply.{HasGiven, Supply};
+ghost use Rattle.devices.specs.Supply.{HasGiven, Supply};
 ghost use Rattle.refusals.specs.declared.refusal.Refusal.TheVariants.{Memory, Read};
 ghost use Rattle.depot_batch.specs.Lines.{HasNotTaken, HasShown, IsLine};
 ghost use Rattle.depot_batch.specs.Private.{AreShown, CanTake, IsAhead, IsSeen, MayTake, lines_of};
 ghost use Rattle.depot_batch.specs.declared.ahead.Ahead.TheVariants.{Other};
 
-use encodings::{OfRead, Source};
+use devices::{OfRead, Source};
 use refusals::Refusal;
 use std::alloc::{AllocError, Global};
 use std::io::{BufRead, Error, ErrorKind};

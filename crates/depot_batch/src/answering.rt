@@ -13,7 +13,7 @@ use crate::asked::{Asked, Export};
 use depot_actions::Depot;
 use depot_cli::{Reply, reply_to};
 use depot_jobs::{Host, Request, Task, read_file_of};
-use encodings::{DeviceFailed, Sink};
+use devices::{DeviceFailed, Sink};
 use refusals::Refusal;
 use sqlite::Alter;
 use std::alloc::Global;

@@ -4,7 +4,7 @@ ghost use Rattle.std.specs.List.{All, concat};
 ghost use Rattle.sqlite.specs.Held.{state};
 ghost use Rattle.sqlite.specs.State.{HasCleanDisk};
 ghost use Rattle.sqlite_trees.specs.Tree.{Trees};
-ghost use Rattle.encodings.specs.Supply.{HasGiven, Supply};
+ghost use Rattle.devices.specs.Supply.{HasGiven, Supply};
 ghost use Rattle.part_store.specs.Entries.{Entries, Listing, no_entries};
 ghost use Rattle.part_store.specs.Standing.{Stands};
 ghost use Rattle.depot_actions.specs.History.{AreSteps, Call};

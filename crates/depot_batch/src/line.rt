@@ -6,7 +6,7 @@
 ghost use Rattle.std.specs.Prelude.{◌≡◌, List, [], IfErr, IfOk, OnErr, OnOk, map};
 ghost use Rattle.sqlite.specs.Held.{state};
 ghost use Rattle.sqlite.specs.State.{Survives};
-ghost use Rattle.encodings.specs.Device.{HasBroken, HasFailed, HasTaken};
+ghost use Rattle.devices.specs.Device.{HasBroken, HasFailed, HasTaken};
 ghost use Rattle.depot_batch.specs.Answers.{AreNoTexts, HasComeOf, HasLineWords, IsReportOn, IsUnasked, answer_text, outcome_of, unasked_report};
 ghost use Rattle.depot_batch.specs.Asked.{Asks, Text};
 ghost use Rattle.depot_batch.specs.Batch.{IsAnsweredBy, MayMake, depot_and_output};
@@ -20,7 +20,7 @@ use crate::report::{Report, put_report};
 use crate::words::words_of;
 use depot_actions::Depot;
 use depot_jobs::Host;
-use encodings::{DeviceFailed, OfWrite, Sink};
+use devices::{DeviceFailed, OfWrite, Sink};
 use refusals::Refusal;
 use sqlite::Alter;
 use std::alloc::{AllocError, Global};

@@ -7,7 +7,7 @@ ghost use Rattle.depot_batch.specs.Lines.{HasNotTaken};
 ghost use Rattle.depot_batch.specs.Private.{EndsSo, HasTakenNext, IsTaken};
 ghost use Rattle.depot_batch.specs.declared.reading.Taken.TheVariants.{Line};
 
-use encodings::{OfRead, Source};
+use devices::{OfRead, Source};
 use refusals::Refusal;
 use std::io::{BufRead, ErrorKind};
 

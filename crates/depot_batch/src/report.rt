@@ -3,8 +3,8 @@
 // A line's refusal goes to standard output, instead of the answer: with two streams nobody could match the lines of one
 // with those of the other. Standard error is for what ends the batch.
 ghost use Rattle.std.specs.Prelude.{◌≡◌, OnErr, OnOk};
-ghost use Rattle.encodings.specs.Device.{HasBroken, HasTaken};
-ghost use Rattle.encodings.specs.Pages.{Wrote};
+ghost use Rattle.devices.specs.Device.{HasBroken, HasTaken};
+ghost use Rattle.devices.specs.Pages.{Wrote};
 ghost use Rattle.printing.specs.Printed.{line as line_of};
 ghost use Rattle.depot_batch.specs.Answers.{answer_text, outcome_of, report_text, text_in};
 ghost use Rattle.depot_batch.specs.Batch.{closing, exported_text};
@@ -14,7 +14,7 @@ use crate::answering::Answer;
 use crate::fault::LineFault;
 use crate::outcome::Outcome;
 use depot_cli::print_reply;
-use encodings::{DeviceFailed, Page, Sink};
+use devices::{DeviceFailed, Page, Sink};
 use printing::{Piece, print, print_line, print_refusal};
 use refusals::Refusal;
 

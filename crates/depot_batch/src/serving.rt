@@ -9,7 +9,7 @@
 ghost use Rattle.std.specs.Prelude.{◌≡◌, ◌<◌, ◌≤◌, ◌+◌, ◌^◌, ℕ, length, true, false};
 ghost use Rattle.std.specs.List.{All, concat};
 ghost use Rattle.refusals.specs.declared.refusal.Refusal.TheVariants.{Database};
-ghost use Rattle.encodings.specs.Supply.{Supply};
+ghost use Rattle.devices.specs.Supply.{Supply};
 ghost use Rattle.depot_batch.specs.Batch.{HasServed, IsServed, most_together, depot_and_output};
 ghost use Rattle.depot_batch.specs.Lines.{HasShown, IsLine};
 ghost use Rattle.depot_batch.specs.Private.{CanTake, HasServedLast, HasTurned, lines_of};
@@ -22,7 +22,7 @@ use crate::reading::{Taken, next_line};
 use crate::together::{Tried, serve_together};
 use depot_actions::Depot;
 use depot_jobs::{Host, tell};
-use encodings::{DeviceFailed, OfRead, OfWrite, Sink, Source};
+use devices::{DeviceFailed, OfRead, OfWrite, Sink, Source};
 use refusals::Refusal;
 use sqlite::Alter;
 use std::alloc::Global;

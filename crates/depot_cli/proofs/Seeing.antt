@@ -1,6 +1,6 @@
 -- What comes of a look at a depot, from what the depot told and what was written.
 use Rattle.std.proofs.Common.{◌≡◌, ℕ, inl, inr, Option, Result, Ok, Err, OnOk, OnErr}
-use Rattle.encodings.specs.Device.{HasBroken, HasTaken}
+use Rattle.devices.specs.Device.{HasBroken, HasTaken}
 use Rattle.depot_actions.specs.declared.overview.Overview.{Overview}
 use Rattle.refusals.specs.declared.refusal.Refusal.TheVariants.{Write}
 use Rattle.depot_cli.specs.Inspecting.{HasInspected, HasSeen}

@@ -2,7 +2,7 @@
 use Rattle.std.proofs.Common.{◌≡◌, ◌≢◌, ◌⊎◌, ℕ, inl, inr, refl, subst}
 use Rattle.depot_actions.specs.Causes.{IsExport}
 use Rattle.depot_actions.specs.DepotState.{Command, Reply}
-use Rattle.encodings.specs.Device.{HasBegun, HasBroken}
+use Rattle.devices.specs.Device.{HasBegun, HasBroken}
 use Rattle.refusals.specs.declared.refusal.Refusal.{Refusal}
 use Rattle.refusals.specs.declared.refusal.Refusal.TheVariants.{Memory, Write}
 use Rattle.depot_jobs.specs.Jobs.{HasTold}

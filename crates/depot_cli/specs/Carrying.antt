@@ -3,7 +3,7 @@ use Rattle.std.specs.Prelude.{◌≡◌, ℕ, Option, None, Some, Result, Ok, Er
 use Rattle.sqlite.specs.State.{State, Survives}
 use Rattle.part_store.specs.declared.looking.Unopened.{Unopened}
 use Rattle.depot_actions.specs.DepotState.{Command}
-use Rattle.encodings.specs.Device.{Output}
+use Rattle.devices.specs.Device.{Output}
 use Rattle.refusals.specs.declared.refusal.Refusal.{Refusal}
 use Rattle.refusals.specs.declared.refusal.Refusal.TheVariants.{Memory}
 use Rattle.depot_cli.specs.Inspecting.{HasInspected, HasSaidWhy}

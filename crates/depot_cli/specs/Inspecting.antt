@@ -4,7 +4,7 @@ use Rattle.sqlite.specs.State.{HasCleanDisk, State}
 use Rattle.part_store.specs.Entries.{Entries}
 use Rattle.part_store.specs.Refusals.{AreNamed}
 use Rattle.part_store.specs.Standing.{LeavesUnchanged, Stands}
-use Rattle.encodings.specs.Device.{HasBroken, HasTaken, Output}
+use Rattle.devices.specs.Device.{HasBroken, HasTaken, Output}
 use Rattle.depot_actions.specs.Causes.{IsStoreFault, IsUncounted}
 use Rattle.depot_actions.specs.Overviews.{IsOverview}
 use Rattle.depot_actions.specs.declared.overview.Overview.{Overview}

@@ -3,7 +3,7 @@ use Rattle.std.specs.Prelude.{◌≡◌, ◌⊎◌, ℕ, List, length, Option, N
 use Rattle.sqlite.specs.State.{HasCleanDisk, State, Survives}
 use Rattle.part_store.specs.Standing.{LeavesUnchanged}
 use Rattle.depot_actions.specs.DepotState.{Does, Program, ProgramOf}
-use Rattle.encodings.specs.Device.{HasBroken, HasTaken}
+use Rattle.devices.specs.Device.{HasBroken, HasTaken}
 use Rattle.refusals.specs.declared.refusal.Refusal.{Refusal}
 use Rattle.refusals.specs.declared.refusal.Refusal.TheVariants.{NoSuchEntry, Write}
 use Rattle.depot_jobs.specs.Host.{HasMade, HasNotMade, HostState}

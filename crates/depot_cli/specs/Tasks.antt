@@ -7,7 +7,7 @@ use Rattle.part_store.specs.Refusals.{AreNamed}
 use Rattle.depot_actions.specs.Causes.{HasCause, IsExport, IsFault, MayRefuse}
 use Rattle.depot_actions.specs.DepotState.{Command, Does, MayLeave, Reply, SetScript, SetCode, ListAll}
 use Rattle.depot_actions.specs.DepotState as depot
-use Rattle.encodings.specs.Device.{HasBegun, HasBroken, HasTaken, Output}
+use Rattle.devices.specs.Device.{HasBegun, HasBroken, HasTaken, Output}
 use Rattle.refusals.specs.declared.refusal.Refusal.{Refusal}
 use Rattle.refusals.specs.declared.refusal.Refusal.TheVariants.{Memory, Write}
 use Rattle.depot_jobs.specs.Jobs.{HasTold}

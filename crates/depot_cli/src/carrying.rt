@@ -15,7 +15,7 @@ use crate::pending_task::PendingTask;
 use crate::task::perform;
 use depot_actions::Depot;
 use depot_jobs::tell;
-use encodings::Sink;
+use devices::Sink;
 use part_store::Unopened;
 use refusals::Refusal;
 use sqlite::Alter;

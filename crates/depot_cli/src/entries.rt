@@ -2,11 +2,11 @@
 ghost use Rattle.std.specs.Prelude.{◌≡◌, map};
 ghost use Rattle.std.specs.List.{flat_map};
 ghost use Rattle.part_store.specs.Standing.{listed};
-ghost use Rattle.encodings.specs.Pages.{Wrote};
+ghost use Rattle.devices.specs.Pages.{Wrote};
 ghost use Rattle.printing.specs.Printed.{line as line_of};
 ghost use Rattle.depot_cli.specs.Printed.{entries_text, entry_text, kind_text};
 
-use encodings::{Page, Sink};
+use devices::{Page, Sink};
 use part_store::{EntryRow, Kind};
 use printing::{Piece, print, print_line};
 

@@ -7,7 +7,7 @@
 //! [`PendingTask`] (`specs/Carrying`), a program that is saved to [`save`] (`specs/Saving`), and a file that is
 //! inspected to [`inspect_opened`] (`specs/Inspecting`).
 //!
-//! Replies and reports are printed on a [`Page`](encodings::Page), which the call that has the sink makes and flushes.
+//! Replies and reports are printed on a [`Page`](devices::Page), which the call that has the sink makes and flushes.
 //! So the text of up to 65,536 bytes is one write, and a longer one is written in pieces of that size. Only an export
 //! writes its text itself.
 //!

@@ -9,7 +9,7 @@ ghost use Rattle.depot_cli.specs.NoDepots.{no_depot_of};
 ghost use Rattle.depot_cli.specs.Printed.{why_text};
 
 use depot_jobs::{REFUSED, tell};
-use encodings::{DeviceFailed, Sink};
+use devices::{DeviceFailed, Sink};
 use part_store::Unopened;
 use printing::{Piece, put_pieces};
 use refusals::Refusal;

@@ -7,7 +7,7 @@ ghost use Rattle.depot_cli.specs.Running.{HasPrepared, HasRun, LeadsTo};
 use crate::pending_task::PendingTask;
 use crate::saving::Saving;
 use depot_jobs::{CommandLine, Host, Request, carry_out, line_of, read_file_of, tell, tell_fault};
-use encodings::Sink;
+use devices::Sink;
 use refusals::Refusal;
 use std::alloc::Global;
 

@@ -5,7 +5,7 @@
 ghost use Rattle.std.specs.Prelude.{◌≡◌, IfErr, IfOk, List, length, ℕ, OnErr, OnOk};
 ghost use Rattle.sqlite.specs.Held.{state};
 ghost use Rattle.sqlite.specs.State.{Survives};
-ghost use Rattle.encodings.specs.Device.{HasBroken, HasTaken};
+ghost use Rattle.devices.specs.Device.{HasBroken, HasTaken};
 ghost use Rattle.printing.specs.Printed.{line as line_of, wrote_text};
 ghost use Rattle.depot_jobs.specs.Jobs.{host_and_outputs};
 ghost use Rattle.depot_cli.specs.Saving.{HasNotSaved, HasSaved, HasSavedFile, HasServed, IsUnsaved, OutlastsSaving};
@@ -13,7 +13,7 @@ ghost use Rattle.depot_cli.specs.Saving.{HasNotSaved, HasSaved, HasSavedFile, Ha
 use crate::task::finish;
 use depot_actions::Depot;
 use depot_jobs::{Host, make_file, tell};
-use encodings::{DeviceFailed, Page, Sink};
+use devices::{DeviceFailed, Page, Sink};
 use printing::print_wrote;
 use refusals::Refusal;
 use sqlite::Alter;

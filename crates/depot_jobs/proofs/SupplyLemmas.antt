@@ -2,8 +2,8 @@
 use Rattle.std.proofs.Common.{◌≡◌, ◌∙◌, ◌+◌, ap, ℕ, zero, suc, List, ◌++◌, sym, subst, arith, length, take, drop, length-append}
 use Rattle.std.proofs.Math.Seq.{take-add}
 use Rattle.std.proofs.KnownBytes.{Consumes-trans}
-use Rattle.encodings.specs.Device.{counted}
-use Rattle.encodings.specs.Supply.{HasGiven, Supply}
+use Rattle.devices.specs.Device.{counted}
+use Rattle.devices.specs.Supply.{HasGiven, Supply}
 
 -- counting in two steps is counting at once
 pub counted-counted : (n m count : ℕ) → counted m (counted n count) ≡ counted (n + m) count

@@ -1,8 +1,8 @@
 -- What was written of a trace, with the report behind it.
 use Rattle.std.proofs.Common.{◌≡◌, ◌∙◌, ◌++◌, ℕ, List, Result, IfErr, IsErrAnd, ap, sym, subst, append_assoc}
 use Rattle.std.proofs.lemmas.Result.{err_from_is_err_and}
-use Rattle.encodings.proofs.Outputs.{broken_first}
-use Rattle.encodings.specs.Device.{HasStopped, Output}
+use Rattle.devices.proofs.Outputs.{broken_first}
+use Rattle.devices.specs.Device.{HasStopped, Output}
 use Rattle.refusals.specs.declared.refusal.Refusal.{Refusal}
 use Rattle.refusals.specs.declared.refusal.Refusal.TheVariants.{Memory, Write}
 

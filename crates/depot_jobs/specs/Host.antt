@@ -2,8 +2,8 @@
 use Rattle.std.specs.Prelude.{◌≡◌, ◌⊎◌, ℕ, Bool, false, ◌||◌, List, [], ◌∷◌, ◌++◌, codes, Option, None, Some, IfSome, OnSome}
 use Rattle.std.specs.Str.{bytes_eq}
 use Rattle.std.specs.Option.{option_map}
-use Rattle.encodings.specs.Device.{Output, counted}
-use Rattle.encodings.specs.Supply.{Supply}
+use Rattle.devices.specs.Device.{Output, counted}
+use Rattle.devices.specs.Supply.{Supply}
 use Rattle.refusals.specs.declared.refusal.Refusal.{Refusal}
 use Rattle.refusals.specs.declared.refusal.Refusal.TheVariants.{Memory, Read, Write}
 use Rattle.depot_jobs.specs.declared.host.Input.{Input}

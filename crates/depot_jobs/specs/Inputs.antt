@@ -1,7 +1,7 @@
 -- What is read: by work and by requests, of files and of standard input.
 use Rattle.std.specs.Prelude.{◌≡◌, ◌⊎◌, ℕ, ◌+◌, ◌<◌, ◌≤◌, List, [], ◌∷◌, Option, None, Some, length, IfSome, slice_index_or}
 use Rattle.clap.specs.Words.{Text}
-use Rattle.encodings.specs.Device.{counted}
+use Rattle.devices.specs.Device.{counted}
 use Rattle.refusals.specs.declared.refusal.Refusal.{Refusal}
 use Rattle.refusals.specs.declared.refusal.Refusal.TheVariants.{Memory, MessageTooLarge, Read}
 use Rattle.depot_jobs.specs.Host.{HostState, Origin, file, opens, standard, with_call, with_faults}

@@ -2,8 +2,8 @@
 use Rattle.std.specs.Prelude.{◌≡◌, ◌≢◌, ◌<◌, ◌⊎◌, ◌++◌, ℕ, true, false, List, length, codes, Option, None, Some, ⊤}
 use Rattle.octets.specs.Limits.{max_program, max_script}
 use Rattle.octet_lanes.specs.Encoding.{IsOctets}
-use Rattle.encodings.specs.Device.{HasBroken, HasTaken, Output}
-use Rattle.encodings.specs.Device as device
+use Rattle.devices.specs.Device.{HasBroken, HasTaken, Output}
+use Rattle.devices.specs.Device as device
 use Rattle.encodings.specs.Texts.{IsUnread, Reads, text_of}
 use Rattle.bytecode_cost.specs.Text.{budget_text}
 use Rattle.bytecode_format.specs.declared.action.Action.{Action}

@@ -1,6 +1,6 @@
 -- Why limited reading gives up, and what it took until then.
 use Rattle.std.specs.Prelude.{◌≡◌, ℕ, ◌+◌, ◌≤◌, List, length}
-use Rattle.encodings.specs.Supply.{HasGiven, HasStoppedGiving, Supply}
+use Rattle.devices.specs.Supply.{HasGiven, HasStoppedGiving, Supply}
 use Rattle.refusals.specs.declared.refusal.Refusal.{Refusal}
 use Rattle.refusals.specs.declared.refusal.Refusal.TheVariants.{Memory, MessageTooLarge, Read}
 

@@ -2,7 +2,7 @@
 use Rattle.std.specs.Prelude.{◌≡◌, ◌⊎◌, ℕ, false, List}
 use Rattle.clap.specs.Words.{App, Text, takes}
 use Rattle.depot_words.specs.Commands.{IsDepot}
-use Rattle.encodings.specs.Device.{HasBroken, HasTaken, Output}
+use Rattle.devices.specs.Device.{HasBroken, HasTaken, Output}
 use Rattle.refusals.specs.declared.refusal.Refusal.TheVariants.{Memory}
 use Rattle.depot_jobs.specs.Jobs.{HasTold, HostAndOutputs}
 use Rattle.printing.specs.Printed.{shown}

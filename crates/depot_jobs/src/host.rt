@@ -2,7 +2,7 @@
 ghost use Rattle.std.specs.Prelude.{◌≡◌, false, suc, IfErr, IfOk, OnErr, OnOk};
 ghost use Rattle.depot_jobs.specs.Host.{HasKept, HasNotMade, HasNotOpened, HostState, IsFreshOutput, IsFreshSupply, is_beside, makes, opens, origin_of, with_call, with_faults, with_supply};
 
-use encodings::{DeviceFailed, Sink, Source};
+use devices::{DeviceFailed, Sink, Source};
 use refusals::Refusal;
 use std::alloc::Global;
 

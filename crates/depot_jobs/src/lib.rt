@@ -4,10 +4,10 @@
 //! [`line_of`] interprets the words (`specs/Words`) by the commands of `depot_words`: as [`Work`] that needs no depot,
 //! or a [`Request`] to one, each with the names of its files. A [`Host`] opens and makes files; a contract sees what
 //! it was asked for, and what it gave. [`System`] is the host of a real system. [`read_limited`] reads a
-//! [`Source`](encodings::Source) up to a limit (`specs/LimitedReading`). With the octets of its files (`specs/Inputs`)
+//! [`Source`](devices::Source) up to a limit (`specs/LimitedReading`). With the octets of its files (`specs/Inputs`)
 //! work is a [`Job`]. [`answer`] carries out a job, and [`carry_out`] reads and does it (`specs/Working`): it writes
 //! exactly the answer, or the line of the refusal (`specs/Jobs`, `specs/Printed`). An answer is printed on one
-//! [`Page`](encodings::Page), so it goes out in one write if it has at most 65,536 bytes. The lines of a trace go out as
+//! [`Page`](devices::Page), so it goes out in one write if it has at most 65,536 bytes. The lines of a trace go out as
 //! they are made, and the lines of its run after them in one piece. Writing takes no memory, except for a trace, and
 //! what a failed sink has got is a prefix of the text.
 //!

@@ -3,7 +3,7 @@ ghost use Rattle.std.specs.Prelude.{IfErr, OnOk};
 ghost use Rattle.depot_jobs.specs.Host.{HasMade, HasNotMade};
 
 use crate::host::Host;
-use encodings::{DeviceFailed, put};
+use devices::{DeviceFailed, put};
 use refusals::Refusal;
 use std::alloc::Global;
 

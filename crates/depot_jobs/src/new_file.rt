@@ -11,7 +11,7 @@ ghost use Rattle.depot_jobs.specs.Private.{new_name};
 ghost use Rattle.depot_jobs.specs.Host.{is_beside};
 
 use crate::beside::is_beside;
-use encodings::{DeviceFailed, OfWrite, Sink};
+use devices::{DeviceFailed, OfWrite, Sink};
 use std::alloc::{AllocError, Global};
 use std::fs::{File, Files, Metadata, OpenFile, OpenOptions};
 use std::io;

@@ -12,7 +12,7 @@ ghost use Rattle.refusals.specs.declared.refusal.Refusal.TheVariants.{Memory};
 
 use crate::job::tell;
 use crate::usage::tell_usage;
-use encodings::Sink;
+use devices::Sink;
 use refusals::Refusal;
 use std::alloc::{AllocError, Global};
 use std::env::Args;

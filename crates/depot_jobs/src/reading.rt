@@ -1,9 +1,9 @@
 // Reading up to a limit.
 ghost use Rattle.std.specs.Prelude.{◌≡◌, ◌+◌, ◌<◌, ◌≤◌, drop, take, vec_len, IfErr, IfOk, OnErr, OnOk};
 ghost use Rattle.depot_jobs.specs.LimitedReading.{HasGivenUp};
-ghost use Rattle.encodings.specs.Supply.{HasEnded, HasFailedToGive, HasGiven};
+ghost use Rattle.devices.specs.Supply.{HasEnded, HasFailedToGive, HasGiven};
 
-use encodings::{DeviceFailed, Source};
+use devices::{DeviceFailed, Source};
 use refusals::Refusal;
 use std::alloc::{AllocError, Global};
 

@@ -3,12 +3,12 @@ ghost use Rattle.std.specs.Prelude.{◌≡◌, ◌⊎◌, false, IfErr, IfOk, If
 ghost use Rattle.std.specs.Path.{path_buf_bytes};
 ghost use Rattle.depot_jobs.specs.Files.{IsReached};
 ghost use Rattle.depot_jobs.specs.Host.{HasNotMade, IsFreshOutput, is_beside, makes, untold, with_call};
-ghost use Rattle.encodings.specs.Device.{counted};
+ghost use Rattle.devices.specs.Device.{counted};
 ghost use Rattle.refusals.specs.declared.refusal.Refusal.TheVariants.{Memory};
 
 use crate::host::{Host, Input};
 use crate::new_file::{NewFile, begin, discard, persist};
-use encodings::{DeviceFailed, OfRead};
+use devices::{DeviceFailed, OfRead};
 use refusals::Refusal;
 use std::alloc::Global;
 use std::fs::Files;

@@ -1,7 +1,7 @@
 // Traces of scripts and of programs.
 ghost use Rattle.std.specs.Prelude.{◌≡◌, ◌<◌, true, false, List, IfErr, IfOk, IsErrAnd, OnErr, OnOk, length};
 ghost use Rattle.octets.specs.Limits.{max_program, max_script};
-ghost use Rattle.encodings.specs.Device.{HasBroken, HasStopped, HasTaken};
+ghost use Rattle.devices.specs.Device.{HasBroken, HasStopped, HasTaken};
 ghost use Rattle.printing.specs.Printed.{report_text};
 ghost use Rattle.refusals.specs.Scripts.{IsScriptRefusal};
 ghost use Rattle.refusals.specs.declared.refusal.Refusal.TheVariants.{ScriptTooLong, Spelling};
@@ -14,7 +14,7 @@ ghost use Rattle.depot_jobs.specs.Private.{program_text, script_text, traced_tex
 ghost use Rattle.depot_jobs.specs.Tracing.{IsTraceRefusal, IsTraced, IsTracedProgram, IsTracedScript, is_program};
 
 use bytecode_verifier::Verified;
-use encodings::{DeviceFailed, Page, Sink};
+use devices::{DeviceFailed, Page, Sink};
 use mime_decode::Message;
 use printing::print_run;
 use refusals::Refusal;

@@ -11,7 +11,7 @@ use crate::job::tell;
 use clap::Error;
 use clap::error::ErrorKind;
 use depot_words::asked_text;
-use encodings::{Page, Sink};
+use devices::{Page, Sink};
 use printing::print_text;
 use refusals::Refusal;
 use std::alloc::Global;

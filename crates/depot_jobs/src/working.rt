@@ -12,7 +12,7 @@ use crate::host::Host;
 use crate::inputs::{inputs_of, read_inputs};
 use crate::job::{Job, answer, tell};
 use crate::work::Work;
-use encodings::Sink;
+use devices::Sink;
 use std::alloc::Global;
 
 /// The program that keeps every message.

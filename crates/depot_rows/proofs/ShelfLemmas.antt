@@ -1,6 +1,6 @@
 -- What is asked of a shelf.
 use Rattle.std.proofs.Common.{◌≡◌, ◌∙◌, ◌+◌, ◌-◌, ◌^◌, min, ℕ, suc, Bool, true, false, if◌then◌else◌, ap, arith}
-use Rattle.encodings.specs.Device.{counted}
+use Rattle.devices.specs.Device.{counted}
 use Rattle.depot_jobs.specs.Host.{Call, HostState, with_call, with_faults}
 
 -- what was asked was noted, or it wasn't

@@ -1,9 +1,10 @@
 // Answers, and devices that fail under them.
 
-use crate::devices::Calls;
+use crate::calls::Calls;
 use crate::shelf::{Known, Shelf};
 use depot_jobs::{Job, answer};
-use encodings::{Encoding, OfWrite};
+use devices::OfWrite;
+use encodings::Encoding;
 use std::io;
 
 const NOTHING: Known<'static> = Known {

@@ -1,5 +1,5 @@
 // Batches on a depot in memory, over a shelf: what each line is answered, and what breaks off.
-use crate::devices::Calls;
+use crate::calls::Calls;
 use crate::known::{ANSWERS, EMPTY, MAIL, THREE, entries, served};
 use depot_actions::{Depot, Refusal};
 use sqlite::{Alter, MemStore};

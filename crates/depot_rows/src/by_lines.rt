@@ -1,7 +1,7 @@
 // Batches whose input gives a line at a time, so that no two lines are ready together: each is done alone.
 ghost use Rattle.std.specs.Prelude.{◌≤◌, length};
 
-use crate::devices::Calls;
+use crate::calls::Calls;
 use crate::known::{ANSWERS, DISCARD, MAIL, THREE, entries, served};
 use depot_actions::{Depot, Refusal};
 use sqlite::Alter;

@@ -1,7 +1,8 @@
 // Entries exported in pieces, from a depot in memory.
-use crate::devices::Calls;
+use crate::calls::Calls;
 use depot_actions::{Depot, Refusal};
-use encodings::{Encoding, OfWrite, encode};
+use devices::OfWrite;
+use encodings::{Encoding, encode};
 use sqlite::{Alter, MemStore};
 use std::alloc::{AllocError, Global};
 use std::test::Fail;

@@ -1,9 +1,10 @@
 // Replies that can't be written: what was done stands, and what was written is the text's beginning.
-use crate::devices::Calls;
+use crate::calls::Calls;
 use depot_actions::{Depot, Refusal};
 use depot_cli::perform;
 use depot_jobs::Task;
-use encodings::{Encoding, OfWrite, Sink, encode};
+use devices::{OfWrite, Sink};
+use encodings::{Encoding, encode};
 use sqlite::{Alter, MemStore};
 use std::alloc::{AllocError, Global};
 use std::io;

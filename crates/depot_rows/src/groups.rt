@@ -1,5 +1,5 @@
 // Deliveries that a batch does together: what they are answered, and what is read of which files.
-use crate::devices::Calls;
+use crate::calls::Calls;
 use crate::known::{EMPTY, MAIL, Seen, entries, served};
 use crate::shelf::Asked;
 use depot_actions::{Depot, Refusal};

@@ -1,6 +1,6 @@
 // What inspecting prints of a file that is no depot, for each reason.
 use depot_cli::{NoDepot, tell_no_depot};
-use encodings::OfWrite;
+use devices::OfWrite;
 use std::alloc::Global;
 
 static WHYS: [(NoDepot, &str); 13] = [

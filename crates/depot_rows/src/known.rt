@@ -2,7 +2,7 @@
 use crate::shelf::{Asked, Known, Shelf};
 use depot_actions::{Depot, Refusal};
 use depot_batch::batch;
-use encodings::{OfRead, OfWrite};
+use devices::{OfRead, OfWrite};
 use sqlite::Alter;
 use std::alloc::Global;
 use std::io::{BufReader, Read, Write};

@@ -9,7 +9,7 @@ mod batches;
 #[cfg(test)]
 mod by_lines;
 #[cfg(test)]
-mod devices;
+mod calls;
 #[cfg(test)]
 mod exports;
 #[cfg(test)]

@@ -1,8 +1,8 @@
 // Reading up to a limit.
 
-use crate::devices::Interrupted;
+use crate::calls::Interrupted;
 use depot_jobs::read_limited;
-use encodings::OfRead;
+use devices::OfRead;
 use mime_decode::MAX_MESSAGE;
 use refusals::Refusal;
 use std::alloc::{AllocError, Global};

@@ -4,7 +4,7 @@ use crate::shelf::{Asked, Known, Shelf};
 use depot_actions::Depot;
 use depot_cli::{Next, PendingTask, Saving, inspect, perform, run, save};
 use depot_jobs::{Host, tell};
-use encodings::{OfWrite, Sink};
+use devices::{OfWrite, Sink};
 use refusals::Refusal;
 use sqlite::Alter;
 use std::alloc::{AllocError, Global};

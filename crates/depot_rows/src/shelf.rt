@@ -5,7 +5,7 @@ ghost use Rattle.depot_jobs.specs.Host.{is_beside, makes, opens, origin_of, with
 ghost use Rattle.depot_rows.specs.Shelf.{call_of, state_of};
 
 use depot_jobs::{Host, Input, is_beside};
-use encodings::{DeviceFailed, OfRead, OfWrite};
+use devices::{DeviceFailed, OfRead, OfWrite};
 use refusals::Refusal;
 use std::alloc::{AllocError, Global};
 use std::io;

@@ -1,8 +1,2 @@
-pub mod Device
 pub mod Names
 pub mod Texts
-pub mod Supply
-pub mod Pages
--- private: how the code goes; no public contract names these
-pub mod GhostTexts
-pub mod PageFacts

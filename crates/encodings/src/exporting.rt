@@ -4,13 +4,13 @@
 // pieces, one after another, are the text of the whole. In quoted-printable a piece is a line, and because standard
 // output isn't buffered, each line is a system call. So a `1 Memory` can come after some of the text was written.
 ghost use Rattle.std.specs.Prelude.{◌≡◌, ◌≢◌, ◌<◌, ◌++◌, length, IfErr, IfOk, OnErr, OnOk};
-ghost use Rattle.encodings.specs.Device.{HasBroken, HasStopped, HasTaken};
+ghost use Rattle.devices.specs.Device.{HasBroken, HasStopped, HasTaken};
 ghost use Rattle.encodings.specs.Texts.{text_of};
 ghost use Rattle.encodings.specs.declared.encoding.Encoding.TheVariants.{Qp, Raw};
 ghost use Rattle.refusals.specs.declared.refusal.Refusal.TheVariants.{Write};
 
 use crate::encoding::{Encoding, encode};
-use crate::sink::{DeviceFailed, Sink};
+use devices::{DeviceFailed, Sink, put};
 use quoted_printable::encode_qp_line;
 use refusals::Refusal;
 use std::alloc::{AllocError, Global};
@@ -21,22 +21,6 @@ const PIECE_OCTETS: usize = 4_560;
 
 /// The length in bytes of the longest line of quoted-printable, with its soft line break.
 const LINE_OCTETS: usize = 78;
-
-/// Writes all of the bytes, unchanged, in as few calls as the sink takes them.
-///
-/// # Errors
-///
-/// `DeviceFailed` if a call of the sink fails; the sink has taken the first of the bytes.
-pub fn put<W: Sink>(writer: &mut W, octets: &[u8]) -> Result<(), DeviceFailed>
-    ensures ok { OnOk result (HasTaken octets.now (W.output writer.old) (W.output writer.new)) }
-    ensures err { OnErr result (HasBroken octets.now (W.output writer.old) (W.output writer.new)) }
-{
-    let mut done = 0;
-    'pieces: while done < octets.len() {
-        done += writer.write(&octets[done..])?;
-    }
-    Ok(())
-}
 
 /// Writes the text of the bytes. At most the text of one piece is in memory: a piece of [`PIECE_OCTETS`] bytes, or a
 /// line of quoted-printable.

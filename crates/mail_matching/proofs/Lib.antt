@@ -2,6 +2,7 @@ pub mod Examples
 pub mod Extents
 pub mod Keeping
 pub mod Lengths
+pub mod NotContained
 pub mod Onward
 pub mod Pairs
 pub mod QuestionLemmas

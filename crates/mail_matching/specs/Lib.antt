@@ -22,4 +22,5 @@ pub mod Kept
 -- private: how the code goes; no public contract names these
 pub mod Headers
 pub mod Readings
+pub mod Bigrams
 pub mod Private

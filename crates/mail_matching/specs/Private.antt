@@ -3,7 +3,9 @@ use Rattle.std.specs.Prelude.{ℕ, List, Option, None, Some, ◌≡◌, ◌+◌,
 use Rattle.mail_matching.specs.FirstMatch.{first_match, ten_of}
 use Rattle.std.specs.Option.{option_or}
 use Rattle.glob_match.specs.Captures.{texts}
+use Rattle.glob_match.specs.declared.comparator.Comparator.{Comparator}
 use Rattle.glob_match.specs.declared.match_type.Match.{Match}
+use Rattle.glob_match.specs.declared.match_type.MatchType.TheVariants.{Contains}
 use Rattle.mail_matching.specs.Costs.{extent_of}
 use Rattle.mail_matching.specs.Findings.{finding_of, is_pair, shortened}
 use Rattle.mail_matching.specs.declared.comparing.Compared.{Compared}
@@ -25,6 +27,10 @@ abbrev pub key_in : Compared → Option (List ℕ)
 key_in Differs = None
 key_in (Matches key) = Some key.now
 key_in (Sets key stretches) = Some key.now
+
+-- how `:contains` matches under a comparator
+abbrev pub containing : Comparator → Match
+containing comparator = record { kind = Contains; comparator = comparator }
 
 -- what values come to and then others
 abbrev pub further : Finding → Finding → Finding

@@ -47,6 +47,7 @@
 #![tactic(auto)]
 
 mod asked;
+mod bigrams;
 mod comparing;
 mod cost;
 mod existence;

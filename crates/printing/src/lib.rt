@@ -1,6 +1,6 @@
 //! Printing on pages: lines, quoted bytes, the lines of a run and of a refusal.
 //!
-//! A printer adds exactly its text (`specs/Printed`, `specs/Pieces`) to a [`Page`](encodings::Page). It returns nothing
+//! A printer adds exactly its text (`specs/Printed`, `specs/Pieces`) to a [`Page`](devices::Page). It returns nothing
 //! and takes no memory: the page remembers whether a call of its sink has failed, and the caller that made the page
 //! looks for that once, when it flushes the page. [`put_line`], [`put_pieces`] and [`put_refusal`] make a page for one
 //! short text.

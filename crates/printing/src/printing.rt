@@ -2,7 +2,7 @@
 ghost use Rattle.std.specs.Prelude.{◌≡◌};
 ghost use Rattle.std.specs.Fmt.{decimal};
 ghost use Rattle.std.specs.List.{list_all};
-ghost use Rattle.encodings.specs.Pages.{Wrote};
+ghost use Rattle.devices.specs.Pages.{Wrote};
 ghost use Rattle.refusals.specs.Lines.{place_text};
 ghost use Rattle.printing.specs.Pieces.{piece_text, pieces_text};
 ghost use Rattle.printing.specs.Printed.{action_text, actions_text, charge_text, escaped, escaped_octet, line as line_of, quoted, refusal_line, report_text, shown, wrote_text};
@@ -10,7 +10,7 @@ ghost use Rattle.printing.specs.Printed as Printed;
 
 use crate::piece::{Piece, Setting};
 use bytecode_format::Action;
-use encodings::{Page, Sink};
+use devices::{Page, Sink};
 use itoa::Buffer;
 use readable_text::quoting::{self, escape};
 use refusals::Refusal;

@@ -1,12 +1,12 @@
 // Short texts for a sink, each on a page of its own.
 ghost use Rattle.std.specs.Prelude.{◌≡◌, OnErr, OnOk};
-ghost use Rattle.encodings.specs.Device.{HasBroken, HasTaken};
+ghost use Rattle.devices.specs.Device.{HasBroken, HasTaken};
 ghost use Rattle.printing.specs.Pieces.{pieces_text};
 ghost use Rattle.printing.specs.Printed.{line as line_of, refusal_line};
 
 use crate::piece::Piece;
 use crate::printing::{print, print_line, print_refusal};
-use encodings::{DeviceFailed, Page, Sink};
+use devices::{DeviceFailed, Page, Sink};
 use refusals::Refusal;
 
 /// Writes the pieces, one after another. To write many lines, make one [`Page`] for all of them.

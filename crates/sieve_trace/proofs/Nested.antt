@@ -2,7 +2,7 @@
 use Rattle.std.proofs.Common.{◌≡◌, ◌∙◌, ℕ, Bool, true, false, not, ap, refl, List, [], ◌∷◌, ◌++◌, sym, subst, append-nil, Result, Ok, Err, IfOk, IfErr}
 use Rattle.std.specs.Result.{IsErrAnd}
 use Rattle.std.proofs.lemmas.Result.{err_from_is_err_and}
-use Rattle.encodings.specs.Device.{HasTaken, Output}
+use Rattle.devices.specs.Device.{HasTaken, Output}
 use Rattle.std.specs.Global.{Box}
 use Rattle.sieve_check.specs.declared.typed.Test.{Test}
 use Rattle.sieve_check.specs.declared.typed.Test.TheVariants.{Not, rolls-Not}

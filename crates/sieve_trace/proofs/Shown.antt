@@ -3,7 +3,7 @@ use Rattle.std.proofs.Common.{◌≡◌, OnOk, Result, Ok, Err, is_ok, ℕ, Bool
 use Rattle.std.proofs.lemmas.Bool.{cases_Bool, leb-false, leb-true}
 use Rattle.std.proofs.lemmas.List.{length-take, take-take, take_all}
 use Rattle.readable_text.specs.Quoted.{max_start, quoted, quoted_start}
-use Rattle.encodings.specs.Device.{HasTaken, Output}
+use Rattle.devices.specs.Device.{HasTaken, Output}
 use Rattle.mail_matching.specs.Findings.{shortened}
 use Rattle.mail_matching.specs.declared.finding.Finding.{Finding}
 use Rattle.mail_matching.specs.declared.finding.Finding.TheVariants.{Pair, NoneOf}

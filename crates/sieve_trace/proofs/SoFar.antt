@@ -1,8 +1,8 @@
 -- What is written while events are told one after another.
 use Rattle.std.proofs.Common.{◌≡◌, ◌∙◌, ap, refl, ℕ, List, [], ◌∷◌, ◌++◌, sym, subst, append_assoc, append-nil}
 use Rattle.std.proofs.lemmas.Grind.{flat_map-append}
-use Rattle.encodings.specs.Device.{HasBegun, HasTaken, Output}
-use Rattle.encodings.proofs.Outputs.{broken_first, broken_later, taken_both, taken_none}
+use Rattle.devices.specs.Device.{HasBegun, HasTaken, Output}
+use Rattle.devices.proofs.Outputs.{broken_first, broken_later, taken_both, taken_none}
 use Rattle.sieve_meaning.specs.declared.evaluator.Evaluator.{Evaluator}
 use Rattle.sieve_meaning.specs.Evaluation.{HasEvaluated}
 use Rattle.sieve_meaning.specs.Meaning.{Effects}

@@ -1,6 +1,6 @@
 -- Tests, commands, branches and turns, told one after another.
 use Rattle.std.proofs.Common.{◌≡◌, ◌∙◌, ℕ, Bool, true, false, ap, refl, List, [], ◌∷◌, ◌++◌, Option, Some, sym, subst, append-nil}
-use Rattle.encodings.specs.Device.{Output}
+use Rattle.devices.specs.Device.{Output}
 use Rattle.mime_decode.specs.Mail.{Mail}
 use Rattle.sieve_check.specs.Typed.{TestForm, TestForms, test, CommandForm, CommandForms, command, BranchForms, no_branch, otherwise, branch}
 use Rattle.sieve_meaning.specs.declared.evaluator.Evaluator.{Evaluator}

@@ -1,7 +1,7 @@
 -- Private: how the code goes: what it tells, what it prints by, and what has been told so far.
 use Rattle.std.specs.Prelude.{ℕ, Bool, List, Some, option_map}
 use Rattle.std.specs.Borrow.{Bor}
-use Rattle.encodings.specs.Device.{HasTaken, Output}
+use Rattle.devices.specs.Device.{HasTaken, Output}
 use Rattle.mail_matching.specs.declared.finding.Finding.{Finding}
 use Rattle.mime_decode.specs.Mail.{Mail}
 use Rattle.sieve_check.specs.Typed.{CommandForms}

@@ -1,6 +1,6 @@
 -- What is written of a trace.
 use Rattle.std.specs.Prelude.{ℕ, List}
-use Rattle.encodings.specs.Device.{HasBegun, HasBroken, Output}
+use Rattle.devices.specs.Device.{HasBegun, HasBroken, Output}
 use Rattle.sieve_check.specs.Typed.{CommandForms}
 use Rattle.sieve_meaning.specs.Traced.{script_events}
 use Rattle.sieve_trace.specs.declared.error.TraceError.{TraceError}

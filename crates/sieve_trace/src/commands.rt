@@ -17,7 +17,7 @@ use crate::scene::Scene;
 use crate::telling::{tell, tell_turn};
 use crate::tests_told::is_true;
 use crate::words::variable_of;
-use encodings::Sink;
+use devices::Sink;
 use octets::Octets;
 use sieve_check::{Act, Command};
 use sieve_meaning::{Evaluator, Flow, Subject};

@@ -2,7 +2,7 @@
 ghost use Rattle.std.specs.Prelude.{◌≡◌};
 ghost use Rattle.sieve_trace.specs.declared.error.TraceError.TheVariants.{Memory, Write};
 
-use encodings::DeviceFailed;
+use devices::DeviceFailed;
 use std::alloc::AllocError;
 use thiserror::Error;
 

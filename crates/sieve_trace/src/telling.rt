@@ -1,6 +1,6 @@
 // Writing the line of an event.
 ghost use Rattle.std.specs.Prelude.{◌≡◌, IfErr, OnOk};
-ghost use Rattle.encodings.specs.Device.{HasTaken};
+ghost use Rattle.devices.specs.Device.{HasTaken};
 ghost use Rattle.sieve_meaning.specs.Traced.{event, turned};
 ghost use Rattle.sieve_trace.specs.Printed.{event_line, part_text};
 ghost use Rattle.sieve_trace.specs.Private.{occurrence_of, sheet_of};
@@ -9,7 +9,7 @@ ghost use Rattle.sieve_trace.specs.Written.{HasStopped};
 use crate::error::TraceError;
 use crate::line::{Page, Told, set_line, set_turn_line};
 use crate::scene::Scene;
-use encodings::{Sink, put};
+use devices::{Sink, put};
 use sieve_meaning::Subject;
 
 /// Writes the line of an event other than a turn of a loop. It is made in the memory of the line before it.

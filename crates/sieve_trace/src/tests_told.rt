@@ -1,6 +1,6 @@
 // Tests, asked and reported.
 ghost use Rattle.std.specs.Prelude.{◌≡◌, IfErr, IfOk, map};
-ghost use Rattle.encodings.specs.Device.{HasTaken};
+ghost use Rattle.devices.specs.Device.{HasTaken};
 ghost use Rattle.sieve_check.specs.Bounded.{AreBoundedStrings, AreBoundedTests, IsBoundedTest};
 ghost use Rattle.bytecode_format.specs.Questions.{row_of};
 ghost use Rattle.sieve_check.specs.Typed.{asks};
@@ -17,7 +17,7 @@ use crate::line::{MAX_KEPT, Page, Told};
 use crate::scene::Scene;
 use crate::telling::tell;
 use bytecode_format::Question;
-use encodings::Sink;
+use devices::Sink;
 use sieve_check::{Strings, Test};
 use sieve_meaning::Evaluator;
 

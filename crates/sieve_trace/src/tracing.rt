@@ -3,7 +3,7 @@
 // A trace is written as it is made: three loops over 4,096 parts have more lines than memory can hold. So it is the
 // only answer that can break off because memory is refused after some of it was written.
 ghost use Rattle.std.specs.Prelude.{◌≡◌, IfErr, IfOk};
-ghost use Rattle.encodings.specs.Device.{HasTaken};
+ghost use Rattle.devices.specs.Device.{HasTaken};
 ghost use Rattle.sieve_check.specs.Bounded.{AreBoundedCommands};
 ghost use Rattle.sieve_check.specs.TypedView.{commands_form};
 ghost use Rattle.sieve_meaning.specs.Meaning.{meaning};
@@ -18,7 +18,7 @@ use crate::line::Page;
 use crate::places::Places;
 use crate::scene::Scene;
 use bytecode_format::Action;
-use encodings::Sink;
+use devices::Sink;
 use mime_decode::Message;
 use sieve_check::{Checked, Command};
 use sieve_meaning::Evaluator;

@@ -1,7 +1,8 @@
 // Contents of which something has altered a byte: whoever reads one is refused, nothing changes, and the others are given.
 use crate::held::{Held, held_in};
 use depot_actions::{Depot, Refusal};
-use encodings::{Encoding, OfWrite};
+use devices::OfWrite;
+use encodings::Encoding;
 use part_store::{Kind, NewEntry, PartStore, StoreError};
 use sqlite::{Alter, MemStore, params};
 use std::alloc::{AllocError, Global};

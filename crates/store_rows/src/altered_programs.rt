@@ -2,7 +2,8 @@
 use crate::samples::KEEP;
 use bytecode_format::Action;
 use depot_actions::{Depot, Refusal};
-use encodings::{Encoding, OfWrite};
+use devices::OfWrite;
+use encodings::Encoding;
 use part_store::{EntryRow, Kind, NewEntry, PartStore, StoreError};
 use sieve_engine::execute;
 use sqlite::{Alter, params};

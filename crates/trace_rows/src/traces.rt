@@ -1,5 +1,5 @@
 // Scripts traced on small mails.
-use encodings::{OfWrite, Sink};
+use devices::{OfWrite, Sink};
 use mime_decode::Message;
 use sieve_check::{Checked, check};
 use sieve_parser::parse;

@@ -1,5 +1,5 @@
 use Rattle.std.proofs.Common.{◌≡◌, ◌-◌}
-use Rattle.encodings.specs.Pages.{view_of, writes}
+use Rattle.devices.specs.Pages.{view_of, writes}
 use Rattle.sieve_vm.specs.Potential.{limit_of}
 use Rattle.bytecode_trace.specs.Printed.{trace_text}
 use Rattle.bytecode_trace.specs.Private.{lines_left}

@@ -1,5 +1,5 @@
 use Rattle.std.proofs.Common.{ap, inl, inr}
-use Rattle.encodings.specs.Device.{Output}
+use Rattle.devices.specs.Device.{Output}
 use Rattle.depot_batch.proofs.Exporting.{given_up}
 use Rattle.depot_batch.proofs.answering.export.Goals as goal
 

@@ -1,6 +1,6 @@
 use Rattle.std.proofs.Common.{arith, subst, Option, ℕ}
-use Rattle.encodings.specs.Device.{Output}
-use Rattle.encodings.specs.Supply.{Supply}
+use Rattle.devices.specs.Device.{Output}
+use Rattle.devices.specs.Supply.{Supply}
 use Rattle.depot_batch.specs.Batch.{depot_and_output}
 use Rattle.depot_batch.specs.Private.{HasTurned}
 use Rattle.depot_batch.proofs.Batches.{ends, ends_counting, stands_first, stands_on}

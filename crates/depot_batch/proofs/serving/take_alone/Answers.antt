@@ -1,6 +1,6 @@
 use Rattle.std.proofs.Common.{subst, List, ℕ}
-use Rattle.encodings.specs.Device.{HasBroken, HasTaken, Output}
-use Rattle.encodings.specs.Supply.{Supply}
+use Rattle.devices.specs.Device.{HasBroken, HasTaken, Output}
+use Rattle.devices.specs.Supply.{Supply}
 use Rattle.depot_batch.specs.Batch.{IsAnsweredBy, depot_and_output}
 use Rattle.depot_batch.specs.Private.{HasServedLast, HasTakenNext}
 use Rattle.depot_batch.specs.Turns.{Alone}

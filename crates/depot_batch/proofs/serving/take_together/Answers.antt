@@ -1,8 +1,8 @@
 use Rattle.std.proofs.Common.{◌≡◌, ◌<◌, ◌^◌, arith, length, refl, rules, subst, sym, ℕ, List, Vec, Global}
 use Rattle.std.specs.List.{concat}
 use Rattle.std.proofs.lemmas.List.{length-map}
-use Rattle.encodings.specs.Device.{Output}
-use Rattle.encodings.specs.Supply.{Supply}
+use Rattle.devices.specs.Device.{Output}
+use Rattle.devices.specs.Supply.{Supply}
 use Rattle.depot_batch.specs.Batch.{depot_and_output}
 use Rattle.depot_batch.specs.Private.{HasTried, lines_of}
 use Rattle.depot_batch.specs.Turns.{Together, Withdrawn}

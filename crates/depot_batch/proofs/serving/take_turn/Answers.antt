@@ -1,5 +1,5 @@
 use Rattle.std.proofs.Common.{◌-◌, arith, subst, []}
-use Rattle.encodings.specs.Supply.{Supply}
+use Rattle.devices.specs.Supply.{Supply}
 use Rattle.depot_batch.specs.Private.{IsAhead}
 use Rattle.depot_batch.specs.declared.ahead.Ahead.{Ahead}
 use Rattle.depot_batch.proofs.Batches.{turned_after, turned_end, turned_unread}

@@ -1,6 +1,6 @@
 use Rattle.std.proofs.Common.{map}
 use Rattle.std.specs.List.{flat_map}
-use Rattle.encodings.specs.Pages.{Wrote}
+use Rattle.devices.specs.Pages.{Wrote}
 use Rattle.depot_batch.specs.Batch.{filed_text}
 use Rattle.depot_batch.specs.Private.{filed_by}
 use Rattle.depot_batch.proofs.together.print_filed.Given as goal

@@ -3,8 +3,8 @@ use Rattle.std.proofs.lemmas.List.{length-map}
 use Rattle.sqlite_trees.specs.Tree.{Trees}
 use Rattle.sqlite.specs.Held.{state}
 use Rattle.sqlite.specs.State.{HasCleanDisk, Survives}
-use Rattle.encodings.specs.Device.{HasBroken, HasTaken, Output}
-use Rattle.encodings.proofs.Outputs.{on_err}
+use Rattle.devices.specs.Device.{HasBroken, HasTaken, Output}
+use Rattle.devices.proofs.Outputs.{on_err}
 use Rattle.depot_actions.specs.Deliveries.{DoesAll, MayLeaveAll}
 use Rattle.depot_actions.specs.DepotState.{Listed}
 use Rattle.depot_batch.specs.Batch.{AreDeliveries, most_together, depot_and_output}

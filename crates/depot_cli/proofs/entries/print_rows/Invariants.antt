@@ -1,6 +1,6 @@
 use Rattle.std.proofs.Common.{map, take}
 use Rattle.std.specs.List.{flat_map}
-use Rattle.encodings.specs.Pages.{Wrote}
+use Rattle.devices.specs.Pages.{Wrote}
 use Rattle.part_store.specs.Standing.{listed}
 use Rattle.printing.specs.Printed.{line}
 use Rattle.depot_cli.specs.Printed.{entry_text}

@@ -1,5 +1,5 @@
 use Rattle.std.proofs.Common.{take}
-use Rattle.encodings.specs.Pages.{Wrote}
+use Rattle.devices.specs.Pages.{Wrote}
 use Rattle.depot_cli.specs.Printed.{users_text}
 use Rattle.depot_cli.proofs.inspection.print_users.Given as goal
 

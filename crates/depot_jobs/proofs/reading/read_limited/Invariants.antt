@@ -1,5 +1,5 @@
 use Rattle.std.proofs.Common.{◌+◌, ◌-◌, ◌≤◌, take, vec_len}
-use Rattle.encodings.specs.Supply.{HasGiven}
+use Rattle.devices.specs.Supply.{HasGiven}
 use Rattle.depot_jobs.proofs.reading.read_limited.Given as goal
 
 abbrev pub invariant-pieces : goal.invariant-pieces

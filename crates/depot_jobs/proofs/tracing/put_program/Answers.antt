@@ -1,6 +1,6 @@
 use Rattle.std.proofs.lemmas.Result.{err_from_is_err_and}
 use Rattle.bytecode_trace.specs.Printed.{trace_text}
-use Rattle.encodings.proofs.Outputs.{broken_later}
+use Rattle.devices.proofs.Outputs.{broken_later}
 use Rattle.printing.specs.Printed.{report_text}
 use Rattle.depot_jobs.proofs.TraceLemmas.{passed_on, stopped_first}
 use Rattle.depot_jobs.proofs.tracing.put_program.Goals as goal

@@ -1,4 +1,4 @@
-use Rattle.encodings.proofs.Outputs.{broken_later}
+use Rattle.devices.proofs.Outputs.{broken_later}
 use Rattle.printing.specs.Printed.{report_text}
 use Rattle.sieve_check.specs.TypedView.{commands_form}
 use Rattle.sieve_trace.specs.Printed.{sheet}

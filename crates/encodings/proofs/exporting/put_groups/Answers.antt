@@ -2,7 +2,7 @@ use Rattle.std.proofs.Common.{◌≡◌, ◌∙◌, [], sym, ap, eqb-true}
 use Rattle.std.proofs.lemmas.List.{nil_from_length}
 use Rattle.std.proofs.lemmas.Result.{err_from_is_err_and}
 use Rattle.encodings.specs.Texts.{text_of}
-use Rattle.encodings.proofs.Outputs.{broken_in_piece, leaves_all, leaves_none, leaves_rest}
+use Rattle.devices.proofs.Outputs.{broken_in_piece, leaves_all, leaves_none, leaves_rest}
 use Rattle.encodings.proofs.Pieces.{text_of-none}
 use Rattle.encodings.proofs.exporting.put_groups.Goals as goal
 

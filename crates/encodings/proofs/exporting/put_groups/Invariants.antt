@@ -1,6 +1,6 @@
 use Rattle.std.proofs.Common.{length}
 use Rattle.encodings.specs.Texts.{text_of}
-use Rattle.encodings.proofs.Outputs.{Leaves}
+use Rattle.devices.proofs.Outputs.{Leaves}
 use Rattle.encodings.proofs.exporting.put_groups.Given as goal
 
 abbrev pub invariant-pieces : goal.invariant-pieces

@@ -5,7 +5,7 @@ use Rattle.quoted_printable.specs.QuotedPrintable.{encoding_of, first_line, toke
 use Rattle.quoted_printable.proofs.Encoded.{first_and_rest}
 use Rattle.encodings.specs.Texts.{text_of}
 use Rattle.encodings.specs.declared.encoding.Encoding.TheVariants.{Qp}
-use Rattle.encodings.proofs.Outputs.{broken_in_piece, leaves_all, leaves_none, leaves_rest}
+use Rattle.devices.proofs.Outputs.{broken_in_piece, leaves_all, leaves_none, leaves_rest}
 use Rattle.encodings.proofs.Pieces.{text_of-none}
 use Rattle.encodings.proofs.exporting.put_lines.Goals as goal
 

@@ -1,7 +1,7 @@
 use Rattle.std.proofs.Common.{length}
 use Rattle.encodings.specs.Texts.{text_of}
 use Rattle.encodings.specs.declared.encoding.Encoding.TheVariants.{Qp}
-use Rattle.encodings.proofs.Outputs.{Leaves}
+use Rattle.devices.proofs.Outputs.{Leaves}
 use Rattle.encodings.proofs.exporting.put_lines.Given as goal
 
 abbrev pub invariant-lines : goal.invariant-lines

@@ -1,6 +1,6 @@
 use Rattle.std.proofs.Common.{◌≡◌, ◌∙◌, [], take, drop, sym, eqb-true, take-append-drop}
 use Rattle.std.proofs.lemmas.List.{nil_from_length}
-use Rattle.encodings.proofs.Outputs.{broken_in_piece, leaves_all, leaves_none, leaves_rest, on_err}
+use Rattle.devices.proofs.Outputs.{broken_in_piece, leaves_all, leaves_none, leaves_rest, on_err}
 use Rattle.encodings.proofs.exporting.put_pieces.Goals as goal
 
 pub pieces-init : goal.pieces-init

@@ -1,5 +1,5 @@
 use Rattle.std.proofs.Common.{length}
-use Rattle.encodings.proofs.Outputs.{Leaves}
+use Rattle.devices.proofs.Outputs.{Leaves}
 use Rattle.encodings.proofs.exporting.put_pieces.Given as goal
 
 abbrev pub invariant-pieces : goal.invariant-pieces

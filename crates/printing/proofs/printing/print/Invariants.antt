@@ -1,5 +1,5 @@
 use Rattle.std.proofs.Common.{take}
-use Rattle.encodings.specs.Pages.{Wrote}
+use Rattle.devices.specs.Pages.{Wrote}
 use Rattle.printing.specs.Pieces.{pieces_text}
 use Rattle.printing.proofs.printing.print.Given as goal
 

@@ -1,6 +1,6 @@
 use Rattle.std.proofs.Common.{take}
 use Rattle.std.specs.List.{flat_map}
-use Rattle.encodings.specs.Pages.{Wrote}
+use Rattle.devices.specs.Pages.{Wrote}
 use Rattle.printing.specs.Printed.{action_text, line}
 use Rattle.printing.proofs.printing.print_actions.Given as goal
 

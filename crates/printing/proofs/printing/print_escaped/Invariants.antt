@@ -1,5 +1,5 @@
 use Rattle.std.proofs.Common.{take}
-use Rattle.encodings.specs.Pages.{Wrote}
+use Rattle.devices.specs.Pages.{Wrote}
 use Rattle.printing.specs.Printed.{escaped}
 use Rattle.printing.proofs.printing.print_escaped.Given as goal
 

@@ -1,5 +1,5 @@
 use Rattle.std.proofs.Common.{Option, ℕ, subst}
-use Rattle.encodings.specs.Device.{HasTaken}
+use Rattle.devices.specs.Device.{HasTaken}
 use Rattle.mime_decode.specs.Mail.{Mail}
 use Rattle.sieve_check.specs.TypedView.{commands_form}
 use Rattle.sieve_meaning.specs.Meaning.{no_effects}

@@ -3,7 +3,7 @@ use Rattle.depot_actions.proofs.StoreFaults.{failure_told, fault_told, of_answer
 use Rattle.std.proofs.Common.{◌≡◌, ◌∙◌, IfErr, IsTrue, rules, subst}
 use Rattle.std.proofs.lemmas.Result.{IfErr-weaker, IfOk-weaker}
 use Rattle.depot_actions.specs.Causes.{IsFault, IsHindered, IsStoreFault}
-use Rattle.encodings.specs.Device.{HasStopped}
+use Rattle.devices.specs.Device.{HasStopped}
 use Rattle.encodings.specs.Texts.{text_of}
 use Rattle.part_store.specs.Calls.{WasOpen}
 use Rattle.part_store.specs.Entries.{Entries, Entry}

@@ -4,7 +4,7 @@ use Rattle.std.proofs.Common.{IfErr, subst}
 use Rattle.depot_actions.specs.Causes.{IsFault, IsHindered}
 use Rattle.sqlite.specs.Held.{state}
 use Rattle.depot_actions.proofs.Commands.{unchanged_self}
-use Rattle.encodings.proofs.Outputs.{on_err}
+use Rattle.devices.proofs.Outputs.{on_err}
 use Rattle.depot_actions.proofs.depot.Depot.set_code.Goals as goal
 
 pub returns-then-not-is_user_name-clause-unchanged : goal.returns-then-not-is_user_name-clause-unchanged

@@ -10,7 +10,7 @@ use Rattle.sqlite.specs.State.{Survives}
 use Rattle.depot_actions.specs.DepotState.{Does, Done, MayLeave, SetScript}
 use Rattle.depot_actions.specs.Users.{is_user_name}
 use Rattle.depot_actions.proofs.Commands.{unchanged_self, ok_as, script_done, script_left, survives_more}
-use Rattle.encodings.proofs.Outputs.{on_err}
+use Rattle.devices.proofs.Outputs.{on_err}
 use Rattle.depot_actions.proofs.depot.Depot.set_script.Goals as goal
 
 pub returns-clause-done : goal.returns-clause-done

@@ -1,5 +1,0 @@
-use Rattle.std.proofs.Common.{◌≡◌, ◌++◌, take}
-use Rattle.encodings.proofs.ghost_text.GhostText.extend.Given as goal
-
-abbrev pub invariant-octets : goal.invariant-octets
-invariant-octets l = l.self ≡ l.initial.self ++ take l.octet-index l.octets

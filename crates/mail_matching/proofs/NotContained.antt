@@ -1,0 +1,124 @@
+-- Keys that a text can't contain, because their first bigram isn't among its bigrams.
+use Rattle.std.proofs.Common.{◌≡◌, ◌≢◌, ◌⊎◌, ℕ, suc, ◌+◌, ◌-◌, ◌*◌, ◌/◌, ◌%◌, ◌^◌, ◌<◌, ◌≤◌, max, nat_eq, bit_and, bit_or, Bool, true, false, ◌&&◌, List, [], ◌∷◌, map, length, get_or, set, Option, None, Some, is_some, option_map, refl, sym, ◌∙◌, ap, arith, inl, inr, if◌then◌else◌}
+use Rattle.std.specs.Char.{to_ascii_uppercase}
+use Rattle.std.specs.Int.{bit_at, w32}
+use Rattle.std.proofs.lemmas.Bool.{cases_Bool, cases_lt, eqb-false, eqb-true, and_parts}
+use Rattle.std.proofs.lemmas.Bool.Decides.{eqb_tells}
+use Rattle.std.proofs.lemmas.Grind.{get_or-set_at}
+use Rattle.std.proofs.lemmas.List.{get_or-set_other}
+use Rattle.std.proofs.lemmas.Nat.Bits.{bit_at_or, bit_at-lt, bit_at_set_same, shr_and_one}
+use Rattle.glob_match.specs.declared.comparator.Comparator.{Comparator}
+use Rattle.glob_match.specs.declared.comparator.Comparator.TheVariants.{Octet, Casemap}
+use Rattle.glob_match.specs.declared.token.Token.TheVariants.{Literal}
+use Rattle.glob_match.specs.Comparison.{compared_octet, same_octet}
+use Rattle.glob_match.specs.Containment.{begins_with, first_place, contains_match}
+use Rattle.mail_matching.specs.Bigrams.{Covers, bit_of}
+
+-- ---- octets that are equal under a comparator have the same last five bits
+
+upper_ending : (octet : ℕ) → to_ascii_uppercase octet % 32 ≡ octet % 32
+upper_ending octet = grind arith
+
+same_ending : (comparator : Comparator) (x a : ℕ) → same_octet comparator x a ≡ true → x % 32 ≡ a % 32
+same_ending Octet x a same = ap (λ octet. octet % 32) (eqb-true x a same)
+same_ending Casemap x a same =
+    sym (upper_ending x) ∙ ap (λ octet. octet % 32) (eqb-true (to_ascii_uppercase x) (to_ascii_uppercase a) same) ∙ upper_ending a
+
+same_bit : (comparator : Comparator) (rows : List ℕ) (x y a b : ℕ) → same_octet comparator x a ≡ true → same_octet comparator y b ≡ true → bit_of rows x y ≡ bit_of rows a b
+same_bit comparator rows x y a b first second =
+    ap (λ row. bit_at (get_or rows row 0) (y % 32)) (same_ending comparator x a first)
+    ∙ ap (bit_at (get_or rows (a % 32) 0)) (same_ending comparator y b second)
+
+-- ---- a key whose first bigram isn't set
+
+module _ (comparator : Comparator) (rows : List ℕ) (a b : ℕ) (rest : List ℕ) (unset : bit_of rows a b ≢ 1) where
+  abbrev begins_key : List ℕ → Bool
+  begins_key text = begins_with comparator (map Literal (a ∷ (b ∷ rest))) text
+
+  and_false : (p : Bool) → (p && false) ≡ false
+  and_false true = refl
+  and_false false = refl
+
+  not_here : (text : List ℕ) → Covers rows text → begins_key text ≡ false
+  not_here [] covers = refl
+  not_here (x ∷ []) covers = and_false (same_octet comparator x a)
+  not_here (x ∷ (y ∷ more)) covers =
+      elim (cases_Bool (begins_key (x ∷ (y ∷ more)))) [
+        | inl begins ↦
+            let first = and_parts (same_octet comparator x a) (same_octet comparator y b && begins_with comparator (map Literal rest) more) begins in
+            let second = and_parts (same_octet comparator y b) (begins_with comparator (map Literal rest) more) first.1 in
+            absurd (unset (sym (same_bit comparator rows x y a b first.0 second.0) ∙ covers.sets 0 (omega arith)))
+        | inr misses ↦ misses
+      ]
+
+  later : (here : Bool) (there : Option ℕ) → here ≡ false → is_some there ≡ false → is_some (if here then Some 0 else option_map (λ place. place + 1) there) ≡ false
+  later true there fails none = cc
+  later false None fails none = refl
+  later false (Some place) fails none = cc
+
+  rest_covered : (x : ℕ) (xs : List ℕ) → Covers rows (x ∷ xs) → Covers rows xs
+  rest_covered x xs covers = record {
+    sets = λ place within.
+        let same : suc (place + 1) ≡ suc place + 1 = omega arith in
+        ap (λ p. bit_of rows (get_or xs place 0) (get_or (x ∷ xs) p 0)) same ∙ covers.sets (suc place) (omega arith);
+  }
+
+  pub not_within : (text : List ℕ) → Covers rows text → contains_match comparator text (a ∷ (b ∷ rest)) ≡ false
+  not_within [] covers = refl
+  not_within (x ∷ xs) covers =
+      later (begins_key (x ∷ xs)) (first_place begins_key xs) (not_here (x ∷ xs) covers) (not_within xs (rest_covered x xs covers))
+
+pub passed_over : (rows key : List ℕ) → 2 ≤ length key → bit_of rows (get_or key 0 0) (get_or key 1 0) ≢ 1
+    → (comparator : Comparator) (text : List ℕ) → Covers rows text → contains_match comparator text key ≡ false
+passed_over rows [] long unset comparator text covers = absurd (omega arith)
+passed_over rows (a ∷ []) long unset comparator text covers = absurd (omega arith)
+passed_over rows (a ∷ (b ∷ rest)) long unset comparator text covers = not_within comparator rows a b rest unset text covers
+
+-- what the code looks at
+pub bigram_unset : (rows : List ℕ) (row a b : ℕ) → row ≡ a % 32 → nat_eq (bit_and (get_or rows row 0 / 2 ^ (b % 32)) 1) 1 ≡ false → bit_of rows a b ≢ 1
+bigram_unset rows row a b at fails is_set =
+    eqb-false (bit_and (get_or rows row 0 / 2 ^ (b % 32)) 1) 1 fails
+    (shr_and_one (get_or rows row 0) (b % 32) ∙ ap (λ place. bit_at (get_or rows place 0) (b % 32)) at ∙ is_set)
+
+-- ---- setting a bit
+
+abbrev pub with_bit : List ℕ → ℕ → ℕ → List ℕ
+with_bit rows row column = set rows row (bit_or (get_or rows row 0) (1 * 2 ^ column % 2 ^ 32))
+
+max_one : (m n : ℕ) → m ≡ 1 → n < 2 → max m n ≡ 1
+max_one m n set more = omega arith
+
+-- the others stay
+bit_stays : (rows : List ℕ) (row column x y : ℕ) → row < length rows → bit_of rows x y ≡ 1 → bit_of (with_bit rows row column) x y ≡ 1
+bit_stays rows row column x y within is_set =
+    elim (eqb_tells (x % 32) row) [
+      | inl (test, same) ↦
+          ap (λ n. bit_at n (y % 32)) (get_or-set_at rows row (x % 32) (bit_or (get_or rows row 0) (1 * 2 ^ column % 2 ^ 32)) 0 same within)
+          ∙ bit_at_or (get_or rows row 0) (1 * 2 ^ column % 2 ^ 32) (y % 32)
+          ∙ max_one (bit_at (get_or rows row 0) (y % 32)) (bit_at (1 * 2 ^ column % 2 ^ 32) (y % 32)) (ap (λ place. bit_at (get_or rows place 0) (y % 32)) (sym same) ∙ is_set) (bit_at-lt (1 * 2 ^ column % 2 ^ 32) (y % 32))
+      | inr (test, other) ↦
+          ap (λ n. bit_at n (y % 32)) (get_or-set_other rows row (x % 32) (bit_or (get_or rows row 0) (1 * 2 ^ column % 2 ^ 32)) 0 other) ∙ is_set
+    ]
+
+bit_set : (rows : List ℕ) (row x y : ℕ) → length rows ≡ 32 → row ≡ x % 32 → bit_of (with_bit rows row (y % 32)) x y ≡ 1
+bit_set rows row x y rows_long at =
+    ap (λ n. bit_at n (y % 32)) (get_or-set_at rows row (x % 32) (bit_or (get_or rows row 0) (1 * 2 ^ (y % 32) % 2 ^ 32)) 0 (sym at) (omega arith))
+    ∙ bit_at_set_same w32 (get_or rows row 0) (y % 32) (omega arith)
+
+-- the bits of all bigrams that end before a place
+abbrev pub CoversBefore : List ℕ → List ℕ → ℕ → Type 0
+CoversBefore rows text end = (place : ℕ) → place + 1 < end → bit_of rows (get_or text place 0) (get_or text (place + 1) 0) ≡ 1
+
+pub one_more : (rows text : List ℕ) (place row : ℕ) → 1 ≤ place → length rows ≡ 32 → row ≡ get_or text (place - 1) 0 % 32 → CoversBefore rows text place
+    → CoversBefore (with_bit rows row (get_or text place 0 % 32)) text (place + 1)
+one_more rows text place row some rows_long at before k within =
+    let more = with_bit rows row (get_or text place 0 % 32) in
+    elim (cases_lt (k + 1) place) [
+      | inl earlier ↦ bit_stays rows row (get_or text place 0 % 32) (get_or text k 0) (get_or text (k + 1) 0) (omega arith) (before k earlier)
+      | inr last ↦
+          let first : k ≡ place - 1 = omega arith in
+          let second : k + 1 ≡ place = omega arith in
+          ap (λ p. bit_of more (get_or text p 0) (get_or text (k + 1) 0)) first
+          ∙ ap (λ p. bit_of more (get_or text (place - 1) 0) (get_or text p 0)) second
+          ∙ bit_set rows row (get_or text (place - 1) 0) (get_or text place 0) rows_long at
+    ]
