@@ -850,6 +850,25 @@ Only if: command -v flock && command -v sqlite3 && python3 -c 'import sqlite3' #
     2> scrub: out can't be made: File exists
     $ rm -r boxes ann.svbc out empty
 
+## the lines that file an archive, of docs/OPERATING.md, and those that compare it with its originals
+Only if: command -v flock && command -v sqlite3 && command -v sha256sum # there is no flock, no sqlite3 or no sha256sum
+    $ mkdir -p in/ann-2014 in/ann-2015 in/ann.x && cp examples/invoice.eml in/ann-2014 && cp examples/newsletter.eml in/ann-2015 && : > filter.sieve
+    $ cp examples/ticket.eml 'in/ann-2014/a "b\c.eml' && cp examples/ticket.eml in/ann-2014 && cp examples/ticket.eml in/ann.x
+    $ sed -n '/^    mkdir -p boxes$/,/^$/s/^    //p' "$TOP/docs/OPERATING.md" > file && PATH="$TOP/contrib:$PATH" sh file | sort
+    1 mail: 0 filed before, 1 filed now, 0 refused
+    1 mail: 0 filed before, 1 filed now, 0 refused
+    3 mails: 0 filed before, 3 filed now, 0 refused
+    $ PATH="$TOP/contrib:$PATH" sh file | sort | tail -n 1
+    3 mails: 3 filed before, 0 filed now, 0 refused
+    $ for shard in shard.*; do user=${shard#shard.}; depot inspect "boxes/$shard.depot" | grep "^user \"${user%.*}\""; done
+    user "ann-2014" last 3 entries 3 octets 26521 program accepted version 2
+    user "ann-2015" last 1 entries 1 octets 66866 program accepted version 2
+    user "ann.x" last 1 entries 1 octets 3678 program accepted version 2
+    $ sed -n '/^    xargs -d/,/^$/s/^    //p' "$TOP/docs/OPERATING.md" > compare && sh compare
+    $ echo more >> in/ann-2014/ticket.eml && sh compare | wc -l
+    1
+    $ rm -r in boxes shard.* sums
+
 ## the tools without words say how they are called
     $ for tool in deliver hold ask each_mailbox test_deliver test_hold to_maildir refilter refile scrub; do "$TOP/contrib/$tool" > /dev/null 2> said; echo "$tool $?"; grep -c . said > lines; [ -s lines ] || echo silent; done
     deliver 64
