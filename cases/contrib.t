@@ -848,7 +848,10 @@ Only if: command -v flock && command -v sqlite3 && python3 -c 'import sqlite3' #
     2> scrub: there is no file none
     2> scrub: empty can't be read: no such table: entries
     2> scrub: out can't be made: File exists
-    $ rm -r boxes ann.svbc out empty
+    $ mkdir old && printf 'Error, sqlite_version, sqlite_version_info = OSError, "3.34.1", (3, 34, 1)\n' > old/sqlite3.py && PYTHONPATH=old "$TOP/contrib/scrub" mail.depot
+    2> scrub: the SQLite of python3 is 3.34.1, and a depot needs 3.37 or later
+    [69]
+    $ rm -r boxes ann.svbc out empty old
 
 ## the lines that file an archive, of docs/OPERATING.md, and those that compare it with its originals
 Only if: command -v flock && command -v sqlite3 && command -v sha256sum # there is no flock, no sqlite3 or no sha256sum
