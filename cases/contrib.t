@@ -838,6 +838,15 @@ Only if: command -v flock && command -v sqlite3 && python3 -c 'import sqlite3' #
     ann-1.part
     ann-2.eml
     bob-1.eml
+    $ : > filter && echo examples/invoice.eml | "$TOP/contrib/refile" filed.depot ann filter journal && "$TOP/contrib/refilter" mail.depot ann filter --apply new.depot
+    1 mail: 0 filed before, 1 filed now, 0 refused
+    2 "INBOX": 1 message "INBOX"
+    1 message, and 1 part stored apart
+    $ stat -c '%a %n' out/bob-1.eml filed.depot journal new.depot
+    600 out/bob-1.eml
+    600 filed.depot
+    600 journal
+    600 new.depot
     $ sed -i 's/%PDF-/%PDG-/' all.depot && "$TOP/contrib/scrub" all.depot
     altered ann 1
     [65]
