@@ -838,6 +838,15 @@ Only if: command -v flock && command -v sqlite3 && python3 -c 'import sqlite3' #
     ann-1.part
     ann-2.eml
     bob-1.eml
+    $ : > filter && echo examples/invoice.eml | "$TOP/contrib/refile" filed.depot ann filter journal && "$TOP/contrib/refilter" mail.depot ann filter --apply new.depot
+    1 mail: 0 filed before, 1 filed now, 0 refused
+    2 "INBOX": 1 message "INBOX"
+    1 message, and 1 part stored apart
+    $ stat -c '%a %n' out/bob-1.eml filed.depot journal new.depot
+    600 out/bob-1.eml
+    600 filed.depot
+    600 journal
+    600 new.depot
     $ sed -i 's/%PDF-/%PDG-/' all.depot && "$TOP/contrib/scrub" all.depot
     altered ann 1
     [65]
@@ -848,7 +857,29 @@ Only if: command -v flock && command -v sqlite3 && python3 -c 'import sqlite3' #
     2> scrub: there is no file none
     2> scrub: empty can't be read: no such table: entries
     2> scrub: out can't be made: File exists
-    $ rm -r boxes ann.svbc out empty
+    $ mkdir old && printf 'Error, sqlite_version, sqlite_version_info = OSError, "3.34.1", (3, 34, 1)\n' > old/sqlite3.py && PYTHONPATH=old "$TOP/contrib/scrub" mail.depot
+    2> scrub: the SQLite of python3 is 3.34.1, and a depot needs 3.37 or later
+    [69]
+    $ rm -r boxes ann.svbc out empty old
+
+## the lines that file an archive, of docs/OPERATING.md, and those that compare it with its originals
+Only if: command -v flock && command -v sqlite3 && command -v sha256sum # there is no flock, no sqlite3 or no sha256sum
+    $ mkdir -p in/ann-2014 in/ann-2015 in/ann.x && cp examples/invoice.eml in/ann-2014 && cp examples/newsletter.eml in/ann-2015 && : > filter.sieve
+    $ cp examples/ticket.eml 'in/ann-2014/a "b\c.eml' && cp examples/ticket.eml in/ann-2014 && cp examples/ticket.eml in/ann.x
+    $ sed -n '/^    mkdir -p boxes$/,/^$/s/^    //p' "$TOP/docs/OPERATING.md" > file && PATH="$TOP/contrib:$PATH" sh file | sort
+    1 mail: 0 filed before, 1 filed now, 0 refused
+    1 mail: 0 filed before, 1 filed now, 0 refused
+    3 mails: 0 filed before, 3 filed now, 0 refused
+    $ PATH="$TOP/contrib:$PATH" sh file | sort | tail -n 1
+    3 mails: 3 filed before, 0 filed now, 0 refused
+    $ for shard in shard.*; do user=${shard#shard.}; depot inspect "boxes/$shard.depot" | grep "^user \"${user%.*}\""; done
+    user "ann-2014" last 3 entries 3 octets 26521 program accepted version 2
+    user "ann-2015" last 1 entries 1 octets 66866 program accepted version 2
+    user "ann.x" last 1 entries 1 octets 3678 program accepted version 2
+    $ sed -n '/^    xargs -d/,/^$/s/^    //p' "$TOP/docs/OPERATING.md" > compare && sh compare
+    $ echo more >> in/ann-2014/ticket.eml && sh compare | wc -l
+    1
+    $ rm -r in boxes shard.* sums
 
 ## the tools without words say how they are called
     $ for tool in deliver hold ask each_mailbox test_deliver test_hold to_maildir refilter refile scrub; do "$TOP/contrib/$tool" > /dev/null 2> said; echo "$tool $?"; grep -c . said > lines; [ -s lines ] || echo silent; done
