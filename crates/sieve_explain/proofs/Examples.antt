@@ -38,7 +38,7 @@ prints :
     × (shown_end Line (98 ∷ replicate 60 97) ≡ codes "..." ++ replicate 60 97)
     × (excerpt (codes "if true\n\tstop }\n") 14 ≡ line (codes "   stop }") ++ line (codes "        ^"))
     × (excerpt (codes "if true\n") 8 ≡ line (codes "  ") ++ line (codes "  ^"))
-unfolding excerpt pieces more_octets is_sign ucd_category shown_character shown_start shown_end marked octets_before octets_after without_return
+unfolding excerpt pieces more_octets is_sign columns ucd_category unicode_width shown_character shown_start shown_end marked octets_before octets_after without_return
 prints = (refl, refl, refl, refl, refl, refl)
 
 -- as it is: an accent that combines with the letter before it, a wide letter, an emoji. Escaped: what turns the direction of writing,
@@ -211,5 +211,5 @@ notes = (refl, refl, refl, refl, refl, refl, refl)
 -- all of it
 whole : told (codes "my.sieve") (codes "keep;\nstop }\n") 11 (token_blanks (codes "keep;\nstop }\n") (record { kind = ClosingBrace; start = 11; end = 12 }))
     ≡ line (codes "my.sieve:2:6: error: `}` isn't allowed here: is a semicolon missing before it, or its opening brace?") ++ line (codes "  stop }") ++ line (codes "       ^")
-unfolding digits remark excerpt misplaced_token marked filled_octet column name_octet pieces more_octets shown_character shown_start shown_end heading numbered line_number octets_before octets_after without_return
+unfolding digits remark excerpt misplaced_token marked filled_octet column columns unicode_width name_octet pieces more_octets shown_character shown_start shown_end heading numbered line_number octets_before octets_after without_return
 whole = refl

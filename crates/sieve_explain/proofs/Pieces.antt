@@ -8,10 +8,10 @@ use Rattle.bstr.specs.Utf8.{decoded}
 use Rattle.bstr.proofs.lemmas.PieceLemmas.{piece-bounds}
 use Rattle.bstr.proofs.lemmas.SoundLemmas.{SpellsChar-decoded}
 use Rattle.sieve_explain.specs.Characters.{Piece, first_piece, more_octets, octets_after_first, pieces, pieces_after}
-use Rattle.sieve_explain.specs.Shown.{cut_mark, if_cut, max_shown, shown, shown_piece}
+use Rattle.sieve_explain.specs.Shown.{cut_mark, if_cut, max_shown, shown, shown_end, shown_piece}
 use Rattle.sieve_explain.specs.declared.shown.Style.{Style}
 
-pub pieces_none : pieces [] ≡ []
+pieces_none : pieces [] ≡ []
 unfolding pieces
 pieces_none = refl
 
@@ -22,7 +22,7 @@ dropped zero (octet ∷ rest) = refl
 dropped (suc more) (octet ∷ rest) = dropped more rest
 
 -- the first piece, and those of what comes after it
-pub pieces_first : (text : List ℕ) → 0 < length text → pieces text ≡ first_piece text ∷ pieces (drop (suc (more_octets text)) text)
+pieces_first : (text : List ℕ) → 0 < length text → pieces text ≡ first_piece text ∷ pieces (drop (suc (more_octets text)) text)
 unfolding pieces
 pieces_first [] some = absurd (omega arith)
 pieces_first (octet ∷ rest) some = ap (λ (ps : List Piece). first_piece (octet ∷ rest) ∷ ps) (dropped (more_octets (octet ∷ rest)) rest)
@@ -34,6 +34,13 @@ unfolding more_octets
 pieces_split text octets rest found size more some char sized after begun left =
     let next : more + 1 ≡ suc more = omega arith in
     rw (left, begun, next, after, sized, char) (pieces_first text some)
+
+pub octets_split : (text octets : List ℕ) (found : Option ℕ) (size more : ℕ) → found ≡ (decoded text).char → size ≡ (decoded text).size
+    → more ≡ octets_after_first found size → octets ≡ take (more + 1) text → octets ≡ take (suc (more_octets text)) text
+unfolding more_octets
+octets_split text octets found size more char sized after begun =
+    let next : more + 1 ≡ suc more = omega arith in
+    rw (begun, next, after, sized, char) refl
 
 -- ---- what a loop over pieces keeps
 
@@ -78,26 +85,41 @@ count_end (octet ∷ rest) count all none done = absurd (omega arith)
 
 -- ---- whether a text is cut
 
-pub is_cut : (rest : List ℕ) (ps : List Piece) (n : ℕ) → pieces rest ≡ drop n ps → 0 < length rest → nat_lt n (length ps) ≡ true
+is_cut : (rest : List ℕ) (ps : List Piece) (n : ℕ) → pieces rest ≡ drop n ps → 0 < length rest → nat_lt n (length ps) ≡ true
 is_cut rest ps n e some =
     let over : length (pieces rest) ≡ length ps - n = ap length e ∙ length-drop n ps in
     let first : length (pieces rest) ≡ suc (length (pieces (drop (suc (more_octets rest)) rest))) = ap length (pieces_first rest some) in
     lt-ltb n (length ps) (omega arith)
 
-pub is_not_cut : (rest : List ℕ) (ps : List Piece) (n : ℕ) → pieces rest ≡ drop n ps → length rest ≡ 0 → nat_lt n (length ps) ≡ false
+is_not_cut : (rest : List ℕ) (ps : List Piece) (n : ℕ) → pieces rest ≡ drop n ps → length rest ≡ 0 → nat_lt n (length ps) ≡ false
 is_not_cut [] ps n e none =
     let over : 0 ≡ length ps - n = ap length (sym pieces_none) ∙ ap length e ∙ length-drop n ps in
     le-ltb n (length ps) (omega arith)
 is_not_cut (octet ∷ rest) ps n e none = absurd (omega arith)
 
-pub cut_if : (style : Style) (ps : List Piece) (b : Bool) → nat_lt max_shown (length ps) ≡ b → if_cut style ps ≡ (if b then cut_mark style else [])
-cut_if style ps b e = ap (λ (c : Bool). if c then cut_mark style else []) e
+pub not_marked : (style : Style) (out rest : List ℕ) (ps : List Piece) → pieces rest ≡ drop max_shown ps → length rest ≡ 0 → out ≡ out ++ if_cut style ps
+not_marked style out rest ps e none =
+    sym (ap (λ (b : Bool). out ++ (if b then cut_mark style else [])) (is_not_cut rest ps max_shown e none) ∙ append-nil out)
+
+pub marked : (style : Style) (out new rest : List ℕ) (ps : List Piece) → pieces rest ≡ drop max_shown ps → 0 < length rest → new ≡ out ++ cut_mark style → new ≡ out ++ if_cut style ps
+marked style out new rest ps e some added = added ∙ sym (ap (λ (b : Bool). out ++ (if b then cut_mark style else [])) (is_cut rest ps max_shown e some))
 
 -- the last pieces are no more than may be printed
-pub last_pieces : (ps : List Piece) (most : ℕ) → take most (drop (length ps - most) ps) ≡ drop (length ps - most) ps
+last_pieces : (ps : List Piece) (most : ℕ) → take most (drop (length ps - most) ps) ≡ drop (length ps - most) ps
 last_pieces ps most =
     let size = length-drop (length ps - most) ps in
     take_all most (drop (length ps - most) ps) (omega arith)
+
+pub end_shown : (style : Style) (old mid new text rest : List ℕ) (count cut : ℕ) → count ≡ length (pieces text) → cut ≡ count - max_shown
+    → mid ≡ old ++ if_cut style (pieces text) → pieces rest ≡ drop cut (pieces text) → new ≡ mid ++ shown style (take max_shown (pieces rest))
+    → new ≡ old ++ shown_end style text
+unfolding shown_end
+end_shown style old mid new text rest count cut counted less middle from e =
+    let all = pieces text in
+    let last = drop (length all - max_shown) all in
+    let same : pieces rest ≡ last = from ∙ ap (λ (n : ℕ). drop n all) (less ∙ ap (λ (n : ℕ). n - max_shown) counted) in
+    e ∙ ap (λ (ps : List Piece). mid ++ shown style (take max_shown ps)) same ∙ ap (λ (ps : List Piece). mid ++ shown style ps) (last_pieces all max_shown)
+    ∙ ap (λ (t : List ℕ). t ++ shown style last) middle ∙ append_assoc old (if_cut style all) (shown style last)
 
 -- ---- a piece that is a character
 

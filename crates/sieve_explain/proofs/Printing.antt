@@ -141,7 +141,7 @@ module _ (P : List ℕ → Type 0) (h : HoldsOfTexts P) where
   holds_each style zero (octet ∷ rest) =
       let text = octet ∷ rest in
       All-cons (λ (piece : Piece). P (shown_piece style piece)) (first_piece text) (pieces_after (more_octets text) rest)
-      (holds_octets style (decoded text).char (take (more_octets text + 1) text) (λ c found. spelled text c found)) (holds_each style (more_octets text) rest)
+      (holds_octets style (decoded text).char (take (suc (more_octets text)) text) (λ c found. spelled text c found)) (holds_each style (more_octets text) rest)
   holds_each style (suc more) (octet ∷ rest) = holds_each style more rest
 
   holds_pieces : (style : Style) (ps : List Piece) → All (λ (piece : Piece). P (shown_piece style piece)) ps → P (shown style ps)
@@ -238,10 +238,14 @@ high_character c h = cases (nat_lt c 128) (nat_lt c 2048) (nat_lt c 65536) (le-l
       → Passes is_name_octet (cond a (c ∷ []) (cond b ((192 + c / 64) ∷ (128 + c % 64) ∷ []) (cond d ((224 + c / 4096) ∷ (128 + c / 64 % 64) ∷ (128 + c % 64) ∷ [])
       ((240 + c / 262144) ∷ (128 + c / 4096 % 64) ∷ (128 + c / 64 % 64) ∷ (128 + c % 64) ∷ []))))
   cases true b d e = absurd (cc)
-  cases false true d e = at (192 + c / 64) (omega arith) _ (at (128 + c % 64) (omega arith) [] refl)
-  cases false false true e = at (224 + c / 4096) (omega arith) _ (at (128 + c / 64 % 64) (omega arith) _ (at (128 + c % 64) (omega arith) [] refl))
+  cases false true d e = at (192 + c / 64) (omega arith) ((128 + c % 64) ∷ []) (at (128 + c % 64) (omega arith) [] refl)
+  cases false false true e =
+      at (224 + c / 4096) (omega arith) ((128 + c / 64 % 64) ∷ (128 + c % 64) ∷ [])
+      (at (128 + c / 64 % 64) (omega arith) ((128 + c % 64) ∷ []) (at (128 + c % 64) (omega arith) [] refl))
   cases false false false e =
-      at (240 + c / 262144) (omega arith) _ (at (128 + c / 4096 % 64) (omega arith) _ (at (128 + c / 64 % 64) (omega arith) _ (at (128 + c % 64) (omega arith) [] refl)))
+      at (240 + c / 262144) (omega arith) ((128 + c / 4096 % 64) ∷ (128 + c / 64 % 64) ∷ (128 + c % 64) ∷ [])
+      (at (128 + c / 4096 % 64) (omega arith) ((128 + c / 64 % 64) ∷ (128 + c % 64) ∷ [])
+      (at (128 + c / 64 % 64) (omega arith) ((128 + c % 64) ∷ []) (at (128 + c % 64) (omega arith) [] refl)))
 
 low_graphic : (c : ℕ) → c < 128 → is_visible c ≡ true → is_graphic c ≡ true
 low_graphic c low e = sym (ap (λ (b : Bool). if b then is_graphic c else is_sign c) (lt-ltb c 128 low)) ∙ e

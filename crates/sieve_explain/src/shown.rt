@@ -178,7 +178,6 @@ pub fn push_start(out: &mut Vec<u8>, style: Style, text: &[u8]) -> Result<(), Al
 /// # Errors
 ///
 /// `AllocError` if memory is refused.
-#[tactic(auto, unfolding(crate::specs::Shown::shown_end), using(crate::proofs::Pieces::last_pieces))]
 pub fn push_end(out: &mut Vec<u8>, style: Style, text: &[u8]) -> Result<(), AllocError>
     ensures { OnOk result (out.new.items ≡ out.old.items ++ shown_end style text.now) }
 {
