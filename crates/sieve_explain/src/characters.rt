@@ -78,7 +78,7 @@ pub fn pieces_from(text: &[u8], number: usize) -> &[u8]
     rest
 }
 
-// Whether the byte is a printable ASCII character.
+// Whether the character is printable ASCII.
 fn is_graphic(c: char) -> bool
     ensures { result ≡ is_graphic c }
 {
@@ -95,7 +95,7 @@ fn is_sign(c: char) -> bool
         || GeneralCategoryGroup::Separator.contains(category))
 }
 
-/// Whether a character can be printed as it is.
+/// Whether a character can be printed as it is: it can be seen, and moves nothing else.
 pub fn is_visible(c: char) -> bool
     ensures { result ≡ is_visible c }
 {

@@ -1,4 +1,4 @@
-use Rattle.std.proofs.Common.{◌≡◌, ℕ, length, rules}
+use Rattle.std.proofs.Common.{◌≡◌, length, rules}
 use Rattle.sieve_explain.specs.Characters.{pieces}
 use Rattle.sieve_explain.proofs.Pieces.{count_end}
 use Rattle.sieve_explain.proofs.characters.count_pieces.Goals as goal
