@@ -34,11 +34,11 @@ Letters outside of ASCII in a test of the header, which mail writes encoded.
     $ depot explain script
     ok
     script:2:47: note: fields are compared without decoding, and mail usually encodes such letters, as in =?UTF-8?..?=: this rarely matches
-      if anyof (header :contains "Subject" ["bill", "Gr\c3\bc\c3\9fe"], header "From" "\c3\bc") {
+      if anyof (header :contains "Subject" ["bill", "Grüße"], header "From" "ü") {
                                                     ^
-    script:2:73: note: fields are compared without decoding, and mail usually encodes such letters, as in =?UTF-8?..?=: this rarely matches
-      ...ader :contains "Subject" ["bill", "Gr\c3\bc\c3\9fe"], header "From" "\c3\bc") {
-                                                                             ^
+    script:2:71: note: fields are compared without decoding, and mail usually encodes such letters, as in =?UTF-8?..?=: this rarely matches
+      ...header :contains "Subject" ["bill", "Grüße"], header "From" "ü") {
+                                                                     ^
     $ depot check script
     ok
 
@@ -48,7 +48,7 @@ Letters outside of ASCII in a test of the header, which mail writes encoded.
     $ depot explain with_mime
     ok
     with_mime:2:24: note: fields are compared without decoding, and mail usually encodes such letters, as in =?UTF-8?..?=: this rarely matches
-      if header :mime :param "\c3\bc" "Content-Type" "x" { stop; }
+      if header :mime :param "ü" "Content-Type" "x" { stop; }
                              ^
 
 ## letters outside of ASCII elsewhere
@@ -530,7 +530,7 @@ Tokens.
     $ printf 'require \342\200\234fileinto\342\200\235;' > script
     $ depot explain script
     script:1:9: error: this is a typographic quote: put strings in straight double quotes, "like this"
-      require \e2\80\9cfileinto\e2\80\9d;
+      require “fileinto”;
               ^
     2> refused 11 Lexical at 8
     [1]
@@ -556,8 +556,8 @@ Tokens.
 ## no token
     $ printf 'keep; \303\251;' > script
     $ depot explain script
-    script:1:7: error: `\c3` isn't allowed outside of strings and comments
-      keep; \c3\a9;
+    script:1:7: error: `é` isn't allowed outside of strings and comments
+      keep; é;
             ^
     2> refused 11 Lexical at 6
     [1]
@@ -1813,9 +1813,73 @@ How the line and the name of the file are printed.
     $ printf '\t\tkeep\t"a\1\177b\\";\342\202\254";' > script
     $ depot explain script
     script:1:3: error: `keep` has too many arguments: it takes none
-        keep "a\01\7fb\";\e2\82\ac";
+        keep "a\01\7fb\";€";
         ^
     2> refused 18 BadArguments at 0
+    [1]
+
+## letters outside of ASCII
+    $ for text in 'Gr\303\274\303\237e' '\346\227\245\346\234\254' 'e\314\201' '\360\237\230\200'; do
+    >     printf "if header :contains \"Subject\" \"$text\" { kep; }" > script; depot explain script 2> refused
+    > done; cat refused
+    script:1:41: error: unknown command `kep`, did you mean `keep`?
+      if header :contains "Subject" "Grüße" { kep; }
+                                              ^
+    script:1:38: error: unknown command `kep`, did you mean `keep`?
+      if header :contains "Subject" "日本" { kep; }
+                                             ^
+    script:1:38: error: unknown command `kep`, did you mean `keep`?
+      if header :contains "Subject" "é" { kep; }
+                                          ^
+    script:1:37: error: unknown command `kep`, did you mean `keep`?
+      if header :contains "Subject" "😀" { kep; }
+                                           ^
+    refused 15 UnknownCommand at 6
+
+## characters that show nothing or turn the direction of writing, and bytes that aren't UTF-8
+    $ for text in '\342\200\256' 'a\342\200\213b' 'a\302\240b' '\302\233' '\377' '\346\227'; do
+    >     printf "if header :contains \"Subject\" \"$text\" { kep; }" > script; depot explain script 2> refused
+    > done; cat refused
+    script:1:37: error: unknown command `kep`, did you mean `keep`?
+      if header :contains "Subject" "\e2\80\ae" { kep; }
+                                                  ^
+    script:1:39: error: unknown command `kep`, did you mean `keep`?
+      if header :contains "Subject" "a\e2\80\8bb" { kep; }
+                                                    ^
+    script:1:39: error: unknown command `kep`, did you mean `keep`?
+      if header :contains "Subject" "a\c2\a0b" { kep; }
+                                                ^
+    script:1:37: error: unknown command `kep`, did you mean `keep`?
+      if header :contains "Subject" "\c2\9b" { kep; }
+                                              ^
+    script:1:37: error: unknown command `kep`, did you mean `keep`?
+      if header :contains "Subject" "\ff" { kep; }
+                                            ^
+    script:1:38: error: unknown command `kep`, did you mean `keep`?
+      if header :contains "Subject" "\e6\97" { kep; }
+                                               ^
+    refused 15 UnknownCommand at 6
+
+## letters outside of ASCII in a sentence
+    $ printf 'require ["gr\303\274\303\237e", "b\342\200\256"];' > script
+    $ depot explain script
+    script:1:10: error: unknown capability "grüße": depot has "fileinto", "variables", "mime", "foreverypart", "vnd.depot", "comparator-i;octet" and "comparator-i;ascii-casemap"
+      require ["grüße", "b\e2\80\ae"];
+               ^
+    script:1:19: error: unknown capability "b\e2\80\ae": depot has "fileinto", "variables", "mime", "foreverypart", "vnd.depot", "comparator-i;octet" and "comparator-i;ascii-casemap"
+      require ["grüße", "b\e2\80\ae"];
+                        ^
+    2> refused 17 UnknownCapability at 0
+    [1]
+
+## a long line of letters outside of ASCII
+    $ letters() { for n in $(seq 61); do printf "$1"; done; }
+    > { printf 'if header "Subject" "'; letters '\303\274'; printf '" { kep; } # '; letters '\346\227\245'; } > script
+    > depot explain script
+    script:1:87: error: unknown command `kep`, did you mean `keep`?
+      ...üüüüüüüüüüüüüüüüüüüüüüüüüüüüüüüüüüüüüüüüüüüüüüüüüüüüüüüü" { kep; } # 日日日日日日日日日日日日日日日日日日日日日日日日日日日日日日日日日日日日日日日日日日日日日日日日日日日...
+                                                                     ^
+    2> refused 15 UnknownCommand at 5
     [1]
 
 ## name with signs

@@ -15,7 +15,7 @@ use Rattle.sieve_lexer.specs.declared.token.TokenKind.{TokenKind}
 use Rattle.sieve_lexer.specs.declared.token.TokenKind.TheVariants.{ClosingBrace, ClosingBracket, Comma, Identifier, MultiLineString, Number, OpeningBrace, OpeningBracket, QuotedString, Semicolon}
 use Rattle.sieve_check.specs.declared.causes.ReasonKind.{ReasonKind}
 use Rattle.sieve_check.specs.declared.causes.ReasonKind.TheVariants.{ExtraArgument, ForeignTag, LongString, MissingArgument, MissingCapability, Misplaced, UnknownCapability, UnknownCommand, UnknownTag, UnknownTest, WrongTests}
-use Rattle.sieve_explain.specs.Explaining.{heading, label_blanks, look_told, note, numbered, remark, told}
+use Rattle.sieve_explain.specs.Explaining.{column, heading, label_blanks, look_told, note, numbered, remark, told}
 use Rattle.sieve_explain.specs.Faults.{beginnings, end_blanks, lexical_blanks, look_text, misplaced_token, more_blanks, token_blanks}
 use Rattle.sieve_explain.specs.Hints.{known_capabilities, known_commands, known_tags, known_tests, lacking, meant, meant_too, unknown_capability, unknown_command, unknown_tag, unknown_test}
 use Rattle.sieve_explain.specs.Words.{begin_off, differ_at, is_near, nearest}
@@ -23,27 +23,53 @@ use Rattle.sieve_explain.specs.Marks.{has_unit, has_value, is_unit, label_behind
 use Rattle.readable_text.specs.Places.{line_number, octets_after, octets_before, without_return}
 use Rattle.sieve_explain.specs.Reasons.{capability_words, no_argument_words, no_test_words, other_blanks, place_text, reason_blanks}
 use Rattle.sieve_explain.specs.Sentences.{filled, filled_octet}
-use Rattle.sieve_explain.specs.Shown.{excerpt, line, marked, named, quoted, shown, shown_end, shown_octet, shown_start}
-use Rattle.sieve_explain.specs.declared.shown.Style.TheVariants.{Line, Name}
+use Rattle.sieve_explain.specs.Characters.{columns, is_sign, more_octets, pieces}
+use Rattle.sieve_explain.specs.Shown.{excerpt, line, marked, name_octet, named, quoted, shown_character, shown_end, shown_name, shown_start}
+use Rattle.sieve_explain.specs.declared.shown.Style.TheVariants.{Line, Under}
+use Rattle.ucd_category.proofs.Computing.{ucd_category}
+use Rattle.unicode_width.proofs.Computing.{unicode_width}
 
--- TAB, NUL, the octets of a letter that isn't in ASCII, and a backslash; 60 octets, and one too many on either side; a line with its
--- mark, and the empty line at the end
+-- TAB, NUL, a letter outside of ASCII, and a backslash; 60 characters, and one too many on either side; a line with its mark, and the
+-- empty line at the end
 prints :
-    (shown Line (97 ∷ 9 ∷ 0 ∷ 195 ∷ 164 ∷ 92 ∷ []) ≡ codes "a \\00\\c3\\a4\\")
+    (shown_start Line (97 ∷ 9 ∷ 0 ∷ 195 ∷ 164 ∷ 92 ∷ []) ≡ codes "a \\00" ++ 195 ∷ 164 ∷ codes "\\")
     × (shown_start Line (replicate 60 97) ≡ replicate 60 97)
     × (shown_start Line (replicate 61 97) ≡ replicate 60 97 ++ codes "...")
-    × (shown_end (98 ∷ replicate 60 97) ≡ codes "..." ++ replicate 60 97)
+    × (shown_end Line (98 ∷ replicate 60 97) ≡ codes "..." ++ replicate 60 97)
     × (excerpt (codes "if true\n\tstop }\n") 14 ≡ line (codes "   stop }") ++ line (codes "        ^"))
     × (excerpt (codes "if true\n") 8 ≡ line (codes "  ") ++ line (codes "  ^"))
-unfolding excerpt shown_octet shown_start shown_end marked octets_before octets_after without_return
+unfolding excerpt pieces more_octets is_sign columns ucd_category unicode_width shown_character shown_start shown_end marked octets_before octets_after without_return
 prints = (refl, refl, refl, refl, refl, refl)
+
+-- as it is: an accent that combines with the letter before it, a wide letter, an emoji. Escaped: what turns the direction of writing,
+-- a space without width, one that doesn't break, a control character above ASCII, an octet that is none of UTF-8, and the start of a
+-- character; whole characters are cut off
+characters :
+    (shown_start Line (101 ∷ 204 ∷ 129 ∷ 230 ∷ 151 ∷ 165 ∷ 240 ∷ 159 ∷ 152 ∷ 128 ∷ []) ≡ 101 ∷ 204 ∷ 129 ∷ 230 ∷ 151 ∷ 165 ∷ 240 ∷ 159 ∷ 152 ∷ 128 ∷ [])
+    × (shown_start Line (226 ∷ 128 ∷ 174 ∷ 226 ∷ 128 ∷ 139 ∷ []) ≡ codes "\\e2\\80\\ae\\e2\\80\\8b")
+    × (shown_start Line (194 ∷ 160 ∷ 194 ∷ 155 ∷ 255 ∷ 230 ∷ 151 ∷ []) ≡ codes "\\c2\\a0\\c2\\9b\\ff\\e6\\97")
+    × (shown_end Line (98 ∷ 195 ∷ 164 ∷ replicate 59 97) ≡ codes "..." ++ 195 ∷ 164 ∷ replicate 59 97)
+unfolding pieces more_octets is_sign ucd_category shown_character shown_start shown_end
+characters = (refl, refl, refl, refl)
+
+-- the columns of a letter, of two wide ones, of an accent over another letter, of escapes, and of a TAB
+marks :
+    (shown_end Under (195 ∷ 188 ∷ []) ≡ codes " ")
+    × (shown_end Under (230 ∷ 151 ∷ 165 ∷ 230 ∷ 156 ∷ 172 ∷ []) ≡ codes "    ")
+    × (shown_end Under (101 ∷ 204 ∷ 129 ∷ []) ≡ codes " ")
+    × (shown_end Under (240 ∷ 159 ∷ 152 ∷ 128 ∷ []) ≡ codes "  ")
+    × (shown_end Under (226 ∷ 128 ∷ 174 ∷ 255 ∷ 9 ∷ []) ≡ replicate 13 32)
+    × (excerpt (34 ∷ 230 ∷ 151 ∷ 165 ∷ 34 ∷ 59 ∷ []) 5 ≡ line (codes "  \"" ++ 230 ∷ 151 ∷ 165 ∷ codes "\";") ++ line (codes "      ^"))
+    × (column (34 ∷ 230 ∷ 151 ∷ 165 ∷ 34 ∷ 59 ∷ []) 5 ≡ 4)
+unfolding excerpt column pieces more_octets is_sign columns ucd_category unicode_width shown_character shown_start shown_end marked octets_before octets_after without_return
+marks = (refl, refl, refl, refl, refl, refl, refl)
 
 -- what stands between two marks can't end before it does; in the name of a file control characters alone are escaped
 delimits :
     (quoted (codes "a\" `b\\22") ≡ codes "\"a\\22 `b\\5c22\"")
     × (named (codes "\"a\"`\t") ≡ codes "`\"a\"\\60\\09`")
-    × (shown Name (97 ∷ 27 ∷ 10 ∷ 127 ∷ 195 ∷ 164 ∷ 92 ∷ 32 ∷ []) ≡ codes "a\\1b\\0a\\7f" ++ 195 ∷ 164 ∷ codes "\\ ")
-unfolding shown_octet shown_start
+    × (shown_name (97 ∷ 27 ∷ 10 ∷ 127 ∷ 195 ∷ 164 ∷ 92 ∷ 32 ∷ []) ≡ codes "a\\1b\\0a\\7f" ++ 195 ∷ 164 ∷ codes "\\ ")
+unfolding pieces more_octets shown_character shown_start name_octet
 delimits = (refl, refl, refl)
 
 -- what can't be a token, or can't stand where it does
@@ -51,6 +77,7 @@ faults_said :
     (filled (lexical_blanks (codes "\"a;")) ≡ codes "a string is never closed: this quote, or one before it, has no partner")
     × (filled (lexical_blanks (codes "18446744073709551616")) ≡ codes "this number is too large: the largest is 18446744073709551615")
     × (filled (lexical_blanks (codes "*;")) ≡ codes "`*` isn't allowed outside of strings and comments")
+    × (filled (lexical_blanks (195 ∷ 188 ∷ codes ";")) ≡ codes "`" ++ 195 ∷ 188 ∷ codes "` isn't allowed outside of strings and comments")
     × (filled (lexical_blanks (239 ∷ 187 ∷ 191 ∷ codes "keep;")) ≡ codes "this is a byte order mark: save the script as UTF-8 without one")
     × (filled (lexical_blanks (codes ">= 5")) ≡ codes "Sieve has no `>=`: write `:over` before the number, as in `size :over 100K`")
     × (filled (lexical_blanks (codes "&& x")) ≡ codes "Sieve has no `&&`: write `allof (.., ..)`, which is true if all of its tests are")
@@ -58,8 +85,8 @@ faults_said :
     × (filled (lexical_blanks (codes "/* bills")) ≡ codes "this comment is never closed: add `*/` at its end")
     × (filled (end_blanks) ≡ codes "the script ends before its last command is complete")
     × (filled (token_blanks (codes "stop }") (record { kind = ClosingBrace; start = 5; end = 6 })) ≡ codes "`}` isn't allowed here: is a semicolon missing before it, or its opening brace?")
-unfolding digits lexical_blanks misplaced_token filled_octet shown_octet shown_start beginnings
-faults_said = (refl, refl, refl, refl, refl, refl, refl, refl, refl, refl)
+unfolding digits lexical_blanks misplaced_token filled_octet pieces more_octets is_sign ucd_category shown_character shown_start beginnings
+faults_said = (refl, refl, refl, refl, refl, refl, refl, refl, refl, refl, refl)
 
 abbrev said : ReasonKind → List ℕ → List ℕ → List ℕ
 said kind name subject = filled (reason_blanks (record { kind = kind; name = name; subject = subject }))
@@ -77,7 +104,7 @@ unknown_said :
     × (said UnknownTest (codes "address") [] ≡ codes "depot has no `address`: `header` tests the whole value of a field, as in `header :matches \"From\" [\"a@b\", \"*<a@b>*\"]`")
     × (said UnknownCommand (codes "header") [] ≡ codes "`header` is a test: is an `if` missing before it?")
     × (said UnknownTest (codes "keep") [] ≡ codes "`keep` is a command, but a test is needed here")
-unfolding unknown_command unknown_test unknown_tag unknown_capability filled_octet shown_octet shown_start is_near differ_at begin_off lacking meant meant_too
+unfolding unknown_command unknown_test unknown_tag unknown_capability filled_octet pieces more_octets shown_character shown_start is_near differ_at begin_off lacking meant meant_too
 unknown_said = (refl, refl, refl, refl, refl, refl, refl, refl, refl, refl, refl)
 
 -- other reasons
@@ -93,7 +120,7 @@ reasons_said :
     × (said (MissingCapability capability.Variables) (codes "set") [] ≡ codes "`set` needs `require \"variables\"` before it")
     × (said (ExtraArgument positional.Nothing) (codes "if") [] ≡ codes "`if` has too many arguments: it takes none before its test")
     × (said Misplaced (codes "else") [] ≡ codes "`else` is allowed only directly after the block of an `if` or `elsif`")
-unfolding digits other_blanks filled_octet shown_octet shown_start place_text no_test_words no_argument_words
+unfolding digits other_blanks filled_octet pieces more_octets shown_character shown_start place_text no_test_words no_argument_words
 reasons_said = (refl, refl, refl, refl, refl, refl, refl, refl, refl, refl, refl)
 
 -- a letter that is another, is missing, is one too many, and two that are swapped; and the case of letters
@@ -166,7 +193,7 @@ labels :
     × (label_behind (codes "\"a\" true") (token_of QuotedString 0 3 ∷ token_of Identifier 4 8 ∷ []) ≡ [])
     × (label_behind (codes "5; name") (token_of Number 0 1 ∷ token_of Semicolon 1 2 ∷ token_of Identifier 3 7 ∷ []) ≡ [])
     × (filled (label_blanks (codes "Contains") (record { kind = MissingArgument Text; name = codes "header"; subject = [] })) ≡ codes "`Contains` is a tag: is a colon missing before it?")
-unfolding label_behind filled_octet shown_octet shown_start
+unfolding label_behind filled_octet pieces more_octets shown_character shown_start
 labels = (refl, refl, refl, refl)
 
 -- that there is more, and what a file looks like: a program, a mail, and others
@@ -178,11 +205,11 @@ notes :
     × (look_text (codes ": x") ≡ [])
     × (look_text (codes "# Note: x") ≡ [])
     × (look_told (codes "my.sieve") [] ≡ [])
-unfolding digits note look_text filled_octet shown_octet
+unfolding digits note look_text filled_octet name_octet
 notes = (refl, refl, refl, refl, refl, refl, refl)
 
 -- all of it
 whole : told (codes "my.sieve") (codes "keep;\nstop }\n") 11 (token_blanks (codes "keep;\nstop }\n") (record { kind = ClosingBrace; start = 11; end = 12 }))
     ≡ line (codes "my.sieve:2:6: error: `}` isn't allowed here: is a semicolon missing before it, or its opening brace?") ++ line (codes "  stop }") ++ line (codes "       ^")
-unfolding digits remark excerpt misplaced_token marked filled_octet shown_octet shown_start shown_end heading numbered line_number octets_before octets_after without_return
+unfolding digits remark excerpt misplaced_token marked filled_octet column columns unicode_width name_octet pieces more_octets shown_character shown_start shown_end heading numbered line_number octets_before octets_after without_return
 whole = refl

@@ -4,6 +4,7 @@ pub mod OneText
 pub mod OwnStrings
 pub mod Subjects
 pub mod Marking
+pub mod Pieces
 pub mod Printing
 pub mod PrintingTables
 pub mod PrintableText

@@ -1,5 +1,5 @@
 -- What is told of a refused script.
-use Rattle.std.specs.Prelude.{◌≡◌, ◌≢◌, ℕ, ◌-◌, Bool, true, false, ◌&&◌, IsTrue, List, [], ◌∷◌, ◌++◌, if◌then◌else◌, flat_map, length, nat_lt, take, take_while, drop, min, Option, Some, None, option_map, codes}
+use Rattle.std.specs.Prelude.{◌≡◌, ◌≢◌, ℕ, ◌+◌, ◌-◌, Bool, true, false, ◌&&◌, IsTrue, List, [], ◌∷◌, ◌++◌, if◌then◌else◌, flat_map, length, nat_lt, take, take_while, drop, min, Option, Some, None, option_map, codes, slice_range}
 use Rattle.std.specs.Fmt.{decimal}
 use Rattle.std.specs.List.{Contains, slice_get}
 use Rattle.std.specs.Option.{option_or}
@@ -26,20 +26,24 @@ use Rattle.sieve_explain.specs.Faults.{colon_blanks, end_blanks, lexical_blanks,
 use Rattle.sieve_explain.specs.Marks.{arguments_behind, bare_behind, has_unit, is_name, is_of_arguments, is_string, is_word_in_list, label_behind, string_among, text_of, unclosed}
 use Rattle.sieve_explain.specs.Notes.{max_notes, more_notes_blanks, note_blanks, notes_of}
 use Rattle.sieve_explain.specs.declared.notes.Noted.{Noted}
-use Rattle.readable_text.specs.Places.{column, line_number}
+use Rattle.readable_text.specs.Places.{line_number, octets_before}
 use Rattle.sieve_explain.specs.Reasons.{reason_blanks}
 use Rattle.sieve_explain.specs.Sentences.{Blanks, filled, plain}
-use Rattle.sieve_explain.specs.Shown.{excerpt, line, shown}
+use Rattle.sieve_explain.specs.Characters.{pieces}
+use Rattle.sieve_explain.specs.Shown.{excerpt, line, shown_name}
 use Rattle.sieve_explain.specs.Words.{with_words}
-use Rattle.sieve_explain.specs.declared.shown.Style.TheVariants.{Name}
 
 -- a colon, and the number
 unfoldable pub numbered : ℕ → List ℕ
 numbered number = codes ":" ++ decimal number
 
+-- the column of a place in its line, in characters, the first being 1
+unfoldable pub column : List ℕ → ℕ → ℕ
+column script place = length (pieces (slice_range script (place - octets_before script place) place)) + 1
+
 -- the name of the script as it can be printed, the line and the column of a place in it, and what kind of remark it is
 unfoldable pub heading : List ℕ → List ℕ → List ℕ → ℕ → List ℕ
-heading kind name script place = shown Name name ++ numbered (line_number script place) ++ numbered (column script place) ++ kind
+heading kind name script place = shown_name name ++ numbered (line_number script place) ++ numbered (column script place) ++ kind
 
 -- a remark of that kind about a place of the script, with the line of the place and a mark under it
 unfoldable pub remark : List ℕ → List ℕ → List ℕ → ℕ → Blanks → List ℕ
@@ -47,7 +51,7 @@ remark kind name script place blanks = line (heading kind name script place ++ f
 
 -- a remark about the whole file
 unfoldable pub note : List ℕ → Blanks → List ℕ
-note name blanks = line (shown Name name ++ codes ": note: " ++ filled blanks)
+note name blanks = line (shown_name name ++ codes ": note: " ++ filled blanks)
 
 -- what is wrong at a place
 abbrev pub told : List ℕ → List ℕ → ℕ → Blanks → List ℕ

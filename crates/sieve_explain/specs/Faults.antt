@@ -9,6 +9,7 @@ use Rattle.sieve_lexer.specs.Classes.{begins_identifier}
 use Rattle.sieve_lexer.specs.declared.token.Token.{Token}
 use Rattle.sieve_lexer.specs.declared.token.TokenKind.{TokenKind}
 use Rattle.sieve_lexer.specs.declared.token.TokenKind.TheVariants.{Identifier, Tag, Number, QuotedString, MultiLineString, Semicolon, Comma, OpeningBrace, ClosingBrace, OpeningParenthesis, ClosingParenthesis, OpeningBracket, ClosingBracket}
+use Rattle.sieve_explain.specs.Characters.{first_piece}
 use Rattle.sieve_explain.specs.Sentences.{Blanks, plain}
 use Rattle.sieve_explain.specs.Words.{with_words}
 
@@ -62,9 +63,10 @@ other_text rest =
 abbrev pub is_symbol : ℕ → Bool
 is_symbol octet = (octet == 38 || octet == 124) || (octet == 60 || octet == 62) || (octet == 61 || octet == 33)
 
--- all of the operator with which the octets begin, or the first octet
+-- all of the operator with which the octets begin, or the first character, or an octet that begins none
 abbrev pub symbol_at : List ℕ → List ℕ
-symbol_at rest = let size = length (take_while is_symbol rest) in take (if nat_lt 0 size then size else 1) rest
+symbol_at rest =
+    let size = length (take_while is_symbol rest) in if nat_lt 0 size then take size rest else (first_piece rest).octets
 
 -- 11, by the octets from the place on
 unfoldable pub lexical_blanks : List ℕ → Blanks

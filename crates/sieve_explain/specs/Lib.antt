@@ -1,3 +1,4 @@
+pub mod Characters
 pub mod Shown
 pub mod Sentences
 pub mod Words

@@ -1,6 +1,8 @@
 -- What can be printed anywhere.
-use Rattle.std.specs.Prelude.{ℕ, Bool, nat_le, not, ◌&&◌, ◌||◌, ◌==◌, List}
+use Rattle.std.specs.Prelude.{◌≡◌, ℕ, Bool, true, nat_le, not, ◌&&◌, ◌||◌, ◌==◌, List, encode_utf8_all}
 use Rattle.std.specs.List.{list_all}
+use Rattle.std.specs.Str.{all_scalars}
+use Rattle.sieve_explain.specs.Characters.{is_visible}
 
 -- a printable character of ASCII, or the end of a line
 abbrev pub is_printable : ℕ → Bool
@@ -18,6 +20,18 @@ is_no_control octet = (nat_le 32 octet && not (octet == 127)) || octet == 10
 abbrev pub have_no_controls : List ℕ → Bool
 have_no_controls = list_all is_no_control
 
--- octets of ASCII
-abbrev pub are_ascii : List ℕ → Bool
-are_ascii = list_all (λ octet. nat_le octet 127)
+-- text in UTF-8 whose characters all pass the test
+abbrev pub IsTextOf : (ℕ → Bool) → List ℕ → Type 0
+IsTextOf test text = (cs : List ℕ) × (all_scalars cs ≡ true) × (list_all test cs ≡ true) × (encode_utf8_all cs ≡ text)
+
+-- text in UTF-8 of visible characters alone
+abbrev pub IsVisible : List ℕ → Type 0
+IsVisible = IsTextOf is_visible
+
+-- a visible character, or the end of a line
+abbrev pub is_readable : ℕ → Bool
+is_readable c = is_visible c || c == 10
+
+-- text in UTF-8 of visible characters and ends of lines
+abbrev pub IsReadable : List ℕ → Type 0
+IsReadable = IsTextOf is_readable

@@ -17,6 +17,8 @@ use Rattle.sieve_check.specs.Rows.{all_commands, all_tests, command_word, test_w
 use Rattle.sieve_lexer.specs.declared.token.Token.{Token}
 use Rattle.sieve_explain.specs.declared.sentence.Sentence.{Sentence}
 use Rattle.sieve_explain.specs.Sentences.{Blanks}
+use Rattle.sieve_explain.specs.Characters.{Piece}
+use Rattle.sieve_explain.specs.declared.characters.Piece as read
 
 -- texts of the code, and a row of a table
 abbrev pub texts_of : List (Bor (List ℕ)) → List (List ℕ)
@@ -57,6 +59,9 @@ Stands script token = IfSome token (λ t. (t.start ≤ t.end) × (t.end ≤ leng
 
 abbrev pub blanks_of : Sentence → Blanks
 blanks_of s = record { text = s.text.now; name = s.name.now; subject = s.subject.now; words = s.words.now; others = s.others.now; number = s.number }
+
+abbrev pub piece_of : read.Piece → Piece
+piece_of piece = record { char = piece.found; octets = piece.octets.now }
 
 -- what the code knows of a whole script
 abbrev pub known_view : List ℕ → notes.Known → Known

@@ -1,61 +1,78 @@
--- How octets are printed: escaped, and cut where there are many.
-use Rattle.std.specs.Prelude.{ℕ, ◌-◌, ◌/◌, ◌%◌, false, nat_le, not, ◌&&◌, ◌==◌, if◌then◌else◌, Bool, List, [], ◌∷◌, ◌++◌, length, take, drop, replicate, flat_map, codes}
+-- How texts are printed: escaped, and cut where they are long.
+use Rattle.std.specs.Prelude.{ℕ, ◌-◌, ◌/◌, ◌%◌, false, nat_le, nat_lt, not, ◌&&◌, ◌==◌, if◌then◌else◌, Bool, List, [], ◌∷◌, ◌++◌, length, take, drop, replicate, flat_map, codes, Option, Some, None}
 use Rattle.std.specs.Fmt.{digit_glyph}
 use Rattle.readable_text.specs.Places.{line_at, octets_before}
+use Rattle.sieve_explain.specs.Characters.{Piece, pieces, is_visible, columns}
 use Rattle.sieve_explain.specs.declared.shown.Style.{Style}
-use Rattle.sieve_explain.specs.declared.shown.Style.TheVariants.{Line, Between, Name}
+use Rattle.sieve_explain.specs.declared.shown.Style.TheVariants.{Line, Under, Between}
 
--- how many octets are printed of a name or a string, and of a line on either side of a place
+-- how many characters are printed of a name or a string, and of a line on either side of a place
 abbrev pub max_shown : ℕ
 max_shown = 60
-
--- what says that something was cut off
-abbrev pub cut_mark : List ℕ
-cut_mark = codes "..."
 
 -- a backslash and the octet's two hexadecimal digits
 abbrev pub escaped : ℕ → List ℕ
 escaped octet = 92 ∷ digit_glyph false (octet / 16 % 16) ∷ digit_glyph false (octet % 16) ∷ []
 
--- a printable character of ASCII
-abbrev pub is_graphic : ℕ → Bool
-is_graphic octet = nat_le 32 octet && nat_le octet 126
+-- ---- a piece of a text
 
--- the octet is printed as it is. In a line of a script these are 32 to 126. So they are between two
--- marks, but for the second mark and the backslash: what stands there can't end before it does. In the
--- name of a file they are all but control characters of ASCII, so that other letters can be read.
+-- a visible character is printed as it is. Between two marks the second mark and the backslash aren't: what stands there can't
+-- end before it does
 abbrev pub is_plain : Style → ℕ → Bool
-is_plain Line octet = is_graphic octet
-is_plain (Between mark) octet = is_graphic octet && not (octet == mark) && not (octet == 92)
-is_plain Name octet = nat_le 32 octet && not (octet == 127)
+is_plain (Between mark) c = is_visible c && not (c == mark) && not (c == 92)
+is_plain _ c = is_visible c
 
--- the octet is printed as a space: TAB in a line of a script
+-- the character is printed as a space: TAB in a line of a script
 abbrev pub is_blank : Style → ℕ → Bool
-is_blank Line octet = octet == 9
-is_blank _ octet = false
+is_blank (Between mark) c = false
+is_blank _ c = c == 9
 
--- an octet as it is printed
-unfoldable pub shown_octet : Style → ℕ → List ℕ
-shown_octet style octet =
-    if is_plain style octet then octet ∷ [] else
-    if is_blank style octet then 32 ∷ [] else
-    escaped octet
+-- a character that is printed as it is; under it as many spaces as it has columns
+abbrev pub kept : Style → ℕ → List ℕ → List ℕ
+kept Under c octets = replicate (columns c) 32
+kept _ c octets = octets
 
-abbrev pub shown : Style → List ℕ → List ℕ
-shown style = flat_map (shown_octet style)
+-- an octet that isn't; under it three spaces
+abbrev pub escaped_in : Style → ℕ → List ℕ
+escaped_in Under octet = codes "   "
+escaped_in _ octet = escaped octet
 
--- a text, cut after its first octets
+unfoldable pub shown_character : Style → ℕ → List ℕ → List ℕ
+shown_character style c octets =
+    if is_plain style c then kept style c octets else
+    if is_blank style c then 32 ∷ [] else
+    flat_map (escaped_in style) octets
+
+-- a character as it is printed, or an octet that begins none
+abbrev pub shown_octets : Style → Option ℕ → List ℕ → List ℕ
+shown_octets style None octets = flat_map (escaped_in style) octets
+shown_octets style (Some c) octets = shown_character style c octets
+
+abbrev pub shown_piece : Style → Piece → List ℕ
+shown_piece style piece = shown_octets style piece.char piece.octets
+
+abbrev pub shown : Style → List Piece → List ℕ
+shown style = flat_map (shown_piece style)
+
+-- ---- a text, cut where it is long
+
+-- what says that something was cut off, and what stands under it
+abbrev pub cut_mark : Style → List ℕ
+cut_mark Under = codes "   "
+cut_mark _ = codes "..."
+
+abbrev pub if_cut : Style → List Piece → List ℕ
+if_cut style all = if nat_lt max_shown (length all) then cut_mark style else []
+
+-- a text, cut after its first characters
 unfoldable pub shown_start : Style → List ℕ → List ℕ
-shown_start style text =
-    if nat_le (length text) max_shown then shown style text else shown style (take max_shown text) ++ cut_mark
+shown_start style text = let all = pieces text in shown style (take max_shown all) ++ if_cut style all
 
--- the start of a line's text before a place, cut before its last octets
-unfoldable pub shown_end : List ℕ → List ℕ
-shown_end text =
-    if nat_le (length text) max_shown then shown Line text
-    else cut_mark ++ shown Line (drop (length text - max_shown) text)
+-- the start of a line's text before a place, cut before its last characters
+unfoldable pub shown_end : Style → List ℕ → List ℕ
+shown_end style text = let all = pieces text in if_cut style all ++ shown style (drop (length all - max_shown) all)
 
--- a text, cut after its first octets, between what opens it and the mark that closes it
+-- a text, cut after its first characters, between what opens it and the mark that closes it
 abbrev pub between : List ℕ → List ℕ → ℕ → List ℕ
 between opening text mark = opening ++ shown_start (Between mark) text ++ mark ∷ []
 
@@ -71,6 +88,8 @@ tagged tag = between (codes "`:") tag 96
 abbrev pub quoted : List ℕ → List ℕ
 quoted text = between (codes "\"") text 34
 
+-- ---- a line of a script
+
 -- the text and the end of its line
 abbrev pub line : List ℕ → List ℕ
 line text = text ++ 10 ∷ []
@@ -79,14 +98,26 @@ line text = text ++ 10 ∷ []
 abbrev pub margin : List ℕ
 margin = codes "  "
 
--- a line of a script, cut around the place before which that many of its octets stand, and under it
--- a mark at that place
+-- a line of a script, cut around the place before which that many of its octets stand, and under it a mark at that place: after as
+-- many columns as what is printed before the place takes
 unfoldable pub marked : List ℕ → ℕ → List ℕ
 marked text place =
-    let before = shown_end (take place text) in
-    line (margin ++ before ++ shown_start Line (drop place text))
-    ++ line (margin ++ replicate (length before) 32 ++ codes "^")
+    let before = take place text in
+    line (margin ++ shown_end Line before ++ shown_start Line (drop place text))
+    ++ line (margin ++ shown_end Under before ++ codes "^")
 
 -- the line of a place of the script, with its mark
 unfoldable pub excerpt : List ℕ → ℕ → List ℕ
 excerpt script place = marked (line_at script place) (octets_before script place)
+
+-- ---- the name of a file
+
+-- all but the control characters of ASCII are printed as they are, so that other letters can be read
+abbrev pub is_name_octet : ℕ → Bool
+is_name_octet octet = nat_le 32 octet && not (octet == 127)
+
+unfoldable pub name_octet : ℕ → List ℕ
+name_octet octet = if is_name_octet octet then octet ∷ [] else escaped octet
+
+abbrev pub shown_name : List ℕ → List ℕ
+shown_name name = flat_map name_octet name

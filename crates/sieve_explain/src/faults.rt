@@ -4,6 +4,7 @@ ghost use Rattle.sieve_explain.specs.Faults.{beginnings, begins_as_mail, dark_at
 ghost use Rattle.sieve_explain.specs.Explaining.{misplaced_blanks};
 ghost use Rattle.sieve_explain.specs.Private.{beginning_of, Stands, blanks_of};
 
+use crate::characters::first_octets;
 use crate::marks::{is_word_in_list, text_of};
 use crate::sentence::{Sentence, plain};
 use crate::words::with_words;
@@ -125,13 +126,17 @@ fn symbol_length(rest: &[u8]) -> usize
     rest.iter().take_while(is_symbol).count()
 }
 
-// The whole operator with which the bytes begin, or the first byte.
+// The whole operator with which the bytes begin, or the first character, or a byte that begins none.
 fn symbol_at(rest: &[u8]) -> &[u8]
     ensures { result.now ≡ symbol_at rest.now }
 {
     let size = symbol_length(rest);
-    let (symbol, _) = around(rest, if size > 0 { size } else { 1 });
-    symbol
+    if size > 0 {
+        let (symbol, _) = around(rest, size);
+        symbol
+    } else {
+        first_octets(rest)
+    }
 }
 
 /// The sentence for bytes at which neither a token nor a separator begins.

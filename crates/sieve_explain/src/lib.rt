@@ -10,7 +10,7 @@
 //! `specs/Explaining` has the text of each refusal, `specs/Faults`, `specs/Reasons` and `specs/Hints` its sentences,
 //! `specs/Words` the words that are one letter off, `specs/Marks` what is looked for among the tokens, and
 //! `specs/Notes` the notes, in a table of their sentences and conditions. `specs/Places` of readable_text defines
-//! lines and columns. `specs/Shown` escapes and cuts the octets of a script.
+//! lines. `specs/Characters` reads the characters of a text, and `specs/Shown` escapes and cuts them.
 //!
 //! # Promises
 //!
@@ -20,7 +20,8 @@
 //!
 //! What is printed for a refused script is the definition's text: its name, the line and column of the byte or token
 //! that the refusal names, or of the string that is no capability, a sentence for the reason, the line after two
-//! spaces, and a mark under the place. For a refusal by the rules each further command and test that they refuse
+//! spaces, and a mark under the place. The column is counted in characters. The mark stands after as many columns of a
+//! terminal as the line takes before the place. For a refusal by the rules each further command and test that they refuse
 //! follows; at the end of a script also the place of its last open brace.
 //!
 //! ### Marks and hints
@@ -48,13 +49,16 @@
 //!
 //! ### What an explanation consists of
 //!
-//! These texts have no ASCII control characters except line breaks, and are ASCII if the name of the file is. For a
-//! listing with a fault the text has the same form, with a sentence for the kind of the fault.
+//! These texts have no ASCII control characters except line breaks. If the name of the file is UTF-8 of visible
+//! characters, then so are these texts, apart from line breaks: control characters, characters that turn the direction
+//! of writing or show nothing, and bytes that aren't UTF-8 are escaped. For a listing with a fault the text has the
+//! same form, with a sentence for the kind of the fault.
 //!
 //! By `explain`, `remarks_on`, `listing_explanation`; laws `explanations_are_unique`, `marks_stand_under_faults`,
 //! `explanations_are_printable`, `remarks_are_printable`, `listing_explanations_are_printable`.
 #![tactic(auto)]
 
+mod characters;
 mod excerpt;
 mod explaining;
 mod explanation;

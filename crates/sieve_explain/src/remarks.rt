@@ -1,11 +1,12 @@
 // Remarks about a place of a script.
 ghost use Rattle.std.specs.Prelude.{◌≡◌, ◌≤◌, ◌++◌, IfOk, OnOk, length};
-ghost use Rattle.sieve_explain.specs.Explaining.{heading, note, numbered, remark, told};
+ghost use Rattle.sieve_explain.specs.Explaining.{column, heading, note, numbered, remark, told};
 ghost use Rattle.sieve_explain.specs.Private.{blanks_of};
 
+use crate::characters::count_pieces;
 use crate::excerpt::push_excerpt;
 use crate::sentence::{Sentence, push_sentence};
-use crate::shown::{Style, push_shown};
+use crate::shown::push_name;
 use itoa::Buffer;
 use readable_text::places::{line_number, octets_before};
 use std::alloc::{AllocError, Global};
@@ -30,6 +31,16 @@ fn push_number(out: &mut Vec<u8>, number: u128) -> Result<(), AllocError>
     out.extend_from_slice(Buffer::new().format(number).as_bytes())
 }
 
+// The column of the place in its line, in characters, counted from 1.
+#[tactic(auto, unfolding(crate::specs::Explaining::column, readable_text::specs::Places::octets_before))]
+fn column(script: &[u8], place: usize) -> u128
+    requires { place ≤ length script.now }
+    ensures { result ≡ column script.now place }
+{
+    let start = place - octets_before(script, place);
+    count_pieces(&script[start..place]) as u128 + 1
+}
+
 // Appends the script's name, the line and the column of the place, and the kind of the remark.
 //
 // The place is at most the script's length.
@@ -43,10 +54,9 @@ fn push_heading(
     ensures { OnOk result (out.new.items ≡ out.old.items
         ++ heading kind.now source.now.name.now source.now.octets.now place) }
 {
-    push_shown(out, Style::Name, source.name.as_bytes())?;
+    push_name(out, source.name)?;
     push_number(out, line_number(source.octets, place))?;
-    let column = octets_before(source.octets, place) as u128 + 1;
-    push_number(out, column)?;
+    push_number(out, column(source.octets, place))?;
     out.extend_from_slice(kind.as_bytes())
 }
 
@@ -92,7 +102,7 @@ pub fn push_note(
     ensures { OnOk result (out.new.items ≡ out.old.items
         ++ note source.now.name.now (blanks_of sentence.now)) }
 {
-    push_shown(out, Style::Name, source.name.as_bytes())?;
+    push_name(out, source.name)?;
     out.extend_from_slice(b": note: ")?;
     push_sentence(out, sentence)?;
     out.extend_from_slice(b"\n")

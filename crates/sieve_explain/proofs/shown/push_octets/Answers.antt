@@ -1,6 +1,6 @@
 use Rattle.std.proofs.Common.{arith}
 use Rattle.std.proofs.lemmas.Grind.{common_steps}
-use Rattle.sieve_explain.proofs.shown.push_shown.Goals as goal
+use Rattle.sieve_explain.proofs.shown.push_octets.Goals as goal
 
 pub loop-octet-preserved : goal.loop-octet-preserved
 loop-octet-preserved c = grind (arith, common_steps)

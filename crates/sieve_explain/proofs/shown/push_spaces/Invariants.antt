@@ -1,5 +1,5 @@
 use Rattle.std.proofs.Common.{◌≡◌, ◌++◌, replicate}
-use Rattle.sieve_explain.proofs.excerpt.push_spaces.Given as goal
+use Rattle.sieve_explain.proofs.shown.push_spaces.Given as goal
 
 abbrev pub invariant-loop : goal.invariant-loop
 invariant-loop l = l.out.items ≡ l.initial.out.items ++ replicate l.counter 32

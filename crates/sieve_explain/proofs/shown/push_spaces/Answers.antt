@@ -1,6 +1,6 @@
 use Rattle.std.proofs.Common.{arith}
 use Rattle.std.proofs.lemmas.Grind.{common_steps}
-use Rattle.sieve_explain.proofs.excerpt.push_spaces.Goals as goal
+use Rattle.sieve_explain.proofs.shown.push_spaces.Goals as goal
 
 pub loop-preserved : goal.loop-preserved
 loop-preserved c = grind (arith, common_steps)
