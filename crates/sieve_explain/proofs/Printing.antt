@@ -13,12 +13,20 @@ use Rattle.std.proofs.lemmas.Bool.Decides.{nat_tests}
 use Rattle.std.proofs.lemmas.List.Folds.{list_all-append}
 use Rattle.bstr.specs.Utf8.{decoded}
 use Rattle.sieve_explain.specs.Characters.{Piece, columns, first_piece, is_graphic, is_sign, is_visible, more_octets, pieces, pieces_after}
-use Rattle.sieve_explain.specs.Printable.{IsReadable, IsVisible, are_printable, is_no_control, is_printable, is_readable}
+use Rattle.sieve_explain.specs.Printable.{IsReadable, IsVisible, is_no_control, is_readable}
 use Rattle.sieve_explain.specs.Shown.{between, cut_mark, escaped, escaped_in, if_cut, is_blank, is_name_octet, is_plain, kept, max_shown, name_octet, named, quoted, shown, shown_character, shown_end, shown_name, shown_octets, shown_piece, shown_start, tagged}
 use Rattle.sieve_explain.proofs.Pieces.{spelled}
 use Rattle.sieve_explain.specs.declared.shown.Style.{Style}
 use Rattle.sieve_explain.specs.declared.shown.Style.TheVariants.{Line, Under, Between}
 use Rattle.sieve_explain.specs.Sentences.{Blanks, filled, filled_octet}
+
+-- a printable character of ASCII, or the end of a line
+abbrev pub is_printable : ℕ → Bool
+is_printable octet = (nat_le 32 octet && nat_le octet 126) || octet == 10
+
+-- octets that are all printable
+abbrev pub are_printable : List ℕ → Bool
+are_printable = list_all is_printable
 
 abbrev pub Fine : List ℕ → Type 0
 Fine text = are_printable text ≡ true

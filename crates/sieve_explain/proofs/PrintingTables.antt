@@ -24,11 +24,10 @@ use Rattle.sieve_explain.specs.Faults.{Beginning, beginnings, begins_as_mail, le
 use Rattle.sieve_explain.specs.Hints.{Vocabulary, known_capabilities, known_commands, known_tags, known_tests, lacking, lacking_rows, meant, meant_too, unknown, unknown_capability, unknown_command, unknown_tag, unknown_test, unknown_text, unknown_words}
 use Rattle.sieve_explain.specs.Notes.{note_blanks, note_text}
 use Rattle.sieve_explain.specs.declared.notes.NoteKind.{NoteKind}
-use Rattle.sieve_explain.specs.Printable.{are_printable}
 use Rattle.sieve_explain.specs.Reasons.{capability_words, ending_words, extra_words, kind_blanks, no_argument_words, no_test_words, other_blanks, place_text, positional_words, reason_blanks, reason_text, reason_words, tag_words, tests_words}
 use Rattle.sieve_explain.specs.Sentences.{Blanks}
 use Rattle.sieve_explain.specs.Words.{Hint, is_near, nearest, nearest_but, with_words, words_for}
-use Rattle.sieve_explain.proofs.Printing.{Fine, FineBlanks, both, fine_if}
+use Rattle.sieve_explain.proofs.Printing.{Fine, FineBlanks, are_printable, both, fine_if}
 
 -- a row whose words are printable, and such words
 abbrev fine_row : Hint → Bool

@@ -4,14 +4,6 @@ use Rattle.std.specs.List.{list_all}
 use Rattle.std.specs.Str.{all_scalars}
 use Rattle.sieve_explain.specs.Characters.{is_visible}
 
--- a printable character of ASCII, or the end of a line
-abbrev pub is_printable : ℕ → Bool
-is_printable octet = (nat_le 32 octet && nat_le octet 126) || octet == 10
-
--- octets that are all printable
-abbrev pub are_printable : List ℕ → Bool
-are_printable = list_all is_printable
-
 -- no control character of ASCII, or the end of a line
 abbrev pub is_no_control : ℕ → Bool
 is_no_control octet = (nat_le 32 octet && not (octet == 127)) || octet == 10
