@@ -1,29 +1,24 @@
 -- Tests, commands and the branches of an if, one after the other.
-use Rattle.std.proofs.Common.{◌≡◌, ℕ, suc, ◌+◌, ◌-◌, ◌<◌, ◌≤◌, nat_lt, Bool, true, false, refl, subst, List, ◌∷◌, map, drop, length, get_or, Option, Some, sym, ap, ◌∙◌, add-one, inl, inr, arith}
+use Rattle.std.proofs.Common.{◌≡◌, ℕ, suc, ◌+◌, ◌-◌, ◌<◌, nat_lt, refl, subst, List, ◌∷◌, map, drop, length, get_or, sym, ap, ◌∙◌, add-one, inl, inr, arith}
 use Rattle.std.specs.Prelude.{if◌then◌else◌}
 use Rattle.std.proofs.lemmas.Bool.{cases_Bool}
-use Rattle.std.specs.Global.{Vec}
 use Rattle.std.proofs.Math.Seq.{drop-cons}
-use Rattle.std.proofs.lemmas.List.{drop_all}
-use Rattle.mime_decode.specs.Mail.{Mail}
-use Rattle.mime_decode.specs.Visited.{numbers_from, visited}
+use Rattle.mime_decode.specs.Visited.{numbers_from}
 use Rattle.sieve_check.specs.Bounded.{IsBoundedTest, AreBoundedTests, AreBoundedCommands, AreBoundedBranches}
 use Rattle.sieve_check.specs.declared.typed.Branch.{Branch}
 use Rattle.sieve_check.specs.declared.typed.Test.{Test}
 use Rattle.sieve_check.specs.declared.typed.Command.{Command}
-use Rattle.sieve_check.specs.declared.typed.Command.TheVariants.{If, ForEveryPart}
-use Rattle.sieve_check.specs.Typed.{test, command, CommandForms, BranchForms, branch}
+use Rattle.sieve_check.specs.Typed.{test, command, BranchForms, branch}
 use Rattle.sieve_check.specs.TypedView.{GuardedForm, test_form, tests_of, branches_of, command_form, commands_form}
-use Rattle.sieve_check.specs.Private.{branch_form, branch_forms, else_form}
-use Rattle.sieve_check.proofs.Forms.{form_if, form_branch}
+use Rattle.sieve_check.specs.Private.{branch_form, branch_forms}
+use Rattle.sieve_check.proofs.Forms.{form_branch}
 use Rattle.bytecode_format.specs.declared.action.Action.{Action}
 use Rattle.bytecode_format.specs.Actions.{first_occurrences, with_implicit_keep, final_actions}
 use Rattle.sieve_meaning.specs.declared.evaluator.Evaluator.{Evaluator}
 use Rattle.sieve_meaning.specs.declared.evaluator.Flow.{Flow}
 use Rattle.sieve_meaning.specs.declared.evaluator.Flow.TheVariants.{GoesOn, Stopped, Leaves}
-use Rattle.sieve_meaning.specs.Evaluation.{HasEvaluated, StandsAt, Gives}
-use Rattle.sieve_meaning.specs.Meaning.{Effects, after_turn, and_then, or_else, Ending, normal, stopped, broken, effects_of, followed_by, left, test_does, all_do, any_do, command_does, commands_do, choice_does, turns}
-use Rattle.sieve_meaning.proofs.Shapes.{form_for_every_part}
+use Rattle.sieve_meaning.specs.Evaluation.{HasEvaluated, StandsAt}
+use Rattle.sieve_meaning.specs.Meaning.{Effects, after_turn, Ending, normal, stopped, broken, effects_of, followed_by, left}
 
 pub first_branch : (bs : List Branch) (i : ℕ) (b : Branch) (last : BranchForms) → i < length bs → b ≡ get_or bs i b → branch_forms (drop i bs) last ≡ branch (test_form b.test) (commands_form b.block.items) b.at (branch_forms (drop (i + 1) bs) last)
 first_branch bs i b last lt is =

@@ -3,7 +3,7 @@ use Rattle.std.proofs.Common.{◌≡◌, ◌∙◌, ℕ, Bool, true, false, ap, 
 use Rattle.std.specs.Result.{IsErrAnd, MatchResult}
 use Rattle.std.proofs.lemmas.Result.{MatchResult-weaker, err_from_is_err_and}
 use Rattle.mime_decode.specs.Mail.{Mail}
-use Rattle.sieve_check.specs.Typed.{TestForm, TestForms, test, CommandForm, CommandForms, command, BranchForms, no_branch, otherwise, branch}
+use Rattle.sieve_check.specs.Typed.{TestForm, TestForms, test, CommandForm, CommandForms, command, BranchForms, otherwise, branch}
 use Rattle.sieve_meaning.specs.declared.evaluator.Evaluator.{Evaluator}
 use Rattle.sieve_meaning.specs.declared.evaluator.Flow.{Flow}
 use Rattle.sieve_meaning.specs.declared.evaluator.Flow.TheVariants.{GoesOn, Stopped, Leaves}

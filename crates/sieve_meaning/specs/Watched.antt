@@ -1,5 +1,5 @@
 -- What a watcher of an evaluation is told.
-use Rattle.std.specs.Prelude.{◌≡◌, ℕ, List, ◌++◌, Some, MatchResult, Result, option_map}
+use Rattle.std.specs.Prelude.{ℕ, List, ◌++◌, Some, MatchResult, Result, option_map}
 use Rattle.std.specs.Borrow.{Bor}
 use Rattle.mail_matching.specs.Findings.{shortened}
 use Rattle.mail_matching.specs.declared.finding.Finding.{Finding}

@@ -1,19 +1,17 @@
 use Rattle.std.proofs.Common.{◌≡◌, ◌+◌, ◌∙◌, refl, sym, ap, subst, drop, ◌++◌, ◌∷◌, [], Some, ◌-◌, ◌≤◌, arith, rules}
-use Rattle.std.specs.Result.{MatchResult}
 use Rattle.std.proofs.lemmas.List.{drop_all}
-use Rattle.bytecode_format.specs.declared.action.Action.{Action}
 use Rattle.mime_decode.specs.Visited.{numbers_from, visited}
 use Rattle.sieve_check.specs.Bounded.{AreBoundedBranches, AreBoundedCommands, IsBoundedCommand}
 use Rattle.sieve_check.specs.Extent.{branches_extent, command_extent, commands_extent}
 use Rattle.sieve_check.specs.Private.{branch_forms, else_form}
-use Rattle.sieve_check.specs.Typed.{CommandForm, choice, does, for_every_part, branch, otherwise, no_branch, command, no_command}
+use Rattle.sieve_check.specs.Typed.{choice, does, for_every_part, branch, otherwise, no_branch, command, no_command}
 use Rattle.sieve_check.specs.TypedView.{command_form, commands_form, test_form}
 use Rattle.sieve_check.proofs.Forms.{form_if}
 use Rattle.sieve_meaning.specs.Evaluation.{StandsAt}
 use Rattle.sieve_meaning.specs.Meaning.{act_does, choice_does, command_does, commands_do, expanded, turns}
-use Rattle.sieve_meaning.specs.Traced.{act_event, choice_events, command_events, commands_events, event, on_normal, test_events, turned, turns_events}
+use Rattle.sieve_meaning.specs.Traced.{act_event, choice_events, command_events, commands_events, event, test_events, turned, turns_events}
 use Rattle.sieve_meaning.specs.Watched.{turn_does, turn_events}
-use Rattle.sieve_meaning.specs.declared.evaluator.Flow.TheVariants.{GoesOn, Stopped}
+use Rattle.sieve_meaning.specs.declared.evaluator.Flow.TheVariants.{GoesOn}
 use Rattle.sieve_meaning.proofs.Falls.{block_within, command_within, last_within}
 use Rattle.sieve_meaning.proofs.MeaningLemmas.{branch_bounded, branches_bounded, commands_bounded, first_branch, first_command, next_number}
 use Rattle.sieve_meaning.proofs.Shapes.{form_does, form_for_every_part}

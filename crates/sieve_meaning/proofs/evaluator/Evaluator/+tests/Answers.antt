@@ -1,4 +1,4 @@
-use Rattle.std.proofs.Common.{◌≡◌, ◌+◌, ◌∙◌, refl, Bool, true, false, not, ap, sym, subst, map, drop, ◌++◌, ◌∷◌, []}
+use Rattle.std.proofs.Common.{◌≡◌, ◌+◌, ◌∙◌, refl, true, false, not, ap, sym, subst, map, drop, ◌++◌}
 use Rattle.std.specs.Result.{MatchResult}
 use Rattle.std.proofs.lemmas.List.{drop_all}
 use Rattle.sieve_check.specs.Typed.{TestForm, no_test, test, asks, negation, all_of, any_of}
