@@ -1,7 +1,9 @@
 pub mod Meaning
 -- the meaning, told event by event
 pub mod Traced
--- how the evaluator's fields stand for what a script has done: for whoever evaluates step by step
+-- what a watcher of an evaluation is told
+pub mod Watched
+-- how the evaluator's fields stand for what a script has done: for an evaluation
 pub mod Values
 pub mod Expanded
 pub mod Evaluation

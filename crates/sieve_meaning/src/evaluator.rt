@@ -1,12 +1,13 @@
 // The evaluator of scripts.
 //
 // The evaluator copies freely. Only `trace` of a script runs it; deliveries, `eval` and `run` execute the compiled
-// code.
+// code. It tells a watcher each event when it happens, or nobody.
 ghost use Rattle.std.specs.Prelude.{◌≡◌, ◌-◌, nat_lt, if◌then◌else◌, IfOk};
 ghost use Rattle.sieve_meaning.specs.declared.evaluator.Flow.TheVariants.{GoesOn, Leaves};
 
 use crate::subject::Subject;
 use crate::variables::Variables;
+use crate::watching::{Nobody, Told, Watching};
 use bytecode_format::{Action, ActionList, Modifiers};
 use mail_matching::Captured;
 use mime_decode::Message;
@@ -16,8 +17,8 @@ use std::alloc::{AllocError, Global};
 
 /// The state of a script that is evaluated: its actions, variables and captures.
 ///
-/// Make one with [`Evaluator::new`], and call [`Evaluator::commands`] for a whole script; a trace calls
-/// [`Evaluator::act`], [`Evaluator::asks_and_finds`] and others step by step. The fields are the result.
+/// Make one with [`Evaluator::new`], and call [`Evaluator::commands`] for a whole script, with a [`Watching`] that is
+/// told the events. The fields are the result.
 #[derive(Drop)]
 pub struct Evaluator<'s, 'm> {
     /// The listed actions, each once.
@@ -56,14 +57,16 @@ impl Flow {
 }
 
 impl<'s, 'm> Evaluator<'s, 'm> {
-    ghost use Rattle.std.specs.Prelude.{◌≡◌, ◌∷◌, [], ◌++◌, false, map, take, IfOk, OnOk, Some};
+    ghost use Rattle.std.specs.Prelude.{◌≡◌, ◌∷◌, [], ◌++◌, false, map, take, IfOk, OnOk};
     ghost use Rattle.sieve_check.specs.Bounded.{IsBoundedCommand, AreBoundedCommands};
     ghost use Rattle.sieve_check.specs.TypedView.{command_form, commands_form};
     ghost use Rattle.octets.specs.Limits.{max_value};
     ghost use Rattle.mail_matching.specs.Questions.{current};
     ghost use Rattle.bytecode_format.specs.Modifiers.{modified};
     ghost use Rattle.sieve_meaning.specs.Meaning.{Effects, no_effects, act_does, command_does, commands_do, stored, turns, with_taken, with_value};
+    ghost use Rattle.sieve_meaning.specs.Traced.{act_event, command_events, commands_events, turns_events};
     ghost use Rattle.sieve_meaning.specs.Evaluation.{HasEvaluated, StandsAt};
+    ghost use Rattle.sieve_meaning.specs.Watched.{Tells, turn_does, turn_events};
     ghost use Rattle.mime_decode.specs.Visited.{visited};
 
     /// Returns the state before the first command. It takes no memory.
@@ -148,12 +151,8 @@ impl<'s, 'm> Evaluator<'s, 'm> {
         Ok(())
     }
 
-    /// Carries out an action. `text` is its string, expanded.
-    ///
-    /// # Errors
-    ///
-    /// `AllocError` if memory is refused.
-    pub fn act(
+    // Carries out an action. `text` is its string, expanded.
+    fn act(
         &mut self,
         alloc: Global,
         act: &'s Act,
@@ -180,25 +179,62 @@ impl<'s, 'm> Evaluator<'s, 'm> {
         Ok(Flow::GoesOn)
     }
 
+    // Carries out an action, and tells it. If it sets a variable, the value that the variable has then is told.
+    fn act_watched<W: Watching>(
+        &mut self,
+        alloc: Global,
+        act: &'s Act,
+        text: Octets,
+        at: usize,
+        subject: Subject<'_, 'm>,
+        watcher: &mut W,
+    ) -> Result<Flow, W::Failure>
+        ensures { (e : Effects) → HasEvaluated e self.old
+            → Tells W.has_heard W.has_stopped watcher.old watcher.new
+            (act_event subject.entry.message.now subject.entry.part act.now text at e ∷ []) result
+            (λ flow. StandsAt
+            (act_does subject.entry.message.now subject.entry.part act.now text e) flow
+            self.new) }
+    {
+        match act.sets() {
+            Some(name) => {
+                let flow = self.act(alloc, act, text, subject)?;
+                let value = self.variables.value(name.as_slice());
+                watcher.tell(at, subject.part, Told::Acted(act, value))?;
+                Ok(flow)
+            }
+            None => {
+                watcher.tell(at, subject.part, Told::Acted(act, text.as_slice()))?;
+                Ok(self.act(alloc, act, text, subject)?)
+            }
+        }
+    }
+
     // Carries out the commands on each part that a loop visits, up to a turn that stops the script or leaves the
-    // loop.
+    // loop. Each turn is told before what is done in it.
     #[cycle(commands)]
-    fn for_every_part(
+    fn for_every_part<W: Watching>(
         &mut self,
         alloc: Global,
         block: &'s [Command],
+        at: usize,
         subject: Subject<'_, 'm>,
-    ) -> Result<Flow, AllocError>
+        watcher: &mut W,
+    ) -> Result<Flow, W::Failure>
         requires { AreBoundedCommands (commands_form block.now) }
         ensures { (e : Effects) → HasEvaluated e self.old
-            → IfOk result (λ flow. StandsAt
-            (turns (λ number f. commands_do subject.entry.message.now (Some number)
-            (commands_form block.now) f)
+            → Tells W.has_heard W.has_stopped watcher.old watcher.new
+            (turns_events at (turn_does subject.entry.message.now (commands_form block.now))
+            (turn_events subject.entry.message.now (commands_form block.now))
+            (visited subject.entry.part subject.entry.message.now) e) result
+            (λ flow. StandsAt
+            (turns (turn_does subject.entry.message.now (commands_form block.now))
             (visited subject.entry.part subject.entry.message.now) e) flow self.new) }
     {
         let parts = subject.visited();
         'parts: for part in parts.start..parts.end {
-            match self.commands(alloc, block, subject.at(part))? {
+            watcher.tell(at, Some(part), Told::Turn)?;
+            match self.commands(alloc, block, subject.at(part), watcher)? {
                 Flow::GoesOn => {}
                 Flow::Stopped => return Ok(Flow::Stopped),
                 Flow::Leaves(loops) => return Ok(Flow::left(loops)),
@@ -207,49 +243,48 @@ impl<'s, 'm> Evaluator<'s, 'm> {
         Ok(Flow::GoesOn)
     }
 
-    /// Carries out a command.
-    ///
-    /// # Requires
-    ///
-    /// The command is part of the typed form of a checked script (`IsBoundedCommand`).
-    ///
-    /// # Errors
-    ///
-    /// `AllocError` if memory is refused.
+    // Carries out a command. It is part of the typed form of a checked script.
     #[cycle(commands)]
-    fn command(
+    fn command<W: Watching>(
         &mut self,
         alloc: Global,
         command: &'s Command,
         subject: Subject<'_, 'm>,
-    ) -> Result<Flow, AllocError>
+        watcher: &mut W,
+    ) -> Result<Flow, W::Failure>
         requires { IsBoundedCommand (command_form command.now) }
         ensures { (e : Effects) → HasEvaluated e self.old
-            → IfOk result (λ flow. StandsAt
+            → Tells W.has_heard W.has_stopped watcher.old watcher.new
+            (command_events subject.entry.message.now subject.entry.part
+            (command_form command.now) e) result
+            (λ flow. StandsAt
             (command_does subject.entry.message.now subject.entry.part
             (command_form command.now) e) flow self.new) }
     {
         match command {
-            Command::Does { act, string, .. } => {
+            Command::Does { act, string, at } => {
                 let text = self.expanded(alloc, string)?;
-                self.act(alloc, act, text, subject)
+                self.act_watched(alloc, act, text, *at, subject, watcher)
             }
-            Command::ForEveryPart { block, .. } => self.for_every_part(alloc, block, subject),
+            Command::ForEveryPart { block, at } => {
+                self.for_every_part(alloc, block, *at, subject, watcher)
+            }
             Command::If(branches, otherwise) => {
                 'branches: for branch in branches {
-                    if self.is_true(alloc, &branch.test, subject)? {
-                        return self.commands(alloc, &branch.block, subject);
+                    if self.is_true(alloc, &branch.test, subject, watcher)? {
+                        return self.commands(alloc, &branch.block, subject, watcher);
                     }
                 }
                 match otherwise {
-                    Some(block) => self.commands(alloc, block, subject),
+                    Some(block) => self.commands(alloc, block, subject, watcher),
                     None => Ok(Flow::GoesOn),
                 }
             }
         }
     }
 
-    /// Carries out commands, one after the other, up to one that stops the script or leaves a loop.
+    /// Carries out commands, one after the other, up to one that stops the script or leaves a loop. The watcher is told
+    /// each event when it happens.
     ///
     /// # Requires
     ///
@@ -257,22 +292,26 @@ impl<'s, 'm> Evaluator<'s, 'm> {
     ///
     /// # Errors
     ///
-    /// `AllocError` if memory is refused.
+    /// The watcher's failure, also if memory is refused. It was told the first of the events then.
     #[cycle(commands)]
-    pub fn commands(
+    pub fn commands<W: Watching>(
         &mut self,
         alloc: Global,
         commands: &'s [Command],
         subject: Subject<'_, 'm>,
-    ) -> Result<Flow, AllocError>
+        watcher: &mut W,
+    ) -> Result<Flow, W::Failure>
         requires { AreBoundedCommands (commands_form commands.now) }
         ensures { (e : Effects) → HasEvaluated e self.old
-            → IfOk result (λ flow. StandsAt
+            → Tells W.has_heard W.has_stopped watcher.old watcher.new
+            (commands_events subject.entry.message.now subject.entry.part
+            (commands_form commands.now) e) result
+            (λ flow. StandsAt
             (commands_do subject.entry.message.now subject.entry.part
             (commands_form commands.now) e) flow self.new) }
     {
         'commands: for command in commands {
-            match self.command(alloc, command, subject)? {
+            match self.command(alloc, command, subject, watcher)? {
                 Flow::GoesOn => {}
                 flow => return Ok(flow),
             }
@@ -296,7 +335,7 @@ fn eval_commands(
         ≡ meaning message.now (commands_form commands.now)) }
 {
     let mut evaluator = Evaluator::new(alloc);
-    let _flow = evaluator.commands(alloc, commands, Subject::of(message))?;
+    let _flow = evaluator.commands(alloc, commands, Subject::of(message), &mut Nobody)?;
     evaluator.actions.into_final(evaluator.implicit_keep)
 }
 

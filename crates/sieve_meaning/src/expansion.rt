@@ -49,7 +49,7 @@ impl<'s, 'm> Evaluator<'s, 'm> {
     /// # Errors
     ///
     /// `AllocError` if memory is refused.
-    pub fn expanded(&self, alloc: Global, string: &[Segment]) -> Result<Octets, AllocError>
+    pub(crate) fn expanded(&self, alloc: Global, string: &[Segment]) -> Result<Octets, AllocError>
         ensures text { (e : Effects) → HasEvaluated e self.now
             → IfOk result (λ text. text ≡ expanded e string.now) }
         ensures short { IfOk result (λ text. length text ≤ max_string) }
@@ -109,7 +109,7 @@ impl<'s, 'm> Evaluator<'s, 'm> {
     ///
     /// `AllocError` if memory is refused.
     #[inline(always)]
-    pub fn all_expanded<'t>(
+    pub(crate) fn all_expanded<'t>(
         &'t self,
         alloc: Global,
         strings: &'t [Vec<Segment>],

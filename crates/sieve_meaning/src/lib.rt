@@ -1,9 +1,9 @@
 //! What scripts mean.
 //!
 //! `specs/Meaning` defines it, by recursion on the typed form of a script; it has no stack, place or jump.
-//! [`plain_eval`] answers exactly the final actions of the meaning. `specs/Traced` has the meaning event by event. A
-//! caller that reports the events goes step by step with an [`Evaluator`], which represents what the script has done
-//! (`specs/Evaluation`).
+//! [`plain_eval`] answers exactly the final actions of the meaning. `specs/Traced` has the meaning event by event. An
+//! [`Evaluator`] represents what the script has done (`specs/Evaluation`). It tells each event to a [`Watching`], which
+//! is how a trace reports them (`specs/Watched`).
 //!
 //! STORE leaves the implicit keep: a message whose parts were stored is also kept, unless the script says otherwise. No
 //! standard has STORE.
@@ -34,6 +34,8 @@ mod questions;
 mod subject;
 mod tests_hold;
 mod variables;
+mod watching;
 
 pub use evaluator::{Evaluator, Flow, plain_eval};
 pub use subject::Subject;
+pub use watching::{Nobody, Told, Watching};

@@ -2,6 +2,7 @@
 use crate::evaluator::Evaluator;
 use crate::questions::asked_of_part;
 use crate::subject::Subject;
+use crate::watching::{Told, Watching, say};
 use bytecode_format::Question;
 use mail_matching::{Answer, Finding, Need, Outcome, Shown, TestTexts, ask_and_find};
 use sieve_check::{Strings, Test};
@@ -14,11 +15,15 @@ impl<'s, 'm> Evaluator<'s, 'm> {
     ghost use Rattle.mail_matching.specs.Questions.{answer, found};
     ghost use Rattle.sieve_check.specs.Bounded.{AreBoundedStrings, AreBoundedTests, IsBoundedTest};
     ghost use Rattle.bytecode_format.specs.Questions.{row_of};
+    ghost use Rattle.sieve_check.specs.Typed.{asks};
     ghost use Rattle.sieve_check.specs.TypedView.{strings_form, test_form, tests_of};
     ghost use Rattle.sieve_meaning.specs.Meaning.{Effects, all_do, any_do, matched, test_does, texts_of};
+    ghost use Rattle.sieve_meaning.specs.Traced.{all_events, any_events, test_events};
     ghost use Rattle.sieve_meaning.specs.Evaluation.{Gives, HasEvaluated};
+    ghost use Rattle.sieve_meaning.specs.Watched.{Tells};
 
-    /// Returns whether the test is true for the message.
+    /// Returns whether the test is true for the message. The watcher is told a test of other tests after those that were
+    /// asked.
     ///
     /// # Requires
     ///
@@ -26,17 +31,20 @@ impl<'s, 'm> Evaluator<'s, 'm> {
     ///
     /// # Errors
     ///
-    /// `AllocError` if memory is refused.
+    /// The watcher's failure, also if memory is refused.
     #[cycle(tests)]
-    pub fn is_true(
+    pub(crate) fn is_true<W: Watching>(
         &mut self,
         alloc: Global,
         test: &Test,
         subject: Subject<'_, 'm>,
-    ) -> Result<bool, AllocError>
+        watcher: &mut W,
+    ) -> Result<bool, W::Failure>
         requires { IsBoundedTest (test_form test.now) }
         ensures { (e : Effects) → HasEvaluated e self.old
-            → IfOk result (λ value. Gives
+            → Tells W.has_heard W.has_stopped watcher.old watcher.new
+            (test_events subject.entry.message.now subject.entry.part (test_form test.now) e) result
+            (λ value. Gives
             (test_does subject.entry.message.now subject.entry.part (test_form test.now) e)
             value self.new) }
     {
@@ -44,40 +52,49 @@ impl<'s, 'm> Evaluator<'s, 'm> {
             Test::Asks {
                 question,
                 strings,
-                ..
-            } => self.asks(alloc, *question, strings, subject),
-            Test::Not { test, .. } => Ok(!self.is_true(alloc, test, subject)?),
-            Test::AllOf { first, others, .. } => {
-                if !self.is_true(alloc, first, subject)? {
-                    return Ok(false);
-                }
-                self.all_true(alloc, others, subject)
+                at,
+            } => self.asks(alloc, *question, strings, *at, subject, watcher),
+            Test::Not { test, at } => {
+                let value = !self.is_true(alloc, test, subject, watcher)?;
+                say(watcher, *at, subject.part, Told::Not(value), value)
             }
-            Test::AnyOf { first, others, .. } => {
-                if self.is_true(alloc, first, subject)? {
-                    return Ok(true);
+            Test::AllOf { first, others, at } => {
+                if !self.is_true(alloc, first, subject, watcher)? {
+                    return say(watcher, *at, subject.part, Told::AllOf(false), false);
                 }
-                self.any_true(alloc, others, subject)
+                let value = self.all_true(alloc, others, subject, watcher)?;
+                say(watcher, *at, subject.part, Told::AllOf(value), value)
+            }
+            Test::AnyOf { first, others, at } => {
+                if self.is_true(alloc, first, subject, watcher)? {
+                    return say(watcher, *at, subject.part, Told::AnyOf(true), true);
+                }
+                let value = self.any_true(alloc, others, subject, watcher)?;
+                say(watcher, *at, subject.part, Told::AnyOf(value), value)
             }
         }
     }
 
     // Whether all tests are true; it stops at the first that isn't.
     #[cycle(tests)]
-    fn all_true(
+    fn all_true<W: Watching>(
         &mut self,
         alloc: Global,
         list: &[Test],
         subject: Subject<'_, 'm>,
-    ) -> Result<bool, AllocError>
+        watcher: &mut W,
+    ) -> Result<bool, W::Failure>
         requires { AreBoundedTests (tests_of (map test_form list.now)) }
         ensures { (e : Effects) → HasEvaluated e self.old
-            → IfOk result (λ value. Gives
+            → Tells W.has_heard W.has_stopped watcher.old watcher.new
+            (all_events subject.entry.message.now subject.entry.part
+            (tests_of (map test_form list.now)) e) result
+            (λ value. Gives
             (all_do subject.entry.message.now subject.entry.part
             (tests_of (map test_form list.now)) e) value self.new) }
     {
         'list: for test in list {
-            if !self.is_true(alloc, test, subject)? {
+            if !self.is_true(alloc, test, subject, watcher)? {
                 return Ok(false);
             }
         }
@@ -86,64 +103,59 @@ impl<'s, 'm> Evaluator<'s, 'm> {
 
     // Whether one of the tests is true; it stops at the first that is.
     #[cycle(tests)]
-    fn any_true(
+    fn any_true<W: Watching>(
         &mut self,
         alloc: Global,
         list: &[Test],
         subject: Subject<'_, 'm>,
-    ) -> Result<bool, AllocError>
+        watcher: &mut W,
+    ) -> Result<bool, W::Failure>
         requires { AreBoundedTests (tests_of (map test_form list.now)) }
         ensures { (e : Effects) → HasEvaluated e self.old
-            → IfOk result (λ value. Gives
+            → Tells W.has_heard W.has_stopped watcher.old watcher.new
+            (any_events subject.entry.message.now subject.entry.part
+            (tests_of (map test_form list.now)) e) result
+            (λ value. Gives
             (any_do subject.entry.message.now subject.entry.part
             (tests_of (map test_form list.now)) e) value self.new) }
     {
         'list: for test in list {
-            if self.is_true(alloc, test, subject)? {
+            if self.is_true(alloc, test, subject, watcher)? {
                 return Ok(true);
             }
         }
         Ok(false)
     }
 
-    /// Returns whether the question of a simple test is true. A match can set captures.
-    ///
-    /// # Requires
-    ///
-    /// The strings are those of a checked script's test with this question (`AreBoundedStrings`).
-    ///
-    /// # Errors
-    ///
-    /// `AllocError` if memory is refused.
-    pub fn asks(
+    // Whether the question of a simple test is true. A match can set captures.
+    fn asks<W: Watching>(
         &mut self,
         alloc: Global,
         question: Question,
         strings: &Strings,
+        at: usize,
         subject: Subject<'_, 'm>,
-    ) -> Result<bool, AllocError>
+        watcher: &mut W,
+    ) -> Result<bool, W::Failure>
         requires { AreBoundedStrings (row_of question).takes (strings_form strings.now) }
         ensures { (e : Effects) → HasEvaluated e self.old
-            → IfOk result (λ value. Gives
-            (matched (answer subject.entry.message.now subject.entry.part question
-            (texts_of e (strings_form strings.now)) e.captures) e) value self.new) }
+            → Tells W.has_heard W.has_stopped watcher.old watcher.new
+            (test_events subject.entry.message.now subject.entry.part
+            (asks question (strings_form strings.now) at) e) result
+            (λ value. Gives
+            (test_does subject.entry.message.now subject.entry.part
+            (asks question (strings_form strings.now) at) e) value self.new) }
     {
-        let (value, _) = self.asks_and_finds(alloc, question, strings, subject, 0)?;
+        let most = watcher.most();
+        let (value, found) = self.asks_and_finds(alloc, question, strings, subject, most)?;
+        let told = Told::Asked(question, value, found.as_ref());
+        watcher.tell(at, subject.part, told)?;
         Ok(value)
     }
 
-    /// Returns whether the question of a simple test is true, and what the test finds if it compares values with
-    /// keys: the value and the key that match, each cut to `most` bytes, or how many values there are. A match can
-    /// set captures.
-    ///
-    /// # Requires
-    ///
-    /// The strings are those of a checked script's test with this question (`AreBoundedStrings`).
-    ///
-    /// # Errors
-    ///
-    /// `AllocError` if memory is refused.
-    pub fn asks_and_finds(
+    // Whether the question of a simple test is true, and what the test finds if it compares values with keys: the value
+    // and the key that match, each cut to `most` bytes, or how many values there are. A match can set captures.
+    fn asks_and_finds(
         &mut self,
         alloc: Global,
         question: Question,

@@ -1,10 +1,6 @@
 pub mod Shown
 pub mod WordLemmas
-pub mod SoFar
-pub mod Steps
 pub mod PlaceLemmas
 pub mod PieceLemmas
 pub mod TokenLemmas
 pub mod MediaLemmas
-pub mod Nested
-pub mod Falls

@@ -10,3 +10,5 @@ pub mod Printed
 pub mod Written
 -- private: how the code goes; no public contract names these
 pub mod Private
+-- private: the laws of the printer
+pub mod PrinterFacts

@@ -24,14 +24,12 @@
 //! By `trace`, `token_places`.
 #![tactic(auto)]
 
-mod commands;
 mod error;
 mod label;
-mod line;
+mod lines;
 mod places;
+mod printer;
 mod scene;
-mod telling;
-mod tests_told;
 mod tracing;
 mod words;
 

@@ -7,21 +7,21 @@ ghost use Rattle.devices.specs.Device.{HasTaken};
 ghost use Rattle.sieve_check.specs.Bounded.{AreBoundedCommands};
 ghost use Rattle.sieve_check.specs.TypedView.{commands_form};
 ghost use Rattle.sieve_meaning.specs.Meaning.{meaning};
-ghost use Rattle.sieve_trace.specs.Printed.{sheet};
+ghost use Rattle.sieve_meaning.specs.Traced.{script_events};
+ghost use Rattle.sieve_trace.specs.Printed.{sheet, told};
 ghost use Rattle.sieve_trace.specs.Private.{sheet_of};
 ghost use Rattle.sieve_trace.specs.Written.{HasStopped, trace_text};
 
-use crate::commands::commands;
 use crate::error::TraceError;
 use crate::label::label_of;
-use crate::line::Page;
+use crate::lines::Lines;
 use crate::places::Places;
-use crate::scene::Scene;
+use crate::printer::Printer;
 use bytecode_format::Action;
 use devices::Sink;
 use mime_decode::Message;
 use sieve_check::{Checked, Command};
-use sieve_meaning::Evaluator;
+use sieve_meaning::{Evaluator, Subject};
 use std::alloc::Global;
 
 /// Writes the trace of a script on a message, each event as it comes, and returns the script's final actions: exactly
@@ -59,34 +59,33 @@ pub fn trace<O: Sink>(
         (O.output out.old) (O.output out.new)) }
 {
     let label = label_of(alloc, name)?;
-    let page = Page {
-        alloc,
-        label: &label,
-        places,
+    let mut lines = Lines::new(alloc, &label, places, message);
+    let mut printer = Printer {
+        out,
+        lines: &mut lines,
     };
-    trace_commands(&page, checked.commands(), message, out)
+    print_events(alloc, checked.commands(), message, &mut printer)
 }
 
-// The same for the script's commands.
-fn trace_commands<O: Sink>(
-    page: &Page<'_>,
-    list: &[Command],
+// Evaluates the commands, and prints their events.
+fn print_events<O: Sink>(
+    alloc: Global,
+    commands: &[Command],
     message: &Message<'_>,
-    out: &mut O,
+    printer: &mut Printer<'_, '_, '_, O>,
 ) -> Result<Vec<Action>, TraceError>
-    requires { AreBoundedCommands (commands_form list.now) }
+    requires { AreBoundedCommands (commands_form commands.now) }
+    ensures same_reference { printer.new.out.ghost_name ≡ printer.old.out.ghost_name }
     ensures actions { IfOk result (λ actions. actions.items
-        ≡ meaning message.now (commands_form list.now)) }
+        ≡ meaning message.now (commands_form commands.now)) }
     ensures told { IfOk result (λ actions. HasTaken
-        (trace_text (sheet_of page.now message.now) (commands_form list.now))
-        (O.output out.old) (O.output out.new)) }
+        (told (sheet_of printer.old.lines.now) (script_events message.now (commands_form commands.now)))
+        (O.output printer.old.out.now) (O.output printer.new.out.now)) }
     ensures stopped { IfErr result (λ why. HasStopped why
-        (trace_text (sheet_of page.now message.now) (commands_form list.now))
-        (O.output out.old) (O.output out.new)) }
+        (told (sheet_of printer.old.lines.now) (script_events message.now (commands_form commands.now)))
+        (O.output printer.old.out.now) (O.output printer.new.out.now)) }
 {
-    let scene = Scene::of(message);
-    let mut run = Evaluator::new(page.alloc);
-    let mut line = Vec::new(page.alloc);
-    let _flow = commands(&mut run, page, list, &scene, &mut line, out)?;
+    let mut run = Evaluator::new(alloc);
+    let _flow = run.commands(alloc, commands, Subject::of(message), printer)?;
     Ok(run.actions.into_final(run.implicit_keep)?)
 }

@@ -1,5 +1,5 @@
 use Rattle.std.proofs.lemmas.Result.{err_from_is_err_and}
-use Rattle.sieve_trace.proofs.SoFar.{refused_first}
+use Rattle.sieve_trace.proofs.Shown.{refused_first}
 use Rattle.sieve_trace.proofs.tracing.trace.Goals as goal
 
 pub returns-in_err-label-clause-stopped : goal.returns-in_err-label-clause-stopped

@@ -4,7 +4,7 @@ use Rattle.mime_tree.specs.PartTree as tree
 use Rattle.std.proofs.Common.{◌≡◌, List, ◌++◌}
 use Rattle.std.proofs.lemmas.Result.{on_ok_weaker}
 use Rattle.sieve_trace.proofs.MediaLemmas.{as_many, media_told}
-use Rattle.sieve_trace.proofs.line.push_media.Goals as goal
+use Rattle.sieve_trace.proofs.scene.push_media.Goals as goal
 
 pub media_without_params-media-requires : goal.media_without_params-media-requires
 media_without_params-media-requires c =
