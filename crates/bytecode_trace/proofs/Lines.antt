@@ -1,5 +1,5 @@
 -- The line of a step, from what is known before it and after it.
-use Rattle.std.proofs.Common.{◌≡◌, OnOk, Result, Ok, Err, is_ok, if◌then◌else◌, ℕ, ◌-◌, List, [], ◌∷◌, ◌++◌, codes, slice_get, Option, Some, None, option_map, refl, sym, ap, ◌∙◌, append_assoc, append-nil}
+use Rattle.std.proofs.Common.{◌≡◌, ℕ, ◌-◌, List, [], ◌∷◌, ◌++◌, codes, slice_get, Option, Some, None, option_map, refl, sym, ap, ◌∙◌, append_assoc, append-nil}
 use Rattle.std.specs.Option.{option_map_or}
 use Rattle.std.specs.Fmt.{decimal}
 use Rattle.bytecode_format.specs.Code.{Code}
@@ -31,14 +31,13 @@ regrouped x a b c d =
     sym (append_assoc x (a ++ b ++ c) d) ∙ ap (λ xs. xs ++ d) (sym (append_assoc x (a ++ b) c) ∙ ap (λ xs. xs ++ c) (sym (append_assoc x a b)))
 
 -- the pieces of a line, where the states before the step and after it are known
-line_text : (code : Code) (before after : State) (i : Instruction) (place charged sum : ℕ) (part : Option ℕ) (taken : List ℕ) → slice_get code.instructions before.place ≡ Some i → place ≡ before.place → charged ≡ before.charge → sum ≡ after.charge → part ≡ current_part after.frames → taken ≡ told_before (told_of (operation_of i.op)) before
-    → beginning place i charged sum part ++ taken ++ told_after (told_of (operation_of i.op)) i.c after ++ 10 ∷ [] ≡ line_between code (Some before) (Some after)
-line_text code before after i place charged sum part taken here place_is charged_is sum_is part_is taken_is =
+line_text : (code : Code) (before after : State) (told : Told) (i : Instruction) (place charged sum : ℕ) (part : Option ℕ) (taken : List ℕ) → told ≡ told_of (operation_of i.op) → slice_get code.instructions before.place ≡ Some i → place ≡ before.place → charged ≡ before.charge → sum ≡ after.charge → part ≡ current_part after.frames
+    → taken ≡ told_before told before → beginning place i charged sum part ++ taken ++ told_after told i.c after ++ 10 ∷ [] ≡ line_between code (Some before) (Some after)
+line_text code before after told i place charged sum part taken told_is here place_is charged_is sum_is part_is taken_is =
     let step : TakenStep = record { before = before; after = after } in
-    let told = told_of (operation_of i.op) in
     let left = told_after told i.c after in
-    let value = column (option_map value_text (told_value told i step)) in
-    let both : taken ++ left ≡ value = ap (λ xs. xs ++ left) taken_is ∙ told_in_two told i before after in
+    let value = column (option_map value_text (told_value (told_of (operation_of i.op)) i step)) in
+    let both : taken ++ left ≡ value = ap (λ xs. xs ++ left) taken_is ∙ told_in_two told i before after ∙ ap (λ t. column (option_map value_text (told_value t i step))) told_is in
     let first : beginning place i charged sum part ≡ beginning before.place i before.charge after.charge (current_part after.frames) =
     ap (λ p. beginning p i charged sum part) place_is
     ∙ ap (λ n. beginning before.place i n sum part) charged_is
@@ -51,23 +50,14 @@ line_text code before after i place charged sum part taken here place_is charged
     ∙ flat ∙ ap (λ x. option_map_or (λ j. instruction_line j step) x []) (sym here)
 
 -- the same by what a run lets know of these states
-pub line_known : (code : Code) (before after : Option State) (i : Instruction) (place charged sum : ℕ) (part : Option ℕ) (taken line : List ℕ) → ((s : State) → before ≡ Some s → slice_get code.instructions s.place ≡ Some i)
-    → option_map (λ (s : State). s.place) before ≡ Some place → option_map (λ (s : State). s.charge) before ≡ Some charged → ((s : State) → before ≡ Some s → taken ≡ told_before (told_of (operation_of i.op)) s)
+pub line_known : (code : Code) (before after : Option State) (told : Told) (i : Instruction) (place charged sum : ℕ) (part : Option ℕ) (taken line : List ℕ) → told ≡ told_of (operation_of i.op) → ((s : State) → before ≡ Some s → slice_get code.instructions s.place ≡ Some i)
+    → option_map (λ (s : State). s.place) before ≡ Some place → option_map (λ (s : State). s.charge) before ≡ Some charged → ((s : State) → before ≡ Some s → taken ≡ told_before told s)
     → option_map (λ (s : State). s.charge) after ≡ Some sum → ((s : State) → after ≡ Some s → part ≡ current_part s.frames)
-    → ((s : State) → after ≡ Some s → line ≡ beginning place i charged sum part ++ taken ++ told_after (told_of (operation_of i.op)) i.c s ++ 10 ∷ []) → line ≡ line_between code before after
-line_known code (Some s) (Some t) i place charged sum part taken line here place_is charged_is taken_is sum_is part_is line_is =
+    → ((s : State) → after ≡ Some s → line ≡ beginning place i charged sum part ++ taken ++ told_after told i.c s ++ 10 ∷ []) → line ≡ line_between code before after
+line_known code (Some s) (Some t) told i place charged sum part taken line told_is here place_is charged_is taken_is sum_is part_is line_is =
     let place_same : place ≡ s.place = cc in
     let charged_same : charged ≡ s.charge = cc in
     let sum_same : sum ≡ t.charge = cc in
-    line_is t refl ∙ line_text code s t i place charged sum part taken (here s refl) place_same charged_same sum_same (part_is t refl) (taken_is s refl)
-line_known code None after i place charged sum part taken line here place_is charged_is taken_is sum_is part_is line_is = absurd cc
-line_known code (Some s) None i place charged sum part taken line here place_is charged_is taken_is sum_is part_is line_is = absurd cc
-
--- a text that grows by one more
-pub grows : (out a b x y : List ℕ) → x ≡ out ++ a → y ≡ x ++ b → y ≡ out ++ (a ++ b)
-grows out a b x y first later = later ∙ ap (λ xs. xs ++ b) first ∙ append_assoc out a b
-
--- what a call leaves that appends, or changes nothing
-pub appended : {T E : Type 0} (r : Result T E) (new old all : List ℕ) → new ≡ (if is_ok r then all else old) → OnOk r (new ≡ all)
-appended (Ok x) new old all is = is
-appended (Err e) new old all is = tt
+    line_is t refl ∙ line_text code s t told i place charged sum part taken told_is (here s refl) place_same charged_same sum_same (part_is t refl) (taken_is s refl)
+line_known code None after told i place charged sum part taken line told_is here place_is charged_is taken_is sum_is part_is line_is = absurd cc
+line_known code (Some s) None told i place charged sum part taken line told_is here place_is charged_is taken_is sum_is part_is line_is = absurd cc

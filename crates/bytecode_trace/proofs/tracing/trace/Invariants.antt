@@ -9,7 +9,7 @@ use Rattle.bytecode_trace.proofs.tracing.trace.Given as goal
 abbrev pub invariant-steps : goal.invariant-steps
 invariant-steps g l =
     (l.run.code ≡ l.verified) × (l.run.mail ≡ l.message)
-    × (writes (lines_left l.verified l.message l.run.steps) (view_of l.page) ≡ record { name = l.initial.out.ghost_name; start = g.O.Sink.output l.initial.out; text = trace_text l.verified l.message })
+    × (writes (lines_left l.verified l.message l.run.steps) (view_of l.page) ≡ writes (trace_text l.verified l.message) (view_of l.initial.page))
 
 -- the steps that are left are within what is left of the budget
 abbrev pub decreases-steps : goal.decreases-steps
