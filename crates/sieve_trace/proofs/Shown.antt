@@ -1,5 +1,5 @@
 -- The lines that are printed are those of the events, although less is shown of these.
-use Rattle.std.proofs.Common.{◌≡◌, ℕ, Bool, false, List, [], ◌∷◌, ◌++◌, slice_get, nat_le, length, take, Option, None, Some, option_map, refl, sym, append-nil, append_assoc, ◌∙◌, ap, subst, inl, inr, arith, codes, Result, Ok, Err, OnOk, IfErr}
+use Rattle.std.proofs.Common.{◌≡◌, ℕ, Bool, false, List, [], ◌∷◌, ◌++◌, slice_get, nat_le, length, take, Option, None, Some, option_map, refl, sym, append-nil, append_assoc, ◌∙◌, ap, subst, inl, inr, arith, codes, Result, Ok, Err, OnOk, IfErr, is_ok, if◌then◌else◌}
 use Rattle.std.proofs.lemmas.Bool.{cases_Bool, leb-false, leb-true}
 use Rattle.std.proofs.lemmas.Grind.{flat_map-append}
 use Rattle.std.proofs.lemmas.List.{length-take, take-take, take_all}
@@ -85,6 +85,17 @@ text_told mail part (AnyOf value) off = refl
 text_told mail part (Acted act text) off = refl
 text_told mail part Turn off = absurd (off refl)
 
+-- a turn comes before its part
+pub turn_told : (what : Told) (mail : Mail) (part : Option ℕ) (old words : List ℕ) → what ≡ Turn → words ≡ part_text mail part → (old ++ codes " foreverypart") ++ words ≡ old ++ event_text mail part (occurrence_of what)
+unfolding event_text occurrence_text
+turn_told what mail part old words is_turn is =
+    append_assoc old (codes " foreverypart") words ∙ ap (λ t. old ++ (codes " foreverypart" ++ t)) is ∙ ap (λ w. old ++ event_text mail part (occurrence_of w)) (sym is_turn)
+
+-- what a call leaves that appends, or changes nothing
+pub appended : {T E : Type 0} (r : Result T E) (new old all : List ℕ) → new ≡ (if is_ok r then all else old) → OnOk r (new ≡ all)
+appended (Ok x) new old all is = is
+appended (Err e) new old all is = tt
+
 -- the lines of events and of the next one
 next_line : (page0 page1 : Sheet) (events : List Event) (at : ℕ) (part : Option ℕ) (what other : Occurrence) → shown kept what ≡ other → page1 ≡ page0
     → told page0 events ++ event_line page1 (event at part other) ≡ told page0 (events ++ event at part what ∷ [])
@@ -124,11 +135,11 @@ ended_next {name0} {name1} {name2} {page0} {page1} {s0} {s1} {s2} why events at 
     record { same_sink = same_name ∙ printed.same_sink; stopped = subst (λ text. HasStopped why text s0 s2) (next_line page0 page1 events at part what other is printed.same_sheet) (stopped_later s0 s1 s2 why (told page0 events) (event_line page1 (event at part other)) printed.taken stopped) }
 
 -- the next line was written, or the trace ended in it
-pub told_next : {T : Type 0} {name0 name1 name2 : GName} {page0 page1 page2 : Sheet} {s0 s1 s2 : Output} (r : Result T TraceError) (events : List Event) (at : ℕ) (part : Option ℕ) (what other : Occurrence) → shown kept what ≡ other → name2 ≡ name1 → page2 ≡ page1
+pub told_next : {T : Type 0} {name0 name1 name2 : GName} {page0 page1 page2 : Sheet} {s0 s1 : Output} (s2 : Output) (r : Result T TraceError) (events : List Event) (at : ℕ) (part : Option ℕ) (what other : Occurrence) → shown kept what ≡ other → name2 ≡ name1 → page2 ≡ page1
     → HasPrinted name0 name1 page0 page1 events s0 s1 → OnOk r (HasTaken (event_line page1 (event at part other)) s1 s2) → IfErr r (λ why. HasStopped why (event_line page1 (event at part other)) s1 s2)
     → MatchResult r (λ x. ⊤ × HasPrinted name0 name2 page0 page2 (events ++ event at part what ∷ []) s0 s2) (λ why. HasEnded why name0 name2 page0 (events ++ event at part what ∷ []) s0 s2)
-told_next (Ok x) events at part what other is same_name same_page printed ok err = (tt, printed_next events at part what other is same_name same_page printed ok)
-told_next (Err why) events at part what other is same_name same_page printed ok err = ended_next why events at part what other is same_name printed err
+told_next s2 (Ok x) events at part what other is same_name same_page printed ok err = (tt, printed_next events at part what other is same_name same_page printed ok)
+told_next s2 (Err why) events at part what other is same_name same_page printed ok err = ended_next why events at part what other is same_name printed err
 
 -- nothing was printed
 pub printed_none : {name : GName} {page : Sheet} (s : Output) → HasPrinted name name page page [] s s

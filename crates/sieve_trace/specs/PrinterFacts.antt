@@ -1,5 +1,5 @@
 -- Private: the laws of a printer, as a watcher has them.
-use Rattle.std.proofs.Common.{◌≡◌, ◌∙◌, ap, refl, ℕ, List, [], ◌++◌, sym, subst, append_assoc, append-nil}
+use Rattle.std.proofs.Common.{◌≡◌, ◌∙◌, ap, ℕ, List, [], ◌++◌, sym, subst, append_assoc, append-nil}
 use Rattle.std.proofs.lemmas.Grind.{flat_map-append}
 use Rattle.std.specs.Borrow.{GName}
 use Rattle.devices.specs.Device.{HasBegun, HasTaken, Output}
@@ -34,8 +34,8 @@ ended_by_refusal {name0} {name} {page0} {page} {events} {s0} {s1} is printed = r
   stopped = subst (λ e. HasStopped e (told page0 events) s0 s1) (sym is) (stopped_by_memory (told page0 events) printed.taken);
 }
 
-pub ended_in_more : {name0 name : GName} {page0 : Sheet} {events more : List Event} {s0 s1 : Output} (why : TraceError) → HasEnded why name0 name page0 events s0 s1 → HasEnded why name0 name page0 (events ++ more) s0 s1
-ended_in_more {name0} {name} {page0} {events} {more} {s0} {s1} why ended = record {
+pub ended_in_more : {name0 name : GName} {page0 : Sheet} {events : List Event} {s0 s1 : Output} (why : TraceError) (more : List Event) → HasEnded why name0 name page0 events s0 s1 → HasEnded why name0 name page0 (events ++ more) s0 s1
+ended_in_more {name0} {name} {page0} {events} {s0} {s1} why more ended = record {
   same_sink = ended.same_sink;
   stopped = subst (λ text. HasStopped why text s0 s1) (sym (flat_map-append (event_line page0) events more)) (stopped_first s0 s1 why (told page0 events) (told page0 more) ended.stopped);
 }

@@ -18,10 +18,9 @@ use crate::scene::Scene;
 use crate::words::{comparison_word, push_act, push_number, push_with_text, question_word};
 use bytecode_format::Question;
 use mail_matching::Finding;
-use mime_decode::Message;
 use readable_text::quoting::MAX_START;
 use sieve_meaning::Told;
-use std::alloc::{AllocError, Global};
+use std::alloc::AllocError;
 
 /// How many bytes are kept of a text that is to be printed: one more shows that it continues.
 pub(crate) const MAX_KEPT: usize = MAX_START + 1;
@@ -141,56 +140,38 @@ fn push_event(out: &mut Vec<u8>, part: &[u8], what: Told<'_>) -> Result<(), Allo
 
 /// The lines of a trace, one after another in the same memory.
 #[derive(Drop)]
-pub struct Lines<'a, 'm> {
-    /// Where memory comes from.
-    alloc: Global,
+pub struct Lines<'a> {
     /// The name of the script, as lines begin with it.
     pub label: &'a [u8],
     /// The places of the script's tokens.
     pub places: &'a Places,
-    /// The message and the part.
-    pub scene: Scene<'a, 'm>,
     /// The line.
     pub line: Vec<u8>,
 }
 
-impl<'a, 'm> Lines<'a, 'm> {
-    /// Before the first line.
-    pub fn new(
-        alloc: Global,
-        label: &'a [u8],
-        places: &'a Places,
-        message: &'a Message<'m>,
-    ) -> Lines<'a, 'm>
-        ensures { sheet_of result
-            ≡ record { label = label.now; places = places.now; mail = message.now } }
-    {
-        Lines {
-            alloc,
-            label,
-            places,
-            scene: Scene::of(alloc, message),
-            line: Vec::new(alloc),
-        }
-    }
-
-    /// Makes the line of an event. Only the memory of the line before it is used again.
+impl<'a> Lines<'a> {
+    /// Makes the line of an event in the part of the scene. Only the memory of the line before it is used again.
     ///
     /// # Errors
     ///
     /// `AllocError` if memory is refused.
     #[inline(always)]
     #[tactic(auto, unfolding(crate::specs::Printed::event_line))]
-    pub fn set(&mut self, at: usize, part: Option<usize>, what: Told<'_>) -> Result<(), AllocError>
-        ensures sheet { sheet_of self.new ≡ sheet_of self.old }
+    pub fn set(
+        &mut self,
+        scene: &Scene<'_, '_>,
+        at: usize,
+        what: Told<'_>,
+    ) -> Result<(), AllocError>
+        ensures label { self.new.label.now ≡ self.old.label.now }
+        ensures places { self.new.places.now ≡ self.old.places.now }
         ensures line { OnOk result (self.new.line.items
-            ≡ event_line (sheet_of self.old) (event at part (occurrence_of what.entry))) }
+            ≡ event_line (sheet_of self.old scene.now) (event at scene.now.part (occurrence_of what.entry))) }
     {
-        self.scene.move_to(self.alloc, part)?;
         self.line.clear();
         self.line.extend_from_slice(self.label)?;
         self.line.extend_from_slice(self.places.text(at))?;
-        push_event(&mut self.line, self.scene.words.as_slice(), what)?;
+        push_event(&mut self.line, scene.words.as_slice(), what)?;
         self.line.extend_from_slice(b"\n")
     }
 }

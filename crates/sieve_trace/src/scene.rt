@@ -48,6 +48,8 @@ fn part_of(alloc: Global, message: &Message<'_>, part: Option<usize>) -> Result<
 /// The part of a message that a line is about, with the words for it.
 #[derive(Drop)]
 pub struct Scene<'a, 'm> {
+    /// Where memory comes from.
+    alloc: Global,
     /// The message that the script runs on.
     pub message: &'a Message<'m>,
     /// The number of the part; `None` outside of loops.
@@ -64,6 +66,7 @@ impl<'a, 'm> Scene<'a, 'm> {
         ensures { result.message.now ≡ message.now }
     {
         Scene {
+            alloc,
             message,
             part: None,
             words: Vec::new(alloc),
@@ -75,15 +78,16 @@ impl<'a, 'm> Scene<'a, 'm> {
     /// # Errors
     ///
     /// `AllocError` if memory is refused.
-    pub fn move_to(&mut self, alloc: Global, part: Option<usize>) -> Result<(), AllocError>
+    pub fn move_to(&mut self, part: Option<usize>) -> Result<(), AllocError>
         ensures message { self.new.message.now ≡ self.old.message.now }
         ensures part { OnOk result (self.new.part ≡ part) }
     {
         if self.part == part {
             return Ok(());
         }
-        let words = part_of(alloc, self.message, part)?;
+        let words = part_of(self.alloc, self.message, part)?;
         *self = Scene {
+            alloc: self.alloc,
             message: self.message,
             part,
             words,

@@ -9,7 +9,7 @@ ghost use Rattle.sieve_check.specs.TypedView.{commands_form};
 ghost use Rattle.sieve_meaning.specs.Meaning.{meaning};
 ghost use Rattle.sieve_meaning.specs.Traced.{script_events};
 ghost use Rattle.sieve_trace.specs.Printed.{sheet, told};
-ghost use Rattle.sieve_trace.specs.Private.{sheet_of};
+ghost use Rattle.sieve_trace.specs.Private.{labelled, sheet_of};
 ghost use Rattle.sieve_trace.specs.Written.{HasStopped, trace_text};
 
 use crate::error::TraceError;
@@ -17,6 +17,7 @@ use crate::label::label_of;
 use crate::lines::Lines;
 use crate::places::Places;
 use crate::printer::Printer;
+use crate::scene::Scene;
 use bytecode_format::Action;
 use devices::Sink;
 use mime_decode::Message;
@@ -59,12 +60,40 @@ pub fn trace<O: Sink>(
         (O.output out.old) (O.output out.new)) }
 {
     let label = label_of(alloc, name)?;
-    let mut lines = Lines::new(alloc, &label, places, message);
+    trace_commands(alloc, &label, places, checked.commands(), message, out)
+}
+
+// The same for the script's commands, with the name as lines begin with it.
+fn trace_commands<'l, 's, 'm, O: Sink>(
+    alloc: Global,
+    label: &'l [u8],
+    places: &'l Places,
+    commands: &[Command],
+    message: &'s Message<'m>,
+    out: &mut O,
+) -> Result<Vec<Action>, TraceError>
+    requires { AreBoundedCommands (commands_form commands.now) }
+    ensures actions { IfOk result (λ actions. actions.items
+        ≡ meaning message.now (commands_form commands.now)) }
+    ensures told { IfOk result (λ actions. HasTaken
+        (trace_text (labelled label.now places.now message.now) (commands_form commands.now))
+        (O.output out.old) (O.output out.new)) }
+    ensures stopped { IfErr result (λ why. HasStopped why
+        (trace_text (labelled label.now places.now message.now) (commands_form commands.now))
+        (O.output out.old) (O.output out.new)) }
+{
+    let mut lines = Lines {
+        label,
+        places,
+        line: Vec::new(alloc),
+    };
+    let mut scene = Scene::of(alloc, message);
     let mut printer = Printer {
         out,
         lines: &mut lines,
+        scene: &mut scene,
     };
-    print_events(alloc, checked.commands(), message, &mut printer)
+    print_events(alloc, commands, message, &mut printer)
 }
 
 // Evaluates the commands, and prints their events.
@@ -72,17 +101,19 @@ fn print_events<O: Sink>(
     alloc: Global,
     commands: &[Command],
     message: &Message<'_>,
-    printer: &mut Printer<'_, '_, '_, O>,
+    printer: &mut Printer<'_, '_, '_, '_, '_, O>,
 ) -> Result<Vec<Action>, TraceError>
     requires { AreBoundedCommands (commands_form commands.now) }
     ensures same_reference { printer.new.out.ghost_name ≡ printer.old.out.ghost_name }
     ensures actions { IfOk result (λ actions. actions.items
         ≡ meaning message.now (commands_form commands.now)) }
     ensures told { IfOk result (λ actions. HasTaken
-        (told (sheet_of printer.old.lines.now) (script_events message.now (commands_form commands.now)))
+        (told (sheet_of printer.old.lines.now printer.old.scene.now)
+        (script_events message.now (commands_form commands.now)))
         (O.output printer.old.out.now) (O.output printer.new.out.now)) }
     ensures stopped { IfErr result (λ why. HasStopped why
-        (told (sheet_of printer.old.lines.now) (script_events message.now (commands_form commands.now)))
+        (told (sheet_of printer.old.lines.now printer.old.scene.now)
+        (script_events message.now (commands_form commands.now)))
         (O.output printer.old.out.now) (O.output printer.new.out.now)) }
 {
     let mut run = Evaluator::new(alloc);

@@ -1,5 +1,5 @@
-use Rattle.std.proofs.Common.{[], ap, ◌∙◌, sym, subst, Option, ℕ}
-use Rattle.std.proofs.lemmas.Result.{IfOk-weaker, err_from_is_err_and}
+use Rattle.std.proofs.Common.{[], ap, ◌∙◌, subst, Option, ℕ}
+use Rattle.std.proofs.lemmas.Result.{err_from_is_err_and}
 use Rattle.bytecode_format.specs.Actions.{final_actions}
 use Rattle.devices.specs.Device.{HasTaken}
 use Rattle.mime_decode.specs.Mail.{Mail}
@@ -20,7 +20,7 @@ returns-clause-same_reference g c = (c.in_ok-_flow.ensures no_effects c.new-run.
 pub returns-clause-told : goal.returns-clause-told
 returns-clause-told g c =
     let form = commands_form c.args.commands.now in
-    let page = sheet_of c.args.printer.now.lines.now in
+    let page = sheet_of c.args.printer.now.lines.now c.args.printer.now.scene.now in
     let o0 = g.O.Sink.output c.args.printer.now.out.now in
     let o1 = g.O.Sink.output c.commands.new.watcher.out.now in
     subst (λ xs. HasTaken (told page xs) o0 o1) (script_told c.args.message.now c.of.result.message.now c.of.result.part form c.of.ensures.message c.of.ensures.part)
@@ -41,9 +41,23 @@ returns-in_err-_flow-clause-same_reference g c = (c.in_err-_flow.ensures no_effe
 pub returns-in_err-_flow-clause-stopped : goal.returns-in_err-_flow-clause-stopped
 returns-in_err-_flow-clause-stopped g c =
     let form = commands_form c.args.commands.now in
-    let page = sheet_of c.args.printer.now.lines.now in
+    let page = sheet_of c.args.printer.now.lines.now c.args.printer.now.scene.now in
     let o0 = g.O.Sink.output c.args.printer.now.out.now in
     let o1 = g.O.Sink.output c.commands.new.watcher.out.now in
     passed_on c.from_residual.result _ _ _ c.from_residual.ensures.1
-    (subst (λ xs. HasStopped _ (told page xs) o0 o1) (script_told c.args.message.now c.of.result.message.now c.of.result.part form c.of.ensures.message c.of.ensures.part)
+    (subst (λ xs. HasStopped c.in_err-_flow.field-0.0 (told page xs) o0 o1) (script_told c.args.message.now c.of.result.message.now c.of.result.part form c.of.ensures.message c.of.ensures.part)
     (c.in_err-_flow.ensures no_effects c.new-run.ensures c.args.printer.now [] (printed_none _)).stopped)
+
+pub returns-in_err-into_final-clause-same_reference : goal.returns-in_err-into_final-clause-same_reference
+returns-in_err-into_final-clause-same_reference g c = (c.in_ok-_flow.ensures no_effects c.new-run.ensures c.args.printer.now [] (printed_none _)).1.same_sink
+
+pub returns-in_err-into_final-clause-stopped : goal.returns-in_err-into_final-clause-stopped
+returns-in_err-into_final-clause-stopped g c =
+    let form = commands_form c.args.commands.now in
+    let page = sheet_of c.args.printer.now.lines.now c.args.printer.now.scene.now in
+    let o0 = g.O.Sink.output c.args.printer.now.out.now in
+    let o1 = g.O.Sink.output c.commands.new.watcher.out.now in
+    let taken = subst (λ xs. HasTaken (told page xs) o0 o1) (script_told c.args.message.now c.of.result.message.now c.of.result.part form c.of.ensures.message c.of.ensures.part)
+    (c.in_ok-_flow.ensures no_effects c.new-run.ensures c.args.printer.now [] (printed_none _)).1.taken in
+    let p = err_from_is_err_and c.from_residual-in_err-into_final.result c.from_residual-in_err-into_final.ensures.1 in
+    rw (p.1, p.2) (stopped_by_memory _ taken)
