@@ -1,16 +1,13 @@
 -- What is left to be written of a trace.
-use Rattle.std.proofs.Common.{◌≡◌, ℕ, suc, ◌-◌, ◌<◌, true, false, List, [], ◌++◌, Some, Result, IfErr, IsErrAnd, refl, sym, ap, subst, ◌∙◌, append_assoc, append-nil, arith}
-use Rattle.std.specs.Borrow.{GName}
+use Rattle.std.proofs.Common.{◌≡◌, ℕ, suc, ◌-◌, ◌<◌, true, false, List, [], ◌++◌, Some, Result, IfErr, IsErrAnd, refl, sym, ap, subst, ◌∙◌, append_assoc, arith}
 use Rattle.std.proofs.lemmas.Result.{err_from_is_err_and}
 use Rattle.std.specs.List.{flat_map}
 use Rattle.bytecode_format.specs.Code.{Code}
 use Rattle.mime_decode.specs.Mail.{Mail}
-use Rattle.devices.specs.Device.{HasBroken, HasStopped, HasTaken, Output}
-use Rattle.devices.specs.Pages.{PageView, writes}
-use Rattle.devices.proofs.Outputs.{broken_first, taken_none}
-use Rattle.devices.proofs.PageLemmas.{writes_both}
+use Rattle.devices.specs.Device.{HasStopped, Output}
+use Rattle.devices.proofs.Outputs.{Leaves, broken_in_piece, taken_both, taken_none}
 use Rattle.refusals.specs.declared.refusal.Refusal.{Refusal}
-use Rattle.refusals.specs.declared.refusal.Refusal.TheVariants.{Memory}
+use Rattle.refusals.specs.declared.refusal.Refusal.TheVariants.{Memory, Write}
 use Rattle.sieve_vm.specs.Machine.{step}
 use Rattle.sieve_vm.specs.Moment.{Moment, come_to, further, goes_on, state_in, turn_at}
 use Rattle.sieve_vm.specs.Potential.{limit_of}
@@ -50,36 +47,24 @@ module _ (code : Code) (mail : Mail) where
   pub none_left : (n : ℕ) → goes_on (come_to code mail n) ≡ false → lines_left code mail n ≡ []
   none_left n over = none_by (limit_of code mail - n) (come_to code mail n) over
 
--- ---- a trace on a page
+-- ---- what was written when a trace has stopped
 
 -- memory was refused before anything was written
 pub refused_first : (text : List ℕ) (s : Output) → HasStopped Memory text s s
 refused_first text s = record { prefix = []; rest = text; whole = refl; taken = taken_none s }
 
--- what is left was to make the text on the page the whole one
-module _ (v : PageView) (name : GName) (start now : Output) (text left : List ℕ) (is : writes left v ≡ record { name = name; start = start; text = text }) where
-  text_is : v.text ++ left ≡ text
-  text_is = ap (λ (w : PageView). w.text) is
-
-  start_is : v.start ≡ start
-  start_is = ap (λ (w : PageView). w.start) is
-
-  -- memory was refused after the page was flushed
-  pub refused_after : HasTaken v.text v.start now → HasStopped Memory text start now
-  refused_after taken = record { prefix = v.text; rest = left; whole = sym text_is; taken = subst (λ s. HasTaken v.text s now) start_is taken }
-
-  -- the sink broke
-  pub broken_before : HasBroken v.text v.start now → HasBroken text start now
-  broken_before broken = subst (λ xs. HasBroken xs start now) text_is (broken_first v.text left (subst (λ s. HasBroken v.text s now) start_is broken))
-
-  -- nothing is left after the page was flushed
-  pub taken_whole : left ≡ [] → HasTaken v.text v.start now → HasTaken text start now
-  taken_whole none taken =
-      subst (λ xs. HasTaken xs start now) (sym (append-nil v.text) ∙ ap (λ l. v.text ++ l) (sym none) ∙ text_is) (subst (λ s. HasTaken v.text s now) start_is taken)
-
--- the first of what is left was written
-pub wrote_first : (left xs ys : List ℕ) (v w u : PageView) → left ≡ xs ++ ys → w ≡ writes xs v → writes left v ≡ u → writes ys w ≡ u
-wrote_first left xs ys v w u is wrote whole = ap (writes ys) wrote ∙ writes_both xs ys v ∙ ap (λ l. writes l v) (sym is) ∙ whole
+-- the trace stopped in the next piece
+pub stopped_in_piece : (text left xs ys : List ℕ) (s0 s1 s2 : Output) (why : Refusal) → Leaves text left s0 s1 → left ≡ xs ++ ys → HasStopped why xs s1 s2 → HasStopped why text s0 s2
+stopped_in_piece text left xs ys s0 s1 s2 Write before is later = broken_in_piece text left xs ys before is later
+stopped_in_piece text left xs ys s0 s1 s2 Memory before is later =
+    let b = before.0 in
+    record {
+      prefix = b.prefix ++ later.prefix;
+      rest = later.rest ++ ys;
+      whole = b.whole ∙ ap (λ l. b.prefix ++ l) (before.1 ∙ is ∙ ap (λ l. l ++ ys) later.whole ∙ append_assoc later.prefix later.rest ys) ∙ sym (append_assoc b.prefix later.prefix (later.rest ++ ys));
+      taken = taken_both b.prefix later.prefix b.taken later.taken;
+    }
+stopped_in_piece text left xs ys s0 s1 s2 _ before is later = absurd later
 
 -- ---- states that a run has come to
 
