@@ -1,19 +1,14 @@
 -- Private: how the code goes: what is known before a step, and what is left to be written.
-use Rattle.std.specs.Prelude.{◌≡◌, ℕ, suc, ◌-◌, List, [], ◌++◌, codes, Option, Some, option_map, slice_get}
+use Rattle.std.specs.Prelude.{ℕ, suc, ◌-◌, List, [], Option, Some, option_map, slice_get}
 use Rattle.std.specs.List.{flat_map}
-use Rattle.std.specs.Fmt.{decimal}
 use Rattle.bytecode_format.specs.Code.{Code}
-use Rattle.bytecode_format.specs.Operations.{operation_of}
-use Rattle.bytecode_format.specs.declared.instruction.Instruction.{Instruction}
-use Rattle.bytecode_listing.specs.Listing.{instruction_text}
 use Rattle.mime_decode.specs.Mail.{Mail}
 use Rattle.sieve_vm.specs.Moment.{come_to, state_in}
 use Rattle.sieve_vm.specs.Potential.{limit_of}
 use Rattle.sieve_vm.specs.State.{State, Turn, goes, ends, traps, text}
 use Rattle.sieve_vm.specs.Lent.{top}
-use Rattle.bytecode_trace.specs.Printed.{column, part_text, step_line, told_of, value_text}
+use Rattle.bytecode_trace.specs.Printed.{column, step_line, value_text}
 use Rattle.bytecode_trace.specs.Steps.{TakenStep, steps_from}
-use Rattle.bytecode_trace.specs.declared.line.Begun.{Begun}
 use Rattle.bytecode_trace.specs.declared.telling.Told.{Told}
 use Rattle.bytecode_trace.specs.declared.telling.Told.TheVariants.{Left, Taken, Set, Nothing}
 
@@ -30,19 +25,6 @@ told_after Left variable after = column (option_map value_text (top after.stack)
 told_after Set variable after = column (option_map value_text (option_map text (slice_get after.variables variable)))
 told_after Taken variable after = []
 told_after Nothing variable after = []
-
--- the line of an instruction up to the value that is told
-abbrev pub beginning : ℕ → Instruction → ℕ → ℕ → Option ℕ → List ℕ
-beginning place i charge sum part =
-    instruction_text place i ++ codes " | " ++ decimal charge ++ codes " " ++ decimal sum ++ column (option_map part_text part)
-
--- what is known of a step before it is taken
-pub record IsBegun (code : Code) (before : State) (begun : Begun) : Type 0 where
-  pub place : begun.place ≡ before.place
-  pub here : slice_get code.instructions before.place ≡ Some begun.instruction
-  pub charged : begun.charged ≡ before.charge
-  pub told : begun.told ≡ told_of (operation_of begun.instruction.op)
-  pub taken : begun.taken.items ≡ told_before begun.told before
 
 -- the line of the step between two states
 abbrev pub line_between : Code → Option State → Option State → List ℕ

@@ -4,8 +4,9 @@
 //! and the sum up to there, the current part if a loop is open, and the value that the instruction left, took or gave
 //! a variable. `specs/Steps` defines the steps, `specs/Printed` their lines.
 //!
-//! No step is held in memory; each line goes out in one call if the sink takes it whole, and all lines are made in the
-//! memory of one.
+//! No step is held in memory, and all lines are made in the memory of one. A line is printed on a
+//! [`Page`](devices::Page) and flushed before the next step is taken, so it goes out in one call if the sink takes it
+//! whole.
 //!
 //! # Promises
 //!

@@ -1,41 +1,36 @@
 // The line of a step.
-ghost use Rattle.std.specs.Prelude.{◌≡◌, ◌++◌, true, IfOk, IsSome, OnOk, Some, option_map};
+ghost use Rattle.std.specs.Prelude.{◌≡◌, ◌++◌, suc, true, IfOk, OnOk, Some, codes, option_map};
 ghost use Rattle.std.specs.Fmt.{decimal};
-ghost use Rattle.bytecode_format.specs.Code.{Code};
 ghost use Rattle.sieve_vm.specs.Lent.{value_of};
 ghost use Rattle.sieve_vm.specs.Moment.{goes_on, state_at, turn_at};
 ghost use Rattle.sieve_vm.specs.State.{State};
-ghost use Rattle.bytecode_trace.specs.Printed.{column, part_text, step_line, value_text};
-ghost use Rattle.bytecode_trace.specs.Private.{IsBegun, beginning, told_after, told_before};
+ghost use Rattle.bytecode_trace.specs.Printed.{column, part_text, value_text};
+ghost use Rattle.bytecode_trace.specs.Private.{line_at, told_after, told_before};
 
 use crate::telling::{Told, told_of};
-use bytecode_format::{Instruction, Operation};
+use bytecode_format::Operation;
 use bytecode_listing::put_instruction;
 use itoa::Buffer;
 use readable_text::quoting::put_quoted_start;
 use sieve_vm::{Progress, StackValue};
 use std::alloc::{AllocError, Global};
 
-/// What is known about a step before it is taken. [`begin_step`] makes it, and [`set_line`] uses it after the step.
-#[derive(Drop)]
-pub struct Begun {
-    /// The place of its instruction in the program, counted from 0.
-    pub place: usize,
-    /// The instruction.
-    pub instruction: Instruction,
-    /// What the steps before it have charged.
-    pub charged: u128,
-    /// Which value is printed for the instruction.
-    pub told: Told,
-    /// The text of that value, if it is taken from the stack.
-    pub taken: Vec<u8>,
-}
-
 // Appends a number in decimal digits.
 fn put_number(out: &mut Vec<u8>, number: u128) -> Result<(), AllocError>
     ensures { OnOk result (out.new.items ≡ out.old.items ++ decimal number) }
 {
     out.extend_from_slice(Buffer::new().format(number).as_bytes())
+}
+
+// Appends what a step charged and the sum up to then, after a stroke.
+fn put_charge(out: &mut Vec<u8>, charge: u128, sum: u128) -> Result<(), AllocError>
+    ensures { OnOk result (out.new.items ≡ out.old.items
+        ++ (codes " | " ++ decimal charge ++ codes " " ++ decimal sum)) }
+{
+    out.extend_from_slice(b" | ")?;
+    put_number(out, charge)?;
+    out.extend_from_slice(b" ")?;
+    put_number(out, sum)
 }
 
 // Appends a value.
@@ -84,32 +79,6 @@ fn taken_text(alloc: Global, run: &Progress<'_, '_, '_>, told: Told) -> Result<V
     Ok(text)
 }
 
-/// What is known about a run's next step.
-///
-/// # Requires
-///
-/// The run isn't over.
-///
-/// # Errors
-///
-/// `AllocError` if memory is refused.
-pub fn begin_step(alloc: Global, run: &Progress<'_, '_, '_>) -> Result<Begun, AllocError>
-    requires { goes_on (turn_at run.now) ≡ true }
-    ensures { IfOk result (λ begun. (before : State) → state_at run.now ≡ Some before
-        → IsBegun run.now.code before begun) }
-{
-    let instruction = run.instruction();
-    let told = told_of(Operation::of(instruction.op));
-    let taken = taken_text(alloc, run, told)?;
-    Ok(Begun {
-        place: run.place(),
-        instruction,
-        charged: run.charged(),
-        told,
-        taken,
-    })
-}
-
 // Appends the value that an instruction left on the stack or gave to a variable, if that is printed.
 fn put_left(
     out: &mut Vec<u8>,
@@ -127,45 +96,38 @@ fn put_left(
     }
 }
 
-// Appends the line of a step up to the value that is printed.
-fn put_beginning(
-    out: &mut Vec<u8>,
-    begun: &Begun,
-    charge: u128,
-    sum: u128,
-    part: Option<usize>,
-) -> Result<(), AllocError>
-    ensures { OnOk result (out.new.items ≡ out.old.items
-        ++ beginning begun.now.place begun.now.instruction charge sum part) }
-{
-    put_instruction(out, begun.place, begun.instruction)?;
-    out.extend_from_slice(b" | ")?;
-    put_number(out, charge)?;
-    out.extend_from_slice(b" ")?;
-    put_number(out, sum)?;
-    put_part(out, part)
-}
-
-/// Makes `line` the line of a step that was taken. Only the memory of what it held is used again.
+/// Takes the next step of a run, and makes `line` the line of this step. Only the memory of what `line` held is used
+/// again.
+///
+/// # Requires
+///
+/// The run isn't over.
 ///
 /// # Errors
 ///
-/// `AllocError` if memory is refused.
-pub fn set_line(
+/// `AllocError` if memory is refused, which ends the run.
+pub fn take_step<'p, 's, 'm>(
+    alloc: Global,
+    run: Progress<'p, 's, 'm>,
     line: &mut Vec<u8>,
-    begun: &Begun,
-    run: &Progress<'_, '_, '_>,
-) -> Result<(), AllocError>
-    ensures line { OnOk result ((code : Code) (before after : State)
-        → IsBegun code before begun.now → state_at run.now ≡ Some after
-        → line.new.items ≡ step_line code (record { before = before; after = after })) }
-    ensures reached { IsSome (state_at run.now) }
+) -> Result<Progress<'p, 's, 'm>, AllocError>
+    requires { goes_on (turn_at run) ≡ true }
+    ensures went { IfOk result (λ next. next ≡ record run.entry { steps = suc run.entry.steps }) }
+    ensures line { OnOk result (line.new.items
+        ≡ line_at run.entry.code run.entry.mail run.entry.steps) }
 {
-    let sum = run.charged();
-    let charge = sum.saturating_sub(begun.charged);
+    let instruction = run.instruction();
+    let told = told_of(Operation::of(instruction.op));
+    let charged = run.charged();
     line.clear();
-    put_beginning(line, begun, charge, sum, run.part())?;
-    line.extend_from_slice(&begun.taken)?;
-    put_left(line, run, begun.told, begun.instruction.c as usize)?;
-    line.extend_from_slice(b"\n")
+    put_instruction(line, run.place(), instruction)?;
+    let taken = taken_text(alloc, &run, told)?;
+    let run = run.advance(alloc)?;
+    let sum = run.charged();
+    put_charge(line, sum.saturating_sub(charged), sum)?;
+    put_part(line, run.part())?;
+    line.extend_from_slice(&taken)?;
+    put_left(line, &run, told, instruction.c as usize)?;
+    line.extend_from_slice(b"\n")?;
+    Ok(run)
 }

@@ -1,14 +1,12 @@
 // The trace of a program.
-ghost use Rattle.std.specs.Prelude.{◌≡◌, suc, true, IfErr, IfOk};
+ghost use Rattle.std.specs.Prelude.{◌≡◌, IfErr, IfOk};
 ghost use Rattle.devices.specs.Device.{HasStopped, HasTaken};
 ghost use Rattle.sieve_vm.specs.Ending.{IsOutcome};
-ghost use Rattle.sieve_vm.specs.Moment.{goes_on, turn_at};
 ghost use Rattle.bytecode_trace.specs.Printed.{trace_text};
-ghost use Rattle.bytecode_trace.specs.Private.{line_at};
 
-use crate::line::{begin_step, set_line};
+use crate::line::take_step;
 use bytecode_verifier::Verified;
-use devices::{Sink, put};
+use devices::{Page, Sink};
 use mime_decode::Message;
 use refusals::Refusal;
 use sieve_vm::{Outcome, Progress};
@@ -47,31 +45,13 @@ pub fn trace<O: Sink>(
 {
     let mut run = Progress::begin(alloc, verified, message)?;
     let mut line = Vec::new(alloc);
-    'steps: while run.goes_on() {
-        run = tell_step(alloc, run, &mut line, out)?;
+    let mut page = Page::new(out);
+    'steps: loop {
+        page.flush()?;
+        if !run.goes_on() {
+            return Ok(run.into_outcome()?);
+        }
+        run = take_step(alloc, run, &mut line)?;
+        page.write(&line);
     }
-    Ok(run.into_outcome()?)
-}
-
-// Takes a step and writes its line, which is made in the memory of the one before it.
-fn tell_step<'p, 's, 'm, O: Sink>(
-    alloc: Global,
-    run: Progress<'p, 's, 'm>,
-    line: &mut Vec<u8>,
-    out: &mut O,
-) -> Result<Progress<'p, 's, 'm>, Refusal>
-    requires { goes_on (turn_at run) ≡ true }
-    ensures went { IfOk result (λ next. next ≡ record run.entry { steps = suc run.entry.steps }) }
-    ensures told { IfOk result (λ next. HasTaken
-        (line_at run.entry.code run.entry.mail run.entry.steps) (O.output out.old)
-        (O.output out.new)) }
-    ensures stopped { IfErr result (λ why. HasStopped why
-        (line_at run.entry.code run.entry.mail run.entry.steps) (O.output out.old)
-        (O.output out.new)) }
-{
-    let begun = begin_step(alloc, &run)?;
-    let run = run.advance(alloc)?;
-    set_line(line, &begun, &run)?;
-    put(out, line)?;
-    Ok(run)
 }

@@ -1,15 +1,15 @@
 use Rattle.std.proofs.Common.{◌≡◌, ◌-◌}
-use Rattle.devices.proofs.Outputs.{Leaves}
+use Rattle.devices.specs.Pages.{view_of, writes}
 use Rattle.sieve_vm.specs.Potential.{limit_of}
 use Rattle.bytecode_trace.specs.Printed.{trace_text}
 use Rattle.bytecode_trace.specs.Private.{lines_left}
 use Rattle.bytecode_trace.proofs.tracing.trace.Given as goal
 
--- the lines of the steps so far were written, and those of the others are left
+-- the lines of the steps so far were printed, and those of the others are left
 abbrev pub invariant-steps : goal.invariant-steps
 invariant-steps g l =
     (l.run.code ≡ l.verified) × (l.run.mail ≡ l.message)
-    × Leaves (trace_text l.verified l.message) (lines_left l.verified l.message l.run.steps) (g.O.Sink.output l.initial.out) (g.O.Sink.output l.out)
+    × (writes (lines_left l.verified l.message l.run.steps) (view_of l.page) ≡ writes (trace_text l.verified l.message) (view_of l.initial.page))
 
 -- the steps that are left are within what is left of the budget
 abbrev pub decreases-steps : goal.decreases-steps
