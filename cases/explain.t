@@ -1848,10 +1848,10 @@ How the line and the name of the file are printed.
                                                     ^
     script:1:39: error: unknown command `kep`, did you mean `keep`?
       if header :contains "Subject" "a\c2\a0b" { kep; }
-                                                ^
+                                                 ^
     script:1:37: error: unknown command `kep`, did you mean `keep`?
       if header :contains "Subject" "\c2\9b" { kep; }
-                                              ^
+                                               ^
     script:1:37: error: unknown command `kep`, did you mean `keep`?
       if header :contains "Subject" "\ff" { kep; }
                                             ^
