@@ -12,7 +12,7 @@ TOP = os.path.dirname(os.path.dirname(os.path.realpath(__file__)))
 # Crates that test or measure promise nothing, and the functions of the program itself have no contract.
 NO_LIBRARY = re.compile(r"altered|bench|tables|\w+_rows")
 
-HEAD = re.compile(r"(?:(?:abbrev|unfoldable|pub)(?: pub| record| data)* |(?=mutual))(\S+)")
+HEAD = re.compile(r"(?:(?:abbrev|unfoldable|pub)(?: pub| record| data)* |(?=mutual)|(?=\S+ : ))(\S+)")
 MEMBER = re.compile(r"(?:  ){1,2}(?:pub )?(?:record |data )?([^-( :→][^:(]*?) :")
 WORD = re.compile(r"(?<![.\w'])[A-Za-z_][\w']*(?:\.[A-Za-z_][\w']*)?|>>=")
 IMPORT = re.compile(r"\s*(?:ghost )?use Rattle\.(\w+)\.specs\.(declared\.)?([\w.]+?)(?:\.\{(.*)\}| as (\w+))?;?$")
