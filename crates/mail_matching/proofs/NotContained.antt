@@ -1,8 +1,8 @@
--- Keys that a text can't contain, because their first bigram isn't among its bigrams.
-use Rattle.std.proofs.Common.{◌≡◌, ◌≢◌, ◌⊎◌, ℕ, suc, ◌+◌, ◌-◌, ◌*◌, ◌/◌, ◌%◌, ◌^◌, ◌<◌, ◌≤◌, max, nat_eq, bit_and, bit_or, Bool, true, false, ◌&&◌, List, [], ◌∷◌, map, length, get_or, set, Option, None, Some, is_some, option_map, refl, sym, ◌∙◌, ap, arith, inl, inr, if◌then◌else◌}
+-- Keys that a text can't contain, because one of their bigrams isn't among its bigrams.
+use Rattle.std.proofs.Common.{◌≡◌, ◌≢◌, ℕ, zero, suc, ◌+◌, ◌-◌, ◌*◌, ◌/◌, ◌%◌, ◌^◌, ◌<◌, ◌≤◌, max, bit_and, bit_or, Bool, true, false, List, [], ◌∷◌, map, length, get_or, set, Option, None, Some, is_some, option_map, refl, sym, ◌∙◌, ap, arith, inl, inr, if◌then◌else◌}
 use Rattle.std.specs.Char.{to_ascii_uppercase}
 use Rattle.std.specs.Int.{bit_at, w32}
-use Rattle.std.proofs.lemmas.Bool.{cases_Bool, cases_lt, eqb-false, eqb-true, and_parts}
+use Rattle.std.proofs.lemmas.Bool.{cases_Bool, cases_lt, eqb-true, and_parts, false≢true}
 use Rattle.std.proofs.lemmas.Bool.Decides.{eqb_tells}
 use Rattle.std.proofs.lemmas.Grind.{get_or-set_at}
 use Rattle.std.proofs.lemmas.List.{get_or-set_other}
@@ -10,7 +10,7 @@ use Rattle.std.proofs.lemmas.Nat.Bits.{bit_at_or, bit_at-lt, bit_at_set_same, sh
 use Rattle.glob_match.specs.declared.comparator.Comparator.{Comparator}
 use Rattle.glob_match.specs.declared.comparator.Comparator.TheVariants.{Octet, Casemap}
 use Rattle.glob_match.specs.declared.token.Token.TheVariants.{Literal}
-use Rattle.glob_match.specs.Comparison.{compared_octet, same_octet}
+use Rattle.glob_match.specs.Comparison.{same_octet}
 use Rattle.glob_match.specs.Containment.{begins_with, first_place, contains_match}
 use Rattle.mail_matching.specs.Bigrams.{Covers, bit_of}
 
@@ -29,32 +29,11 @@ same_bit comparator rows x y a b first second =
     ap (λ row. bit_at (get_or rows row 0) (y % 32)) (same_ending comparator x a first)
     ∙ ap (bit_at (get_or rows (a % 32) 0)) (same_ending comparator y b second)
 
--- ---- a key whose first bigram isn't set
+-- ---- a key with a bigram that isn't set
 
-module _ (comparator : Comparator) (rows : List ℕ) (a b : ℕ) (rest : List ℕ) (unset : bit_of rows a b ≢ 1) where
-  abbrev begins_key : List ℕ → Bool
-  begins_key text = begins_with comparator (map Literal (a ∷ (b ∷ rest))) text
-
-  and_false : (p : Bool) → (p && false) ≡ false
-  and_false true = refl
-  and_false false = refl
-
-  not_here : (text : List ℕ) → Covers rows text → begins_key text ≡ false
-  not_here [] covers = refl
-  not_here (x ∷ []) covers = and_false (same_octet comparator x a)
-  not_here (x ∷ (y ∷ more)) covers =
-      elim (cases_Bool (begins_key (x ∷ (y ∷ more)))) [
-        | inl begins ↦
-            let first = and_parts (same_octet comparator x a) (same_octet comparator y b && begins_with comparator (map Literal rest) more) begins in
-            let second = and_parts (same_octet comparator y b) (begins_with comparator (map Literal rest) more) first.1 in
-            absurd (unset (sym (same_bit comparator rows x y a b first.0 second.0) ∙ covers.sets 0 (omega arith)))
-        | inr misses ↦ misses
-      ]
-
-  later : (here : Bool) (there : Option ℕ) → here ≡ false → is_some there ≡ false → is_some (if here then Some 0 else option_map (λ place. place + 1) there) ≡ false
-  later true there fails none = cc
-  later false None fails none = refl
-  later false (Some place) fails none = cc
+module _ (comparator : Comparator) (rows : List ℕ) where
+  abbrev begins_key : List ℕ → List ℕ → Bool
+  begins_key key text = begins_with comparator (map Literal key) text
 
   rest_covered : (x : ℕ) (xs : List ℕ) → Covers rows (x ∷ xs) → Covers rows xs
   rest_covered x xs covers = record {
@@ -63,22 +42,62 @@ module _ (comparator : Comparator) (rows : List ℕ) (a b : ℕ) (rest : List �
         ap (λ p. bit_of rows (get_or xs place 0) (get_or (x ∷ xs) p 0)) same ∙ covers.sets (suc place) (omega arith);
   }
 
-  pub not_within : (text : List ℕ) → Covers rows text → contains_match comparator text (a ∷ (b ∷ rest)) ≡ false
-  not_within [] covers = refl
-  not_within (x ∷ xs) covers =
-      later (begins_key (x ∷ xs)) (first_place begins_key xs) (not_here (x ∷ xs) covers) (not_within xs (rest_covered x xs covers))
+  -- those of a key with which a text begins are set
+  all_set : (key text : List ℕ) → Covers rows text → begins_key key text ≡ true
+      → (place : ℕ) → place + 1 < length key → bit_of rows (get_or key place 0) (get_or key (place + 1) 0) ≡ 1
+  all_set [] text covers begins place within = absurd (omega arith)
+  all_set (a ∷ []) text covers begins place within = absurd (omega arith)
+  all_set (a ∷ (b ∷ rest)) [] covers begins place within = absurd (false≢true begins)
+  all_set (a ∷ (b ∷ rest)) (x ∷ []) covers begins place within =
+      let parts = and_parts (same_octet comparator x a) (begins_key (b ∷ rest) []) begins in
+      absurd (false≢true parts.1)
+  all_set (a ∷ (b ∷ rest)) (x ∷ (y ∷ more)) covers begins zero within =
+      let first = and_parts (same_octet comparator x a) (begins_key (b ∷ rest) (y ∷ more)) begins in
+      let second = and_parts (same_octet comparator y b) (begins_key rest more) first.1 in
+      sym (same_bit comparator rows x y a b first.0 second.0) ∙ covers.sets 0 (omega arith)
+  all_set (a ∷ (b ∷ rest)) (x ∷ (y ∷ more)) covers begins (suc place) within =
+      let parts = and_parts (same_octet comparator x a) (begins_key (b ∷ rest) (y ∷ more)) begins in
+      let same : suc place + 1 ≡ suc (place + 1) = omega arith in
+      ap (λ p. bit_of rows (get_or (b ∷ rest) place 0) (get_or (a ∷ (b ∷ rest)) p 0)) same
+      ∙ all_set (b ∷ rest) (y ∷ more) (rest_covered x (y ∷ more) covers) parts.1 place (omega arith)
 
-pub passed_over : (rows key : List ℕ) → 2 ≤ length key → bit_of rows (get_or key 0 0) (get_or key 1 0) ≢ 1
+  none_later : (here : Bool) (there : Option ℕ) → here ≡ false → is_some there ≡ false → is_some (if here then Some 0 else option_map (λ place. place + 1) there) ≡ false
+  none_later true there fails none = cc
+  none_later false None fails none = refl
+  none_later false (Some place) fails none = cc
+
+  none_at_end : (here : Bool) → here ≡ false → is_some {T = ℕ} (if here then Some 0 else None) ≡ false
+  none_at_end true fails = cc
+  none_at_end false fails = refl
+
+  module _ (key : List ℕ) (place : ℕ) (within : place + 1 < length key) (unset : bit_of rows (get_or key place 0) (get_or key (place + 1) 0) ≢ 1) where
+    not_here : (text : List ℕ) → Covers rows text → begins_key key text ≡ false
+    not_here text covers =
+        elim (cases_Bool (begins_key key text)) [
+          | inl begins ↦ absurd (unset (all_set key text covers begins place within))
+          | inr misses ↦ misses
+        ]
+
+    not_within : (text : List ℕ) → Covers rows text → contains_match comparator text key ≡ false
+    not_within [] covers = none_at_end (begins_key key []) (not_here [] covers)
+    not_within (x ∷ xs) covers =
+        none_later (begins_key key (x ∷ xs)) (first_place (begins_key key) xs) (not_here (x ∷ xs) covers) (not_within xs (rest_covered x xs covers))
+
+pub passed_over : (rows key : List ℕ) (first second : ℕ) → first + 1 ≡ second → second < length key → bit_of rows (get_or key first 0) (get_or key second 0) ≢ 1
     → (comparator : Comparator) (text : List ℕ) → Covers rows text → contains_match comparator text key ≡ false
-passed_over rows [] long unset comparator text covers = absurd (omega arith)
-passed_over rows (a ∷ []) long unset comparator text covers = absurd (omega arith)
-passed_over rows (a ∷ (b ∷ rest)) long unset comparator text covers = not_within comparator rows a b rest unset text covers
+passed_over rows key first second next within unset comparator text covers =
+    let unset_next : bit_of rows (get_or key first 0) (get_or key (first + 1) 0) ≢ 1 =
+    λ set. unset (ap (λ place. bit_of rows (get_or key first 0) (get_or key place 0)) (sym next) ∙ set) in
+    not_within comparator rows key first (omega arith) unset_next text covers
+
+differ : (m n : ℕ) → m ≡ n → m ≡ 0 → n ≡ 1 → ⊥
+differ m n same none one = omega arith
 
 -- what the code looks at
-pub bigram_unset : (rows : List ℕ) (row a b : ℕ) → row ≡ a % 32 → nat_eq (bit_and (get_or rows row 0 / 2 ^ (b % 32)) 1) 1 ≡ false → bit_of rows a b ≢ 1
-bigram_unset rows row a b at fails is_set =
-    eqb-false (bit_and (get_or rows row 0 / 2 ^ (b % 32)) 1) 1 fails
-    (shr_and_one (get_or rows row 0) (b % 32) ∙ ap (λ place. bit_at (get_or rows place 0) (b % 32)) at ∙ is_set)
+pub bigram_unset : (rows : List ℕ) (row a b : ℕ) → row ≡ a % 32 → bit_and (get_or rows row 0 / 2 ^ (b % 32)) 1 ≡ 0 → bit_of rows a b ≢ 1
+bigram_unset rows row a b at clear =
+    differ (bit_and (get_or rows row 0 / 2 ^ (b % 32)) 1) (bit_of rows a b)
+    (shr_and_one (get_or rows row 0) (b % 32) ∙ ap (λ place. bit_at (get_or rows place 0) (b % 32)) at) clear
 
 -- ---- setting a bit
 

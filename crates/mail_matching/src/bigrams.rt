@@ -1,5 +1,5 @@
-// The bigrams of a value: each two bytes of it that stand side by side. A value doesn't contain a key whose first two
-// bytes aren't among them.
+// The bigrams of a value: each two bytes of it that stand side by side. A value doesn't contain a key if one of the
+// key's bigrams isn't among them.
 //
 // A byte counts by its last five bits. These are the same for a letter in either case, so one set serves both
 // comparators. They are also the same for some other bytes, so the set can have bigrams that the value doesn't have.
@@ -7,6 +7,9 @@ ghost use Rattle.std.specs.Prelude.{◌≡◌, ℕ, List, false};
 ghost use Rattle.glob_match.specs.Containment.{contains_match};
 ghost use Rattle.glob_match.specs.declared.comparator.Comparator.{Comparator};
 ghost use Rattle.mail_matching.specs.Bigrams.{Covers};
+
+/// How many bytes of a key are looked at. Further ones would rule out few more keys, and a long key would take long.
+const LOOKED_AT: usize = 8;
 
 /// A set that has the bigrams of a value.
 #[derive(Drop)]
@@ -35,10 +38,12 @@ impl Bigrams {
         ensures { result ≡ false → (comparator : Comparator) (value : List ℕ)
             → Covers self.now.rows value → contains_match comparator value key.now ≡ false }
     {
-        if key.len() < 2 {
-            return true;
+        'places: for place in 1..key.len().min(LOOKED_AT) {
+            let row = usize::from(key[place - 1] % 32);
+            if self.rows[row] >> (key[place] % 32) & 1 == 0 {
+                return false;
+            }
         }
-        let row = self.rows[usize::from(key[0] % 32)];
-        row >> (key[1] % 32) & 1 == 1
+        true
     }
 }

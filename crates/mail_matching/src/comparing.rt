@@ -23,10 +23,10 @@ use std::borrow::CowSlice;
 const FEW: usize = 4;
 
 /// The same goes for a value with more bytes than this for each key.
-const OCTETS_PER_KEY: usize = 64;
+const OCTETS_PER_KEY: usize = 128;
 
 /// A longer value has most bigrams, so its set rules out few keys.
-const LONG: usize = 2048;
+const LONG: usize = 4096;
 
 /// The result of comparing a value with keys.
 #[derive(Drop)]

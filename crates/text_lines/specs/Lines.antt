@@ -1,4 +1,4 @@
--- The lines of a text (RFC 2045, section 2.7).
+-- The lines of a text (RFC 2045, section 2.10).
 use Rattle.std.specs.Prelude.{◌≡◌, ◌≢◌, ◌⊎◌, All, ℕ, ◌+◌, ◌<◌, ◌≤◌, Bool, false, ◌==◌, ◌&&◌, if◌then◌else◌, List, [], ◌∷◌, ◌++◌, length, drop, slice_index, slice_range, flat_map, Option, MatchOption}
 use Rattle.std.specs.Iterator.{Count, at_most}
 use Rattle.text_lines.specs.Unread.{Unread}

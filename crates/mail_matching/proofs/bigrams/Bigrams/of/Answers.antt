@@ -1,4 +1,4 @@
-use Rattle.std.proofs.Common.{length, length-set, arith}
+use Rattle.std.proofs.Common.{length-set, arith}
 use Rattle.mail_matching.proofs.NotContained.{one_more}
 use Rattle.mail_matching.proofs.bigrams.Bigrams.of.Goals as goal
 
