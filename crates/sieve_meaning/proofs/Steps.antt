@@ -7,10 +7,11 @@ use Rattle.sieve_check.specs.Typed.{TestForm, TestForms, test, CommandForm, Comm
 use Rattle.sieve_meaning.specs.declared.evaluator.Evaluator.{Evaluator}
 use Rattle.sieve_meaning.specs.declared.evaluator.Flow.{Flow}
 use Rattle.sieve_meaning.specs.declared.evaluator.Flow.TheVariants.{GoesOn, Stopped, Leaves}
-use Rattle.sieve_meaning.specs.Evaluation.{Gives, HasEvaluated, StandsAt}
+use Rattle.sieve_meaning.specs.Evaluation.{HasEvaluated, StandsAt}
+use Rattle.sieve_meaning.specs.Private.{Gives}
 use Rattle.sieve_meaning.specs.Meaning.{Effects, Verdict, verdict, Ending, normal, stopped, broken, and_then, or_else, followed_by, after_turn, test_does, all_do, any_do, command_does, commands_do, choice_does, turns}
 use Rattle.sieve_meaning.specs.Traced.{Event, event, turned, on_true, on_false, on_normal, test_events, all_events, any_events, command_events, commands_events, choice_events, turns_events}
-use Rattle.sieve_meaning.specs.Watched.{turn_does, turn_events}
+use Rattle.sieve_meaning.specs.Private.{turn_does, turn_events}
 use Rattle.sieve_meaning.proofs.MeaningLemmas.{goes_on, stays, stopped_at, left_at, left_flow}
 
 -- ---- results

@@ -1,4 +1,4 @@
--- How the code's expanded strings stand for texts.
+-- Private: how the code's expanded strings stand for texts.
 use Rattle.std.specs.Prelude.{ℕ, Bool, true, false, List, [], ◌∷◌, map, take}
 use Rattle.std.specs.Global.{Vec}
 use Rattle.octets.specs.Limits.{max_string}

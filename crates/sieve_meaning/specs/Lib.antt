@@ -5,5 +5,7 @@ pub mod Traced
 pub mod Watched
 -- how the evaluator's fields stand for what a script has done: for an evaluation
 pub mod Values
-pub mod Expanded
 pub mod Evaluation
+-- private: how the code goes; no public contract names these
+pub mod Expanded
+pub mod Private

@@ -1,12 +1,9 @@
 -- What a watcher of an evaluation is told.
-use Rattle.std.specs.Prelude.{ℕ, List, ◌++◌, Some, MatchResult, Result, option_map}
+use Rattle.std.specs.Prelude.{ℕ, List, ◌++◌, MatchResult, Result, option_map}
 use Rattle.std.specs.Borrow.{Bor}
 use Rattle.mail_matching.specs.Findings.{shortened}
 use Rattle.mail_matching.specs.declared.finding.Finding.{Finding}
-use Rattle.mime_decode.specs.Mail.{Mail}
-use Rattle.sieve_check.specs.Typed.{CommandForms}
-use Rattle.sieve_meaning.specs.Meaning.{Effects, Ending, commands_do}
-use Rattle.sieve_meaning.specs.Traced.{Event, Occurrence, asked, negated, all_held, any_held, acted, turned, commands_events}
+use Rattle.sieve_meaning.specs.Traced.{Event, Occurrence, asked, negated, all_held, any_held, acted, turned}
 use Rattle.sieve_meaning.specs.declared.watching.Told.{Told}
 use Rattle.sieve_meaning.specs.declared.watching.Told.TheVariants as code
 
@@ -27,13 +24,6 @@ shown most (all_held value) = all_held value
 shown most (any_held value) = any_held value
 shown most (acted act text) = acted act text
 shown most turned = turned
-
--- what is done in a turn of a loop with this block, and what is told of it
-abbrev pub turn_does : Mail → CommandForms → ℕ → Effects → Ending
-turn_does mail block number effects = commands_do mail (Some number) block effects
-
-abbrev pub turn_events : Mail → CommandForms → ℕ → Effects → List Event
-turn_events mail block number effects = commands_events mail (Some number) block effects
 
 -- a call with this result has told the watcher these events, after all that it had heard, and what it returns is so; or
 -- the evaluation has stopped in the events

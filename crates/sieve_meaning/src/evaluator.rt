@@ -66,7 +66,8 @@ impl<'s, 'm> Evaluator<'s, 'm> {
     ghost use Rattle.sieve_meaning.specs.Meaning.{Effects, no_effects, act_does, command_does, commands_do, stored, turns, with_taken, with_value};
     ghost use Rattle.sieve_meaning.specs.Traced.{act_event, command_events, commands_events, turns_events};
     ghost use Rattle.sieve_meaning.specs.Evaluation.{HasEvaluated, StandsAt};
-    ghost use Rattle.sieve_meaning.specs.Watched.{Tells, turn_does, turn_events};
+    ghost use Rattle.sieve_meaning.specs.Watched.{Tells};
+    ghost use Rattle.sieve_meaning.specs.Private.{turn_does, turn_events};
     ghost use Rattle.mime_decode.specs.Visited.{visited};
 
     /// Returns the state before the first command. It takes no memory.

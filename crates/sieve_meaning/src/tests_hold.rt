@@ -19,7 +19,8 @@ impl<'s, 'm> Evaluator<'s, 'm> {
     ghost use Rattle.sieve_check.specs.TypedView.{strings_form, test_form, tests_of};
     ghost use Rattle.sieve_meaning.specs.Meaning.{Effects, all_do, any_do, matched, test_does, texts_of};
     ghost use Rattle.sieve_meaning.specs.Traced.{all_events, any_events, test_events};
-    ghost use Rattle.sieve_meaning.specs.Evaluation.{Gives, HasEvaluated};
+    ghost use Rattle.sieve_meaning.specs.Evaluation.{HasEvaluated};
+    ghost use Rattle.sieve_meaning.specs.Private.{Gives};
     ghost use Rattle.sieve_meaning.specs.Watched.{Tells};
 
     /// Returns whether the test is true for the message. The watcher is told a test of other tests after those that were

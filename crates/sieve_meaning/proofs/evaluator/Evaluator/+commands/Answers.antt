@@ -10,7 +10,7 @@ use Rattle.sieve_check.proofs.Forms.{form_if}
 use Rattle.sieve_meaning.specs.Evaluation.{StandsAt}
 use Rattle.sieve_meaning.specs.Meaning.{act_does, choice_does, command_does, commands_do, expanded, turns}
 use Rattle.sieve_meaning.specs.Traced.{act_event, choice_events, command_events, commands_events, event, test_events, turned, turns_events}
-use Rattle.sieve_meaning.specs.Watched.{turn_does, turn_events}
+use Rattle.sieve_meaning.specs.Private.{turn_does, turn_events}
 use Rattle.sieve_meaning.specs.declared.evaluator.Flow.TheVariants.{GoesOn}
 use Rattle.sieve_meaning.proofs.Falls.{block_within, command_within, last_within}
 use Rattle.sieve_meaning.proofs.MeaningLemmas.{branch_bounded, branches_bounded, commands_bounded, first_branch, first_command, next_number}

@@ -6,7 +6,7 @@ use Rattle.sieve_check.specs.TypedView.{command_form, commands_form}
 use Rattle.sieve_check.specs.Private.{branch_forms, else_form}
 use Rattle.sieve_meaning.specs.Meaning.{commands_do, choice_does, turns}
 use Rattle.sieve_meaning.specs.Traced.{commands_events, choice_events, turns_events}
-use Rattle.sieve_meaning.specs.Watched.{turn_does, turn_events}
+use Rattle.sieve_meaning.specs.Private.{turn_does, turn_events}
 use Rattle.sieve_meaning.proofs.Steps.{Goes}
 use Rattle.sieve_meaning.proofs.evaluator.Evaluator.+commands.Given as goal
 

@@ -4,7 +4,7 @@ use Rattle.std.proofs.lemmas.List.{drop_all}
 use Rattle.sieve_check.specs.Typed.{TestForm, no_test, test, asks, negation, all_of, any_of}
 use Rattle.sieve_check.specs.TypedView.{strings_form, test_form, tests_of}
 use Rattle.sieve_check.proofs.Forms.{form_all_of, form_any_of}
-use Rattle.sieve_meaning.specs.Evaluation.{Gives}
+use Rattle.sieve_meaning.specs.Private.{Gives}
 use Rattle.sieve_meaning.specs.Meaning.{Effects, turned, test_does, all_do, any_do}
 use Rattle.sieve_meaning.specs.Traced.{event, negated, all_held, any_held, on_true, on_false, test_events, all_events, any_events}
 use Rattle.sieve_meaning.proofs.MeaningLemmas.{first_test, tests_bounded}
