@@ -102,6 +102,7 @@ fn find_short(value: &[u8], segment: &[u8], comparator: Comparator) -> (Option<u
     )
 }
 
+// How much work that is said to be: as much as without this way. A text without wildcards counts as a search.
 fn short_bound(value: &[u8], segment: &[u8]) -> u64
     requires { (length value.now + 1) * (length segment.now + 1) < 2 ^ 64 }
     ensures most { result ≤ (length value.now + 1) * (length segment.now + 1) }
@@ -113,7 +114,7 @@ fn short_bound(value: &[u8], segment: &[u8]) -> u64
     linear_bound(value, segment)
 }
 
-// Whether there is a wildcard.
+// Whether the segment has a `?`.
 fn has_any(segment: &[u8]) -> bool {
     let mut tokens = segment;
     'tokens: while let Some((token, rest)) = first_token(tokens) {
@@ -125,6 +126,7 @@ fn has_any(segment: &[u8]) -> bool {
     false
 }
 
+// The first place at which the segment stands. The rest of it is compared only where its first token fits.
 fn first_of_short(value: &[u8], segment: &[u8], comparator: Comparator) -> Option<usize>
     ensures { result ≡ first_place (begins_with comparator (tokens_of segment.now)) value.now }
 {
