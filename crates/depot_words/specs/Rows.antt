@@ -1,5 +1,5 @@
 -- Private: what the rows of the code's table say.
-use Rattle.std.specs.Prelude.{List, map}
+use Rattle.std.specs.Prelude.{map}
 use Rattle.clap.specs.Words.{Text}
 use Rattle.depot_words.specs.Commands.{Arguments}
 use Rattle.depot_words.specs.Commands as kinds
