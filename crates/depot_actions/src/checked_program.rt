@@ -75,8 +75,7 @@ impl CheckedProgram {
     }
 }
 
-/// How many checked programs are kept: those of many users whose mails come in turn. With the bytes and what they spell
-/// a program of 65,536 bytes takes some 200 kB.
+/// How many checked programs are kept: those of many users whose mails come in turn.
 const MAX_KEPT: usize = 64;
 
 /// The programs that were checked last.
