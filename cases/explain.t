@@ -133,6 +133,64 @@ Notes on tests and commands that can't mean what they say, one of each test or c
     $ depot explain script
     ok
 
+## keys with a slash that are compared with a piece of a type
+    $ cat > script << 'END'
+    > require "mime";
+    > if header :mime :type "Content-Type" "image/png" { stop; }
+    > if header :mime :subtype :contains ["Content-Type", "X"] ["png", "/jpeg"] { stop; }
+    > if header :type :mime :matches "Content-Type" "image/*" { stop; }
+    > END
+    $ depot explain script
+    ok
+    script:2:38: note: `:type` and `:subtype` give only one side of the `/` in a type such as image/png: use `:contenttype` for this key
+      if header :mime :type "Content-Type" "image/png" { stop; }
+                                           ^
+    script:3:66: note: `:type` and `:subtype` give only one side of the `/` in a type such as image/png: use `:contenttype` for this key
+      ...ader :mime :subtype :contains ["Content-Type", "X"] ["png", "/jpeg"] { stop; }
+                                                                     ^
+    script:4:47: note: `:type` and `:subtype` give only one side of the `/` in a type such as image/png: use `:contenttype` for this key
+      if header :type :mime :matches "Content-Type" "image/*" { stop; }
+                                                    ^
+    $ cat > script << 'END'
+    > require "mime";
+    > if header :mime :type "Content-Type" "image" { stop; }
+    > if header :mime :contenttype "Content-Type" "image/png" { stop; }
+    > if header :mime :param "a/b" "Content-Type" "x/y" { stop; }
+    > if header :mime :type ["a/b", "Content-Type"] text: # a/b
+    > image
+    > .
+    > { stop; }
+    > if header "X-Type" "image/png" { stop; }
+    > END
+    $ depot explain script
+    ok
+
+## keys without a slash that are compared with whole types
+    $ cat > script << 'END'
+    > require "mime";
+    > if header :mime :contenttype "Content-Type" ["image/png", "pdf"] { stop; }
+    > if header :contenttype :mime :is ["content-type"] "image" { stop; }
+    > END
+    $ depot explain script
+    ok
+    script:2:59: note: `:contenttype` gives a whole type such as image/png: add `/` and a subtype to this key, or use `:type`
+      if header :mime :contenttype "Content-Type" ["image/png", "pdf"] { stop; }
+                                                                ^
+    script:3:51: note: `:contenttype` gives a whole type such as image/png: add `/` and a subtype to this key, or use `:type`
+      if header :contenttype :mime :is ["content-type"] "image" { stop; }
+                                                        ^
+    $ cat > script << 'END'
+    > require ["mime", "variables"];
+    > if header :mime :contenttype :contains "Content-Type" "pdf" { stop; }
+    > if header :mime :contenttype :matches "Content-Type" "image*" { stop; }
+    > if header :mime :contenttype "Content-Disposition" "attachment" { stop; }
+    > if header :mime :contenttype ["Content-Type", "Content-Disposition"] "attachment" { stop; }
+    > if header :mime :contenttype "Content-Type" ["", "${0}", "image/png"] { stop; }
+    > if header :mime :subtype "Content-Type" "png" { stop; }
+    > END
+    $ depot explain script
+    ok
+
 ## digests that no part has
     $ cat > script << 'END'
     > require ["foreverypart", "vnd.depot"];
@@ -140,6 +198,7 @@ Notes on tests and commands that can't mean what they say, one of each test or c
     >     if partdigest ["0123456789abcdef0123456789abcdef0123456789abcdef0123456789abcdef", "0123"] { stop; }
     >     if partdigest "0123456789ABCDEF0123456789ABCDEF0123456789ABCDEF0123456789ABCDEF" { stop; }
     >     if partdigest "0123456789abcdef0123456789abcdef0123456789abcdef0123456789abcdef" { stop; }
+    >     if partdigest "\0123456789abcdef0123456789abcdef0123456789abcdef0123456789abcdef" { stop; }
     > }
     > END
     $ depot explain script
@@ -164,16 +223,16 @@ Notes on tests and commands that can't mean what they say, one of each test or c
     > END
     $ depot explain script
     ok
-    script:4:5: note: this never runs, because `break` leaves the loop: move it before the `break`
+    script:4:5: note: this comes after `break`, which leaves the loop: move it before the `break`
           keep;
           ^
-    script:6:37: note: this branch never runs, because the test before it is always true
+    script:6:37: note: the test before this branch looks always true, which switches the branch off: change the test, or remove the branch
       if true { if exists "a" { stop; } } elsif true { keep; } else { discard; }
                                           ^
-    script:6:58: note: this branch never runs, because the test before it is always true
+    script:6:58: note: the test before this branch looks always true, which switches the branch off: change the test, or remove the branch
       if true { if exists "a" { stop; } } elsif true { keep; } else { discard; }
                                                                ^
-    script:8:1: note: this never runs, because `stop` ends the script: move it before the `stop`
+    script:8:1: note: this comes after `stop`, which ends the script: move it before the `stop`
       discard;
       ^
     $ cat > script << 'END'
@@ -194,19 +253,19 @@ Notes on tests and commands that can't mean what they say, one of each test or c
     > END
     $ depot explain script
     ok
-    script:1:4: note: this test is always false, so its block never runs
+    script:1:4: note: this test looks always false, which switches its block off: change the test, or remove the block
       if false { keep; }
          ^
-    script:2:4: note: this test is always false, so its block never runs
+    script:2:4: note: this test looks always false, which switches its block off: change the test, or remove the block
       if not true { keep; } elsif allof (false, exists "a") { discard...
          ^
-    script:2:29: note: this test is always false, so its block never runs
+    script:2:29: note: this test looks always false, which switches its block off: change the test, or remove the block
       if not true { keep; } elsif allof (false, exists "a") { discard; }
                                   ^
-    script:3:39: note: this branch never runs, because the test before it is always true
+    script:3:39: note: the test before this branch looks always true, which switches the branch off: change the test, or remove the branch
       if anyof (true, exists "a") { keep; } elsif exists "b" { discard; }
                                             ^
-    script:4:54: note: this branch never runs, because the test before it is always true
+    script:4:54: note: the test before this branch looks always true, which switches the branch off: change the test, or remove the branch
       if exists "a" { keep; } elsif not false { discard; } else { stop; }
                                                            ^
     $ cat > script << 'END'
@@ -229,10 +288,10 @@ Notes on tests and commands that can't mean what they say, one of each test or c
     > END
     $ depot explain script
     ok
-    script:4:5: note: this never runs, because each branch of the `if` before it has a `stop` or `break`
+    script:4:5: note: this comes after an `if` whose branches all have a `stop` or `break`: move it before the `if`, or remove it
           keep;
           ^
-    script:7:1: note: this never runs, because each branch of the `if` before it has a `stop` or `break`
+    script:7:1: note: this comes after an `if` whose branches all have a `stop` or `break`: move it before the `if`, or remove it
       keep;
       ^
     $ cat > script << 'END'
@@ -284,10 +343,10 @@ Notes on tests and commands that can't mean what they say, one of each test or c
     > END
     $ depot explain script
     ok
-    script:3:11: note: a variable in this string is always empty: no `set` or `take` gives it a value
+    script:3:11: note: this string refers to a variable, but no `set` or `take` gives it a value
       if string "${tickets}" "" { fileinto "Tickets/${ticket}${Number}"; }
                 ^
-    script:3:38: note: a variable in this string is always empty: no `set` or `take` gives it a value
+    script:3:38: note: this string refers to a variable, but no `set` or `take` gives it a value
       if string "${tickets}" "" { fileinto "Tickets/${ticket}${Number}"; }
                                            ^
     $ cat > script << 'END'
@@ -356,7 +415,7 @@ Notes on tests and commands that can't mean what they say, one of each test or c
     > END
     $ depot explain script
     ok
-    script:3:44: note: a numbered reference in this string is always empty: no test with `:matches` has that many wildcards
+    script:3:44: note: this string has a numbered reference, but no test with `:matches` has that many wildcards
       if header :matches "From" "*@a" { fileinto "${1}/${3}"; }
                                                  ^
     $ cat > script << 'END'
@@ -398,10 +457,10 @@ Notes on tests and commands that can't mean what they say, one of each test or c
     > END
     $ depot explain script
     ok
-    script:2:48: note: parts other than attached messages don't have this field: remove `:anychild` to test only the message
+    script:2:48: note: parts other than attached messages usually don't have this field: remove `:anychild` to test only the message
       if header :mime :anychild :contains ["X-Spam", "subject"] "yes" { stop; }
                                                      ^
-    script:3:27: note: parts other than attached messages don't have this field: remove `:anychild` to test only the message
+    script:3:27: note: parts other than attached messages usually don't have this field: remove `:anychild` to test only the message
       if exists :mime :anychild "List-Id" { stop; }
                                 ^
     $ cat > script << 'END'
@@ -439,10 +498,10 @@ Notes on tests and commands that can't mean what they say, one of each test or c
     > END
     $ depot explain script
     ok
-    script:1:39: note: this branch never runs, because the test before it is always true
+    script:1:39: note: the test before this branch looks always true, which switches the branch off: change the test, or remove the branch
       if anyof (exists "a", true) { keep; } else { discard; }
                                             ^
-    script:2:4: note: this test is always false, so its block never runs
+    script:2:4: note: this test looks always false, which switches its block off: change the test, or remove the block
       if allof (exists ["a", "b"], not true, exists "c") { keep; }
          ^
     $ cat > script << 'END'
@@ -468,13 +527,13 @@ Notes on tests and commands that can't mean what they say, one of each test or c
     > END
     $ depot explain script
     ok
-    script:2:51: note: a numbered reference in this string is always empty: the script has no test with `:matches` to set it
+    script:2:51: note: this string has a numbered reference, but the script has no test with `:matches` to set it
       if header :contains "Subject" "[desk]" { fileinto "Desk ${1}"; }
                                                         ^
-    script:3:40: note: a numbered reference in this string is always empty: the script has no test with `:matches` to set it
+    script:3:40: note: this string has a numbered reference, but the script has no test with `:matches` to set it
       if header "Subject" ["${x}", "a${0}b", "${9}"] { set "x" "${2}"; }
                                              ^
-    script:3:58: note: a numbered reference in this string is always empty: the script has no test with `:matches` to set it
+    script:3:58: note: this string has a numbered reference, but the script has no test with `:matches` to set it
       if header "Subject" ["${x}", "a${0}b", "${9}"] { set "x" "${2}"; }
                                                                ^
     $ echo 'if header :matches "From" "*?*?*?*?*" { stop; }' >> script
@@ -502,6 +561,45 @@ Notes on tests and commands that can't mean what they say, one of each test or c
     ok
     ok
     ok
+    ok
+
+## keys with upper-case letters for a variable without any
+    $ cat > script << 'END'
+    > require "variables";
+    > set :lower "who" "A";
+    > if header :matches "From" "*" { set :quotewildcard :lower "Who" "${1}"; }
+    > if string :comparator "i;octet" :contains "${who}" ["boss", "the Boss"] { stop; }
+    > if string :is :comparator "i;octet" ["${WHO}"] "X" { stop; }
+    > END
+    $ depot explain script
+    ok
+    script:4:61: note: this key has upper-case letters, and each `set` of the variable has `:lower`, so the key never matches: write it in lower case
+      if string :comparator "i;octet" :contains "${who}" ["boss", "the Boss"] { stop; }
+                                                                  ^
+    script:5:48: note: this key has upper-case letters, and each `set` of the variable has `:lower`, so the key never matches: write it in lower case
+      if string :is :comparator "i;octet" ["${WHO}"] "X" { stop; }
+                                                     ^
+    $ cat > script << 'END'
+    > require "variables";
+    > set :lower "a" "A"; set :lower "b" "B"; set "B" "B"; set :lower :upperfirst "c" "c";
+    > if string :comparator "i;octet" "${a}" "boss" { stop; }
+    > if string "${a}" "Boss" { stop; }
+    > if string :comparator "i;ascii-casemap" "${a}" "Boss" { stop; }
+    > if string :comparator "i;octet" :matches "${a}" "B*" { stop; }
+    > if string :comparator "i;octet" ["${a}", "${b}"] "Boss" { stop; }
+    > if string :comparator "i;octet" "${c}" "Boss" { stop; }
+    > if string :comparator "i;octet" ["${a}", "the ${a}"] "Boss" { stop; }
+    > if string :comparator "i;octet" "${a}" ["B${a}", "\B"] { stop; }
+    > END
+    $ depot explain script
+    ok
+    $ cat > script << 'END'
+    > require ["variables", "foreverypart", "vnd.depot"];
+    > set :lower "a" "b";
+    > foreverypart { take "A"; }
+    > if string :comparator "i;octet" "${a}" "Boss" { stop; }
+    > END
+    $ depot explain script
     ok
 
 ## more notes than are shown

@@ -12,7 +12,7 @@ use Rattle.octets.specs.Ascii.{is_word, lowercase_of}
 use Rattle.sieve_lexer.specs.Values.{inner}
 use Rattle.sieve_lexer.specs.declared.token.Token.{Token}
 use Rattle.sieve_explain.specs.Marks.{text_of}
-use Rattle.sieve_explain.specs.Notes.{expands_references, first_named, given_by, given_of, has_tag, is_backslash, is_named_by, is_read, may_name, most_captures, notes_from, notes_of}
+use Rattle.sieve_explain.specs.Notes.{expands_references, first_named, given_of, has_tag, is_backslash, is_named_by, is_read, may_name, most_captures, named_by, notes_from, notes_of}
 use Rattle.sieve_explain.specs.Private.{NameAlike}
 
 -- the case of letters doesn't change whether there is a backslash
@@ -105,24 +105,33 @@ alike_step script new old left all (Some token) same whole name =
     ∙ sym (find-append (may_name script name) old (token ∷ left)) ∙ whole name
 
 -- the string of the command at this place, and those of the commands after it
-given_at : (script : List ℕ) (tokens rest : List Token) (place : ℕ) (d : Token) (o : Option Token) → place < length tokens → rest ≡ drop (place + 1) tokens
-    → o ≡ given_by script (get_or tokens place d) rest
-    → given_of script (drop place tokens) ≡ cons_option o (given_of script (drop (place + 1) tokens))
-given_at script tokens rest place d o within behind is =
-    ap (given_of script) (drop_more tokens place d within)
-    ∙ sym (ap (λ (found : Option Token). cons_option found (given_of script (drop (place + 1) tokens))) (is ∙ ap (given_by script (get_or tokens place d)) behind))
+given_at : (script : List ℕ) (raised : Bool) (tokens rest : List Token) (place : ℕ) (d : Token) (o : Option Token) → place < length tokens → rest ≡ drop (place + 1) tokens
+    → o ≡ named_by script raised (get_or tokens place d) rest
+    → given_of script raised (drop place tokens) ≡ cons_option o (given_of script raised (drop (place + 1) tokens))
+given_at script raised tokens rest place d o within behind is =
+    ap (given_of script raised) (drop_more tokens place d within)
+    ∙ sym (ap (λ (found : Option Token). cons_option found (given_of script raised (drop (place + 1) tokens))) (is ∙ ap (named_by script raised (get_or tokens place d)) behind))
 
-pub given_more : (script : List ℕ) (tokens rest new old : List Token) (place : ℕ) (d : Token) (o : Option Token) → place < length tokens → rest ≡ drop (place + 1) tokens
-    → o ≡ given_by script (get_or tokens place d) rest → NameAlike script new (old ++ cons_option o [])
-    → NameAlike script (old ++ given_of script (drop place tokens)) (given_of script tokens)
-    → NameAlike script (new ++ given_of script (drop (place + 1) tokens)) (given_of script tokens)
-given_more script tokens rest new old place d o within behind is same whole =
-    alike_step script new old (given_of script (drop (place + 1) tokens)) (given_of script tokens) o same
-    (subst (λ (l : List Token). NameAlike script (old ++ l) (given_of script tokens)) (given_at script tokens rest place d o within behind is) whole)
+pub given_more : (script : List ℕ) (raised : Bool) (tokens rest new old : List Token) (place : ℕ) (d : Token) (o : Option Token) → place < length tokens → rest ≡ drop (place + 1) tokens
+    → o ≡ named_by script raised (get_or tokens place d) rest → NameAlike script new (old ++ cons_option o [])
+    → NameAlike script (old ++ given_of script raised (drop place tokens)) (given_of script raised tokens)
+    → NameAlike script (new ++ given_of script raised (drop (place + 1) tokens)) (given_of script raised tokens)
+given_more script raised tokens rest new old place d o within behind is same whole =
+    alike_step script new old (given_of script raised (drop (place + 1) tokens)) (given_of script raised tokens) o same
+    (subst (λ (l : List Token). NameAlike script (old ++ l) (given_of script raised tokens)) (given_at script raised tokens rest place d o within behind is) whole)
 
 -- so the notes are the same
-pub known_notes : (script : List ℕ) (tokens given : List Token) (expands matches : Bool) (most : ℕ) → expands ≡ expands_references script tokens
-    → matches ≡ has_tag script (codes ":matches") tokens → most ≡ most_captures script tokens → NameAlike script given (given_of script tokens)
-    → notes_from script (record { expands = expands; matches = matches; most = most; has = is_named_by script given; first = first_named script given; read = is_read script tokens }) 0 tokens ≡ notes_of script tokens
-known_notes script tokens given expands matches most e m w same =
-    λ i. notes_from script (record { expands = e i; matches = m i; most = w i; has = λ name. same_named script given (given_of script tokens) same name i; first = λ name. same name i; read = is_read script tokens }) 0 tokens
+pub known_notes : (script : List ℕ) (tokens given raised : List Token) (expands matches : Bool) (most : ℕ) → expands ≡ expands_references script tokens
+    → matches ≡ has_tag script (codes ":matches") tokens → most ≡ most_captures script tokens → NameAlike script given (given_of script false tokens)
+    → NameAlike script raised (given_of script true tokens)
+    → notes_from script (record { expands = expands; matches = matches; most = most; has = is_named_by script given; raised = is_named_by script raised; first = first_named script given; read = is_read script tokens }) 0 tokens ≡ notes_of script tokens
+known_notes script tokens given raised expands matches most e m w same alike =
+    λ i. notes_from script (record {
+      expands = e i;
+      matches = m i;
+      most = w i;
+      has = λ name. same_named script given (given_of script false tokens) same name i;
+      raised = λ name. same_named script raised (given_of script true tokens) alike name i;
+      first = λ name. same name i;
+      read = is_read script tokens;
+    }) 0 tokens

@@ -1,4 +1,4 @@
--- What is told of a refusal has no control characters, and only visible ones where those of the script's name are visible.
+-- What is told of a refusal has no control characters, and only visible ones where those of the script's name are of ASCII or visible.
 use Rattle.std.proofs.Common.{◌≡◌, ℕ, Bool, true, false, List, [], ◌∷◌, ◌++◌, length, sym, subst, refl}
 use Rattle.std.specs.Prelude.{◌-◌, Option, Some, None, ◌&&◌, codes, flat_map, min, nat_lt, take, drop}
 use Rattle.std.specs.List.{slice_get}
@@ -16,7 +16,7 @@ use Rattle.sieve_check.specs.Rules.{max_reasons, reasons_of}
 use Rattle.readable_text.specs.Places.{line_at, line_number, octets_before}
 use Rattle.sieve_explain.specs.Notes.{max_notes, more_notes_blanks, note_blanks, notes_of}
 use Rattle.sieve_explain.specs.declared.notes.Noted.{Noted}
-use Rattle.sieve_explain.specs.Printable.{IsReadable, IsVisible, have_no_controls, is_no_control}
+use Rattle.sieve_explain.specs.Printable.{IsAsciiOrVisible, IsReadable, have_no_controls, is_no_control}
 use Rattle.sieve_explain.specs.Reasons.{reason_blanks}
 use Rattle.sieve_explain.specs.Sentences.{Blanks, filled, plain}
 use Rattle.sieve_explain.specs.Shown.{excerpt, line, margin, marked, shown_end, shown_name, shown_start}
@@ -173,17 +173,17 @@ module _ (P : List ℕ → Type 0) (h : HoldsOfTexts P) where
 pub without_controls : (name script : List ℕ) (refusal : Refusal) (text : List ℕ) → Explains name script refusal text → have_no_controls text ≡ true
 without_controls name script refusal text e = holds_text (Passes is_no_control) no_controls_of_texts name script refusal text (name_without_controls name) e
 
-pub readable : (name script : List ℕ) (refusal : Refusal) (text : List ℕ) → IsVisible name → Explains name script refusal text → IsReadable text
+pub readable : (name script : List ℕ) (refusal : Refusal) (text : List ℕ) → IsAsciiOrVisible name → Explains name script refusal text → IsReadable text
 readable name script refusal text visible e = holds_text IsReadable readable_texts name script refusal text (readable_name name visible) e
 
 pub listing_without_controls : (name listing : List ℕ) (place : ℕ) (kind : FaultKind) → have_no_controls (listing_told name listing place kind) ≡ true
 listing_without_controls name listing place kind = holds_listing (Passes is_no_control) no_controls_of_texts name listing place kind (name_without_controls name)
 
-pub listing_readable : (name listing : List ℕ) (place : ℕ) (kind : FaultKind) → IsVisible name → IsReadable (listing_told name listing place kind)
+pub listing_readable : (name listing : List ℕ) (place : ℕ) (kind : FaultKind) → IsAsciiOrVisible name → IsReadable (listing_told name listing place kind)
 listing_readable name listing place kind visible = holds_listing IsReadable readable_texts name listing place kind (readable_name name visible)
 
 pub remarks_without_controls : (name script text : List ℕ) → IsRemarked name script text → have_no_controls text ≡ true
 remarks_without_controls name script text e = holds_remarked (Passes is_no_control) no_controls_of_texts name script text (name_without_controls name) e
 
-pub remarks_readable : (name script text : List ℕ) → IsVisible name → IsRemarked name script text → IsReadable text
+pub remarks_readable : (name script text : List ℕ) → IsAsciiOrVisible name → IsRemarked name script text → IsReadable text
 remarks_readable name script text visible e = holds_remarked IsReadable readable_texts name script text (readable_name name visible) e

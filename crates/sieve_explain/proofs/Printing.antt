@@ -10,10 +10,11 @@ use Rattle.std.proofs.lemmas.List.Elements.{All-cons, All-drop, All-head, All-ni
 use Rattle.std.specs.Fmt.{decimal, digit_glyph, digits, digits_onto}
 use Rattle.std.proofs.lemmas.Bool.{ltb-true}
 use Rattle.std.proofs.lemmas.Bool.Decides.{nat_tests}
+use Rattle.std.proofs.lemmas.Grind.{flat_map-append}
 use Rattle.std.proofs.lemmas.List.Folds.{list_all-append}
 use Rattle.bstr.specs.Utf8.{decoded}
 use Rattle.sieve_explain.specs.Characters.{Piece, columns, first_piece, is_graphic, is_sign, is_visible, more_octets, pieces, pieces_after}
-use Rattle.sieve_explain.specs.Printable.{IsReadable, IsVisible, is_no_control, is_readable}
+use Rattle.sieve_explain.specs.Printable.{IsAsciiOrVisible, IsReadable, is_ascii_or_visible, is_no_control, is_readable}
 use Rattle.sieve_explain.specs.Shown.{between, cut_mark, escaped, escaped_in, if_cut, is_blank, is_name_octet, is_plain, kept, max_shown, name_octet, named, quoted, shown, shown_character, shown_end, shown_name, shown_octets, shown_piece, shown_start, tagged}
 use Rattle.sieve_explain.proofs.Pieces.{spelled}
 use Rattle.sieve_explain.specs.declared.shown.Style.{Style}
@@ -325,7 +326,7 @@ name_without_controls [] = refl
 name_without_controls (x ∷ xs) =
     pass_append is_no_control (name_octet x) (shown_name xs) (name_octet_plain x (is_name_octet x) (plain_no_control x)) (name_without_controls xs)
 
--- a name of visible characters is printed as it is
+-- a name without such characters is printed as it is
 name_kept : (name : List ℕ) → Passes is_name_octet name → shown_name name ≡ name
 unfolding name_octet
 name_kept [] e = refl
@@ -333,12 +334,35 @@ name_kept (x ∷ xs) e =
     let p = both (is_name_octet x) (list_all is_name_octet xs) e in
     ap (λ (b : Bool). (if b then x ∷ [] else escaped x) ++ shown_name xs) p.0 ∙ ap (λ (rest : List ℕ). x ∷ rest) (name_kept xs p.1)
 
-visible_names : (cs : List ℕ) → list_all is_visible cs ≡ true → Passes is_name_octet (encode_utf8_all cs)
-visible_names [] e = refl
-visible_names (c ∷ cs) e =
-    let p = both (is_visible c) (list_all is_visible cs) e in
-    pass_append is_name_octet (encode_utf8 c) (encode_utf8_all cs) (visible_plain_octets c p.0) (visible_names cs p.1)
+kept_printable : (c : ℕ) → c < 128 → is_name_octet c ≡ true → is_printable c ≡ true
+kept_printable c low e = grind (arith, nat_tests)
 
-pub readable_name : (name : List ℕ) → IsVisible name → IsReadable (shown_name name)
-readable_name name (cs, s, p, e) =
-    subst IsReadable (sym (name_kept name (subst (Passes is_name_octet) e (visible_names cs p)))) (cs, s, weaker is_visible is_readable readable_seen cs p, e)
+-- a character of ASCII stays as it is, or is escaped
+readable_ascii : (c : ℕ) → c < 128 → IsReadable (name_octet c)
+unfolding name_octet
+readable_ascii c low = by_kind (is_name_octet c) refl where
+  by_kind : (b : Bool) → is_name_octet c ≡ b → IsReadable (if b then c ∷ [] else escaped c)
+  by_kind true e = readable_octet c (kept_printable c low e)
+  by_kind false e = readable_fine (escaped c) (fine_escaped c)
+
+readable_character : (c : ℕ) → scalar c ≡ true → is_ascii_or_visible c ≡ true → IsReadable (shown_name (encode_utf8 c))
+readable_character c s e = by_side (nat_lt c 128) refl where
+  by_side : (b : Bool) → nat_lt c 128 ≡ b → IsReadable (shown_name (encode_utf8 c))
+  by_side true side =
+      let low : c < 128 = ltb-true c 128 side in
+      subst (λ (xs : List ℕ). IsReadable (shown_name xs)) (sym (encode_ascii c low)) (subst IsReadable (sym (append-nil (name_octet c))) (readable_ascii c low))
+  by_side false side =
+      let seen : is_visible c ≡ true = sym (ap (λ (b : Bool). b || is_visible c) side) ∙ e in
+      subst IsReadable (sym (name_kept (encode_utf8 c) (high_character c (grind (arith, nat_tests))))) (readable_one c s (readable_seen c seen))
+
+readable_characters : (cs : List ℕ) → all_scalars cs ≡ true → list_all is_ascii_or_visible cs ≡ true → IsReadable (shown_name (encode_utf8_all cs))
+readable_characters [] s e = ([], refl, refl, refl)
+readable_characters (c ∷ cs) s e =
+    let p = both (scalar c) (all_scalars cs) s in
+    let q = both (is_ascii_or_visible c) (list_all is_ascii_or_visible cs) e in
+    subst IsReadable (sym (flat_map-append name_octet (encode_utf8 c) (encode_utf8_all cs)))
+    (readable_append (shown_name (encode_utf8 c)) (shown_name (encode_utf8_all cs)) (readable_character c p.0 q.0) (readable_characters cs p.1 q.1))
+
+-- a name of characters of ASCII and visible ones is readable as it is printed
+pub readable_name : (name : List ℕ) → IsAsciiOrVisible name → IsReadable (shown_name name)
+readable_name name (cs, s, p, e) = subst (λ (xs : List ℕ). IsReadable (shown_name xs)) e (readable_characters cs s p)

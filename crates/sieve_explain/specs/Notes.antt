@@ -14,7 +14,7 @@ use Rattle.sieve_references.specs.References.{is_identifier}
 use Rattle.sieve_explain.specs.Marks.{is_amount, is_comma, is_name, is_of_arguments, is_opening, is_separator, is_string, text_of}
 use Rattle.sieve_explain.specs.Sentences.{Blanks, plain}
 use Rattle.sieve_explain.specs.declared.notes.NoteKind.{NoteKind}
-use Rattle.sieve_explain.specs.declared.notes.NoteKind.TheVariants.{Foreign, Colon, Space, StarInContains, StarInIs, NoWildcard, NoDigest, LongKey, LargeSize, NoCapture, FewWildcards, NoValue, Unread, PartField, RootField, TwoEntries, StoresAll, BehindFalse, AfterTrue, AfterStop, AfterBreak, AfterIf}
+use Rattle.sieve_explain.specs.declared.notes.NoteKind.TheVariants.{Foreign, Colon, Space, StarInContains, StarInIs, NoWildcard, SlashInPiece, NoSlash, NoDigest, LongKey, CapitalKey, LargeSize, NoCapture, FewWildcards, NoValue, Unread, PartField, RootField, TwoEntries, StoresAll, BehindFalse, AfterTrue, AfterStop, AfterBreak, AfterIf}
 use Rattle.sieve_explain.specs.declared.notes.Noted.{Noted}
 
 -- how many notes on a script are printed
@@ -31,22 +31,25 @@ note_text Space = codes "no field name contains a blank: remove the blank"
 note_text StarInContains = codes "`*` matches only itself here: remove it, or use `:matches` if it should match any text"
 note_text StarInIs = codes "`*` matches only itself here: use `:matches` if it should match any text"
 note_text NoWildcard = codes "this `:matches` has no `*` and no `?`, so it compares whole values like `:is`: write `:is`, or add a wildcard"
+note_text SlashInPiece = codes "`:type` and `:subtype` give only one side of the `/` in a type such as image/png: use `:contenttype` for this key"
+note_text NoSlash = codes "`:contenttype` gives a whole type such as image/png: add `/` and a subtype to this key, or use `:type`"
 note_text NoDigest = codes "no part has this digest: write 64 hexadecimal digits, with lower-case letters"
 note_text LongKey = codes "a variable holds at most % bytes, so this key never matches: write a shorter one"
+note_text CapitalKey = codes "this key has upper-case letters, and each `set` of the variable has `:lower`, so the key never matches: write it in lower case"
 note_text LargeSize = codes "no message is larger than % bytes, so this is never true: write a smaller number"
-note_text NoCapture = codes "a numbered reference in this string is always empty: the script has no test with `:matches` to set it"
-note_text FewWildcards = codes "a numbered reference in this string is always empty: no test with `:matches` has that many wildcards"
-note_text NoValue = codes "a variable in this string is always empty: no `set` or `take` gives it a value"
+note_text NoCapture = codes "this string has a numbered reference, but the script has no test with `:matches` to set it"
+note_text FewWildcards = codes "this string has a numbered reference, but no test with `:matches` has that many wildcards"
+note_text NoValue = codes "this string refers to a variable, but no `set` or `take` gives it a value"
 note_text Unread = codes "no other command or test reads this variable: remove this command, or check how references spell its name"
 note_text PartField = codes "without `:mime` this tests the field of the message, not of the current part: add `:mime`, or move the test out of the loop"
-note_text RootField = codes "parts other than attached messages don't have this field: remove `:anychild` to test only the message"
+note_text RootField = codes "parts other than attached messages usually don't have this field: remove `:anychild` to test only the message"
 note_text TwoEntries = codes "this files the message into INBOX a second time: remove this command or the one before it"
 note_text StoresAll = codes "this also stores each multipart, which contains its parts again: put it in an `if` that tests the type of the part"
-note_text BehindFalse = codes "this test is always false, so its block never runs"
-note_text AfterTrue = codes "this branch never runs, because the test before it is always true"
-note_text AfterStop = codes "this never runs, because `stop` ends the script: move it before the `stop`"
-note_text AfterBreak = codes "this never runs, because `break` leaves the loop: move it before the `break`"
-note_text AfterIf = codes "this never runs, because each branch of the `if` before it has a `stop` or `break`"
+note_text BehindFalse = codes "this test looks always false, which switches its block off: change the test, or remove the block"
+note_text AfterTrue = codes "the test before this branch looks always true, which switches the branch off: change the test, or remove the branch"
+note_text AfterStop = codes "this comes after `stop`, which ends the script: move it before the `stop`"
+note_text AfterBreak = codes "this comes after `break`, which leaves the loop: move it before the `break`"
+note_text AfterIf = codes "this comes after an `if` whose branches all have a `stop` or `break`: move it before the `if`, or remove it"
 
 -- the number in it
 abbrev pub note_number : NoteKind → ℕ
@@ -62,15 +65,12 @@ more_notes_blanks = record (plain (codes "only the first % notes are shown")) { 
 
 -- ---- tokens that are noted by themselves
 
--- the octet isn't ASCII; is a blank; is a star; may be a wildcard, or begin a reference to a variable
+-- the octet isn't ASCII; is a blank; may be a wildcard, or begin a reference to a variable
 abbrev pub is_beyond : ℕ → Bool
 is_beyond octet = nat_lt 127 octet
 
 abbrev pub is_blank : ℕ → Bool
 is_blank octet = octet == 32 || octet == 9
-
-abbrev pub is_dollar : ℕ → Bool
-is_dollar octet = octet == 36
 
 abbrev pub is_wildcard : ℕ → Bool
 is_wildcard octet = (octet == 42 || octet == 63) || octet == 36
@@ -111,6 +111,27 @@ abbrev pub has_capture : ℕ → List ℕ → Bool
 has_capture most [] = false
 has_capture most (c ∷ text) = begins_capture most (c ∷ text) || has_capture most text
 
+-- a key with a slash; one without, which isn't empty and has no reference either
+abbrev pub is_slash : ℕ → Bool
+is_slash octet = octet == 47
+
+abbrev pub is_slash_or_dollar : ℕ → Bool
+is_slash_or_dollar octet = octet == 47 || octet == 36
+
+abbrev pub is_bare : List ℕ → Bool
+is_bare text = nat_lt 0 (length text) && not (list_any is_slash_or_dollar text)
+
+-- the octet begins a reference to a variable, or an escape
+abbrev pub is_unclear : ℕ → Bool
+is_unclear octet = octet == 36 || octet == 92
+
+-- a key with more octets than a variable holds; with an upper-case letter; without a reference and without an escape
+abbrev pub is_long : List ℕ → Bool
+is_long text = nat_lt max_value (length text) && not (list_any is_unclear text)
+
+abbrev pub is_capital : List ℕ → Bool
+is_capital text = list_any is_ascii_uppercase text && not (list_any is_unclear text)
+
 -- a field of each part
 unfoldable pub is_part_field : List ℕ → Bool
 is_part_field name =
@@ -129,7 +150,11 @@ is_noted_text Space text = list_any is_blank text
 is_noted_text StarInContains text = begins_with_star text
 is_noted_text StarInIs text = begins_with_star text || ends_with_star text
 is_noted_text NoWildcard text = true
-is_noted_text NoDigest text = not (is_digest text || list_any is_dollar text)
+is_noted_text SlashInPiece text = list_any is_slash text
+is_noted_text NoSlash text = is_bare text
+is_noted_text NoDigest text = not (is_digest text || list_any is_unclear text)
+is_noted_text LongKey text = is_long text
+is_noted_text CapitalKey text = is_capital text
 is_noted_text PartField text = is_part_field text
 is_noted_text RootField text = is_root_field text
 is_noted_text _ text = false
@@ -139,20 +164,16 @@ abbrev pub is_large : Option ℕ → Bool
 is_large None = false
 is_large (Some number) = nat_le max_message number
 
--- more octets than a variable holds, without a reference and without an escape
-abbrev pub is_unclear : ℕ → Bool
-is_unclear octet = octet == 36 || octet == 92
-
-abbrev pub is_long : List ℕ → Bool
-is_long text = nat_lt max_value (length text) && not (list_any is_unclear text)
-
 abbrev pub is_quoted : TokenKind → Bool
 is_quoted QuotedString = true
 is_quoted _ = false
 
 -- the token is noted so
 unfoldable pub is_noted : List ℕ → NoteKind → Token → Bool
-is_noted script LongKey token = is_quoted token.kind && is_long (inner (text_of script token))
+is_noted script LongKey token = is_quoted token.kind && is_noted_text LongKey (inner (text_of script token))
+is_noted script SlashInPiece token = is_quoted token.kind && is_noted_text SlashInPiece (inner (text_of script token))
+is_noted script NoSlash token = is_quoted token.kind && is_noted_text NoSlash (inner (text_of script token))
+is_noted script CapitalKey token = is_quoted token.kind && is_noted_text CapitalKey (inner (text_of script token))
 is_noted script LargeSize token = is_amount token.kind && is_large (below_limit (number_value (text_of script token)))
 is_noted script kind token = is_string token.kind && is_noted_text kind (inner (text_of script token))
 
@@ -242,11 +263,35 @@ keys_note script arguments =
     if has_tag script (codes ":contains") arguments then note_in script StarInContains (last_of arguments) else
     note_in script StarInIs (last_of arguments)
 
+-- the token is the name of another field than Content-Type
+abbrev pub is_other_field : List ℕ → Token → Bool
+is_other_field script token = is_string token.kind && not (is_word (inner (text_of script token)) (codes "content-type"))
+
+-- the test compares with a piece of a type; it has another comparison than `:is`
+abbrev pub takes_piece : List ℕ → List Token → Bool
+takes_piece script arguments = has_tag script (codes ":type") arguments || has_tag script (codes ":subtype") arguments
+
+abbrev pub takes_part : List ℕ → List Token → Bool
+takes_part script arguments = has_tag script (codes ":matches") arguments || has_tag script (codes ":contains") arguments
+
+-- the test compares with whole types, which all have a slash: Content-Disposition has none
+abbrev pub takes_types : List ℕ → List Token → Bool
+takes_types script arguments =
+    (has_tag script (codes ":contenttype") arguments && not (takes_part script arguments))
+    && not (list_any (is_other_field script) (last_of (earlier_of arguments)))
+
+-- the keys of a `header`, by which piece of a type it compares with
+unfoldable pub type_note : List ℕ → List Token → Option Noted
+type_note script arguments =
+    if takes_piece script arguments then note_in script SlashInPiece (last_of arguments) else
+    if takes_types script arguments then note_in script NoSlash (last_of arguments) else
+    None
+
 -- of `header`: the names of fields are the last argument but one
 unfoldable pub header_note : List ℕ → List Token → Option Noted
 header_note script arguments =
-    option_or (option_or (names_note script (last_of (earlier_of arguments))) (keys_note script arguments))
-    (note_in script Foreign arguments)
+    option_or (option_or (option_or (names_note script (last_of (earlier_of arguments))) (keys_note script arguments))
+    (type_note script arguments)) (note_in script Foreign arguments)
 
 abbrev pub size_note : List ℕ → List Token → Option Noted
 size_note script arguments = if has_tag script (codes ":over") arguments then note_in script LargeSize arguments else None
@@ -575,10 +620,19 @@ abbrev pub may_name : List ℕ → List ℕ → Token → Bool
 may_name script name token =
     let text = inner (text_of script token) in is_word text name || list_any is_backslash text
 
--- those of all commands
-abbrev pub given_of : List ℕ → List Token → List Token
-given_of script [] = []
-given_of script (token ∷ rest) = cons_option (given_by script token rest) (given_of script rest)
+-- the command gives its variable a value without upper-case letters
+abbrev pub lowers : List ℕ → Token → List Token → Bool
+lowers script token rest =
+    (is_word (text_of script token) (codes "set") && has_tag script (codes ":lower") (arguments_of rest))
+    && not (has_tag script (codes ":upperfirst") (arguments_of rest))
+
+-- the string with the name, of any such command, or only of one whose value may have upper-case letters; those of all commands
+abbrev pub named_by : List ℕ → Bool → Token → List Token → Option Token
+named_by script raised token rest = if raised && lowers script token rest then None else given_by script token rest
+
+abbrev pub given_of : List ℕ → Bool → List Token → List Token
+given_of script raised [] = []
+given_of script raised (token ∷ rest) = cons_option (named_by script raised token rest) (given_of script raised rest)
 
 -- one of the strings may be that name
 abbrev pub is_named_by : List ℕ → List Token → List ℕ → Bool
@@ -629,12 +683,14 @@ first_named script given name = find (may_name script name) given
 -- ---- the notes of a script
 
 -- what is known of the whole script: references are expanded; a test has `:matches`; the most wildcards of a key of one; which names of
--- variables may have a value; the first string that gives one to the name; which names may be read
+-- variables may have a value; which may have one with upper-case letters; the first string that gives one to the name; which names may
+-- be read
 pub record Known : Type 0 where
   pub expands : Bool
   pub matches : Bool
   pub most : ℕ
   pub has : List ℕ → Bool
+  pub raised : List ℕ → Bool
   pub first : List ℕ → Option Token
   pub read : List ℕ → Bool
 
@@ -648,6 +704,32 @@ capture_note script known arguments = option_map (noted_as (capture_kind known.m
 
 abbrev pub value_note : List ℕ → Known → List Token → Option Noted
 value_note script known arguments = option_map (noted_as NoValue) (find (has_no_value script known.has) arguments)
+
+-- octets are compared: that comparator comes directly behind its tag
+abbrev pub is_octet_at : List ℕ → Option Token → Bool
+is_octet_at script None = false
+is_octet_at script (Some token) = is_string token.kind && bytes_eq (inner (text_of script token)) (codes "i;octet")
+
+abbrev pub compares_octets : List ℕ → List Token → Bool
+compares_octets script [] = false
+compares_octets script (token ∷ rest) =
+    (is_tagged script (codes ":comparator") token && is_octet_at script (slice_get rest 0)) || compares_octets script rest
+
+-- a source that is no variable, or one whose value may have upper-case letters; the function says which may
+abbrev pub is_raised : List ℕ → (List ℕ → Bool) → Token → Bool
+is_raised script raised token =
+    let text = inner (text_of script token) in is_string token.kind && (not (is_reference text) || raised (referred text))
+
+-- a key of `string` that has such letters, if no source may have one
+unfoldable pub capital_note : List ℕ → Known → List Token → Option Noted
+capital_note script known arguments =
+    if (compares_octets script arguments && not (has_tag script (codes ":matches") arguments))
+    && not (list_any (is_raised script known.raised) (last_of (earlier_of arguments)))
+    then note_in script CapitalKey (last_of arguments) else None
+
+-- the same for the test with that name
+abbrev pub lower_note : List ℕ → Known → List ℕ → List Token → Option Noted
+lower_note script known name arguments = if is_word name (codes "string") then capital_note script known arguments else None
 
 -- the string is the first one
 abbrev pub is_first : Token → Option Token → Bool
@@ -676,8 +758,8 @@ names_loop name = is_word name (codes "foreverypart") || is_word name (codes "br
 unfoldable pub string_note : List ℕ → Known → List ℕ → List Token → Option Noted
 string_note script known name arguments =
     if not known.expands || names_loop name then None else
-    option_or (option_or (capture_note script known arguments) (value_note script known arguments))
-    (unread_note script known (given_in name arguments))
+    option_or (option_or (option_or (capture_note script known arguments) (value_note script known arguments))
+    (lower_note script known name arguments)) (unread_note script known (given_in name arguments))
 
 -- of the command or test with that name; so many braces are open within loops, or none
 unfoldable pub word_note : List ℕ → ℕ → List ℕ → List Token → Option Noted
@@ -713,8 +795,9 @@ known_of script tokens = record {
   expands = expands_references script tokens;
   matches = has_tag script (codes ":matches") tokens;
   most = most_captures script tokens;
-  has = is_named_by script (given_of script tokens);
-  first = first_named script (given_of script tokens);
+  has = is_named_by script (given_of script false tokens);
+  raised = is_named_by script (given_of script true tokens);
+  first = first_named script (given_of script false tokens);
   read = is_read script tokens;
 }
 

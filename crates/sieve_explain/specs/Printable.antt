@@ -1,5 +1,5 @@
 -- What can be printed anywhere.
-use Rattle.std.specs.Prelude.{◌≡◌, ℕ, Bool, true, nat_le, not, ◌&&◌, ◌||◌, ◌==◌, List, encode_utf8_all}
+use Rattle.std.specs.Prelude.{◌≡◌, ℕ, Bool, true, nat_le, nat_lt, not, ◌&&◌, ◌||◌, ◌==◌, List, encode_utf8_all}
 use Rattle.std.specs.List.{list_all}
 use Rattle.std.specs.Str.{all_scalars}
 use Rattle.sieve_explain.specs.Characters.{is_visible}
@@ -16,9 +16,13 @@ have_no_controls = list_all is_no_control
 abbrev pub IsTextOf : (ℕ → Bool) → List ℕ → Type 0
 IsTextOf test text = (cs : List ℕ) × (all_scalars cs ≡ true) × (list_all test cs ≡ true) × (encode_utf8_all cs ≡ text)
 
--- text in UTF-8 of visible characters alone
-abbrev pub IsVisible : List ℕ → Type 0
-IsVisible = IsTextOf is_visible
+-- any character of ASCII, or a visible one
+abbrev pub is_ascii_or_visible : ℕ → Bool
+is_ascii_or_visible c = nat_lt c 128 || is_visible c
+
+-- text in UTF-8 of such characters alone: any octets of ASCII, say, or visible characters alone
+abbrev pub IsAsciiOrVisible : List ℕ → Type 0
+IsAsciiOrVisible = IsTextOf is_ascii_or_visible
 
 -- a visible character, or the end of a line
 abbrev pub is_readable : ℕ → Bool

@@ -70,6 +70,7 @@ known_view script known = record {
   matches = known.matches;
   most = known.most;
   has = is_named_by script known.given.now;
+  raised = is_named_by script known.raised.now;
   first = first_named script known.given.now;
   read = is_read script known.tokens.now;
 }

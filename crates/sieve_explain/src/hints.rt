@@ -113,7 +113,8 @@ const CAPABILITIES: &Vocabulary = &Vocabulary {
     lacks: "depot has no $: &",
     hinting: "unknown capability $, did you mean \"&\"?",
     hinting_two: "unknown capability $, did you mean \"&\" or \"~\"?",
-    alone: "unknown capability $: depot has \"fileinto\", \"variables\", \"mime\", \"foreverypart\", \"vnd.depot\", \"comparator-i;octet\" and \"comparator-i;ascii-casemap\"",
+    alone: "unknown capability $: depot has \"fileinto\", \"variables\", \"mime\", \"foreverypart\", \"vnd.depot\", \
+        \"comparator-i;octet\" and \"comparator-i;ascii-casemap\"",
 };
 
 // Why depot doesn't have a command, a test, a tag or a capability of other Sieve programs, or what it has instead.

@@ -10,7 +10,7 @@ ghost use Rattle.sieve_lexer.specs.declared.token.Token.{Token};
 ghost use Rattle.sieve_parser.specs.Scripts.{IsParsed};
 ghost use Rattle.sieve_parser.specs.Tree.{CommandsTree};
 ghost use Rattle.sieve_explain.specs.Explaining.{Explains, IsExplained, IsMarked, IsRemarked, answer_of, listing_told};
-ghost use Rattle.sieve_explain.specs.Printable.{IsReadable, IsVisible, have_no_controls};
+ghost use Rattle.sieve_explain.specs.Printable.{IsAsciiOrVisible, IsReadable, have_no_controls};
 ghost use Rattle.sieve_explain.specs.declared.explanation.Explanation.{Explanation};
 
 use sieve_lexer::laws::tokens_are_unique;
@@ -46,20 +46,21 @@ pub fn marks_stand_under_faults()
 }
 
 /// The description of a refusal has no ASCII control characters except line breaks, whoever wrote the script and named
-/// its file. If the name is UTF-8 of visible characters, then the description is UTF-8 of visible characters and line
-/// breaks: without control characters, without those that turn the direction of writing, and without other bytes.
+/// its file. If the name is ASCII, or UTF-8 whose characters are of ASCII or visible, then the description is UTF-8 of
+/// visible characters and line breaks: without control characters, without those that turn the direction of writing, and
+/// without other bytes.
 pub fn explanations_are_printable()
     ensures whole { (name script : List ℕ) (refusal : Refusal) (text : List ℕ)
         → Explains name script refusal text → IsTrue (have_no_controls text) }
     ensures readable { (name script : List ℕ) (refusal : Refusal) (text : List ℕ)
-        → IsVisible name → Explains name script refusal text → IsReadable text }
+        → IsAsciiOrVisible name → Explains name script refusal text → IsReadable text }
 {}
 
 /// The notes on a script can be printed as well, whoever wrote the script and named its file.
 pub fn remarks_are_printable()
     ensures whole { (name script text : List ℕ) → IsRemarked name script text
         → IsTrue (have_no_controls text) }
-    ensures readable { (name script text : List ℕ) → IsVisible name
+    ensures readable { (name script text : List ℕ) → IsAsciiOrVisible name
         → IsRemarked name script text → IsReadable text }
 {}
 
@@ -68,5 +69,5 @@ pub fn listing_explanations_are_printable()
     ensures whole { (name listing : List ℕ) (place : ℕ) (kind : FaultKind)
         → IsTrue (have_no_controls (listing_told name listing place kind)) }
     ensures readable { (name listing : List ℕ) (place : ℕ) (kind : FaultKind)
-        → IsVisible name → IsReadable (listing_told name listing place kind) }
+        → IsAsciiOrVisible name → IsReadable (listing_told name listing place kind) }
 {}

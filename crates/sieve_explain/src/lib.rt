@@ -49,10 +49,10 @@
 //!
 //! ### What an explanation consists of
 //!
-//! These texts have no ASCII control characters except line breaks. If the name of the file is UTF-8 of visible
-//! characters, then so are these texts, apart from line breaks: control characters, characters that turn the direction
-//! of writing or show nothing, and bytes that aren't UTF-8 are escaped. For a listing with a fault the text has the
-//! same form, with a sentence for the kind of the fault.
+//! These texts have no ASCII control characters except line breaks. If the name of the file is UTF-8 whose characters
+//! are of ASCII or visible, then these texts are UTF-8 of visible characters and line breaks: control characters,
+//! characters that turn the direction of writing or show nothing, and bytes that aren't UTF-8 are escaped. For a listing
+//! with a fault the text has the same form, with a sentence for the kind of the fault.
 //!
 //! By `explain`, `remarks_on`, `listing_explanation`; laws `explanations_are_unique`, `marks_stand_under_faults`,
 //! `explanations_are_printable`, `remarks_are_printable`, `listing_explanations_are_printable`.

@@ -8,11 +8,12 @@
 // address with and without a name. So a `?` is never noted, several stars in a row aren't, and a `:matches` is noted
 // only if none of its keys has a wildcard. A key with a reference to a variable can hold anything, and isn't noted.
 ghost use Rattle.std.specs.Prelude.{◌≡◌, ◌==◌, ◌&&◌, ◌||◌, codes, ◌<◌, ◌≤◌, ◌+◌, ◌++◌, ◌-◌, ◌^◌, IfOk, None, OnOk, [], drop, if◌then◌else◌, length, take, take_while};
-ghost use Rattle.std.specs.List.{cons_option, filter, find, list_all, list_any};
+ghost use Rattle.std.specs.Char.{is_ascii_uppercase};
+ghost use Rattle.std.specs.List.{cons_option, filter, find, list_all, list_any, slice_get};
 ghost use Rattle.sieve_explain.specs.declared.notes.NoteKind.TheVariants.{AfterIf};
 ghost use Rattle.sieve_lexer.specs.Classes.{continues_identifier};
 ghost use Rattle.sieve_lexer.specs.Values.{inner};
-ghost use Rattle.sieve_explain.specs.Notes.{arguments_of, before_last, begins_branch, begins_capture, begins_inbox, begins_last, begins_literal, begins_with_star, behind_block, block_length, block_of, blocks_of, branch_note, capture_kind, capture_note, chain_note, closes_block, closes_group, command_at, command_note, earlier_of, ends, ends_with_colon, ends_with_star, expands_references, fields_note, first_named, given_by, given_in, given_of, gives_value, has_capture, has_empty, has_inbox, has_literal, has_no_value, has_tag, has_wildcard, header_note, if_note, inbox_note, inside_behind, is_always_false, is_always_true, is_backslash, is_beyond, is_blank, is_constant, is_digest, is_digit, is_dollar, is_else, is_ending, is_first, is_inbox, is_inside, is_large, is_literal, is_long, is_named, is_named_by, is_no_opening, is_noted, is_noted_text, is_number_above, is_other_source, is_part_field, is_read, is_reference, is_root_field, is_star, is_star_or_mark, is_tagged, is_text, is_unclear, is_unread, is_variables, is_wildcard, is_word_at, kept_note, keys_note, lacks_value, last_of, long_note, loop_note, may_name, may_refer, more_notes_blanks, most_captures, most_in, most_of, names_loop, names_note, next_note, next_of, note_at, note_blanks, note_in, note_number, note_text, noted_as, notes_from, notes_of, onto, open_behind, opens_block, opens_group, opens_list, part_note, patterns_note, precedes_test, reads, referred, refers_to, refers_to_none, requires_variables, root_note, scope_note, size_note, string_note, test_note, unread_note, value_note, wildcards_of, word_note};
+ghost use Rattle.sieve_explain.specs.Notes.{arguments_of, before_last, begins_branch, begins_capture, begins_inbox, begins_last, begins_literal, begins_with_star, behind_block, block_length, block_of, blocks_of, branch_note, capital_note, capture_kind, capture_note, chain_note, closes_block, closes_group, command_at, command_note, compares_octets, earlier_of, ends, ends_with_colon, ends_with_star, expands_references, fields_note, first_named, given_by, given_in, given_of, gives_value, has_capture, has_empty, has_inbox, has_literal, has_no_value, has_tag, has_wildcard, header_note, if_note, inbox_note, inside_behind, is_always_false, is_always_true, is_backslash, is_bare, is_beyond, is_blank, is_capital, is_constant, is_digest, is_digit, is_else, is_ending, is_first, is_inbox, is_inside, is_large, is_literal, is_long, is_named, is_named_by, is_no_opening, is_noted, is_noted_text, is_number_above, is_octet_at, is_other_field, is_other_source, is_part_field, is_raised, is_read, is_reference, is_root_field, is_slash, is_slash_or_dollar, is_star, is_star_or_mark, is_tagged, is_text, is_unclear, is_unread, is_variables, is_wildcard, is_word_at, kept_note, keys_note, lacks_value, last_of, long_note, loop_note, lower_note, lowers, may_name, may_refer, more_notes_blanks, most_captures, most_in, most_of, named_by, names_loop, names_note, next_note, next_of, note_at, note_blanks, note_in, note_number, note_text, noted_as, notes_from, notes_of, onto, open_behind, opens_block, opens_group, opens_list, part_note, patterns_note, precedes_test, reads, referred, refers_to, refers_to_none, requires_variables, root_note, scope_note, size_note, string_note, takes_part, takes_piece, takes_types, test_note, type_note, unread_note, value_note, wildcards_of, word_note};
 ghost use Rattle.sieve_explain.specs.Marks.{is_amount, is_name};
 ghost use Rattle.sieve_explain.specs.Private.{NameAlike, blanks_of, known_view, max_noted};
 
@@ -55,10 +56,16 @@ pub enum NoteKind {
     StarInIs,
     /// No key of a `:matches` has a wildcard.
     NoWildcard,
+    /// A key has a slash, and is compared with the type or the subtype.
+    SlashInPiece,
+    /// A key has no slash, and is compared with a whole type.
+    NoSlash,
     /// A key of `partdigest` is no digest.
     NoDigest,
     /// A key of `string` is longer than the value of any variable.
     LongKey,
+    /// A key of `string` has upper-case letters, and no value of the variable has one.
+    CapitalKey,
     /// A message is never over that size.
     LargeSize,
     /// A string refers to a capture, and the script has no `:matches`.
@@ -118,23 +125,32 @@ fn note_text(kind: NoteKind) -> &'static str
         NoteKind::NoWildcard => {
             "this `:matches` has no `*` and no `?`, so it compares whole values like `:is`: write `:is`, or add a wildcard"
         }
+        NoteKind::SlashInPiece => {
+            "`:type` and `:subtype` give only one side of the `/` in a type such as image/png: use `:contenttype` for this key"
+        }
+        NoteKind::NoSlash => {
+            "`:contenttype` gives a whole type such as image/png: add `/` and a subtype to this key, or use `:type`"
+        }
         NoteKind::NoDigest => {
             "no part has this digest: write 64 hexadecimal digits, with lower-case letters"
         }
         NoteKind::LongKey => {
             "a variable holds at most % bytes, so this key never matches: write a shorter one"
         }
+        NoteKind::CapitalKey => {
+            "this key has upper-case letters, and each `set` of the variable has `:lower`, so the key never matches: write it in lower case"
+        }
         NoteKind::LargeSize => {
             "no message is larger than % bytes, so this is never true: write a smaller number"
         }
         NoteKind::NoCapture => {
-            "a numbered reference in this string is always empty: the script has no test with `:matches` to set it"
+            "this string has a numbered reference, but the script has no test with `:matches` to set it"
         }
         NoteKind::FewWildcards => {
-            "a numbered reference in this string is always empty: no test with `:matches` has that many wildcards"
+            "this string has a numbered reference, but no test with `:matches` has that many wildcards"
         }
         NoteKind::NoValue => {
-            "a variable in this string is always empty: no `set` or `take` gives it a value"
+            "this string refers to a variable, but no `set` or `take` gives it a value"
         }
         NoteKind::Unread => {
             "no other command or test reads this variable: remove this command, or check how references spell its name"
@@ -143,7 +159,7 @@ fn note_text(kind: NoteKind) -> &'static str
             "without `:mime` this tests the field of the message, not of the current part: add `:mime`, or move the test out of the loop"
         }
         NoteKind::RootField => {
-            "parts other than attached messages don't have this field: remove `:anychild` to test only the message"
+            "parts other than attached messages usually don't have this field: remove `:anychild` to test only the message"
         }
         NoteKind::TwoEntries => {
             "this files the message into INBOX a second time: remove this command or the one before it"
@@ -151,14 +167,17 @@ fn note_text(kind: NoteKind) -> &'static str
         NoteKind::StoresAll => {
             "this also stores each multipart, which contains its parts again: put it in an `if` that tests the type of the part"
         }
-        NoteKind::BehindFalse => { "this test is always false, so its block never runs" }
-        NoteKind::AfterTrue => "this branch never runs, because the test before it is always true",
+        NoteKind::BehindFalse => {
+            "this test looks always false, which switches its block off: change the test, or remove the block"
+        }
+        NoteKind::AfterTrue =>
+            "the test before this branch looks always true, which switches the branch off: change the test, or remove the branch",
         NoteKind::AfterStop =>
-            "this never runs, because `stop` ends the script: move it before the `stop`",
+            "this comes after `stop`, which ends the script: move it before the `stop`",
         NoteKind::AfterBreak =>
-            "this never runs, because `break` leaves the loop: move it before the `break`",
+            "this comes after `break`, which leaves the loop: move it before the `break`",
         NoteKind::AfterIf => {
-            "this never runs, because each branch of the `if` before it has a `stop` or `break`"
+            "this comes after an `if` whose branches all have a `stop` or `break`: move it before the `if`, or remove it"
         }
     }
 }
@@ -214,13 +233,6 @@ fn has_blank(text: &[u8]) -> bool
     ensures { result ≡ list_any is_blank text.now }
 {
     text.iter().any(|octet| *octet == b' ' || *octet == b'\t')
-}
-
-// Whether a text can have a reference to a variable.
-fn has_dollar(text: &[u8]) -> bool
-    ensures { result ≡ list_any is_dollar text.now }
-{
-    text.iter().any(|octet| *octet == b'$')
 }
 
 // Whether a text is just a star.
@@ -314,6 +326,48 @@ fn has_capture(most: usize, text: &[u8]) -> bool
     false
 }
 
+// Whether a text has a slash.
+fn has_slash(text: &[u8]) -> bool
+    ensures { result ≡ list_any is_slash text.now }
+{
+    text.iter().any(|octet| *octet == b'/')
+}
+
+// Whether it has a slash or a reference to a variable.
+fn has_slash_or_dollar(text: &[u8]) -> bool
+    ensures { result ≡ list_any is_slash_or_dollar text.now }
+{
+    text.iter().any(|octet| *octet == b'/' || *octet == b'$')
+}
+
+// Whether it has neither, and isn't empty.
+fn is_bare(text: &[u8]) -> bool
+    ensures { result ≡ is_bare text.now }
+{
+    text.len() > 0 && !has_slash_or_dollar(text)
+}
+
+// Whether a variable can't hold a text, and the text is compared as it is written.
+fn is_long(text: &[u8]) -> bool
+    ensures { result ≡ is_long text.now }
+{
+    text.len() > MAX_VALUE && !is_unclear(text)
+}
+
+// Whether a text has an upper-case letter.
+fn has_capital(text: &[u8]) -> bool
+    ensures { result ≡ list_any is_ascii_uppercase text.now }
+{
+    text.iter().any(|octet| octet.is_ascii_uppercase())
+}
+
+// Whether it does, and is compared as it is written.
+fn is_capital(text: &[u8]) -> bool
+    ensures { result ≡ is_capital text.now }
+{
+    has_capital(text) && !is_unclear(text)
+}
+
 // Whether each part has a field of this name.
 #[tactic(auto, unfolding(crate::specs::Notes::is_part_field))]
 fn is_part_field(name: &[u8]) -> bool
@@ -350,11 +404,14 @@ fn is_noted_text(kind: NoteKind, text: &[u8]) -> bool
         NoteKind::StarInContains => begins_with_star(text),
         NoteKind::StarInIs => begins_with_star(text) || ends_with_star(text),
         NoteKind::NoWildcard => true,
-        NoteKind::NoDigest => !(is_digest(text) || has_dollar(text)),
+        NoteKind::SlashInPiece => has_slash(text),
+        NoteKind::NoSlash => is_bare(text),
+        NoteKind::NoDigest => !(is_digest(text) || is_unclear(text)),
+        NoteKind::LongKey => is_long(text),
+        NoteKind::CapitalKey => is_capital(text),
         NoteKind::PartField => is_part_field(text),
         NoteKind::RootField => is_root_field(text),
-        NoteKind::LongKey
-        | NoteKind::LargeSize
+        NoteKind::LargeSize
         | NoteKind::NoCapture
         | NoteKind::FewWildcards
         | NoteKind::NoValue
@@ -379,13 +436,6 @@ fn is_large(number: Option<u64>) -> bool
     }
 }
 
-// Whether a variable can't hold a text, and the text is compared as it is written.
-fn is_long(text: &[u8]) -> bool
-    ensures { result ≡ is_long text.now }
-{
-    text.len() > MAX_VALUE && !is_unclear(text)
-}
-
 // Whether the token gets a note of this kind.
 #[tactic(auto, unfolding(crate::specs::Notes::is_noted))]
 fn is_noted(script: &[u8], kind: NoteKind, token: &Token) -> bool
@@ -393,7 +443,9 @@ fn is_noted(script: &[u8], kind: NoteKind, token: &Token) -> bool
 {
     let text = text_of(script, token);
     match kind {
-        NoteKind::LongKey => matches!(token.kind, TokenKind::QuotedString) && is_long(inner(text)),
+        NoteKind::LongKey | NoteKind::SlashInPiece | NoteKind::NoSlash | NoteKind::CapitalKey => {
+            matches!(token.kind, TokenKind::QuotedString) && is_noted_text(kind, inner(text))
+        }
         NoteKind::LargeSize => is_amount(token.kind) && is_large(number_of(text)),
         _ => is_string(token.kind) && is_noted_text(kind, inner(text)),
     }
@@ -597,6 +649,62 @@ fn keys_note(script: &[u8], arguments: &[Token]) -> Option<Noted>
     }
 }
 
+// Whether the token is the name of another field than Content-Type.
+fn is_other_field(script: &[u8], token: &Token) -> bool
+    ensures { result ≡ is_other_field script.now token.now }
+{
+    is_string(token.kind) && !is_word(inner(text_of(script, token)), b"content-type")
+}
+
+// Whether one of the tokens is.
+fn have_other_field(script: &[u8], names: &[Token]) -> bool
+    ensures { result ≡ list_any (is_other_field script.now) names.now }
+{
+    for token in names {
+        if is_other_field(script, token) {
+            return true;
+        }
+    }
+    false
+}
+
+// Whether a test with these arguments compares with the type or the subtype alone.
+fn takes_piece(script: &[u8], arguments: &[Token]) -> bool
+    ensures { result ≡ takes_piece script.now arguments.now }
+{
+    has_tag(script, b":type", arguments) || has_tag(script, b":subtype", arguments)
+}
+
+// Whether a key is compared with parts of a value.
+fn takes_part(script: &[u8], arguments: &[Token]) -> bool
+    ensures { result ≡ takes_part script.now arguments.now }
+{
+    has_tag(script, b":matches", arguments) || has_tag(script, b":contains", arguments)
+}
+
+// Whether a key is compared with whole types.
+fn takes_types(script: &[u8], arguments: &[Token]) -> bool
+    ensures { result ≡ takes_types script.now arguments.now }
+{
+    has_tag(script, b":contenttype", arguments)
+        && !takes_part(script, arguments)
+        && !have_other_field(script, last_of(earlier_of(arguments)))
+}
+
+// The note on keys that are compared with a type, or with a piece of one.
+#[tactic(auto, unfolding(crate::specs::Notes::type_note))]
+fn type_note(script: &[u8], arguments: &[Token]) -> Option<Noted>
+    ensures { result ≡ type_note script.now arguments.now }
+{
+    if takes_piece(script, arguments) {
+        note_in(script, NoteKind::SlashInPiece, last_of(arguments))
+    } else if takes_types(script, arguments) {
+        note_in(script, NoteKind::NoSlash, last_of(arguments))
+    } else {
+        None
+    }
+}
+
 // The note on a `header` with these arguments.
 #[tactic(auto, unfolding(crate::specs::Notes::header_note))]
 fn header_note(script: &[u8], arguments: &[Token]) -> Option<Noted>
@@ -604,6 +712,7 @@ fn header_note(script: &[u8], arguments: &[Token]) -> Option<Noted>
 {
     names_note(script, last_of(earlier_of(arguments)))
         .or(keys_note(script, arguments))
+        .or(type_note(script, arguments))
         .or(note_in(script, NoteKind::Foreign, arguments))
 }
 
@@ -1193,7 +1302,7 @@ fn expands_references(script: &[u8], tokens: &[Token]) -> bool
     false
 }
 
-// Whether it isn't clear how many wildcards a key with this text has.
+// Whether the text can have a reference to a variable, or an escape.
 fn is_unclear(text: &[u8]) -> bool
     ensures { result ≡ list_any is_unclear text.now }
 {
@@ -1325,6 +1434,26 @@ fn given_by(script: &[u8], token: &Token, rest: &[Token]) -> Option<Token>
     first_text(rest)
 }
 
+// Whether the command gives its variable a value without upper-case letters.
+fn lowers(script: &[u8], token: &Token, rest: &[Token]) -> bool
+    ensures { result ≡ lowers script.now token.now rest.now }
+{
+    is_word(text_of(script, token), b"set")
+        && has_tag(script, b":lower", arguments_of(rest))
+        && !has_tag(script, b":upperfirst", arguments_of(rest))
+}
+
+// The string with the name of a command's variable; `raised` says that the value has to be able to have such letters.
+fn named_by(script: &[u8], raised: bool, token: &Token, rest: &[Token]) -> Option<Token>
+    ensures { result ≡ named_by script.now raised token.now rest.now }
+{
+    if raised && lowers(script, token, rest) {
+        None
+    } else {
+        given_by(script, token, rest)
+    }
+}
+
 // Whether the text has a backslash.
 fn has_backslash(text: &[u8]) -> bool
     ensures { result ≡ list_any is_backslash text.now }
@@ -1368,10 +1497,10 @@ fn push_given(given: &mut Vec<Token>, script: &[u8], token: Option<Token>) -> Re
     }
 }
 
-// The strings with the names of all variables that a command gives a value.
-fn given_of(source: &Source<'_>, tokens: &[Token]) -> Result<Vec<Token>, AllocError>
+// The strings with the names of all variables that a command gives a value; `raised` as above.
+fn given_of(source: &Source<'_>, raised: bool, tokens: &[Token]) -> Result<Vec<Token>, AllocError>
     ensures { IfOk result (λ given. NameAlike source.now.octets.now
-        given.items (given_of source.now.octets.now tokens.now)) }
+        given.items (given_of source.now.octets.now raised tokens.now)) }
 {
     let mut given = Vec::new(source.alloc);
     for place in 0..tokens.len() {
@@ -1380,7 +1509,7 @@ fn given_of(source: &Source<'_>, tokens: &[Token]) -> Result<Vec<Token>, AllocEr
         push_given(
             &mut given,
             source.octets,
-            given_by(source.octets, &token, rest),
+            named_by(source.octets, raised, &token, rest),
         )?;
     }
     Ok(given)
@@ -1542,6 +1671,8 @@ struct Known<'t> {
     most: usize,
     // Strings with the names of variables that can have a value.
     given: &'t [Token],
+    // Strings with the names of variables that can have a value with upper-case letters.
+    raised: &'t [Token],
     // All tokens of the script.
     tokens: &'t [Token],
 }
@@ -1574,6 +1705,84 @@ fn value_note(script: &[u8], known: Known<'_>, arguments: &[Token]) -> Option<No
     match first_without_value(script, known.given, arguments) {
         Some(token) => Some(noted_as(NoteKind::NoValue, token)),
         None => None,
+    }
+}
+
+// Whether the token is the comparator of bytes.
+fn is_octet_at(script: &[u8], token: Option<Token>) -> bool
+    ensures { result ≡ is_octet_at script.now token }
+{
+    match token {
+        Some(token) => {
+            is_string(token.kind) && inner(text_of(script, &token)) == b"i;octet".as_slice()
+        }
+        None => false,
+    }
+}
+
+// Whether it comes after the tag with the token.
+fn names_octet(script: &[u8], token: &Token, rest: &[Token]) -> bool
+    ensures { result ≡ (is_tagged script.now (codes ":comparator") token.now
+        && is_octet_at script.now (slice_get rest.now 0)) }
+{
+    is_tagged(script, b":comparator", token) && is_octet_at(script, token_at(rest, 0))
+}
+
+// Whether a test with these arguments compares bytes.
+fn compares_octets(script: &[u8], arguments: &[Token]) -> bool
+    ensures { result ≡ compares_octets script.now arguments.now }
+{
+    for place in 0..arguments.len() {
+        if names_octet(script, &arguments[place], tokens_from(arguments, place + 1)) {
+            return true;
+        }
+    }
+    false
+}
+
+// Whether the source is no variable, or one whose value can have upper-case letters.
+fn is_raised(script: &[u8], raised: &[Token], token: &Token) -> bool
+    ensures { result ≡ is_raised script.now (is_named_by script.now raised.now) token.now }
+{
+    let text = inner(text_of(script, token));
+    is_string(token.kind) && (!is_reference(text) || is_named_by(script, raised, referred(text)))
+}
+
+// Whether one of the sources is.
+fn have_raised(script: &[u8], raised: &[Token], sources: &[Token]) -> bool
+    ensures { result ≡ list_any (is_raised script.now (is_named_by script.now raised.now)) sources.now }
+{
+    for token in sources {
+        if is_raised(script, raised, token) {
+            return true;
+        }
+    }
+    false
+}
+
+// The note on a key with upper-case letters of a `string` with these arguments.
+#[tactic(auto, unfolding(crate::specs::Notes::capital_note))]
+fn capital_note(script: &[u8], known: Known<'_>, arguments: &[Token]) -> Option<Noted>
+    ensures { result ≡ capital_note script.now (known_view script.now known.entry) arguments.now }
+{
+    if compares_octets(script, arguments)
+        && !has_tag(script, b":matches", arguments)
+        && !have_raised(script, known.raised, last_of(earlier_of(arguments)))
+    {
+        note_in(script, NoteKind::CapitalKey, last_of(arguments))
+    } else {
+        None
+    }
+}
+
+// The same for the test with this name.
+fn lower_note(script: &[u8], known: Known<'_>, name: &[u8], arguments: &[Token]) -> Option<Noted>
+    ensures { result ≡ lower_note script.now (known_view script.now known.entry) name.now arguments.now }
+{
+    if is_word(name, b"string") {
+        capital_note(script, known, arguments)
+    } else {
+        None
     }
 }
 
@@ -1637,6 +1846,7 @@ fn string_note(script: &[u8], known: Known<'_>, name: &[u8], arguments: &[Token]
     }
     capture_note(script, known, arguments)
         .or(value_note(script, known, arguments))
+        .or(lower_note(script, known, name, arguments))
         .or(unread_note(script, known, given_in(name, arguments)))
 }
 
@@ -1736,12 +1946,14 @@ pub fn notes_of(source: &Source<'_>, tokens: &[Token]) -> Result<Vec<Noted>, All
     ensures { IfOk result (λ found.
         found.items ≡ take max_noted (notes_of source.now.octets.now tokens.now)) }
 {
-    let given = given_of(source, tokens)?;
+    let given = given_of(source, false, tokens)?;
+    let raised = given_of(source, true, tokens)?;
     let known = Known {
         expands: expands_references(source.octets, tokens),
         matches: has_tag(source.octets, b":matches", tokens),
         most: most_captures(source.octets, tokens),
         given: &given,
+        raised: &raised,
         tokens,
     };
     notes_from(source, known, tokens)

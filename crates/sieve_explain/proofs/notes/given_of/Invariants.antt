@@ -7,4 +7,4 @@ use Rattle.sieve_explain.proofs.notes.given_of.Given as goal
 abbrev pub invariant-loop-place : goal.invariant-loop-place
 invariant-loop-place l =
     let script = l.source.octets.now in
-    NameAlike script (l.given.items ++ given_of script (drop l.place l.tokens)) (given_of script l.tokens)
+    NameAlike script (l.given.items ++ given_of script l.raised (drop l.place l.tokens)) (given_of script l.raised l.tokens)
