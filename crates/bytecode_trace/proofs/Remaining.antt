@@ -4,7 +4,7 @@ use Rattle.std.specs.Borrow.{GName}
 use Rattle.std.specs.List.{flat_map}
 use Rattle.bytecode_format.specs.Code.{Code}
 use Rattle.mime_decode.specs.Mail.{Mail}
-use Rattle.devices.specs.Device.{HasBroken, Output}
+use Rattle.devices.specs.Device.{HasBroken, HasTaken, Output}
 use Rattle.devices.specs.Pages.{PageView, writes}
 use Rattle.devices.proofs.Outputs.{broken_first}
 use Rattle.devices.proofs.PageLemmas.{writes_both}
@@ -45,6 +45,10 @@ broken_before v name start now text left is broken =
 -- the same output by another name
 pub broken_same : {text : List ℕ} {start a b : Output} → HasBroken text start a → a ≡ b → HasBroken text start b
 broken_same {text} {start} broken same = subst (λ now. HasBroken text start now) same broken
+
+-- the sink has taken what is on a page, also by another name of its view
+pub taken_same : (v w : PageView) (now : Output) → w ≡ v → HasTaken v.text v.start now → HasTaken w.text w.start now
+taken_same v w now same taken = subst (λ (u : PageView). HasTaken u.text u.start now) (sym same) taken
 
 -- ---- states that a run has come to
 

@@ -1,5 +1,5 @@
 // The line of a step.
-ghost use Rattle.std.specs.Prelude.{◌≡◌, ◌++◌, suc, true, IfOk, OnOk, Some, codes, option_map};
+ghost use Rattle.std.specs.Prelude.{◌≡◌, [], ◌∷◌, ◌++◌, suc, true, IfOk, OnOk, Some, codes, option_map};
 ghost use Rattle.std.specs.Fmt.{decimal};
 ghost use Rattle.sieve_vm.specs.Lent.{value_of};
 ghost use Rattle.sieve_vm.specs.Moment.{goes_on, state_at, turn_at};
@@ -96,6 +96,37 @@ fn put_left(
     }
 }
 
+// Appends what a step charged, the sum up to then, and the part after it.
+fn put_sum(
+    out: &mut Vec<u8>,
+    charge: u128,
+    sum: u128,
+    part: Option<usize>,
+) -> Result<(), AllocError>
+    ensures { OnOk result (out.new.items ≡ out.old.items
+        ++ (codes " | " ++ decimal charge ++ codes " " ++ decimal sum) ++ column (option_map part_text part)) }
+{
+    put_charge(out, charge, sum)?;
+    put_part(out, part)
+}
+
+// Appends the text of a value that the instruction took, or the value that it left or gave to a variable, and ends the
+// line.
+fn put_end(
+    out: &mut Vec<u8>,
+    taken: &[u8],
+    run: &Progress<'_, '_, '_>,
+    told: Told,
+    variable: usize,
+) -> Result<(), AllocError>
+    ensures { OnOk result ((after : State) → state_at run.now ≡ Some after
+        → out.new.items ≡ out.old.items ++ taken.now ++ told_after told variable after ++ 10 ∷ []) }
+{
+    out.extend_from_slice(taken)?;
+    put_left(out, run, told, variable)?;
+    out.extend_from_slice(b"\n")
+}
+
 /// Takes the next step of a run, and makes `line` the line of this step. Only the memory of what `line` held is used
 /// again.
 ///
@@ -124,10 +155,7 @@ pub fn take_step<'p, 's, 'm>(
     let taken = taken_text(alloc, &run, told)?;
     let run = run.advance(alloc)?;
     let sum = run.charged();
-    put_charge(line, sum.saturating_sub(charged), sum)?;
-    put_part(line, run.part())?;
-    line.extend_from_slice(&taken)?;
-    put_left(line, &run, told, instruction.c as usize)?;
-    line.extend_from_slice(b"\n")?;
+    put_sum(line, sum.saturating_sub(charged), sum, run.part())?;
+    put_end(line, &taken, &run, told, instruction.c as usize)?;
     Ok(run)
 }

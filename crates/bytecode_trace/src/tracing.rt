@@ -46,12 +46,10 @@ pub fn trace<O: Sink>(
     let mut run = Progress::begin(alloc, verified, message)?;
     let mut line = Vec::new(alloc);
     let mut page = Page::new(out);
-    'steps: loop {
-        page.flush()?;
-        if !run.goes_on() {
-            return Ok(run.into_outcome()?);
-        }
+    'steps: while run.goes_on() {
         run = take_step(alloc, run, &mut line)?;
         page.write(&line);
+        page.flush()?;
     }
+    Ok(run.into_outcome()?)
 }
