@@ -12,4 +12,5 @@ pub mod NoteLemmas
 pub mod Levels
 pub mod Naming
 pub mod Chains
+pub mod Never
 mod Examples

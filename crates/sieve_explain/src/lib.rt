@@ -45,7 +45,9 @@
 //! They are printed in the order of the script's commands and tests, with line, column, sentence, source line and mark
 //! as for an error, and `note` instead of `error`. A command or test has at most one, of the kinds in the table of
 //! `specs/Notes`. At most twenty are printed; if there are more, a last line says so. A script has at most one such
-//! text.
+//! text. If a note says that a name, a digest, a key or a size is impossible, there is a law about it: no header has a
+//! field of that name, no part has that digest, no value that the variable can have matches that key, and no message is
+//! larger than that size.
 //!
 //! ### What an explanation consists of
 //!
@@ -55,7 +57,8 @@
 //! with a fault the text has the same form, with a sentence for the kind of the fault.
 //!
 //! By `explain`, `remarks_on`, `listing_explanation`; laws `explanations_are_unique`, `marks_stand_under_faults`,
-//! `explanations_are_printable`, `remarks_are_printable`, `listing_explanations_are_printable`.
+//! `explanations_are_printable`, `remarks_are_printable`, `listing_explanations_are_printable`,
+//! `noted_names_are_no_fields`, `digests_have_digits`, `noted_keys_never_match`, `large_sizes_are_never_passed`.
 #![tactic(auto)]
 
 mod characters;
