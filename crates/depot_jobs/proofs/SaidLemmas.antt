@@ -5,8 +5,8 @@ use Rattle.octets.specs.Limits.{max_message, max_parts}
 use Rattle.clap.specs.Words.{Row, Text, first_of, subcommand_of}
 use Rattle.encodings.specs.Names.{name_of}
 use Rattle.encodings.specs.declared.encoding.Encoding.{Encoding}
-use Rattle.depot_words.specs.Commands.{encoding_names}
-use Rattle.depot_words.specs.Ranges.{AreComplete, HasArgument, IsOneOf, commands, encoding_name, entry_number, number_from}
+use Rattle.depot_words.specs.Commands.{commands, encoding_name, encoding_names, entry_number, number_from}
+use Rattle.depot_words.specs.Ranges.{AreComplete, HasArgument, IsOneOf}
 use Rattle.depot_jobs.specs.Words.{AreSaid, IsLine, IsNumber, WritesFrom, WritesNumber, argument, encoding_named}
 use Rattle.depot_jobs.specs.declared.line.CommandLine.{CommandLine}
 use Rattle.depot_jobs.specs.declared.line.CommandLine.TheVariants.{Alone, OnDepot}

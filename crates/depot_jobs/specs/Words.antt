@@ -3,8 +3,8 @@ use Rattle.std.specs.Prelude.{◌≡◌, ◌≢◌, ℕ, ◌<◌, ◌^◌, List,
 use Rattle.std.specs.Str.Parse.{IsNumeral, digits_value, without_leading_plus}
 use Rattle.octets.specs.Limits.{max_message, max_parts}
 use Rattle.clap.specs.Words.{App, Row, Text, fault_of, first_of, subcommand_of}
-use Rattle.depot_words.specs.Commands.{IsDepot}
-use Rattle.depot_words.specs.Ranges.{AreComplete, IsEntryNumber, IsNumberFrom, commands}
+use Rattle.depot_words.specs.Commands.{IsDepot, commands}
+use Rattle.depot_words.specs.Ranges.{AreComplete, IsEntryNumber, IsNumberFrom}
 use Rattle.encodings.specs.declared.encoding.Encoding.{Encoding}
 use Rattle.encodings.specs.declared.encoding.Encoding.TheVariants.{Raw}
 use Rattle.encodings.specs.Names.{encoding_of, name_of}

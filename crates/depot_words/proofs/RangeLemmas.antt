@@ -17,8 +17,8 @@ use Rattle.clap.specs.Simple.{App, Shape, argument_words, built, entered, label_
 use Rattle.clap.specs.Kinds.{Kinds}
 use Rattle.clap.specs.Faults.{entered_fault, fault_of, level_fault}
 use Rattle.clap.specs.declared.builder.value_parser.ValueParser.TheVariants as parsers
-use Rattle.depot_words.specs.Commands.{AreEncodings, IsDepot, Texts, depot_app, encoding_names}
-use Rattle.depot_words.specs.Ranges.{AreComplete, HasArgument, IsEntryNumber, IsNumberFrom, IsOneOf, any_text, commands, encoding_name, entry_number, number_from}
+use Rattle.depot_words.specs.Commands.{AreEncodings, IsDepot, Texts, any_text, commands, depot_app, encoding_name, encoding_names, entry_number, number_from}
+use Rattle.depot_words.specs.Ranges.{AreComplete, HasArgument, IsEntryNumber, IsNumberFrom, IsOneOf}
 use Rattle.octets.specs.Limits.{max_entry_number, max_message, max_parts}
 use Rattle.depot_words.proofs.Taking.{HasRequired, found, is_plain_shape, neither, required}
 

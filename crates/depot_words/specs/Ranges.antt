@@ -3,8 +3,7 @@ use Rattle.std.specs.Prelude.{◌≡◌, ◌⊎◌, ◌≤◌, ℕ, List, [], �
 use Rattle.std.specs.Str.Parse.{IsNumeral, digits_value, without_leading_plus}
 use Rattle.clap.specs.Words.{Row, Text, first_of}
 use Rattle.octets.specs.Limits.{max_entry_number}
-use Rattle.depot_words.specs.Commands.{encoding_names}
-pub use Rattle.depot_words.specs.Commands.{Arguments, Range, any_text, commands, encoding_name, entry_number, number_from}
+use Rattle.depot_words.specs.Commands.{Arguments, Range, any_text, encoding_name, encoding_names, entry_number, number_from}
 
 -- the text is the number of an entry: decimal digits, perhaps after a plus sign, of 1 to the most
 abbrev pub IsEntryNumber : Text → Type 0
