@@ -3,10 +3,9 @@
 // The program that was checked last is kept, with its bytes. If the next stored bytes are the same, it runs at once, so
 // a batch doesn't read and verify the same filter for each mail. The bytes are compared, so nothing has to be assumed
 // about the store between two deliveries.
-ghost use Rattle.std.specs.Prelude.{◌≡◌, ◌⊎◌, All, IfErr, IfOk, IsTrue, Some};
+ghost use Rattle.std.specs.Prelude.{◌≡◌, All, IfErr, IfOk, IsTrue, Some};
 ghost use Rattle.sieve_vm.specs.Stores.{NamesPart};
-ghost use Rattle.refusals.specs.declared.refusal.Refusal.TheVariants.{Memory, Database};
-ghost use Rattle.depot_actions.specs.Causes.{IsSpoilt};
+ghost use Rattle.depot_actions.specs.Private.{IsUnusable};
 ghost use Rattle.depot_actions.specs.DepotState.{AreActions};
 
 use crate::checking::check_stored;
@@ -50,8 +49,7 @@ impl CheckedProgram {
         last: Option<CheckedProgram>,
     ) -> Result<CheckedProgram, Refusal>
         ensures same { IfOk result (λ program. program ≡ octets.items) }
-        ensures refused { IfErr result (λ e. (e ≡ Memory) ⊎ (e ≡ Database)) }
-        ensures cause { IfErr result (λ e. e ≡ Database → IsSpoilt (Some octets.items)) }
+        ensures refused { IfErr result (IsUnusable (Some octets.items)) }
     {
         if let Some(program) = last {
             if program.octets == octets {
