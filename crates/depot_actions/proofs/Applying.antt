@@ -175,7 +175,6 @@ module _ {S T A : Type 0} (g : Ghosts S) (old new : Held S) (r : Result T StoreE
 
 module _ {S T : Type 0} (g : Ghosts S) (old new : Held S) (r : Result T StoreError) (told : Result T Refusal) (cases : IsToldOf r told)
     (command : Command) (named : IsNamed command) (sound : IsSound command) where
-
   -- a user's program is stored
   pub program_stored : (user octets : List ℕ)
       → ((before : Entries) → Accepts before command Done (with_program user octets before))
@@ -238,7 +237,7 @@ module _ {S T : Type 0} (g : Ghosts S) (old new : Held S) (r : Result T StoreErr
       → RefusedWhere g old new r store.NoSuchEntry (λ before. HasNone before user number)
       → IfRefused g old new r (λ old _ e. e ≡ store.NoSuchEntry → IsTrue old.is_open)
       → WritesStore g old new r (without_entry user number) (λ old trees. IsTrue old.is_open
-          × ((before : Entries) → Stands old.now before → ((x : Entry) × IsEntryAt before user number x) × IsStored trees (without_entry user number before) × AddsVerified old.now.trees trees))
+      × ((before : Entries) → Stands old.now before → ((x : Entry) × IsEntryAt before user number x) × IsStored trees (without_entry user number before) × AddsVerified old.now.trees trees))
       → IsRefusedAs g old new r IsFailureOrAbsence OnlyWhenFailed
       → Applies g old new told removal (λ _. Done)
   entry_removed there absent begun writes refused = record {

@@ -42,17 +42,17 @@ returns g c =
     let was_open = subst (λ h. HasCleanDisk mid → IsTrue (state g.S.Store h).is_open) begun c.in_ok-rows.ensures.within.was_open in
     let reaches = subst (λ h. HasCleanDisk mid → Reaches command reply (state g.S.Store h) mid) begun c.in_ok-rows.ensures.done in
     let survives = left_by_commit g.S.Store conn mid (state g.S.Store new) (MayLeave command (state g.S.Store conn)) one
-        (λ early. left_alone g.S.Store conn command reply mid (was_open early) (reaches early)) c.commit.ensures.survives in
+    (λ early. left_alone g.S.Store conn command reply mid (was_open early) (reaches early)) c.commit.ensures.survives in
     let early : HasCleanDisk (state g.S.Store new) → HasCleanDisk mid = λ clean. omega (arith, clean, c.commit.ensures.survives.clean) in
     subst (λ h. Applies g.S.Store h new c.match-commit.result command reply_of) c.store.view_is (elim c.match-commit.branch [
       | in-Ok w ↦ rw w.result-is (record {
-          done = λ clean. done_alone g.S.Store conn command reply mid (state g.S.Store new) (was_open (early clean)) (reaches (early clean)) (w.in-Ok.ensures.ok clean).1;
-          unchanged = λ clean. tt;
-          which = tt;
-          refused = λ clean. tt;
-          cause = λ clean. tt;
-          survives = survives;
-        })
+        done = λ clean. done_alone g.S.Store conn command reply mid (state g.S.Store new) (was_open (early clean)) (reaches (early clean)) (w.in-Ok.ensures.ok clean).1;
+        unchanged = λ clean. tt;
+        which = tt;
+        refused = λ clean. tt;
+        cause = λ clean. tt;
+        survives = survives;
+      })
       | in-Err w ↦ rw w.result-is (commit_lost g.S.Store conn command reply_of mid new w.in-Err.error w.from.result w.refused.result w.from.ensures w.refused.ensures
           c.in_ok-rows.ensures.sound.0 c.in_ok-rows.ensures.sound.1 (λ old new h. h) one
           (subst (λ h. HasCleanDisk mid → StaysInside (state g.S.Store h) mid) begun c.in_ok-rows.ensures.inside)

@@ -47,18 +47,18 @@ returns g c =
     let reaches = subst (λ h. HasCleanDisk mid → ReachesAll commands replies (state g.S.Store h) mid) begun c.in_ok-replies.ensures.done in
     let number = sym (length-map c.args.deliveries.now command_of) in
     let survives = left_by_commit g.S.Store conn mid (state g.S.Store new) (MayLeaveAll commands (state g.S.Store conn)) one
-        (λ early. left_together g.S.Store conn commands replies mid
-        (λ some. subst (λ h. IsTrue (state g.S.Store h).is_open) begun (c.in_ok-replies.ensures.open early (omega (arith, some, length-map c.args.deliveries.now command_of)))) (reaches early)) c.commit.ensures.survives in
+    (λ early. left_together g.S.Store conn commands replies mid
+    (λ some. subst (λ h. IsTrue (state g.S.Store h).is_open) begun (c.in_ok-replies.ensures.open early (omega (arith, some, length-map c.args.deliveries.now command_of)))) (reaches early)) c.commit.ensures.survives in
     let early : HasCleanDisk (state g.S.Store new) → HasCleanDisk mid = λ clean. omega (arith, clean, c.commit.ensures.survives.clean) in
     subst (λ h. AppliesAll g.S.Store h new c.match-commit.result commands (λ replies. map reply_of replies.items)) c.store.view_is (elim c.match-commit.branch [
       | in-Ok w ↦ rw w.result-is (record {
-          done = λ clean. done_together g.S.Store conn commands replies mid (state g.S.Store new) (reaches (early clean)) (w.in-Ok.ensures.ok clean).1
-              (shut (early clean));
-          unchanged = λ clean. tt;
-          which = tt;
-          refused = λ clean. tt;
-          survives = survives;
-        })
+        done = λ clean. done_together g.S.Store conn commands replies mid (state g.S.Store new) (reaches (early clean)) (w.in-Ok.ensures.ok clean).1
+            (shut (early clean));
+        unchanged = λ clean. tt;
+        which = tt;
+        refused = λ clean. tt;
+        survives = survives;
+      })
       | in-Err w ↦
           let which = commit_refusal w.in-Err.error w.from.result w.refused.result w.from.ensures w.refused.ensures in
           rw w.result-is (all_refused_by g.S.Store conn new commands (λ replies. map reply_of replies.items) (Err _) _ refl
