@@ -4,7 +4,7 @@ use std::alloc::{AllocError, Global};
 
 /// How many were refused with a number that is allowed for them, how many were accepted, and how many were answered in
 /// any other way. Each series of changes makes one.
-#[derive(Drop)]
+#[derive(Clone, Copy)]
 pub struct Counts {
     /// Refused with a number that is allowed.
     pub refused: u64,

@@ -35,50 +35,57 @@ fn main(rt: HostRuntime) -> ExitCode {
 
 // Whether each was answered as allowed.
 fn answer_all(rt: &HostRuntime) -> io::Result<bool> {
-    let alloc = rt.alloc();
     let mut all = true;
     for name in PROGRAMS {
-        let program = fs::read(rt, *name)?;
-        all &= tell(rt, *name, "prefixes", &programs::prefixes(alloc, &program)?)?;
-        all &= tell(
-            rt,
-            *name,
-            "one octet altered",
-            &programs::one_altered(alloc, &program)?,
-        )?;
-        all &= tell(
-            rt,
-            *name,
-            "two octets altered",
-            &programs::two_altered(alloc, &program)?,
-        )?;
+        all &= answer_program(rt, *name)?;
     }
     for name in MESSAGES {
-        let message = fs::read(rt, *name)?;
-        all &= tell(rt, *name, "prefixes", &messages::prefixes(alloc, &message))?;
-        all &= tell(
-            rt,
-            *name,
-            "one octet altered",
-            &messages::one_altered(alloc, &message)?,
-        )?;
+        all &= answer_message(rt, *name)?;
     }
     for name in SCRIPTS {
-        let script = fs::read(rt, *name)?;
-        all &= tell(rt, *name, "prefixes", &scripts::prefixes(alloc, &script))?;
-        all &= tell(
-            rt,
-            *name,
-            "one octet altered",
-            &scripts::one_altered(alloc, &script)?,
-        )?;
+        all &= answer_script(rt, *name)?;
     }
     Ok(all)
 }
 
+// Whether each series of a program was answered as allowed.
+fn answer_program(rt: &HostRuntime, name: &str) -> io::Result<bool> {
+    let program = fs::read(rt, name)?;
+    let prefixes = tell_prefixes(rt, name, programs::prefixes(rt.alloc(), &program))?;
+    let one = tell_one(rt, name, programs::one_altered(rt.alloc(), &program)?)?;
+    let two = tell_two(rt, name, programs::two_altered(rt.alloc(), &program)?)?;
+    Ok(prefixes && one && two)
+}
+
+fn answer_message(rt: &HostRuntime, name: &str) -> io::Result<bool> {
+    let message = fs::read(rt, name)?;
+    let prefixes = tell_prefixes(rt, name, messages::prefixes(rt.alloc(), &message))?;
+    let one = tell_one(rt, name, messages::one_altered(rt.alloc(), &message)?)?;
+    Ok(prefixes && one)
+}
+
+fn answer_script(rt: &HostRuntime, name: &str) -> io::Result<bool> {
+    let script = fs::read(rt, name)?;
+    let prefixes = tell_prefixes(rt, name, scripts::prefixes(rt.alloc(), &script))?;
+    let one = tell_one(rt, name, scripts::one_altered(rt.alloc(), &script)?)?;
+    Ok(prefixes && one)
+}
+
+fn tell_prefixes(rt: &HostRuntime, name: &str, counts: Counts) -> io::Result<bool> {
+    tell(rt, name, "prefixes", counts)
+}
+
+fn tell_one(rt: &HostRuntime, name: &str, counts: Counts) -> io::Result<bool> {
+    tell(rt, name, "one octet altered", counts)
+}
+
+fn tell_two(rt: &HostRuntime, name: &str, counts: Counts) -> io::Result<bool> {
+    tell(rt, name, "two octets altered", counts)
+}
+
 // Prints the result of one series, and returns whether there was no other answer.
-fn tell(rt: &HostRuntime, name: &str, series: &str, counts: &Counts) -> io::Result<bool> {
-    rt.stdout()
-        .write_all(counts.line(rt.alloc(), name, series)?.as_bytes())?;
+fn tell(rt: &HostRuntime, name: &str, series: &str, counts: Counts) -> io::Result<bool> {
+    let line = counts.line(rt.alloc(), name, series)?;
+    rt.stdout().write_all(line.as_bytes())?;
     Ok(counts.other == 0)
 }

@@ -14,12 +14,9 @@ const PAIRS: u64 = 50_000;
 // The place of a program's version.
 const VERSION_PLACE: usize = 4;
 
-/// Each proper prefix is the spelling of no program.
-///
-/// # Errors
-///
-/// None: a prefix for which memory is refused counts as answered in another way.
-pub fn prefixes(alloc: Global, program: &[u8]) -> Result<Counts, AllocError> {
+/// Each proper prefix is the spelling of no program. A prefix for which memory is refused counts as answered in another
+/// way.
+pub fn prefixes(alloc: Global, program: &[u8]) -> Counts {
     let mut counts = Counts::new();
     for end in 0..program.len() {
         match check_program(alloc, &program[..end]) {
@@ -27,7 +24,7 @@ pub fn prefixes(alloc: Global, program: &[u8]) -> Result<Counts, AllocError> {
             Err(refusal) => counts.refuse(matches!(refusal, Refusal::Spelling)),
         }
     }
-    Ok(counts)
+    counts
 }
 
 /// Each byte set to each value: the program is refused, or runs within its budget, and does the same in version 2.
@@ -39,11 +36,7 @@ pub fn one_altered(alloc: Global, program: &[u8]) -> Result<Counts, AllocError> 
     let mut counts = Counts::new();
     for place in 0..program.len() {
         for octet in 0..=255u8 {
-            run_both(
-                alloc,
-                &with_octet(alloc, program, place, octet)?,
-                &mut counts,
-            )?;
+            run_altered(alloc, program, place, octet, &mut counts)?;
         }
     }
     Ok(counts)
@@ -58,16 +51,33 @@ pub fn two_altered(alloc: Global, program: &[u8]) -> Result<Counts, AllocError> 
     let mut counts = Counts::new();
     let mut numbers = Numbers { state: 1 };
     for _ in 0..PAIRS {
-        let first = numbers.below(program.len());
-        let once = with_octet(alloc, program, first, numbers.octet())?;
-        let second = numbers.below(program.len());
-        run_both(
-            alloc,
-            &with_octet(alloc, &once, second, numbers.octet())?,
-            &mut counts,
-        )?;
+        run_pair(alloc, program, &mut numbers, &mut counts)?;
     }
     Ok(counts)
+}
+
+fn run_pair(
+    alloc: Global,
+    program: &[u8],
+    numbers: &mut Numbers,
+    counts: &mut Counts,
+) -> Result<(), AllocError> {
+    let first = numbers.below(program.len());
+    let once = with_octet(alloc, program, first, numbers.octet())?;
+    let second = numbers.below(program.len());
+    run_altered(alloc, &once, second, numbers.octet(), counts)
+}
+
+// Runs a program with another byte at a place.
+fn run_altered(
+    alloc: Global,
+    program: &[u8],
+    place: usize,
+    octet: u8,
+    counts: &mut Counts,
+) -> Result<(), AllocError> {
+    let altered = with_octet(alloc, program, place, octet)?;
+    run_both(alloc, &altered, counts)
 }
 
 // Numbers that look random (Marsaglia's xorshift), the same in each run.

@@ -28,70 +28,39 @@ abbrev pub IsSound : Command → Type 0
 IsSound (SetScript user script) = (code : Code) × IsCompiled script code
 IsSound (SetCode user program) = (code : Code) × IsChecked program code
 IsSound (Deliver user message) = IsReadable message
-IsSound (ListAll user) = Unit {0}
-IsSound (ProgramOf user) = Unit {0}
-IsSound (Export user number encoding) = Unit {0}
-IsSound (Remove user number) = Unit {0}
-IsSound Migrate = Unit {0}
+IsSound _ = Unit {0}
 
 -- the script, the program or the message is refused so
 abbrev pub IsUnsound : Command → Refusal → Type 0
 IsUnsound (SetScript user script) refusal = IsScriptRefusal script refusal
 IsUnsound (SetCode user program) refusal = IsProgramRefusal program refusal
 IsUnsound (Deliver user message) refusal = IsUnread message refusal
-IsUnsound (ListAll user) refusal = ⊥
-IsUnsound (ProgramOf user) refusal = ⊥
-IsUnsound (Export user number encoding) refusal = ⊥
-IsUnsound (Remove user number) refusal = ⊥
-IsUnsound Migrate refusal = ⊥
+IsUnsound _ refusal = ⊥
 
 -- the user has no entry of the number that the command names
 abbrev pub NamesNone : Entries → Command → Type 0
-NamesNone before (SetScript user script) = ⊥
-NamesNone before (SetCode user program) = ⊥
-NamesNone before (Deliver user message) = ⊥
-NamesNone before (ListAll user) = ⊥
-NamesNone before (ProgramOf user) = ⊥
 NamesNone before (Export user number encoding) = HasNone before user number
 NamesNone before (Remove user number) = HasNone before user number
-NamesNone before Migrate = ⊥
+NamesNone before _ = ⊥
 
 -- the numbers that the user has left don't suffice for the final actions
 abbrev pub IsFull : Entries → Command → Type 0
-IsFull before (SetScript user script) = ⊥
-IsFull before (SetCode user program) = ⊥
 IsFull before (Deliver user message) =
     (actions : List Action) × AreActions (before.programs user) (mail_of message) actions
     × (HasRoom before user (length actions) → ⊥)
-IsFull before (ListAll user) = ⊥
-IsFull before (ProgramOf user) = ⊥
-IsFull before (Export user number encoding) = ⊥
-IsFull before (Remove user number) = ⊥
-IsFull before Migrate = ⊥
+IsFull before _ = ⊥
 
 -- they suffice, but other octets have the digest of what one of the actions files
 abbrev pub IsColliding : Trees → Entries → Command → Type 0
-IsColliding trees before (SetScript user script) = ⊥
-IsColliding trees before (SetCode user program) = ⊥
 IsColliding trees before (Deliver user message) =
     (actions : List Action) × AreActions (before.programs user) (mail_of message) actions
     × HasRoom before user (length actions)
     × Collides trees (drafts_of (mail_of message) actions)
-IsColliding trees before (ListAll user) = ⊥
-IsColliding trees before (ProgramOf user) = ⊥
-IsColliding trees before (Export user number encoding) = ⊥
-IsColliding trees before (Remove user number) = ⊥
-IsColliding trees before Migrate = ⊥
+IsColliding trees before _ = ⊥
 
 abbrev pub IsExport : Command → Type 0
-IsExport (SetScript user script) = ⊥
-IsExport (SetCode user program) = ⊥
-IsExport (Deliver user message) = ⊥
-IsExport (ListAll user) = ⊥
-IsExport (ProgramOf user) = ⊥
 IsExport (Export user number encoding) = Unit {0}
-IsExport (Remove user number) = ⊥
-IsExport Migrate = ⊥
+IsExport _ = ⊥
 
 -- Why a store that is in this state refuses a command. NoSuchEntry, NumberFull and Collision are told
 -- only by a store that is open. Memory has no cause here; that of Database is IsFault, below.
@@ -136,14 +105,12 @@ IsHindered (Deliver user message) before db =
     IsSpoilt (before.programs user)
     ⊎ ((actions : List Action) × AreActions (before.programs user) (mail_of message) actions
     × LackRoom user (drafts_of (mail_of message) actions) before db)
-IsHindered (ListAll user) before db = ⊥
-IsHindered (ProgramOf user) before db = ⊥
 IsHindered (Export user number encoding) before db = IsAltered db user number
-IsHindered (Remove user number) before db = ⊥
 IsHindered Migrate before db =
     ((user : List ℕ) × IsSpoilt (before.programs user))
     ⊎ ((stored : List UserProgram) × (renewed : List UserProgram) × AreProgramsOf before stored
     × AreRenewals stored renewed × HaveNoUserRoom renewed before db)
+IsHindered _ before db = ⊥
 
 -- the store refuses the command only so
 abbrev pub IsFault : Command → State → State → Refusal → Type 0
@@ -164,11 +131,9 @@ abbrev pub IsOwn : Command → Refusal → Type 0
 IsOwn (SetScript user script) refusal = IsScriptRefusal script refusal
 IsOwn (SetCode user program) refusal = IsProgramRefusal program refusal
 IsOwn (Deliver user message) refusal = IsUnread message refusal ⊎ ((refusal ≡ NumberFull) ⊎ (refusal ≡ Collision))
-IsOwn (ListAll user) refusal = ⊥
-IsOwn (ProgramOf user) refusal = ⊥
 IsOwn (Export user number encoding) refusal = (refusal ≡ NoSuchEntry) ⊎ (refusal ≡ Write)
 IsOwn (Remove user number) refusal = refusal ≡ NoSuchEntry
-IsOwn Migrate refusal = ⊥
+IsOwn _ refusal = ⊥
 
 -- UserName where a user's name is none, before all else; else Memory, one of the command's own, or,
 -- after its script, program or message, Database.

@@ -10,7 +10,7 @@ ghost use Rattle.depot_actions.specs.Deliveries.{IsRefusedAt, MayRefuseAt, comma
 ghost use Rattle.depot_actions.specs.DepotState.{Deliver, IsNamed, Listed};
 ghost use Rattle.depot_actions.specs.Filing.{IfInside, Reaches, ReachesAll};
 
-use crate::checked_program::CheckedProgram;
+use crate::checked_program::CheckedPrograms;
 use crate::delivery::{actions_of, file_all};
 use crate::refusing::refused;
 use crate::user::is_user_name;
@@ -47,7 +47,7 @@ pub struct RefusedDelivery {
 /// Those of [`crate::Depot::deliver`]. Nothing is filed then.
 pub(crate) fn deliver_alone<S: Alter>(
     store: &mut PartStore<S>,
-    last: &mut Option<CheckedProgram>,
+    kept: &mut Option<CheckedPrograms>,
     alloc: Global,
     user: &str,
     message: &[u8],
@@ -55,7 +55,7 @@ pub(crate) fn deliver_alone<S: Alter>(
     ensures { Applies S.Store store.old store.new result (Deliver user.now message.now) reply_of }
 {
     let mut tx = begin(&mut store.conn);
-    let rows = deliver_within(&mut tx, last, alloc, user, message)?;
+    let rows = deliver_within(&mut tx, kept, alloc, user, message)?;
     match tx.commit() {
         Ok(()) => Ok(rows),
         Err(error) => Err(refused(StoreError::from(error))),
@@ -69,7 +69,7 @@ pub(crate) fn deliver_alone<S: Alter>(
 /// The error of the first delivery that is refused, or of the commit. Nothing is filed then.
 pub(crate) fn deliver_together<S: Alter>(
     store: &mut PartStore<S>,
-    last: &mut Option<CheckedProgram>,
+    kept: &mut Option<CheckedPrograms>,
     alloc: Global,
     deliveries: &[Delivery<'_>],
 ) -> Result<Vec<Vec<EntryRow>>, RefusedDelivery>
@@ -77,7 +77,7 @@ pub(crate) fn deliver_together<S: Alter>(
         (λ replies. map reply_of replies.items) }
 {
     let mut tx = begin(&mut store.conn);
-    let replies = deliver_each(&mut tx, last, alloc, deliveries)?;
+    let replies = deliver_each(&mut tx, kept, alloc, deliveries)?;
     match tx.commit() {
         Ok(()) => Ok(replies),
         Err(error) => Err(RefusedDelivery {
@@ -90,7 +90,7 @@ pub(crate) fn deliver_together<S: Alter>(
 // Delivers messages within a transaction, in their order, up to the first that is refused.
 fn deliver_each<S: Alter>(
     tx: &mut Transaction<'_, S>,
-    last: &mut Option<CheckedProgram>,
+    kept: &mut Option<CheckedPrograms>,
     alloc: Global,
     deliveries: &[Delivery<'_>],
 ) -> Result<Vec<Vec<EntryRow>>, RefusedDelivery>
@@ -112,7 +112,7 @@ fn deliver_each<S: Alter>(
     let mut replies = Vec::new(alloc);
     for delivery in deliveries {
         let place = replies.len();
-        let rows = match deliver_within(tx, last, alloc, delivery.user, delivery.message) {
+        let rows = match deliver_within(tx, kept, alloc, delivery.user, delivery.message) {
             Ok(rows) => rows,
             Err(refusal) => return Err(RefusedDelivery { place, refusal }),
         };
@@ -134,7 +134,7 @@ fn deliver_each<S: Alter>(
 /// Those of [`crate::Depot::deliver`].
 fn deliver_within<S: Alter>(
     tx: &mut Transaction<'_, S>,
-    last: &mut Option<CheckedProgram>,
+    kept: &mut Option<CheckedPrograms>,
     alloc: Global,
     user: &str,
     message: &[u8],
@@ -158,7 +158,7 @@ fn deliver_within<S: Alter>(
     }
     let mail = Message::read(alloc, message)?;
     let program = program_within(tx, user).map_err(refused)?;
-    let actions = actions_of(alloc, program, last, &mail)?;
+    let actions = actions_of(alloc, program, kept, &mail)?;
     if actions.is_empty() {
         return Ok(Vec::new(alloc));
     }

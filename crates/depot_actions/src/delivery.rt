@@ -24,7 +24,7 @@ ghost use Rattle.depot_actions.specs.Filing.{Adds, IfInside, IsUnfiled, MayUnfil
 ghost use Rattle.part_store.specs.Calls.{IfDone, IfRefused, OnDone};
 ghost use Rattle.part_store.specs.Inside.{IsInside, KeepsTables};
 
-use crate::checked_program::CheckedProgram;
+use crate::checked_program::CheckedPrograms;
 use crate::contents::shared_contents;
 use crate::entries::new_entries;
 use crate::kept_parts::kept_parts;
@@ -37,8 +37,8 @@ use refusals::Refusal;
 use sqlite::{Alter, Transaction};
 use std::alloc::{AllocError, Global};
 
-/// The final actions of a user's program on a message, or only Keep if the user has no program. If the program is the
-/// one that was checked last, it isn't checked again; if a program ran, `last` is that program after the call.
+/// The final actions of a user's program on a message, or only Keep if the user has no program. If the program is one of
+/// those that are kept, it isn't checked again; otherwise it is kept then.
 ///
 /// # Errors
 ///
@@ -47,7 +47,7 @@ use std::alloc::{AllocError, Global};
 pub(crate) fn actions_of(
     alloc: Global,
     program: Option<Vec<u8>>,
-    last: &mut Option<CheckedProgram>,
+    kept: &mut Option<CheckedPrograms>,
     message: &Message,
 ) -> Result<Vec<Action>, Refusal>
     ensures actions { IfOk result
@@ -58,9 +58,12 @@ pub(crate) fn actions_of(
     let Some(octets) = program else {
         return Ok(keep_alone(alloc)?);
     };
-    let program = CheckedProgram::check(alloc, octets, last.take())?;
-    let actions = program.actions_on(alloc, message)?;
-    *last = Some(program);
+    let mut programs = match kept.take() {
+        Some(programs) => programs,
+        None => CheckedPrograms::new(alloc),
+    };
+    let actions = programs.check(alloc, octets)?.actions_on(alloc, message)?;
+    *kept = Some(programs);
     Ok(actions)
 }
 

@@ -24,7 +24,7 @@ ghost use Rattle.devices.specs.Device.{HasBegun, HasBroken, HasTaken};
 ghost use Rattle.encodings.specs.Texts.{text_of};
 ghost use Rattle.part_store.specs.Calls.{Always, CommitsNothing, IfRefused};
 
-use crate::checked_program::CheckedProgram;
+use crate::checked_program::CheckedPrograms;
 use crate::checking::check_code;
 use crate::deliveries::{Delivery, RefusedDelivery, deliver_alone, deliver_together};
 use crate::inspecting::look_over;
@@ -51,7 +51,8 @@ use std::marker::Model;
 /// what was written.
 pub struct Depot<S: Alter> {
     store: PartStore<S>,
-    last: Option<CheckedProgram>,
+    // The programs that were checked last.
+    kept: Option<CheckedPrograms>,
 }
 
 impl<S: Alter> Model for Depot<S> {
@@ -66,7 +67,7 @@ impl<S: Alter> Model for Depot<S> {
 
 impl<S: Alter + Drop> Drop for Depot<S> {
     fn drop(self) {
-        let Depot { store: _, last: _ } = self;
+        let Depot { store: _, kept: _ } = self;
     }
 }
 
@@ -75,14 +76,14 @@ impl<S: Alter> Depot<S> {
     pub fn adopt(store: PartStore<S>) -> Depot<S>
         ensures { result ≡ store }
     {
-        Depot { store, last: None }
+        Depot { store, kept: None }
     }
 
     /// Gives the store back.
     pub fn release(self) -> PartStore<S>
         ensures { result ≡ self }
     {
-        let Depot { store, last: _ } = self;
+        let Depot { store, kept: _ } = self;
         store
     }
 
@@ -156,7 +157,7 @@ impl<S: Alter> Depot<S> {
         ensures { Applies S.Store self.old self.new result (Deliver user.now message.now)
             reply_of }
     {
-        deliver_alone(&mut self.store, &mut self.last, alloc, user, message)
+        deliver_alone(&mut self.store, &mut self.kept, alloc, user, message)
     }
 
     /// Delivers messages, to one user or several, as [`Depot::deliver`] would one after another, and commits them
@@ -178,7 +179,7 @@ impl<S: Alter> Depot<S> {
         ensures { AppliesAll S.Store self.old self.new result (map command_of deliveries.now)
             (λ replies. map reply_of replies.items) }
     {
-        deliver_together(&mut self.store, &mut self.last, alloc, deliveries)
+        deliver_together(&mut self.store, &mut self.kept, alloc, deliveries)
     }
 
     /// Returns the user's entries without their contents, in the order of their numbers; none for an unknown user.
@@ -342,7 +343,7 @@ impl Depot<MemStore> {
         ensures refused { IfErr result (λ e. (e ≡ Memory) ⊎ (e ≡ Database)) }
     {
         match PartStore::in_memory(alloc) {
-            Ok(store) => Ok(Depot { store, last: None }),
+            Ok(store) => Ok(Depot { store, kept: None }),
             Err(error) => Err(refused(error)),
         }
     }
@@ -374,7 +375,7 @@ impl<B: Start + Again> Depot<FileStore<FileFrom<B>>> {
         ensures refused { IfErr result (λ e. (e ≡ Memory) ⊎ (e ≡ Database)) }
     {
         match PartStore::open_from(rt, path, start) {
-            Ok(store) => Ok(Depot { store, last: None }),
+            Ok(store) => Ok(Depot { store, kept: None }),
             Err(error) => Err(refused(error)),
         }
     }
@@ -401,7 +402,7 @@ impl<B: Start> Depot<FileStore<FileFrom<B>>> {
         ensures cause { TellsWhy (image_at B.Start) result }
     {
         match PartStore::look_from(rt, path, start) {
-            Ok(store) => Ok(Depot { store, last: None }),
+            Ok(store) => Ok(Depot { store, kept: None }),
             Err(why) => Err(why),
         }
     }

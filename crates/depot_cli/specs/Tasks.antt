@@ -5,7 +5,7 @@ use Rattle.sqlite_trees.specs.Tree.{Trees}
 use Rattle.part_store.specs.Standing.{LeavesUnchanged, listed}
 use Rattle.part_store.specs.Refusals.{AreNamed}
 use Rattle.depot_actions.specs.Causes.{HasCause, IsExport, IsFault, MayRefuse}
-use Rattle.depot_actions.specs.DepotState.{Command, Does, MayLeave, Reply, SetScript, SetCode, ListAll}
+use Rattle.depot_actions.specs.DepotState.{Command, Does, MayLeave, Reply, ListAll}
 use Rattle.depot_actions.specs.DepotState as depot
 use Rattle.devices.specs.Device.{HasBegun, HasBroken, HasTaken, Output}
 use Rattle.refusals.specs.declared.refusal.Refusal.{Refusal}
@@ -21,14 +21,10 @@ use Rattle.depot_cli.specs.declared.task.Reply.TheVariants.{Stored, Filed, Liste
 -- What a crash may leave of a command that it couldn't leave before it: tables that stand for what
 -- the command leaves. A command that only looks adds nothing.
 abbrev pub MayAdd : Command → State → Trees → Type 0
-MayAdd (SetScript user script) old trees = MayLeave (SetScript user script) old trees
-MayAdd (SetCode user program) old trees = MayLeave (SetCode user program) old trees
-MayAdd (depot.Deliver user message) old trees = MayLeave (depot.Deliver user message) old trees
 MayAdd (ListAll user) old trees = ⊥
 MayAdd (depot.ProgramOf user) old trees = ⊥
 MayAdd (depot.Export user number encoding) old trees = ⊥
-MayAdd (depot.Remove user number) old trees = MayLeave (depot.Remove user number) old trees
-MayAdd depot.Migrate old trees = MayLeave depot.Migrate old trees
+MayAdd command old trees = MayLeave command old trees
 
 -- what a task works with: the store of the depot, standard output and standard error
 pub record StoreAndOutputs : Type 1 where

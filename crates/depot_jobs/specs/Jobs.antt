@@ -85,23 +85,13 @@ IsAnswer (Decode encoding text) octets old new = IsOctets octets × Reads encodi
 -- What a job finds, beside its refusal: the fault of a script, or of a listing, in words, which
 -- goes to standard output.
 abbrev pub IsFinding : Job → List ℕ → Refusal → HostState → HostState → Type 0
-IsFinding (Check script) text refusal old new = ⊥
 IsFinding (Explain script name) text refusal old new =
     (refusal ≢ refusals.Memory) × IsScriptRefusal script.now refusal × Explains name.now script.now refusal text
     × (new ≡ old)
-IsFinding (Compile script name out) text refusal old new = ⊥
-IsFinding (Verify program) text refusal old new = ⊥
-IsFinding (Limit program octets parts) text refusal old new = ⊥
-IsFinding (Run program message) text refusal old new = ⊥
-IsFinding (Disassemble program) text refusal old new = ⊥
 IsFinding (Assemble listing name out) text refusal old new =
     (place : ℕ) × (refusal ≡ refusals.Listing place) × FaultsAt listing.now place
     × (text ≡ listing_told name.now listing.now place (kind_of listing.now)) × (new ≡ old)
-IsFinding (Eval script message) text refusal old new = ⊥
-IsFinding (Trace octets name message) text refusal old new = ⊥
-IsFinding (Parts message) text refusal old new = ⊥
-IsFinding (Encode encoding octets) text refusal old new = ⊥
-IsFinding (Decode encoding octets) text refusal old new = ⊥
+IsFinding _ text refusal old new = ⊥
 
 -- the text of a job's answer, with none; or that of a finding, with its refusal
 abbrev pub IsShown : Job → List ℕ → Option Refusal → HostState → HostState → Type 0
@@ -137,33 +127,18 @@ IsJobRefusal (Decode encoding text) refusal old new = IsUnread encoding text.now
 -- is taken. To explain a script takes memory, however long it is.
 abbrev pub HasLongScript : Job → Type 0
 HasLongScript (Check script) = max_script < length script.now
-HasLongScript (Explain script name) = ⊥
 HasLongScript (Compile script name out) = max_script < length script.now
-HasLongScript (Verify program) = ⊥
-HasLongScript (Limit program octets parts) = ⊥
-HasLongScript (Run program message) = ⊥
-HasLongScript (Disassemble program) = ⊥
-HasLongScript (Assemble listing name out) = ⊥
 HasLongScript (Eval script message) = max_script < length script.now
 HasLongScript (Trace octets name message) = (is_program octets.now ≡ false) × (max_script < length octets.now)
-HasLongScript (Parts message) = ⊥
-HasLongScript (Encode encoding octets) = ⊥
-HasLongScript (Decode encoding text) = ⊥
+HasLongScript _ = ⊥
 
 abbrev pub HasLongProgram : Job → Type 0
-HasLongProgram (Check script) = ⊥
-HasLongProgram (Explain script name) = ⊥
-HasLongProgram (Compile script name out) = ⊥
 HasLongProgram (Verify program) = max_program < length program.now
 HasLongProgram (Limit program octets parts) = max_program < length program.now
 HasLongProgram (Run program message) = max_program < length program.now
 HasLongProgram (Disassemble program) = max_program < length program.now
-HasLongProgram (Assemble listing name out) = ⊥
-HasLongProgram (Eval script message) = ⊥
 HasLongProgram (Trace octets name message) = (is_program octets.now ≡ true) × (max_program < length octets.now)
-HasLongProgram (Parts message) = ⊥
-HasLongProgram (Encode encoding octets) = ⊥
-HasLongProgram (Decode encoding text) = ⊥
+HasLongProgram _ = ⊥
 
 -- ---- what answering does
 
@@ -193,19 +168,8 @@ HasFound job old new =
 
 -- a job whose answer goes out as it is made, so that memory may be refused when some of it is out
 abbrev pub GoesOutAsMade : Job → Type 0
-GoesOutAsMade (Check script) = ⊥
-GoesOutAsMade (Explain script name) = ⊥
-GoesOutAsMade (Compile script name out) = ⊥
-GoesOutAsMade (Verify program) = ⊥
-GoesOutAsMade (Limit program octets parts) = ⊥
-GoesOutAsMade (Run program message) = ⊥
-GoesOutAsMade (Disassemble program) = ⊥
-GoesOutAsMade (Assemble listing name out) = ⊥
-GoesOutAsMade (Eval script message) = ⊥
 GoesOutAsMade (Trace octets name message) = ⊤
-GoesOutAsMade (Parts message) = ⊥
-GoesOutAsMade (Encode encoding octets) = ⊥
-GoesOutAsMade (Decode encoding text) = ⊥
+GoesOutAsMade _ = ⊥
 
 -- The job was done, but its answer, or what it found, broke off: a call failed, or memory was refused, which may be only where
 -- the answer goes out as it is made.

@@ -1,3 +1,4 @@
 pub mod AppLemmas
 pub mod RangeLemmas
+pub mod TableLemmas
 pub mod Taking

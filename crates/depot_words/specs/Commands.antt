@@ -1,68 +1,90 @@
 -- The commands of the program, and their arguments.
-use Rattle.std.specs.Prelude.{◌≡◌, ℕ, pos, List, [], ◌∷◌, Some, codes, map, true}
+use Rattle.std.specs.Prelude.{◌≡◌, ℕ, pos, List, [], ◌∷◌, Option, Some, None, codes, map, true}
 use Rattle.std.specs.Borrow.{Bor}
+use Rattle.std.specs.List.{fold}
 use Rattle.clap.specs.Words.{App, Rule, Text, new_app, new_rule, with_rule, with_subcommand}
+use Rattle.clap.specs.declared.builder.value_parser.ValueParser.{ValueParser}
 use Rattle.clap.specs.declared.builder.value_parser.ValueParser.TheVariants as parsers
 use Rattle.octets.specs.Limits.{max_entry_number, max_message, max_parts}
 
--- an argument that has to be there
-abbrev pub required_rule : Text → Rule
-required_rule name = record (new_rule name) { required = true }
+-- what the text of an argument has to be: any, the number of an entry, a number from the least to the most, or the name of an encoding
+pub data Range : Type 0 where
+  any_text : Range
+  entry_number : Range
+  number_from : ℕ → ℕ → Range
+  encoding_name : Range
 
--- check SCRIPT
-abbrev pub check_app : App
-check_app = with_rule (new_app (codes "check")) (required_rule (codes "SCRIPT"))
+-- the name of an argument, and its range
+abbrev pub Argument : Type 0
+Argument = Text × Range
 
--- explain SCRIPT
-abbrev pub explain_app : App
-explain_app = with_rule (new_app (codes "explain")) (required_rule (codes "SCRIPT"))
+abbrev pub Arguments : Type 0
+Arguments = List Argument
 
--- compile SCRIPT OUT
-abbrev pub compile_app : App
-compile_app = with_rule (with_rule (new_app (codes "compile")) (required_rule (codes "SCRIPT")))
-    (required_rule (codes "OUT"))
+-- the arguments
+abbrev pub depot : Argument
+depot = (codes "DB", any_text)
 
--- eval SCRIPT MESSAGE
-abbrev pub eval_app : App
-eval_app = with_rule (with_rule (new_app (codes "eval")) (required_rule (codes "SCRIPT")))
-    (required_rule (codes "MESSAGE"))
+abbrev pub user : Argument
+user = (codes "USER", any_text)
 
--- trace FILE MESSAGE
-abbrev pub trace_app : App
-trace_app = with_rule (with_rule (new_app (codes "trace")) (required_rule (codes "FILE")))
-    (required_rule (codes "MESSAGE"))
+abbrev pub script : Argument
+script = (codes "SCRIPT", any_text)
 
--- verify PROGRAM
-abbrev pub verify_app : App
-verify_app = with_rule (new_app (codes "verify")) (required_rule (codes "PROGRAM"))
+abbrev pub file : Argument
+file = (codes "FILE", any_text)
 
--- an argument that has to be there, and to be a number from the least to the most
-abbrev pub between_rule : Text → ℕ → ℕ → Rule
-between_rule name least most = record (required_rule name) { parser = Some (parsers.Unsigned least most) }
+abbrev pub program : Argument
+program = (codes "PROGRAM", any_text)
 
--- limit PROGRAM OCTETS PARTS
-abbrev pub limit_app : App
-limit_app =
-    with_rule (with_rule (with_rule (new_app (codes "limit")) (required_rule (codes "PROGRAM"))) (between_rule (codes "OCTETS") 0 max_message))
-    (between_rule (codes "PARTS") 1 max_parts)
+abbrev pub listing : Argument
+listing = (codes "LISTING", any_text)
 
--- run PROGRAM MESSAGE
-abbrev pub run_app : App
-run_app = with_rule (with_rule (new_app (codes "run")) (required_rule (codes "PROGRAM")))
-    (required_rule (codes "MESSAGE"))
+abbrev pub message : Argument
+message = (codes "MESSAGE", any_text)
 
--- disassemble PROGRAM
-abbrev pub disassemble_app : App
-disassemble_app = with_rule (new_app (codes "disassemble")) (required_rule (codes "PROGRAM"))
+abbrev pub out : Argument
+out = (codes "OUT", any_text)
 
--- assemble LISTING OUT
-abbrev pub assemble_app : App
-assemble_app = with_rule (with_rule (new_app (codes "assemble")) (required_rule (codes "LISTING")))
-    (required_rule (codes "OUT"))
+abbrev pub octets : Argument
+octets = (codes "OCTETS", number_from 0 max_message)
 
--- parts MESSAGE
-abbrev pub parts_app : App
-parts_app = with_rule (new_app (codes "parts")) (required_rule (codes "MESSAGE"))
+abbrev pub parts : Argument
+parts = (codes "PARTS", number_from 1 max_parts)
+
+abbrev pub number : Argument
+number = (codes "NUMBER", entry_number)
+
+abbrev pub encoding : Argument
+encoding = (codes "ENCODING", encoding_name)
+
+-- the commands, with their arguments in order
+abbrev pub commands : List (Text × Arguments)
+commands =
+    (codes "check", script ∷ [])
+    ∷ (codes "explain", script ∷ [])
+    ∷ (codes "compile", script ∷ out ∷ [])
+    ∷ (codes "verify", program ∷ [])
+    ∷ (codes "limit", program ∷ octets ∷ parts ∷ [])
+    ∷ (codes "run", program ∷ message ∷ [])
+    ∷ (codes "disassemble", program ∷ [])
+    ∷ (codes "assemble", listing ∷ out ∷ [])
+    ∷ (codes "eval", script ∷ message ∷ [])
+    ∷ (codes "trace", file ∷ message ∷ [])
+    ∷ (codes "parts", message ∷ [])
+    ∷ (codes "encode", encoding ∷ [])
+    ∷ (codes "decode", encoding ∷ [])
+    ∷ (codes "script", depot ∷ user ∷ script ∷ [])
+    ∷ (codes "code", depot ∷ user ∷ program ∷ [])
+    ∷ (codes "program", depot ∷ user ∷ out ∷ [])
+    ∷ (codes "deliver", depot ∷ user ∷ message ∷ [])
+    ∷ (codes "list", depot ∷ user ∷ [])
+    ∷ (codes "export", depot ∷ user ∷ number ∷ encoding ∷ [])
+    ∷ (codes "remove", depot ∷ user ∷ number ∷ [])
+    ∷ (codes "migrate", depot ∷ [])
+    ∷ (codes "inspect", depot ∷ [])
+    ∷ (codes "batch", depot ∷ [])
+    ∷ []
 
 -- the names of the encodings
 abbrev pub encoding_names : List Text
@@ -77,122 +99,33 @@ Texts = Bor (List (Bor Text))
 abbrev pub AreEncodings : Texts → Type 0
 AreEncodings names = map (λ (name : Bor Text). name.now) names.now ≡ encoding_names
 
--- an argument that has to be there, and to be one of these names
-abbrev pub encoding_rule : Texts → Rule
-encoding_rule names = record (required_rule (codes "ENCODING")) { parser = Some (parsers.Names names) }
+-- how clap tests a text of this range, where these are the names of the encodings
+abbrev pub parser_for : Texts → Range → Option ValueParser
+parser_for names any_text = None
+parser_for names entry_number = Some (parsers.Signed (pos 1) (pos max_entry_number))
+parser_for names (number_from least most) = Some (parsers.Unsigned least most)
+parser_for names encoding_name = Some (parsers.Names names)
 
--- encode ENCODING
-abbrev pub encode_app : Texts → App
-encode_app names = with_rule (new_app (codes "encode")) (encoding_rule names)
+-- an argument that has to be there, and whose text is in its range
+abbrev pub rule_for : Texts → Argument → Rule
+rule_for names argument = record (new_rule argument.0) { parser = parser_for names argument.1; required = true }
 
--- decode ENCODING
-abbrev pub decode_app : Texts → App
-decode_app names = with_rule (new_app (codes "decode")) (encoding_rule names)
+-- a command with one more argument
+abbrev pub with_argument : Texts → App → Argument → App
+with_argument names app argument = with_rule app (rule_for names argument)
 
--- a command on the depot of a user
-abbrev pub user_app : Text → App
-user_app name = with_rule (with_rule (new_app name) (required_rule (codes "DB"))) (required_rule (codes "USER"))
+-- a command with its arguments
+abbrev pub command_app : Texts → Text × Arguments → App
+command_app names command = fold (with_argument names) (new_app command.0) command.1
 
--- script DB USER SCRIPT
-abbrev pub script_app : App
-script_app = with_rule (user_app (codes "script")) (required_rule (codes "SCRIPT"))
-
--- code DB USER PROGRAM
-abbrev pub code_app : App
-code_app = with_rule (user_app (codes "code")) (required_rule (codes "PROGRAM"))
-
--- program DB USER OUT
-abbrev pub program_app : App
-program_app = with_rule (user_app (codes "program")) (required_rule (codes "OUT"))
-
--- deliver DB USER MESSAGE
-abbrev pub deliver_app : App
-deliver_app = with_rule (user_app (codes "deliver")) (required_rule (codes "MESSAGE"))
-
--- list DB USER
-abbrev pub list_app : App
-list_app = user_app (codes "list")
-
--- an argument that has to be there, and to be the number of an entry
-abbrev pub number_rule : Rule
-number_rule = record (required_rule (codes "NUMBER")) { parser = Some (parsers.Signed (pos 1) (pos max_entry_number)) }
-
--- export DB USER NUMBER ENCODING
-abbrev pub export_app : Texts → App
-export_app names = with_rule (with_rule (user_app (codes "export")) number_rule) (encoding_rule names)
-
--- remove DB USER NUMBER
-abbrev pub remove_app : App
-remove_app = with_rule (user_app (codes "remove")) number_rule
-
--- the program with the commands that look for faults
-abbrev pub checks_app : App
-checks_app = with_subcommand (with_subcommand (new_app (codes "depot")) check_app.top) explain_app.top
-
--- the program with the commands that take a script alone
-abbrev pub scripts_app : App
-scripts_app = with_subcommand checks_app compile_app.top
-
--- the program with those, and the commands that take a filter program alone
-abbrev pub bounds_app : App
-bounds_app = with_subcommand (with_subcommand scripts_app verify_app.top) limit_app.top
-
--- the program with those, and the command that runs a filter program
-abbrev pub filters_app : App
-filters_app = with_subcommand bounds_app run_app.top
-
--- the program with those, and the commands on listings of filter programs
-abbrev pub listings_app : App
-listings_app = with_subcommand (with_subcommand filters_app disassemble_app.top) assemble_app.top
-
--- the program with those, and the commands that run a script
-abbrev pub runs_app : App
-runs_app = with_subcommand (with_subcommand listings_app eval_app.top) trace_app.top
-
--- the program with all commands that take messages, scripts or filter programs
-abbrev pub mail_app : App
-mail_app = with_subcommand runs_app parts_app.top
-
--- the program with all commands that need no depot, where these are the names of the encodings
-abbrev pub codecs_app : Texts → App
-codecs_app names = with_subcommand (with_subcommand mail_app (encode_app names).top) (decode_app names).top
-
--- the program with those, and the commands that store filters
-abbrev pub filing_app : Texts → App
-filing_app names = with_subcommand (with_subcommand (codecs_app names) script_app.top) code_app.top
-
--- the program with those, and the command that gives back a filter's program
-abbrev pub keeping_app : Texts → App
-keeping_app names = with_subcommand (filing_app names) program_app.top
-
--- the program with those, and the commands that file and list
-abbrev pub delivery_app : Texts → App
-delivery_app names = with_subcommand (with_subcommand (keeping_app names) deliver_app.top) list_app.top
-
--- migrate DB
-abbrev pub migrate_app : App
-migrate_app = with_rule (new_app (codes "migrate")) (required_rule (codes "DB"))
-
--- inspect DB
-abbrev pub inspect_app : App
-inspect_app = with_rule (new_app (codes "inspect")) (required_rule (codes "DB"))
-
--- batch DB
-abbrev pub batch_app : App
-batch_app = with_rule (new_app (codes "batch")) (required_rule (codes "DB"))
-
--- the program with those, and the commands on entries that are there
-abbrev pub entries_app : Texts → App
-entries_app names = with_subcommand (with_subcommand (delivery_app names) (export_app names).top) remove_app.top
-
--- the program with those, and the commands of whoever keeps a depot
-abbrev pub keeper_app : Texts → App
-keeper_app names = with_subcommand (with_subcommand (entries_app names) migrate_app.top) inspect_app.top
+-- a program with one more command
+abbrev pub with_command : Texts → App → Text × Arguments → App
+with_command names app command = with_subcommand app (command_app names command).top
 
 -- the program with its commands
 abbrev pub depot_app : Texts → App
-depot_app names = with_subcommand (keeper_app names) batch_app.top
+depot_app names = fold (with_command names) (new_app (codes "depot")) commands
 
--- the program with its commands
+-- the app is that program, wherever the names of the encodings are kept
 abbrev pub IsDepot : App → Type 0
 IsDepot app = (names : Texts) × AreEncodings names × (app ≡ depot_app names)

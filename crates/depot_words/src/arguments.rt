@@ -1,123 +1,121 @@
-// The arguments of the commands.
+// The kinds of arguments.
 //
 // The number of an entry is read as clap reads it: also with a plus sign and leading zeros. If clap's rules exclude a
 // case, the code still has an arm for it: a missing required argument reads as the empty text, an unknown name of an
 // encoding as raw, an unknown command as no words. Cases show that clap lets none through (`cases/words.t`).
-ghost use Rattle.std.specs.Prelude.{◌≡◌, codes, false};
-ghost use Rattle.clap.specs.Words.{rule_of};
-ghost use Rattle.depot_words.specs.Commands.{encoding_rule, number_rule, required_rule};
+ghost use Rattle.std.specs.Prelude.{◌≡◌, false, true};
+ghost use Rattle.clap.specs.Words.{new_rule, rule_of};
+ghost use Rattle.depot_words.specs.Commands.{rule_for};
+ghost use Rattle.depot_words.specs.Rows.{argument_of};
 
 use clap::{Arg, value_parser};
 use std::alloc::Global;
 
-/// The argument DB: the depot's file, which is made if it doesn't exist.
-pub fn depot_file<'a>(alloc: Global) -> Arg<'a>
-    ensures rule { rule_of result ≡ required_rule (codes "DB") }
-    ensures local { result.global ≡ false }
-{
-    Arg::new(alloc, "DB")
-        .required(true)
-        .help("The file of the depot; it is made if it is missing")
+/// A kind of argument.
+pub enum Argument {
+    /// DB: the file of the depot, which is made if it doesn't exist.
+    Depot,
+    /// DB of a command that only reads: any file.
+    AnyFile,
+    /// USER: the name of a user.
+    User,
+    /// NUMBER: the number of an entry, from 1 to 4,294,967,295.
+    Number,
+    /// ENCODING: the name of an encoding.
+    Encoding,
+    /// SCRIPT: the file of a Sieve script.
+    Script,
+    /// FILE: the file of a script or a program.
+    Filter,
+    /// PROGRAM: the file of a program (bytecode).
+    Program,
+    /// LISTING: the file of a program's listing.
+    Listing,
+    /// MESSAGE: the file of a message.
+    Message,
+    /// OUT: the file to be made.
+    Out,
+    /// OCTETS: the most bytes that a message has.
+    Octets,
+    /// PARTS: the most parts that a message has.
+    Parts,
 }
 
-/// The argument DB of a command that only reads: any file.
-pub fn any_file<'a>(alloc: Global) -> Arg<'a>
-    ensures rule { rule_of result ≡ required_rule (codes "DB") }
-    ensures local { result.global ≡ false }
-{
-    Arg::new(alloc, "DB")
-        .required(true)
-        .help("The file of a depot, or any other file")
+/// The names of the encodings.
+#[derive(Drop)]
+pub struct Encodings<'a> {
+    pub names: &'a [&'a str],
 }
 
-/// The argument USER: a user name.
-pub fn user_name<'a>(alloc: Global) -> Arg<'a>
-    ensures rule { rule_of result ≡ required_rule (codes "USER") }
-    ensures local { result.global ≡ false }
-{
-    Arg::new(alloc, "USER").required(true).help(
-        "The name of a user: 1 to 64 of a to z, 0 to 9, dot, underscore and hyphen",
-    )
+impl Argument {
+    /// The argument, as described to clap.
+    pub fn described<'a>(&self, alloc: Global, encodings: &Encodings<'a>) -> Arg<'a>
+        ensures rule { rule_of result ≡ rule_for encodings.now.names (argument_of self.now) }
+        ensures local { result.global ≡ false }
+    {
+        match self {
+            Argument::Depot => required(
+                alloc,
+                "DB",
+                "The file of the depot; it is made if it is missing",
+            ),
+            Argument::AnyFile => required(alloc, "DB", "The file of a depot, or any other file"),
+            Argument::User => required(
+                alloc,
+                "USER",
+                "The name of a user: 1 to 64 of a to z, 0 to 9, dot, underscore and hyphen",
+            ),
+            Argument::Number => required(
+                alloc,
+                "NUMBER",
+                "The number of an entry, as `list` prints it",
+            )
+            .value_parser(value_parser!(u32).range(1..)),
+            Argument::Encoding => required(alloc, "ENCODING", "The encoding").value_parser(
+                encodings.names,
+            ),
+            Argument::Script => required(alloc, "SCRIPT", "The file of a Sieve script"),
+            Argument::Filter => required(
+                alloc,
+                "FILE",
+                "The file of a Sieve script, or of a filter program (bytecode)",
+            ),
+            Argument::Program => required(
+                alloc,
+                "PROGRAM",
+                "The file of a filter program (bytecode)",
+            ),
+            Argument::Listing => required(
+                alloc,
+                "LISTING",
+                "The file of a listing of a filter program",
+            ),
+            Argument::Message => required(
+                alloc,
+                "MESSAGE",
+                "The file of one mail message (RFC 5322)",
+            ),
+            Argument::Out => required(alloc, "OUT", "The file to write the filter program to"),
+            Argument::Octets => required(
+                alloc,
+                "OCTETS",
+                "The most bytes that a message has: 0 to 67108864",
+            )
+            .value_parser(value_parser!(u64).range(0..=67_108_864)),
+            Argument::Parts => required(
+                alloc,
+                "PARTS",
+                "The most parts that it has, with the message itself: 1 to 4096",
+            )
+            .value_parser(value_parser!(u64).range(1..=4096)),
+        }
+    }
 }
 
-/// The argument NUMBER: the number of an entry, from 1 to 4,294,967,295.
-pub fn entry_number<'a>(alloc: Global) -> Arg<'a>
-    ensures rule { rule_of result ≡ number_rule }
+// An argument that has to be there, of any text.
+fn required<'a>(alloc: Global, name: &'static str, help: &'static str) -> Arg<'a>
+    ensures rule { rule_of result ≡ record (new_rule name.now) { required = true } }
     ensures local { result.global ≡ false }
 {
-    Arg::new(alloc, "NUMBER")
-        .required(true)
-        .value_parser(value_parser!(u32).range(1..))
-        .help("The number of an entry, as `list` prints it")
-}
-
-/// The argument ENCODING: one of these names.
-pub fn encoding_name<'a>(alloc: Global, names: &'a [&'a str]) -> Arg<'a>
-    ensures rule { rule_of result ≡ encoding_rule names.entry }
-    ensures local { result.global ≡ false }
-{
-    Arg::new(alloc, "ENCODING")
-        .required(true)
-        .value_parser(names)
-        .help("The encoding")
-}
-
-/// The argument SCRIPT: the file of a Sieve script.
-pub fn script_file<'a>(alloc: Global) -> Arg<'a>
-    ensures rule { rule_of result ≡ required_rule (codes "SCRIPT") }
-    ensures local { result.global ≡ false }
-{
-    Arg::new(alloc, "SCRIPT")
-        .required(true)
-        .help("The file of a Sieve script")
-}
-
-/// The argument FILE: the file of a script or a program.
-pub fn filter_file<'a>(alloc: Global) -> Arg<'a>
-    ensures rule { rule_of result ≡ required_rule (codes "FILE") }
-    ensures local { result.global ≡ false }
-{
-    Arg::new(alloc, "FILE").required(true).help(
-        "The file of a Sieve script, or of a filter program (bytecode)",
-    )
-}
-
-/// The argument OUT: the file to be made.
-pub fn out_file<'a>(alloc: Global) -> Arg<'a>
-    ensures rule { rule_of result ≡ required_rule (codes "OUT") }
-    ensures local { result.global ≡ false }
-{
-    Arg::new(alloc, "OUT")
-        .required(true)
-        .help("The file to write the filter program to")
-}
-
-/// The argument PROGRAM: the file of a program (bytecode).
-pub fn program_file<'a>(alloc: Global) -> Arg<'a>
-    ensures rule { rule_of result ≡ required_rule (codes "PROGRAM") }
-    ensures local { result.global ≡ false }
-{
-    Arg::new(alloc, "PROGRAM")
-        .required(true)
-        .help("The file of a filter program (bytecode)")
-}
-
-/// The argument LISTING: the file of a program's listing.
-pub fn listing_file<'a>(alloc: Global) -> Arg<'a>
-    ensures rule { rule_of result ≡ required_rule (codes "LISTING") }
-    ensures local { result.global ≡ false }
-{
-    Arg::new(alloc, "LISTING")
-        .required(true)
-        .help("The file of a listing of a filter program")
-}
-
-/// The argument MESSAGE: the file of a message.
-pub fn message_file<'a>(alloc: Global) -> Arg<'a>
-    ensures rule { rule_of result ≡ required_rule (codes "MESSAGE") }
-    ensures local { result.global ≡ false }
-{
-    Arg::new(alloc, "MESSAGE")
-        .required(true)
-        .help("The file of one mail message (RFC 5322)")
+    Arg::new(alloc, name).required(true).help(help)
 }

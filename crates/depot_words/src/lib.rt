@@ -1,11 +1,10 @@
 //! The words of a command line: which commands there are, which arguments they take, and their help.
 //!
-//! [`depot_command`] describes the commands to clap, and `specs/Commands` describes them to contracts; the contract
-//! says that both are the same. What clap takes and refuses is defined from that description. The crates above define
-//! what the words ask for. [`asked_text`] has the version, and what each refusal means, for words that ask for these
-//! and are no command.
-//!
-//! The built app equals its definition by computation on literals, with at most two `.subcommand(..)` in a function.
+//! A command is a row of the table in `src/commands.rt`: its word, its arguments in order, and its help.
+//! [`depot_command`] describes the rows to clap. The list `commands` of `specs/Commands` describes them to contracts;
+//! the contract says that both are the same. What clap takes and refuses is defined from that list. The crates above
+//! define what the words ask for. [`asked_text`] has the version, and what each refusal means, for words that ask for
+//! these and are no command.
 //!
 //! # Promises
 //!
@@ -23,7 +22,6 @@ mod asked;
 mod commands;
 mod help;
 pub mod laws;
-mod limit;
 mod meanings;
 
 pub use asked::asked_text;

@@ -1,6 +1,6 @@
 // Pages: text on its way to a sink.
 ghost use Rattle.arrayvec.specs.ArrayVec.{array_vec_len};
-ghost use Rattle.std.specs.Prelude.{◌≡◌, ◌<◌, ◌≤◌, false, [], ◌++◌, length, take, OnErr, OnOk};
+ghost use Rattle.std.specs.Prelude.{◌≡◌, ◌<◌, ◌≤◌, false, true, [], ◌++◌, length, take, OnErr, OnOk};
 ghost use Rattle.std.specs.Io.KnownBytes.{Appends};
 ghost use Rattle.devices.specs.Device.{HasBroken, HasTaken, counted};
 ghost use Rattle.devices.specs.PageFacts.{Appends-prop, failures};
@@ -32,7 +32,8 @@ pub struct Page<'a, O: Sink> {
     taken: GhostText,
     // What was written to the page and is dropped, because a call of the sink has failed.
     lost: GhostText,
-    ghost written: { Appends (O.output start.value).written (O.output out.now).written taken } by { Appends-prop (O.output start.value).written (O.output out.now).written taken },
+    ghost written: { Appends (O.output start.value).written (O.output out.now).written
+        taken } by { Appends-prop (O.output start.value).written (O.output out.now).written taken },
     ghost faults: { (O.output out.now).faults
         ≡ counted (failures has_failed) (O.output start.value).faults },
     ghost none_lost: { has_failed ≡ false → lost ≡ [] },
@@ -43,8 +44,10 @@ impl<'a, O: Sink> Page<'a, O> {
 
     /// Makes an empty page.
     pub fn new(out: &'a mut O) -> Page<'a, O>
-        ensures { view_of result
+        ensures view { view_of result
             ≡ record { name = out.entry.ghost_name; start = O.output out.old; text = [] } }
+        ensures sound { result.has_failed ≡ false }
+        ensures sent { HasTaken (text_on result) (start_of result) (O.output result.out.now) }
     {
         let start = Snapshot::of(&*out);
         Page {
@@ -115,6 +118,7 @@ impl<'a, O: Sink> Page<'a, O> {
         ensures err { OnErr result (HasBroken (text_on self.old) (start_of self.old)
             (O.output self.new.out.now)) }
         ensures sound { OnOk result (self.old.has_failed ≡ false) }
+        ensures failed { OnErr result (self.new.has_failed ≡ true) }
     {
         self.send();
         if self.has_failed {

@@ -1,5 +1,5 @@
 -- Segments without wildcards and backslashes, and how many octets a segment needs.
-use Rattle.std.proofs.Common.{◌≡◌, ℕ, ◌<◌, ◌≤◌, ◌==◌, ◌||◌, Bool, true, false, cond, List, [], ◌∷◌, map, length, drop, None, refl, sym, ap, subst, ◌∙◌, arith}
+use Rattle.std.proofs.Common.{◌≡◌, ℕ, ◌<◌, ◌≤◌, ◌==◌, ◌||◌, Bool, true, false, cond, List, [], ◌∷◌, map, length, drop, Some, None, refl, sym, ap, subst, ◌∙◌, arith}
 use Rattle.std.proofs.lemmas.Bool.{false≢true, or_parts, and_parts, false_from_ne_true, cond-false, cond_both}
 use Rattle.std.proofs.lemmas.List.{length-drop, length-map}
 use Rattle.std.specs.List.{list_any}
@@ -32,6 +32,12 @@ literal_tokens (x ∷ xs) plain none =
     tokens ∙ ap (λ t. t ∷ tokens_of xs) token.0 ∙ ap (λ ts. Literal x ∷ ts) (literal_tokens xs parts.1 token.1)
 
 module _ (comparator : Comparator) where
+  -- an empty segment stands first
+  pub empty_first : (segment value : List ℕ) → length segment ≡ 0 → Some 0 ≡ first_place (begins_with comparator (tokens_of segment)) value
+  empty_first [] [] none = refl
+  empty_first [] (x ∷ xs) none = refl
+  empty_first (octet ∷ segment) value none = absurd (omega arith)
+
   -- what begins with tokens is no shorter
   pub begins_length : (key : List Token) (value : List ℕ) → begins_with comparator key value ≡ true → length key ≤ length value
   begins_length [] value h = omega arith

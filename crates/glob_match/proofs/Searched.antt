@@ -72,21 +72,23 @@ module _ (comparator : Comparator) (value key : List ℕ) (wanted : Option (List
     more_literals =
         omega (arith, so_far.least, ap literals tokens, literals-append (tokens_of segment) (Star ∷ tokens_of next), literals_most (tokens_of segment), length-tokens_of segment)
 
-    -- a segment that stands at place k of what is left
-    pub searched_more : (k width : ℕ) → Some k ≡ first_place (begins_with comparator (tokens_of segment)) (drop start value)
-        → width ≡ length (tokens_of segment) → (new : List Stretch) → length new ≤ max_captures
+    -- a segment that stands at place k of what is left, up to the place stop of the value
+    pub searched_more : (k stop : ℕ) → Some k ≡ first_place (begins_with comparator (tokens_of segment)) (drop start value)
+        → stop ≡ start + k + length (tokens_of segment) → (new : List Stretch) → length new ≤ max_captures
         → new ≡ with_stretches captures (stretch_at start k ∷ any_places (start + k) (tokens_of segment))
-        → IsSearched comparator value key wanted next new (start + (k + width)) (gone_over + more)
-    searched_more k width place wide new few e = record {
-      within = omega (arith, next_within comparator value (tokens_of segment) no_star start captures so_far.within k place);
-      few = few;
-      answer =
-          ap (λ cs. option_map (with_places cs (start + (k + width)) (Star ∷ tokens_of next)) (least_fit comparator (Star ∷ tokens_of next) (drop (start + (k + width)) value))) e
-          ∙ ap (λ n. option_map (with_places (with_stretches captures (stretch_at start k ∷ any_places (start + k) (tokens_of segment))) (start + (k + n)) (Star ∷ tokens_of next))
-          (least_fit comparator (Star ∷ tokens_of next) (drop (start + (k + n)) value))) wide
-          ∙ next_found comparator value (tokens_of segment) no_star start captures so_far.within k place (tokens_of next)
-          ∙ ap (λ ts. option_map (with_places captures start (Star ∷ ts)) (least_fit comparator (Star ∷ ts) (drop start value))) (sym tokens)
-          ∙ so_far.answer;
-      most = more_gone_over;
-      least = more_literals;
-    }
+        → IsSearched comparator value key wanted next new stop (gone_over + more)
+    searched_more k stop place ends new few e =
+        let sum : stop ≡ start + (k + length (tokens_of segment)) = omega (arith, ends) in
+        record {
+          within = omega (arith, sum, next_within comparator value (tokens_of segment) no_star start captures so_far.within k place);
+          few = few;
+          answer =
+              ap (λ cs. option_map (with_places cs stop (Star ∷ tokens_of next)) (least_fit comparator (Star ∷ tokens_of next) (drop stop value))) e
+              ∙ ap (λ n. option_map (with_places (with_stretches captures (stretch_at start k ∷ any_places (start + k) (tokens_of segment))) n (Star ∷ tokens_of next))
+              (least_fit comparator (Star ∷ tokens_of next) (drop n value))) sum
+              ∙ next_found comparator value (tokens_of segment) no_star start captures so_far.within k place (tokens_of next)
+              ∙ ap (λ ts. option_map (with_places captures start (Star ∷ ts)) (least_fit comparator (Star ∷ ts) (drop start value))) (sym tokens)
+              ∙ so_far.answer;
+          most = more_gone_over;
+          least = more_literals;
+        }

@@ -53,9 +53,8 @@ fn match_segments(value: &[u8], key: &[u8], comparator: Comparator) -> (Option<C
     if !begins_with(value, segment, comparator) {
         return (None, gone_over);
     }
-    let end = width(segment);
     let mut captures = Captures::of_value(value);
-    push_any_octets(&mut captures, segment, 0);
+    let end = push_any_octets(&mut captures, segment, 0);
     match after {
         Some(rest) => {
             let (fits, more) = match_after_star(value, end, rest, comparator, &mut captures);
@@ -100,8 +99,7 @@ fn match_after_star(
         let Some(place) = place else {
             return (false, gone_over);
         };
-        push_placed(captures, segment, start, start + place);
-        start += place + width(segment);
+        start = push_placed(captures, segment, start, start + place);
         rest = next;
     }
 }
@@ -132,15 +130,17 @@ fn match_end(
     true
 }
 
-// Adds the captures of a star from `start` on and of the segment after it, whose first byte is at `place`.
-fn push_placed(captures: &mut Captures, segment: &[u8], start: usize, place: usize)
+// Adds the captures of a star from `start` on and of the segment after it, whose first byte is at `place`, and returns
+// the place after its last byte.
+fn push_placed(captures: &mut Captures, segment: &[u8], start: usize, place: usize) -> usize
     requires few { length captures.old ≤ max_captures }
     requires from { start ≤ place }
     requires room { place + length (tokens_of segment.now) < 2 ^ 64 }
     ensures few { length captures.new ≤ max_captures }
     ensures places { captures.new ≡ with_stretches captures.old
         (record { start = start; end = place } ∷ any_places place (tokens_of segment.now)) }
+    ensures end { result ≡ place + length (tokens_of segment.now) }
 {
     captures.push(start, place);
-    push_any_octets(captures, segment, place);
+    push_any_octets(captures, segment, place)
 }

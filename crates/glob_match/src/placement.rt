@@ -32,6 +32,12 @@ pub(crate) fn find_segment(
     ensures most { result.1 ≤ (length value.now + 1) * (length segment.now + 1) }
     ensures least { length segment.now ≤ result.1 }
 {
+    if segment.is_empty() {
+        return (Some(0), linear_bound(value, segment));
+    }
+    if value.len() < BLOCK && has_special(segment) {
+        return find_short(value, segment, comparator);
+    }
     if let Some(place) = find_near(value, segment, comparator) {
         return (Some(place), linear_bound(value, segment));
     }
@@ -80,6 +86,63 @@ fn has_special(segment: &[u8]) -> bool
     segment
         .iter()
         .any(|octet| *octet == b'?' || *octet == b'\\')
+}
+
+// The same for a short value, place by place: clearing room for the text would take longer.
+fn find_short(value: &[u8], segment: &[u8], comparator: Comparator) -> (Option<usize>, u64)
+    requires { (length value.now + 1) * (length segment.now + 1) < 2 ^ 64 }
+    ensures place { result.0 ≡ first_place (begins_with comparator
+        (tokens_of segment.now)) value.now }
+    ensures most { result.1 ≤ (length value.now + 1) * (length segment.now + 1) }
+    ensures least { length segment.now ≤ result.1 }
+{
+    (
+        first_of_short(value, segment, comparator),
+        short_bound(value, segment),
+    )
+}
+
+// How much work that is said to be: as much as without this way. A text without wildcards counts as a search.
+fn short_bound(value: &[u8], segment: &[u8]) -> u64
+    requires { (length value.now + 1) * (length segment.now + 1) < 2 ^ 64 }
+    ensures most { result ≤ (length value.now + 1) * (length segment.now + 1) }
+    ensures least { length segment.now ≤ result }
+{
+    if has_any(segment) && width(segment) <= value.len() {
+        return product_bound(value, segment);
+    }
+    linear_bound(value, segment)
+}
+
+// Whether the segment has a `?`.
+fn has_any(segment: &[u8]) -> bool {
+    let mut tokens = segment;
+    'tokens: while let Some((token, rest)) = first_token(tokens) {
+        if let Token::AnyOctet = token {
+            return true;
+        }
+        tokens = rest;
+    }
+    false
+}
+
+// The first place at which the segment stands. The rest of it is compared only where its first token fits.
+fn first_of_short(value: &[u8], segment: &[u8], comparator: Comparator) -> Option<usize>
+    ensures { result ≡ first_place (begins_with comparator (tokens_of segment.now)) value.now }
+{
+    let Some((token, rest)) = first_token(segment) else {
+        return Some(0);
+    };
+    let mut place = 0;
+    let mut octets = value;
+    'places: while let [octet, after @ ..] = octets {
+        if token.takes(*octet, comparator) && begins_with(after, rest, comparator) {
+            return Some(place);
+        }
+        place += 1;
+        octets = after;
+    }
+    None
 }
 
 // The same by a search for the text that the segment spells, if it has no wildcard.

@@ -61,13 +61,15 @@ pub(crate) fn begins_with(value: &[u8], segment: &[u8], comparator: Comparator) 
     true
 }
 
-/// Adds the captures of a segment's wildcards, if its first byte is at `start` of the value.
-pub(crate) fn push_any_octets(captures: &mut Captures, segment: &[u8], start: usize)
+/// Adds the captures of a segment's wildcards, if its first byte is at `start` of the value, and returns the place
+/// after its last byte.
+pub(crate) fn push_any_octets(captures: &mut Captures, segment: &[u8], start: usize) -> usize
     requires few { length captures.old ≤ max_captures }
     requires room { start + length (tokens_of segment.now) < 2 ^ 64 }
     ensures few { length captures.new ≤ max_captures }
     ensures places { captures.new ≡ with_stretches captures.old
         (any_places start (tokens_of segment.now)) }
+    ensures end { result ≡ start + length (tokens_of segment.now) }
 {
     let mut place = start;
     let mut tokens = segment;
@@ -78,4 +80,5 @@ pub(crate) fn push_any_octets(captures: &mut Captures, segment: &[u8], start: us
         place += 1;
         tokens = rest;
     }
+    place
 }

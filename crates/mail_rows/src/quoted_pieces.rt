@@ -58,6 +58,20 @@ fn reads_in_three(alloc: Global, text: &[u8], want: &[u8]) -> Result<bool, Alloc
     Ok(true)
 }
 
+// Whether any two pieces of the short text of a number are read as the whole is.
+fn is_read_in_two(alloc: Global, length: u32, number: u32) -> Result<bool, Fail> {
+    let text = short_text(alloc, length, number)?;
+    let want = decode_qp(alloc, &text)?;
+    Ok(reads_in_two(alloc, &text, &want)?)
+}
+
+// Whether any three pieces are.
+fn is_read_in_three(alloc: Global, length: u32, number: u32) -> Result<bool, Fail> {
+    let text = short_text(alloc, length, number)?;
+    let want = decode_qp(alloc, &text)?;
+    Ok(reads_in_three(alloc, &text, &want)?)
+}
+
 // Every text up to six octets of a small alphabet, in two pieces.
 #[test]
 fn every_short_text_in_two(rt: HostRuntime) -> Result<(), Fail> {
@@ -65,9 +79,7 @@ fn every_short_text_in_two(rt: HostRuntime) -> Result<(), Fail> {
     let mut texts = 1u32;
     for length in 0..=6u32 {
         for number in 0..texts {
-            let text = short_text(alloc, length, number)?;
-            let want = decode_qp(alloc, &text)?;
-            assert!(rt; reads_in_two(alloc, &text, &want)?, "{length} {number}");
+            assert!(rt; is_read_in_two(alloc, length, number)?, "{length} {number}");
         }
         texts = texts.wrapping_mul(7);
     }
@@ -81,9 +93,10 @@ fn every_short_text_in_three(rt: HostRuntime) -> Result<(), Fail> {
     let mut texts = 1u32;
     for length in 0..=5u32 {
         for number in 0..texts {
-            let text = short_text(alloc, length, number)?;
-            let want = decode_qp(alloc, &text)?;
-            assert!(rt; reads_in_three(alloc, &text, &want)?, "{length} {number}");
+            assert!(rt;
+                is_read_in_three(alloc, length, number)?,
+                "{length} {number}"
+            );
         }
         texts = texts.wrapping_mul(7);
     }

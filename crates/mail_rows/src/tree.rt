@@ -172,16 +172,27 @@ fn agrees(alloc: Global, lines: &[Piece], feed: &[u8]) -> Result<bool, MessageEr
     Ok(has_parts(alloc, &tree, &wanted, feed)?)
 }
 
+// The lines of the message of a number, of which there are so many.
+fn lines_of(alloc: Global, count: u32, message: u32) -> Result<Vec<Piece>, MessageError> {
+    let mut lines = Vec::new(alloc);
+    let mut number = message;
+    for _ in 0..count {
+        lines.push(piece_of(number))?;
+        number /= PIECES;
+    }
+    Ok(lines)
+}
+
+// Whether the message of a number has the parts of the recursion.
+fn agrees_at(alloc: Global, count: u32, message: u32, feed: &[u8]) -> Result<bool, MessageError> {
+    let lines = lines_of(alloc, count, message)?;
+    agrees(alloc, &lines, feed)
+}
+
 // Whether each message of so many lines has the parts of the recursion.
 fn all_agree(alloc: Global, count: u32, feed: &[u8]) -> Result<bool, MessageError> {
     for message in 0..PIECES.saturating_pow(count) {
-        let mut lines = Vec::new(alloc);
-        let mut number = message;
-        for _ in 0..count {
-            lines.push(piece_of(number))?;
-            number /= PIECES;
-        }
-        if !agrees(alloc, &lines, feed)? {
+        if !agrees_at(alloc, count, message, feed)? {
             return Ok(false);
         }
     }

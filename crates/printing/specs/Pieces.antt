@@ -2,17 +2,15 @@
 use Rattle.std.specs.Prelude.{ℕ, List}
 use Rattle.std.specs.List.{flat_map}
 use Rattle.std.specs.Fmt.{decimal}
-use Rattle.printing.specs.Printed.{escaped, quoted}
+use Rattle.printing.specs.Printed.{quoted}
 use Rattle.printing.specs.declared.piece.Piece.{Piece}
 use Rattle.printing.specs.declared.piece.Piece.TheVariants as pieces
-use Rattle.printing.specs.declared.piece.Setting.TheVariants as settings
 
 -- the text of a piece
 abbrev pub piece_text : Piece → List ℕ
 piece_text (pieces.Text text) = text.now
 piece_text (pieces.Octets octets) = octets.now
 piece_text (pieces.Quoted octets) = quoted octets.now
-piece_text (pieces.Lines text) = escaped settings.Text text.now
 piece_text (pieces.Number n) = decimal n
 
 -- the texts of pieces in turn

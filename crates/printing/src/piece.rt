@@ -10,8 +10,6 @@ pub enum Piece<'a> {
     Octets(&'a [u8]),
     /// Bytes between double quotes; all but printable ASCII characters, and also `"` and `\`, are escaped.
     Quoted(&'a [u8]),
-    /// Lines of a text that anyone can have written; all but printable characters and line breaks are escaped.
-    Lines(&'a str),
     /// A number in decimal digits.
     Number(u128),
 }

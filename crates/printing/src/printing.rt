@@ -32,7 +32,6 @@ fn print_piece<O: Sink>(page: &mut Page<'_, O>, piece: &Piece<'_>)
         Piece::Text(text) => page.write(text.as_bytes()),
         Piece::Octets(octets) => page.write(octets),
         Piece::Quoted(octets) => print_quoted(page, octets),
-        Piece::Lines(text) => print_escaped(page, Setting::Text, text.as_bytes()),
         Piece::Number(n) => page.write(Buffer::new().format(*n).as_bytes()),
     }
 }

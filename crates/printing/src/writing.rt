@@ -2,10 +2,10 @@
 ghost use Rattle.std.specs.Prelude.{◌≡◌, OnErr, OnOk};
 ghost use Rattle.devices.specs.Device.{HasBroken, HasTaken};
 ghost use Rattle.printing.specs.Pieces.{pieces_text};
-ghost use Rattle.printing.specs.Printed.{line as line_of, refusal_line};
+ghost use Rattle.printing.specs.Printed.{refusal_line};
 
 use crate::piece::Piece;
-use crate::printing::{print, print_line, print_refusal};
+use crate::printing::{print, print_refusal};
 use devices::{DeviceFailed, Page, Sink};
 use refusals::Refusal;
 
@@ -22,21 +22,6 @@ pub fn put_pieces<O: Sink>(out: &mut O, pieces: &[Piece<'_>]) -> Result<(), Devi
 {
     let mut page = Page::new(out);
     print(&mut page, pieces);
-    page.flush()
-}
-
-/// Writes a text and a line break.
-///
-/// # Errors
-///
-/// `DeviceFailed` if a call of `out` fails; the beginning of the line was written.
-pub fn put_line<O: Sink>(out: &mut O, text: &str) -> Result<(), DeviceFailed>
-    ensures ok { OnOk result (HasTaken (line_of text.now) (O.output out.old) (O.output out.new)) }
-    ensures err { OnErr result (HasBroken (line_of text.now) (O.output out.old)
-        (O.output out.new)) }
-{
-    let mut page = Page::new(out);
-    print_line(&mut page, text);
     page.flush()
 }
 

@@ -1,5 +1,6 @@
 -- Private: how the machine stands for what a run has come to.
 use Rattle.std.specs.Prelude.{◌≡◌, ℕ, ◌+◌, true, false}
+use Rattle.std.proofs.Props.{props}
 use Rattle.mime_decode.specs.Mail.{Mail}
 use Rattle.sieve_vm.specs.declared.machine.Flow.{Flow}
 use Rattle.sieve_vm.specs.declared.machine.Flow.TheVariants.{On, To, Ends}
@@ -24,3 +25,9 @@ abbrev pub StandsFor : Mail → Turn → code.Turn → Machine → Type 0
 StandsFor mail (goes state) turn machine = (turn.goes_on ≡ true) × Stands mail state turn.position machine
 StandsFor mail (ends state) turn machine = (turn.goes_on ≡ false) × Stands mail state turn.position machine
 StandsFor mail traps turn machine = ⊥
+
+-- that is a fact with one proof at most
+pub StandsFor-prop : (mail : Mail) (run : Turn) (turn : code.Turn) (machine : Machine) → IsProp (StandsFor mail run turn machine)
+StandsFor-prop mail (goes state) turn machine = Prim.hlevel props
+StandsFor-prop mail (ends state) turn machine = Prim.hlevel props
+StandsFor-prop mail traps turn machine = Prim.hlevel props

@@ -120,8 +120,9 @@ pub fn plain_programs_charge_their_budget_on_chains()
         → end.charge ≡ limit_of code mail }
 {}
 
-/// Among looks that follow each other as those of a run do, the length of a part's content is found at most once, and so
-/// is its digest, and so are the first bytes of a content that has to be decoded: a later look that needs one knows it.
+/// Among looks that follow each other as those of a run do, the length of a part's content is found at most once, and
+/// so is its digest, and so are the first bytes of a content that has to be decoded: a later look that needs one knows
+/// it.
 pub fn what_is_sought_is_found_once()
     ensures { (from : Visits) (looks : List Look) → AreLooks from looks → (sought : Sought) (part : ℕ)
         → times_found sought part looks ≤ 1 }

@@ -66,7 +66,6 @@ mod machine;
 mod outcome;
 mod progress;
 mod shared_text;
-mod stepping;
 mod testing;
 mod value;
 mod workspace;

@@ -34,9 +34,9 @@ use std::marker::Model;
 /// The open loops of a run on a message, which of them hold the content of their current part, and what is known of
 /// the parts' contents. A contract sees all of that.
 ///
-/// A part's content is decoded when it is needed, and held as long as a loop stays on the part. The decoded content that
-/// a loop left last is kept until another has to be decoded. A part's length, its digest, and the first bytes of a
-/// content that had to be decoded are kept for the whole run.
+/// A part's content is decoded when it is needed, and held as long as a loop stays on the part. The decoded content
+/// that a loop left last is kept until another has to be decoded. A part's length, its digest, and the first bytes of
+/// a content that had to be decoded are kept for the whole run.
 #[derive(Drop)]
 pub struct Loops<'s, 'm> {
     message: &'s Message<'m>,

@@ -1,10 +1,14 @@
 // A run, step by step.
 ghost use Rattle.std.specs.Prelude.{◌≡◌, ◌<◌, ℕ, suc, true, false, List, Some, IfOk, IsSome, option_map, slice_get};
+ghost use Rattle.sieve_vm.specs.Moment.{come_to};
+ghost use Rattle.sieve_vm.specs.Going.{StandsFor, StandsFor-prop};
 
+use crate::loops::Loops;
+use crate::machine::{Machine, Turn};
 use crate::outcome::Outcome;
-use crate::stepping::Stepping;
 use crate::value::StackValue;
-use bytecode_format::Instruction;
+use crate::workspace::Workspace;
+use bytecode_format::{ActionList, Instruction, Program};
 use bytecode_verifier::Verified;
 use mime_decode::Message;
 use std::alloc::{AllocError, Global};
@@ -18,15 +22,29 @@ use std::marker::Model;
 /// many steps.
 #[derive(Drop)]
 pub struct Progress<'p, 's, 'm> {
-    run: Stepping<'p, 's, 'm>,
+    program: &'p Program,
+    message: &'s Message<'m>,
+    machine: Machine<'p, 's, 'm>,
+    // How many steps were taken.
+    steps: u128,
+    // The result of the last step.
+    turn: Turn,
+    // It names private definitions, and an invariant of the model would be a public contract.
+    ghost stands: { StandsFor message.now
+        (come_to program.now message.now steps) turn machine } by { StandsFor-prop _ _ _ _ },
 }
 
 impl<'p, 's, 'm> Model for Progress<'p, 's, 'm> {
+    ghost use Rattle.bytecode_format.specs.Spelling.{IsProgram};
+    ghost use Rattle.bytecode_verifier.specs.Acceptance.{IsAccepted};
+    ghost use Rattle.mime_decode.specs.Mail.{IsMail};
     ghost use Rattle.sieve_vm.specs.Moment.{Moment};
 
     ghost Value = { Moment };
 
-    ghost view = { λ p. p.run };
+    ghost view = { λ p. record { code = p.program.now; mail = p.message.now; steps = p.steps } };
+
+    ghost invariant = { λ p. IsProgram p.program.now × IsAccepted p.program.now × IsMail p.message.now };
 }
 
 impl<'p, 's, 'm> Progress<'p, 's, 'm> {
@@ -50,8 +68,24 @@ impl<'p, 's, 'm> Progress<'p, 's, 'm> {
         ensures { IfOk result
             (λ run. run ≡ record { code = verified.now; mail = message.now; steps = 0 }) }
     {
-        let run = Stepping::begin(alloc, verified, message)?;
-        Ok(Progress { run })
+        let program = verified.program();
+        // The contracts of the calls give what holds for every program and every message.
+        let _instructions = program.instructions();
+        let _size = message.size();
+        let mut machine = Machine {
+            work: Workspace::new(alloc),
+            loops: Loops::new(alloc, message),
+            actions: ActionList::new(alloc),
+            implicit_keep: true,
+        };
+        machine.begin(program)?;
+        Ok(Progress {
+            program,
+            message,
+            machine,
+            steps: 0,
+            turn: Turn::start(),
+        })
     }
 
     /// Returns whether there is a step to take. If there is none, the run is over.
@@ -60,7 +94,7 @@ impl<'p, 's, 'm> Progress<'p, 's, 'm> {
         ensures reached { IsSome (state_at self.now) }
         ensures within { result ≡ true → self.now.steps < limit_of self.now.code self.now.mail }
     {
-        self.run.goes_on()
+        self.turn.goes_on
     }
 
     /// Takes the next step of the run.
@@ -76,9 +110,21 @@ impl<'p, 's, 'm> Progress<'p, 's, 'm> {
         requires { goes_on (turn_at self) ≡ true }
         ensures { IfOk result (λ run. run ≡ record self.entry { steps = suc self.entry.steps }) }
     {
-        let Progress { run } = self;
-        let run = run.advance(alloc)?;
-        Ok(Progress { run })
+        let Progress {
+            program,
+            message,
+            mut machine,
+            steps,
+            turn,
+        } = self;
+        let next = machine.advance(alloc, program, message, turn.position)?;
+        Ok(Progress {
+            program,
+            message,
+            machine,
+            steps: steps + 1,
+            turn: next,
+        })
     }
 
     /// Returns the instruction of the next step.
@@ -91,7 +137,7 @@ impl<'p, 's, 'm> Progress<'p, 's, 'm> {
         ensures { (state : State) → state_at self.now ≡ Some state
             → slice_get self.now.code.instructions state.place ≡ Some result }
     {
-        self.run.instruction()
+        self.program.instructions()[self.turn.position.place]
     }
 
     /// Returns the place of the next step's instruction, counted in instructions from 0; at the end of the run, that
@@ -99,14 +145,14 @@ impl<'p, 's, 'm> Progress<'p, 's, 'm> {
     pub fn place(&self) -> usize
         ensures { option_map (λ (state : State). state.place) (state_at self.now) ≡ Some result }
     {
-        self.run.place()
+        self.turn.position.place
     }
 
     /// Returns what the steps taken have charged.
     pub fn charged(&self) -> u128
         ensures { option_map (λ (state : State). state.charge) (state_at self.now) ≡ Some result }
     {
-        self.run.charged()
+        self.turn.position.charged
     }
 
     /// Returns the number of the current part, which is that of the innermost open loop; `None` if no loop is open.
@@ -114,7 +160,7 @@ impl<'p, 's, 'm> Progress<'p, 's, 'm> {
         ensures { (state : State) → state_at self.now ≡ Some state
             → result ≡ current_part state.frames }
     {
-        self.run.part()
+        self.machine.loops.current()
     }
 
     /// Returns the entry on top of the stack; `None` if the stack is empty.
@@ -122,7 +168,7 @@ impl<'p, 's, 'm> Progress<'p, 's, 'm> {
         ensures { (state : State) → state_at self.now ≡ Some state
             → option_map value_of result ≡ top state.stack }
     {
-        self.run.top()
+        self.machine.work.top()
     }
 
     /// Returns the value of a variable, by its number from 0; `None` if the program has no such variable.
@@ -131,7 +177,7 @@ impl<'p, 's, 'm> Progress<'p, 's, 'm> {
             → option_map (λ (value : Bor (List ℕ)). value.now) result
             ≡ slice_get state.variables number }
     {
-        self.run.variable(number)
+        self.machine.work.value(number)
     }
 
     /// Returns the outcome of the run.
@@ -148,7 +194,10 @@ impl<'p, 's, 'm> Progress<'p, 's, 'm> {
         ensures { IfOk result (λ outcome. IsOutcome self.entry.code self.entry.mail
             outcome.actions.items outcome.charged) }
     {
-        let Progress { run } = self;
-        run.into_outcome()
+        let Progress { machine, turn, .. } = self;
+        Ok(Outcome {
+            actions: machine.actions.into_final(machine.implicit_keep)?,
+            charged: turn.position.charged,
+        })
     }
 }

@@ -32,7 +32,7 @@ pub returns-in_err-flush-clause-stopped : goal.returns-in_err-flush-clause-stopp
 returns-in_err-flush-clause-stopped g c =
     let text = trace_text c.args.verified.now c.args.message.now in
     let left = lines_left c.args.verified.now c.args.message.now c.steps.run.steps in
-    let whole = c.steps.invariant.2 ∙ ap (writes text) c.new-page.ensures in
+    let whole = c.steps.invariant.2 ∙ ap (writes text) c.new-page.ensures.view in
     let named = ap (λ (v : PageView). v.name) c.flush.ensures.same ∙ ap (λ (v : PageView). v.name) whole in
     let broken = broken_before (view_of c.steps.page) _ (g.O.Sink.output c.args.out.now) (g.O.Sink.output c.flush.new.self.out.now) text left whole c.in_err-flush.ensures.err in
     let p = err_from_is_err_and c.from_residual-in_err-flush.result c.from_residual-in_err-flush.ensures.1 in

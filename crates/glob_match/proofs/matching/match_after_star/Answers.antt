@@ -47,28 +47,10 @@ overflow_add-start c =
           c.segments.invariant c.split_segment.result.0.now c.split_segment.ensures.no_star c.in-Some-place.place c.find_segment-place.result.0 c.in-Some-place.is c.find_segment-place.ensures.place,
     )
 
-pub push_placed-requires-clause-room : goal.push_placed-requires-clause-room
-push_placed-requires-clause-room c =
+pub push_placed-start-requires-clause-room : goal.push_placed-start-requires-clause-room
+push_placed-start-requires-clause-room c =
     omega (
       arith,
-      placed_within c.args.comparator c.args.value.now c.args.key.now _ c.segments.rest.now c.segments.captures c.segments.start c.segments.gone_over
-          c.segments.invariant c.split_segment.result.0.now c.split_segment.ensures.no_star c.in-Some-place.place c.find_segment-place.result.0 c.in-Some-place.is c.find_segment-place.ensures.place,
-    )
-
-pub overflow_add-start-in-segments : goal.overflow_add-start-in-segments
-overflow_add-start-in-segments c =
-    omega (
-      arith,
-      c.width.ensures,
-      placed_within c.args.comparator c.args.value.now c.args.key.now _ c.segments.rest.now c.segments.captures c.segments.start c.segments.gone_over
-          c.segments.invariant c.split_segment.result.0.now c.split_segment.ensures.no_star c.in-Some-place.place c.find_segment-place.result.0 c.in-Some-place.is c.find_segment-place.ensures.place,
-    )
-
-pub overflow_add-start-in-segments-2 : goal.overflow_add-start-in-segments-2
-overflow_add-start-in-segments-2 c =
-    omega (
-      arith,
-      c.width.ensures,
       placed_within c.args.comparator c.args.value.now c.args.key.now _ c.segments.rest.now c.segments.captures c.segments.start c.segments.gone_over
           c.segments.invariant c.split_segment.result.0.now c.split_segment.ensures.no_star c.in-Some-place.place c.find_segment-place.result.0 c.in-Some-place.is c.find_segment-place.ensures.place,
     )
@@ -89,4 +71,4 @@ segments-preserved c =
     k found c.in-Some-place.is c.find_segment-place.ensures.place in
     searched_more c.args.comparator value c.args.key.now _ c.segments.rest.now c.segments.captures start c.segments.gone_over c.segments.invariant
     segment no_star c.in-Some.next.now tokens lengths c.find_segment-place.result.1 most c.find_segment-place.ensures.least
-    k c.width.result place c.width.ensures c.push_placed.new.captures c.push_placed.ensures.few c.push_placed.ensures.places
+    k c.push_placed-start.result place c.push_placed-start.ensures.end c.push_placed-start.new.captures c.push_placed-start.ensures.few c.push_placed-start.ensures.places

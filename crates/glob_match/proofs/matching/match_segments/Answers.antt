@@ -1,4 +1,4 @@
-use Rattle.std.proofs.Common.{◌≡◌, ◌∙◌, ◌∷◌, [], ap, sym, drop, Some, arith}
+use Rattle.std.proofs.Common.{◌≡◌, ℕ, ◌+◌, ◌∙◌, ◌∷◌, [], ap, sym, drop, length, Some, arith}
 use Rattle.std.specs.Bool.{then_some}
 use Rattle.std.specs.Option.{option_map}
 use Rattle.glob_match.specs.declared.token.Token.TheVariants.{Star}
@@ -12,6 +12,9 @@ use Rattle.glob_match.proofs.Segmented.{length-tokens_of}
 use Rattle.glob_match.proofs.Steps.{first_fails, first_found, whole_fits, whole_fails, literals-append, literals_most, split_tokens}
 use Rattle.glob_match.proofs.matching.match_segments.Goals as goal
 
+wide : (end n : ℕ) → end ≡ 0 + n → end ≡ n
+wide end n is = omega (arith, is)
+
 pub returns-then-not-begins_with-clause-places : goal.returns-then-not-begins_with-clause-places
 returns-then-not-begins_with-clause-places c =
     let value = c.args.value.now in
@@ -20,9 +23,17 @@ returns-then-not-begins_with-clause-places c =
     first_fails c.args.comparator value (tokens_of segment) c.split_segment.ensures.no_star more (sym c.begins_with.ensures ∙ c.if-not-begins_with.true)
     ∙ ap (λ key. option_map (capture_places value key) (least_fit c.args.comparator key value)) (sym tokens)
 
+pub push_any_octets-end-requires-clause-room : goal.push_any_octets-end-requires-clause-room
+push_any_octets-end-requires-clause-room c =
+    omega (
+      arith,
+      length-tokens_of c.split_segment.result.0.now,
+      begins_length c.args.comparator (tokens_of c.split_segment.result.0.now) c.args.value.now (sym c.begins_with.ensures ∙ c.if-not-begins_with.false),
+    )
+
 pub match_after_star-fits-requires-clause-within : goal.match_after_star-fits-requires-clause-within
 match_after_star-fits-requires-clause-within c =
-    omega (arith, c.width-end.ensures, begins_length c.args.comparator (tokens_of c.split_segment.result.0.now) c.args.value.now (sym c.begins_with.ensures ∙ c.if-not-begins_with.false))
+    omega (arith, (wide c.push_any_octets-end.result (length (tokens_of c.split_segment.result.0.now)) c.push_any_octets-end.ensures.end), begins_length c.args.comparator (tokens_of c.split_segment.result.0.now) c.args.value.now (sym c.begins_with.ensures ∙ c.if-not-begins_with.false))
 
 pub returns-then-not-fits-clause-places : goal.returns-then-not-fits-clause-places
 returns-then-not-fits-clause-places c =
@@ -31,11 +42,11 @@ returns-then-not-fits-clause-places c =
     let rest = Star ∷ tokens_of c.in-Some.rest.now in
     let there = sym c.begins_with.ensures ∙ c.if-not-begins_with.false in
     let tokens = split_next c.args.key.now c.split_segment.result.0.now c.split_segment.result.1 c.in-Some.rest c.in-Some.is c.split_segment.ensures.tokens in
-    let first : c.push_any_octets.new.captures ≡ with_stretches (cut (whole value) ∷ []) (any_places 0 segment) =
-    c.push_any_octets.ensures.places ∙ ap (λ cs. with_stretches cs (any_places 0 segment)) c.of_value-captures.ensures.places in
+    let first : c.push_any_octets-end.new.captures ≡ with_stretches (cut (whole value) ∷ []) (any_places 0 segment) =
+    c.push_any_octets-end.ensures.places ∙ ap (λ cs. with_stretches cs (any_places 0 segment)) c.of_value-captures.ensures.places in
     ap (λ fits. then_some fits c.match_after_star-fits.new.captures) (sym c.if-not-fits.true) ∙ c.match_after_star-fits.ensures.places
-    ∙ ap (λ cs. option_map (with_places cs c.width-end.result rest) (least_fit c.args.comparator rest (drop c.width-end.result value))) first
-    ∙ ap (λ n. option_map (with_places (with_stretches (cut (whole value) ∷ []) (any_places 0 segment)) n rest) (least_fit c.args.comparator rest (drop n value))) c.width-end.ensures
+    ∙ ap (λ cs. option_map (with_places cs c.push_any_octets-end.result rest) (least_fit c.args.comparator rest (drop c.push_any_octets-end.result value))) first
+    ∙ ap (λ n. option_map (with_places (with_stretches (cut (whole value) ∷ []) (any_places 0 segment)) n rest) (least_fit c.args.comparator rest (drop n value))) (wide c.push_any_octets-end.result (length (tokens_of c.split_segment.result.0.now)) c.push_any_octets-end.ensures.end)
     ∙ first_found c.args.comparator value segment c.split_segment.ensures.no_star rest there
     ∙ ap (λ key. option_map (capture_places value key) (least_fit c.args.comparator key value)) (sym tokens)
 
@@ -46,11 +57,11 @@ returns-else-not-fits-clause-places c =
     let rest = Star ∷ tokens_of c.in-Some.rest.now in
     let there = sym c.begins_with.ensures ∙ c.if-not-begins_with.false in
     let tokens = split_next c.args.key.now c.split_segment.result.0.now c.split_segment.result.1 c.in-Some.rest c.in-Some.is c.split_segment.ensures.tokens in
-    let first : c.push_any_octets.new.captures ≡ with_stretches (cut (whole value) ∷ []) (any_places 0 segment) =
-    c.push_any_octets.ensures.places ∙ ap (λ cs. with_stretches cs (any_places 0 segment)) c.of_value-captures.ensures.places in
+    let first : c.push_any_octets-end.new.captures ≡ with_stretches (cut (whole value) ∷ []) (any_places 0 segment) =
+    c.push_any_octets-end.ensures.places ∙ ap (λ cs. with_stretches cs (any_places 0 segment)) c.of_value-captures.ensures.places in
     ap (λ fits. then_some fits c.match_after_star-fits.new.captures) (sym c.if-not-fits.false) ∙ c.match_after_star-fits.ensures.places
-    ∙ ap (λ cs. option_map (with_places cs c.width-end.result rest) (least_fit c.args.comparator rest (drop c.width-end.result value))) first
-    ∙ ap (λ n. option_map (with_places (with_stretches (cut (whole value) ∷ []) (any_places 0 segment)) n rest) (least_fit c.args.comparator rest (drop n value))) c.width-end.ensures
+    ∙ ap (λ cs. option_map (with_places cs c.push_any_octets-end.result rest) (least_fit c.args.comparator rest (drop c.push_any_octets-end.result value))) first
+    ∙ ap (λ n. option_map (with_places (with_stretches (cut (whole value) ∷ []) (any_places 0 segment)) n rest) (least_fit c.args.comparator rest (drop n value))) (wide c.push_any_octets-end.result (length (tokens_of c.split_segment.result.0.now)) c.push_any_octets-end.ensures.end)
     ∙ first_found c.args.comparator value segment c.split_segment.ensures.no_star rest there
     ∙ ap (λ key. option_map (capture_places value key) (least_fit c.args.comparator key value)) (sym tokens)
 
@@ -69,10 +80,10 @@ returns-in-None-clause-places c =
     let there = sym c.begins_with.ensures ∙ c.if-not-begins_with.false in
     let end = begins_length c.args.comparator segment value there in
     let tokens = split_end c.args.key.now c.split_segment.result.0.now c.split_segment.result.1 c.in-None.is c.split_segment.ensures.tokens in
-    let first : c.push_any_octets.new.captures ≡ with_stretches (cut (whole value) ∷ []) (any_places 0 segment) =
-    c.push_any_octets.ensures.places ∙ ap (λ cs. with_stretches cs (any_places 0 segment)) c.of_value-captures.ensures.places in
+    let first : c.push_any_octets-end.new.captures ≡ with_stretches (cut (whole value) ∷ []) (any_places 0 segment) =
+    c.push_any_octets-end.ensures.places ∙ ap (λ cs. with_stretches cs (any_places 0 segment)) c.of_value-captures.ensures.places in
     ap Some first
-    ∙ whole_fits c.args.comparator value segment c.split_segment.ensures.no_star there (sym c.if-end-value.true ∙ c.width-end.ensures)
+    ∙ whole_fits c.args.comparator value segment c.split_segment.ensures.no_star there (sym c.if-end-value.true ∙ (wide c.push_any_octets-end.result (length (tokens_of c.split_segment.result.0.now)) c.push_any_octets-end.ensures.end))
     ∙ ap (λ key. option_map (capture_places value key) (least_fit c.args.comparator key value)) (sym tokens)
 
 pub returns-in-None-clause-least : goal.returns-in-None-clause-least
@@ -86,5 +97,5 @@ returns-in-None-2-clause-places c =
     let value = c.args.value.now in
     let segment = tokens_of c.split_segment.result.0.now in
     let tokens = split_end c.args.key.now c.split_segment.result.0.now c.split_segment.result.1 c.in-None-2.is c.split_segment.ensures.tokens in
-    whole_fails c.args.comparator value segment c.split_segment.ensures.no_star (λ long. c.if-end-value.false (c.width-end.ensures ∙ sym long))
+    whole_fails c.args.comparator value segment c.split_segment.ensures.no_star (λ long. c.if-end-value.false ((wide c.push_any_octets-end.result (length (tokens_of c.split_segment.result.0.now)) c.push_any_octets-end.ensures.end) ∙ sym long))
     ∙ ap (λ key. option_map (capture_places value key) (least_fit c.args.comparator key value)) (sym tokens)

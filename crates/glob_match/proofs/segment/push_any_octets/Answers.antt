@@ -33,3 +33,7 @@ returns-clause-places c =
     sym (with_none c.tokens.captures c.tokens.invariant.0)
     ∙ ap (λ key. with_stretches c.tokens.captures (any_places c.tokens.place (tokens_of key))) (sym c.in_default.ensures.tokens)
     ∙ c.tokens.invariant.2
+
+pub returns-clause-end : goal.returns-clause-end
+returns-clause-end c =
+    omega (arith, c.tokens.invariant.1, ap (λ key. length (tokens_of key)) c.in_default.ensures.tokens)

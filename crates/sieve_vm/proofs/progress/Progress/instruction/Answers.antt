@@ -3,20 +3,20 @@ use Rattle.std.proofs.lemmas.Option.{slice_get-get_or}
 use Rattle.sieve_vm.specs.Moment.{Moment, goes_on, state_at, turn_at}
 use Rattle.sieve_vm.proofs.Moments.{going_at, stands_in}
 use Rattle.sieve_vm.proofs.Steps.{no_instruction, place_within}
-use Rattle.sieve_vm.proofs.stepping.Stepping.instruction.Goals as goal
+use Rattle.sieve_vm.proofs.progress.Progress.instruction.Goals as goal
 
 pub bounds-instructions-self-inside : goal.bounds-instructions-self-inside
 bounds-instructions-self-inside c =
     let p = c.self.inside in
     let on = subst (λ (m : Moment). goes_on (turn_at m) ≡ true) (sym c.self.view_is) c.requires in
-    let at = going_at p.program.now p.message.now p.steps p.turn p.machine c.self.invariant.3 on in
+    let at = going_at p.program.now p.message.now p.steps p.turn p.machine c.self.inside.stands on in
     rw c.instructions.ensures.value (place_within p.program.now p.message.now c.self.invariant.1 c.self.invariant.2 p.turn.position p.machine at.0 at.2)
 
 pub offset_bounds-instructions-self-inside : goal.offset_bounds-instructions-self-inside
 offset_bounds-instructions-self-inside c =
     let p = c.self.inside in
     let on = subst (λ (m : Moment). goes_on (turn_at m) ≡ true) (sym c.self.view_is) c.requires in
-    let at = going_at p.program.now p.message.now p.steps p.turn p.machine c.self.invariant.3 on in
+    let at = going_at p.program.now p.message.now p.steps p.turn p.machine c.self.inside.stands on in
     let within = place_within p.program.now p.message.now c.self.invariant.1 c.self.invariant.2 p.turn.position p.machine at.0 at.2 in
     omega (arith, within, c.instructions.ensures.program.instructions)
 
@@ -24,8 +24,8 @@ pub returns : goal.returns
 returns c = λ state e.
     let p = c.self.inside in
     let on = subst (λ (m : Moment). goes_on (turn_at m) ≡ true) (sym c.self.view_is) c.requires in
-    let at = going_at p.program.now p.message.now p.steps p.turn p.machine c.self.invariant.3 on in
-    let there = stands_in p.message.now _ p.turn p.machine state c.self.invariant.3 (ap state_at c.self.view_is ∙ e) in
+    let at = going_at p.program.now p.message.now p.steps p.turn p.machine c.self.inside.stands on in
+    let there = stands_in p.message.now _ p.turn p.machine state c.self.inside.stands (ap state_at c.self.view_is ∙ e) in
     let within = place_within p.program.now p.message.now c.self.invariant.1 c.self.invariant.2 p.turn.position p.machine at.0 at.2 in
     ap (λ (m : Moment). slice_get m.code.instructions state.place) (sym c.self.view_is)
     ∙ ap (slice_get p.program.now.instructions) (sym there.place)
