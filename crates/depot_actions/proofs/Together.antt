@@ -190,7 +190,7 @@ module _ {S : Type 0} (g : store.Ghosts S) (conn : Held S) where
   pub commit_undone : (mid new : State) (e : Error) → FailsToCommit mid new e → StaysInside begun mid → KeepsStored begun mid → StaysClosed begun mid → (IsTrue (state g conn).is_open → (state g conn).now ≡ (state g conn).committed)
       → (IsTrue (state g conn).is_open → IsTrue new.is_open ⊎ DiskFailed (state g conn) new) → LeavesUnchanged (state g conn) new
   commit_undone mid new e (inl (cause, is, has, rolled, tells)) inside kept shut settled closes = rolled_back mid new rolled kept shut settled closes
-  commit_undone mid new e (inr (is, off, shows, counts, marks)) inside kept shut settled closes = record {
+  commit_undone mid new e (inr (is, off, (shows, counts, marks))) inside kept shut settled closes = record {
     same = λ schema is_open. let on = inside schema refl in absurd (true≢false (sym on ∙ off));
     stays_closed = λ is_open. shut shows.was_open;
     closes = closes;
