@@ -4,7 +4,7 @@
 // read and verify the same filter for each mail, not even if mails of several users come in turn. The bytes are
 // compared, so nothing has to be assumed about the store between two deliveries, and users with the same filter share
 // what was checked.
-ghost use Rattle.std.specs.Prelude.{◌≡◌, All, IfErr, IfOk, IfSome, IsTrue, Some, slice_get, true};
+ghost use Rattle.std.specs.Prelude.{◌≡◌, All, IfErr, IfOk, IfSome, Some, slice_get, true};
 ghost use Rattle.sieve_vm.specs.Stores.{NamesPart};
 ghost use Rattle.depot_actions.specs.Private.{IsUnusable};
 ghost use Rattle.depot_actions.specs.DepotState.{AreActions};
