@@ -1,15 +1,12 @@
 -- What the calls of the store come to for the commands of a depot.
-use Rattle.std.proofs.Common.{◌≡◌, ℕ, List, IsTrue, refl, sym, ap, subst, inl, inr, Result, Ok, Err, OnOk, MatchResult, is_ok}
+use Rattle.std.proofs.Common.{◌≡◌, ℕ, List, IsTrue, refl, sym, ap, subst, inl, inr, Result, Ok, Err, MatchResult, is_ok}
 use Rattle.sqlite.specs.State.{State, Survives}
 use Rattle.sqlite_trees.specs.Tree.{Trees}
-use Rattle.bytecode_format.specs.Code.{Code}
-use Rattle.bytecode_format.specs.Spelling.{spelling}
-use Rattle.sieve_engine.specs.Evaluation.{IsCompiled}
 use Rattle.encodings.specs.Texts.{text_of}
 use Rattle.encodings.specs.declared.encoding.Encoding.{Encoding}
-use Rattle.part_store.specs.Entries.{Entries, Entry, with_program, without_entry}
-use Rattle.part_store.specs.Standing.{AddsVerified, IsEntryAt, IsStored, Makes, MayMake, LeavesUnchanged, Stands}
-use Rattle.depot_actions.specs.DepotState.{Accepts, Command, Does, Done, Export, Leaves, MayLeave, Remove, Reply, SetScript, Steps, Text}
+use Rattle.part_store.specs.Entries.{Entries, Entry, without_entry}
+use Rattle.part_store.specs.Standing.{AddsVerified, IsEntryAt, IsStored, Makes, LeavesUnchanged, Stands}
+use Rattle.depot_actions.specs.DepotState.{Accepts, Command, Does, Done, Export, Leaves, MayLeave, Remove, Reply, Steps, Text}
 use Rattle.depot_actions.specs.Users.{is_user_name}
 
 -- ---- what calls of the store leave
@@ -54,22 +51,6 @@ made_done change command reply old new makes accepts = (
 -- ---- commands that are done
 
 module _ (old new : State) (user : List ℕ) (named : IsTrue (is_user_name user)) where
-  pub script_done : (script octets : List ℕ) (code : Code) → IsCompiled script code → octets ≡ spelling code → Makes (with_program user octets) old new → Does (SetScript user script) Done old new
-  script_done script octets code compiled is makes = made_done (with_program user octets) (SetScript user script) Done old new makes
-      (λ before stands. record { named = named; step = (code, compiled, refl, ap (λ p. with_program user p before) is) })
-
-  pub script_left : (script octets : List ℕ) (code : Code) → IsCompiled script code → octets ≡ spelling code → (trees : Trees)
-      → IsTrue old.is_open × MayMake (with_program user octets) old trees → MayLeave (SetScript user script) old trees
-  script_left script octets code compiled is trees (is_open, left) = (
-    is_open,
-    λ before stands. (
-      Done,
-      with_program user octets before,
-      record { named = named; step = (code, compiled, refl, ap (λ p. with_program user p before) is) },
-      (left before stands).0,
-    ),
-  )
-
   pub export_step : (before : Entries) (number : ℕ) (encoding : Encoding) (octets : List ℕ) → (entry : Entry) × IsEntryAt before user number entry × (octets ≡ entry.octets)
       → Steps before (Export user number encoding) (Text (text_of encoding octets)) before
   export_step before number encoding octets (entry, at, is) = (entry, at, ap (λ o. Text (text_of encoding o)) is, refl)
@@ -103,13 +84,7 @@ module _ (old new : State) (user : List ℕ) (named : IsTrue (is_user_name user)
 
 -- ---- answers of the store, as refusals
 
--- an answer is Ok where the store's is
-pub ok_as : {T E D : Type 0} (r : Result T E) (r' : Result T D) (P : Type 0) → is_ok r' ≡ is_ok r → OnOk r P → OnOk r' P
-ok_as r (Err e) P same h = tt
-ok_as (Ok x) (Ok y) P same h = h
-ok_as (Err e) (Ok y) P same h = absurd (cc)
-
--- and with the same value
+-- an answer is Ok where the store's is, and with the same value
 pub ok_before : {T E D : Type 0} (r : Result T E) (r' : Result T D) (Q : E → Type 0) (x : T) → MatchResult r (λ y. r' ≡ Ok y) Q → is_ok r' ≡ is_ok r → r' ≡ Ok x → r ≡ Ok x
 ok_before (Ok y) r' Q x same variant is = cc
 ok_before (Err e) (Ok y) Q x same variant is = absurd (cc)

@@ -12,5 +12,6 @@ pub mod Crashing
 pub mod Surveying
 mod Examples
 pub mod StoreFaults
+pub mod Applying
 pub mod Adding
 pub mod PlainMedia

@@ -1,36 +1,40 @@
 -- Deliveries in a transaction, which is committed or rolled back.
-use Rattle.std.proofs.Common.{◌≡◌, ◌<◌, inl, inr, ℕ, ◌+◌, ◌⊎◌, List, [], ◌∷◌, ◌++◌, IsTrue, drop, get_or, length, map, take, refl, sym, ap, subst, ◌∙◌, Some, arith, false, true, Result, Ok, Err, IfErr, IsErrAnd, Vec}
+use Rattle.std.proofs.Common.{◌≡◌, ◌<◌, inl, inr, ℕ, ◌+◌, ◌⊎◌, List, [], ◌∷◌, ◌++◌, IsTrue, drop, get_or, length, map, take, refl, sym, ap, subst, ◌∙◌, Some, arith, false, true, Result, Ok, Err, IsErrAnd, Vec}
+use Rattle.std.proofs.lemmas.Bool.{true≢false}
 use Rattle.std.proofs.lemmas.List.{drop_more, length-append, length-map, length-take-le, map-append, map_more, take-append-drop}
 use Rattle.sqlite_trees.specs.declared.store.Store as store
 use Rattle.sqlite_trees.specs.Tree.{Trees}
 use Rattle.sqlite.specs.Held.{Held, state}
-use Rattle.sqlite.specs.State.{State, HasCleanDisk, Shows, Survives}
+use Rattle.sqlite.specs.State.{State, HasCleanDisk, IsRolledBack, Shows, Survives}
 use Rattle.sqlite.specs.Steps.{FailsToCommit}
 use Rattle.sqlite.specs.declared.error.Error.{Error}
 use Rattle.sqlite.specs.declared.error.Error.TheVariants.{SqliteFailure}
 use Rattle.sqlite.specs.declared.error.ErrorCode.TheVariants.{OutOfMemory}
 use Rattle.sqlite.proofs.Callers.{survives_begin}
 use Rattle.sqlite.proofs.StateLemmas.{survives_then}
-use Rattle.part_store.specs.Calls.{StaysClosed}
+use Rattle.part_store.specs.Calls.{Always, MayCommit, StaysClosed}
 use Rattle.part_store.specs.Entries.{Entries}
 use Rattle.part_store.specs.Inside.{KeepsStored, KeepsTables, StaysInside}
 use Rattle.part_store.specs.Refusals.{HasFailed, refusal_of}
-use Rattle.part_store.specs.Standing.{Stands}
+use Rattle.part_store.specs.Standing.{DiskFailed, LeavesUnchanged, Stands}
 use Rattle.part_store.specs.declared.error.StoreError.{StoreError}
 use Rattle.part_store.proofs.Entering.{kept_then}
 use Rattle.part_store.proofs.Failing.{commit_blamed, first_failed, later_failed}
 use Rattle.part_store.proofs.Stored.{stored_as}
 use Rattle.refusals.specs.declared.refusal.Refusal.{Refusal}
 use Rattle.refusals.specs.declared.refusal.Refusal.TheVariants as refusal
-use Rattle.depot_actions.specs.Causes.{HasCause, IsFault}
-use Rattle.depot_actions.specs.Deliveries.{AcceptsAll, IsAt, IsRefusedAt, IsUncommitted, MayLeaveAll, calls_of, command_of, reply_of}
+use Rattle.depot_actions.specs.Applying.{Applies, AppliesAll, HasFault, MayAdd}
+use Rattle.depot_actions.specs.Causes.{HasCause, IsFault, IsSound, MayRefuse}
+use Rattle.depot_actions.specs.Deliveries.{AcceptsAll, AreRefused, DoesAll, IsAt, IsRefusedAt, IsUncommitted, MayLeaveAll, MayRefuseAll, calls_of, command_of, reply_of}
 use Rattle.part_store.specs.declared.entry.EntryRow.{EntryRow}
 use Rattle.std.specs.declared.alloc.Global.{Global}
 use Rattle.depot_actions.specs.declared.deliveries.Delivery.{Delivery}
-use Rattle.depot_actions.specs.DepotState.{Accepts, Command, Does, MayLeave, Reply}
+use Rattle.depot_actions.specs.declared.deliveries.RefusedDelivery.{RefusedDelivery}
+use Rattle.depot_actions.specs.DepotState.{Accepts, Command, Does, IsNamed, MayLeave, Reply}
 use Rattle.depot_actions.specs.Filing.{Reaches, ReachesAll}
 use Rattle.depot_actions.specs.History.{AreSteps, Call, IsStep}
 use Rattle.depot_actions.specs.Private.{of_store}
+use Rattle.depot_actions.proofs.Applying.{refused_by}
 use Rattle.depot_actions.proofs.StoreFaults.{of_database}
 
 -- ---- what a transaction comes to
@@ -67,11 +71,6 @@ cause_as refusal.Write command s t same on h = h
 cause_as refusal.Read command s t same on h = h
 cause_as (refusal.Listing place) command s t same on h = h
 
--- an error that is handed on
-pub handed_on : {T E : Type 0} (r : Result T E) (given : E) (P : E → Type 0) → IsErrAnd r (λ e. e ≡ given) → P given → IfErr r P
-handed_on (Ok x) given P h holds = tt
-handed_on (Err e) given P h holds = subst P (sym h) holds
-
 -- a failed commit that is told as `Database`
 pub commit_failed : (mid new : State) (e : Error) (told : StoreError) (r : Refusal) → told ≡ refusal_of e → r ≡ of_store told → FailsToCommit mid new e → IsTrue mid.in_transaction → r ≡ refusal.Database → HasFailed mid new
 commit_failed mid new e told r was is fails inside database = commit_blamed mid new e inside fails (sym was ∙ of_database told (sym is ∙ database))
@@ -80,6 +79,14 @@ commit_failed mid new e told r was is fails inside database = commit_blamed mid 
 pub commit_refusal : (e : Error) (told : StoreError) (r : Refusal) → told ≡ refusal_of e → r ≡ of_store told → (r ≡ refusal.Memory) ⊎ (r ≡ refusal.Database)
 commit_refusal (SqliteFailure OutOfMemory) told r was is = inl (is ∙ ap of_store was)
 commit_refusal _ told r was is = inr (is ∙ ap of_store was)
+
+pub lost_refusal : (command : Command) (d : Refusal) → IsNamed command → IsSound command → (d ≡ refusal.Memory) ⊎ (d ≡ refusal.Database) → MayRefuse command d
+lost_refusal command d named sound (inl is) = inr (named, inl is)
+lost_refusal command d named sound (inr is) = inr (named, inr (inr (is, sound)))
+
+pub lost_cause : (command : Command) (d : Refusal) (s : State) → IsNamed command → IsSound command → (d ≡ refusal.Memory) ⊎ (d ≡ refusal.Database) → HasCause d command s
+lost_cause command d s named sound (inl is) = subst (λ r. HasCause r command s) (sym is) tt
+lost_cause command d s named sound (inr is) = subst (λ r. HasCause r command s) (sym is) (named, sound)
 
 module _ {S : Type 0} (g : store.Ghosts S) (conn : Held S) where
   abbrev pub begun : State
@@ -95,6 +102,15 @@ module _ {S : Type 0} (g : store.Ghosts S) (conn : Held S) where
   pub done_alone : (command : Command) (reply : Reply) (mid new : State) → IsTrue (state g conn).is_open → Reaches command reply begun mid → Shows mid new mid.now mid.now false → Does command reply (state g conn) new
   done_alone command reply mid new was_open reaches shows = (
     was_open,
+    λ before stands.
+        let reached = reaches before stands in
+        (reached.0, reached.1, record { stands = λ _. (subst (λ d. Stands d reached.0) (sym shows.now_is) reached.2, shows.committed_is ∙ sym shows.now_is); closes = inl shows.is_open }),
+  )
+
+  -- the same of several commands
+  pub done_together : (commands : List Command) (replies : List Reply) (mid new : State) → ReachesAll commands replies begun mid → Shows mid new mid.now mid.now false → StaysClosed begun mid → DoesAll commands replies (state g conn) new
+  done_together commands replies mid new reaches shows shut = (
+    shut shows.was_open,
     λ before stands.
         let reached = reaches before stands in
         (reached.0, reached.1, record { stands = λ _. (subst (λ d. Stands d reached.0) (sym shows.now_is) reached.2, shows.committed_is ∙ sym shows.now_is); closes = inl shows.is_open }),
@@ -133,10 +149,82 @@ module _ {S : Type 0} (g : store.Ghosts S) (conn : Held S) where
     | inr other ↦ inr other
   ]
 
+  pub survives_both : {Q : Trees → Type 0} (P : Trees → Type 0) (mid new : State) → Survives begun mid (λ _. ⊥) → (HasCleanDisk new → (db : Trees) → Q db → P db) → Survives mid new Q → Survives (state g conn) new P
+  survives_both P mid new one weaker two = survives_begin g conn new P (survives_then begun mid new _ _ P (λ clean trees none. absurd none) weaker one two)
+
+  -- one that was rolled back leaves what was
+  pub rolled_back : (mid new : State) → IsRolledBack mid new → KeepsStored begun mid → StaysClosed begun mid → (IsTrue (state g conn).is_open → (state g conn).now ≡ (state g conn).committed)
+      → (IsTrue (state g conn).is_open → IsTrue new.is_open ⊎ DiskFailed (state g conn) new) → LeavesUnchanged (state g conn) new
+  rolled_back mid new rolled kept shut settled closes = record {
+    same = λ schema is_open.
+        let mid_open = rolled.was_open is_open in
+        let keeps = kept schema in
+        let same = keeps.committed mid_open in
+        let undone = rolled.undone is_open in
+        (undone.0 ∙ same ∙ sym (settled (shut mid_open)), undone.1 ∙ same);
+    stays_closed = λ is_open. shut (rolled.was_open is_open);
+    closes = closes;
+  }
+
+  module _ {A : Type 0} (command : Command) (reply : A → Reply) (mid : State) (new : Held S) (one : Survives begun mid (λ _. ⊥)) (kept : HasCleanDisk mid → KeepsStored begun mid) (shut : HasCleanDisk mid → StaysClosed begun mid)
+      (settled : IsTrue (state g conn).is_open → (state g conn).now ≡ (state g conn).committed) where
+    -- a command that is refused in a transaction, which is rolled back then
+    pub refused_alone : (r : Result A Refusal) (e : Refusal) → IsErrAnd r (λ d. d ≡ e) → MayRefuse command e → (HasCleanDisk mid → HasCause e command begun) → (HasCleanDisk mid → IsFault command begun mid e)
+        → ((old new : State) → IsFault command old new e → HasFault command old new e)
+        → (HasCleanDisk (state g new) → IsRolledBack mid (state g new)) → Survives mid (state g new) (λ _. ⊥) → Applies g conn new r command reply
+    refused_alone r e is may cause fault blamed rolled two =
+        let survives = survives_both (λ _. ⊥) mid (state g new) one (λ clean db none. none) two in
+        let early : HasCleanDisk (state g new) → HasCleanDisk mid = λ clean. omega (arith, clean, two.clean) in
+        refused_by g conn new command reply r e is
+        (λ clean. rolled_back mid (state g new) (rolled clean) (kept (early clean)) (shut (early clean)) settled (survives.closes clean))
+        may
+        (λ clean. cause_as e command begun (state g conn) refl (λ on. on) (cause (early clean)))
+        (λ clean. blamed (state g conn) (state g new) (fault_alone command e mid (state g new) two (fault (early clean))))
+        (survives_both (MayAdd command (state g conn)) mid (state g new) one (λ clean db none. absurd none) two)
+
   -- a commit that is refused
   pub commit_fault : {P : Trees → Type 0} (command : Command) (e : Refusal) (mid new : State) → Survives begun mid (λ _. ⊥) → Survives mid new P → HasCleanDisk new → StaysInside begun mid
       → (IsTrue mid.in_transaction → e ≡ refusal.Database → HasFailed mid new) → IsFault command (state g conn) new e
   commit_fault command e mid new one two clean inside fails is before stands = inl (later_failed begun mid new one two clean (fails (inside stands.schema refl) is))
+
+  pub commit_undone : (mid new : State) (e : Error) → FailsToCommit mid new e → StaysInside begun mid → KeepsStored begun mid → StaysClosed begun mid → (IsTrue (state g conn).is_open → (state g conn).now ≡ (state g conn).committed)
+      → (IsTrue (state g conn).is_open → IsTrue new.is_open ⊎ DiskFailed (state g conn) new) → LeavesUnchanged (state g conn) new
+  commit_undone mid new e (inl (cause, is, has, rolled, tells)) inside kept shut settled closes = rolled_back mid new rolled kept shut settled closes
+  commit_undone mid new e (inr (is, off, (shows, counts, marks))) inside kept shut settled closes = record {
+    same = λ schema is_open. let on = inside schema refl in absurd (true≢false (sym on ∙ off));
+    stays_closed = λ is_open. shut shows.was_open;
+    closes = closes;
+  }
+
+  -- a command that was accepted, and whose commit is refused
+  pub commit_lost : {A : Type 0} (command : Command) (reply : A → Reply) (mid : State) (new : Held S) (e : Error) (told : StoreError) (d : Refusal) → told ≡ refusal_of e → d ≡ of_store told
+      → IsNamed command → IsSound command → ((old new : State) → IsFault command old new d → HasFault command old new d)
+      → Survives begun mid (λ _. ⊥) → (HasCleanDisk mid → StaysInside begun mid) → (HasCleanDisk mid → KeepsStored begun mid) → (HasCleanDisk mid → StaysClosed begun mid)
+      → (IsTrue (state g conn).is_open → (state g conn).now ≡ (state g conn).committed)
+      → (HasCleanDisk (state g new) → FailsToCommit mid (state g new) e) → Survives mid (state g new) (λ trees. trees ≡ mid.now.trees) → MayCommit g conn new (MayAdd command)
+      → Applies g conn new (Err d) command reply
+  commit_lost command reply mid new e told d was is named sound blamed one inside kept shut settled fails two survives =
+      let which = commit_refusal e told d was is in
+      let early : HasCleanDisk (state g new) → HasCleanDisk mid = λ clean. omega (arith, clean, two.clean) in
+      refused_by g conn new command reply (Err d) d refl
+      (λ clean. commit_undone mid (state g new) e (fails clean) (inside (early clean)) (kept (early clean)) (shut (early clean)) settled (survives.closes clean))
+      (lost_refusal command d named sound which)
+      (λ clean. lost_cause command d (state g conn) named sound which)
+      (λ clean. blamed (state g conn) (state g new) (commit_fault command d mid (state g new) one two clean (inside (early clean)) (commit_failed mid (state g new) e told d was is (fails clean))))
+      survives
+
+  -- commands that are refused together
+  pub all_refused_by : {A : Type 0} (new : Held S) (commands : List Command) (replies : A → List Reply) (r : Result A RefusedDelivery) (e : RefusedDelivery) → IsErrAnd r (λ d. d ≡ e)
+      → Always g conn new LeavesUnchanged → MayRefuseAll commands e.place e.refusal → (HasCleanDisk (state g new) → AreRefused commands e.place e.refusal (state g conn) (state g new))
+      → MayCommit g conn new (MayLeaveAll commands) → AppliesAll g conn new r commands replies
+  all_refused_by new commands replies (Ok x) e is same may refused survives = absurd is
+  all_refused_by new commands replies (Err d) e is same may refused survives = record {
+    done = λ clean. tt;
+    unchanged = same;
+    which = subst (λ (x : RefusedDelivery). MayRefuseAll commands x.place x.refusal) (sym is) may;
+    refused = λ clean. subst (λ (x : RefusedDelivery). AreRefused commands x.place x.refusal (state g conn) (state g new)) (sym is) (refused clean);
+    survives = survives;
+  }
 
   pub uncommitted : {P : Trees → Type 0} (commands : List Command) (replies : List Reply) (place : ℕ) (e : Refusal) (mid new : State) → place ≡ length commands → Survives begun mid (λ _. ⊥) → Survives mid new P → HasCleanDisk new
       → StaysInside begun mid → ReachesAll commands replies begun mid → (e ≡ refusal.Memory) ⊎ (e ≡ refusal.Database) → (IsTrue mid.in_transaction → e ≡ refusal.Database → HasFailed mid new)

@@ -19,7 +19,7 @@ use Rattle.part_store.specs.Standing.{HasNone, Stands}
 use Rattle.part_store.specs.Verifying.{IsAltered}
 use Rattle.refusals.specs.declared.refusal.Refusal.{Refusal}
 use Rattle.refusals.specs.declared.refusal.Refusal.TheVariants.{Memory, NoSuchEntry, NumberFull, Collision, Database, UserName, Write}
-use Rattle.depot_actions.specs.DepotState.{AreActions, Command, SetScript, SetCode, Deliver, ListAll, ProgramOf, Export, Remove, Migrate, IsNamed}
+use Rattle.depot_actions.specs.DepotState.{AreActions, Command, SetScript, SetCode, Deliver, Export, Remove, Migrate, IsNamed}
 use Rattle.depot_actions.specs.Drafts.{drafts_of}
 use Rattle.depot_actions.specs.Renewing.{AreRenewals}
 

@@ -6,6 +6,7 @@ pub mod Amounts
 pub mod Causes
 pub mod History
 pub mod Deliveries
+pub mod Applying
 -- media types that stand on one line
 pub mod PlainMedia
 pub mod Runs

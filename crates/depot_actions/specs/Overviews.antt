@@ -1,14 +1,21 @@
 -- What a depot holds, user by user.
-use Rattle.std.specs.Prelude.{◌≡◌, ◌≢◌, ℕ, List, length, map, Option, None, Some, string_bytes}
+use Rattle.std.specs.Prelude.{◌≡◌, ◌≢◌, ◌⊎◌, ℕ, IfErr, IsTrue, List, Result, length, map, Option, None, Some, string_bytes}
 use Rattle.std.specs.List.{AllZip, sum_by}
+use Rattle.sqlite.specs.Held.{Held}
 use Rattle.sqlite_trees.specs.Tree.{Trees}
+use Rattle.sqlite_trees.specs.declared.store.Store.{Ghosts}
 use Rattle.bytecode_format.specs.Code.{Code}
 use Rattle.sieve_engine.specs.Execution.{IsChecked, IsProgramRefusal}
+use Rattle.refusals.specs.declared.refusal.Refusal.{Refusal}
 use Rattle.refusals.specs.declared.refusal.Refusal.TheVariants as refusals
+use Rattle.part_store.specs.Calls.{Always, CommitsNothing, IfDone}
+use Rattle.part_store.specs.Refusals.{AreNamed}
+use Rattle.part_store.specs.Standing.{LeavesUnchanged, Stands}
 use Rattle.part_store.specs.Tables.{contents_tree, users_tree}
 use Rattle.part_store.specs.Entries.{Entries, Listing, entries_of, listing_of}
 use Rattle.part_store.specs.Totals.{IsTotalOf}
 use Rattle.part_store.specs.UserLines.{AreUsersOf, UserLine}
+use Rattle.depot_actions.specs.Causes.{IsStoreFault, IsUncounted}
 use Rattle.depot_actions.specs.declared.overview.Overview.{Overview}
 use Rattle.depot_actions.specs.declared.overview.UserOverview.{UserOverview}
 use Rattle.depot_actions.specs.declared.overview.ProgramState.{ProgramState}
@@ -43,3 +50,12 @@ pub record IsOverview (db : Trees) (e : Entries) (x : Overview) : Type 0 where
   pub are : AreUsersOf (db users_tree) e lines
   pub users : AreSummaries e lines x.users.items
   pub contents : IsTotalOf (db contents_tree) x.contents
+
+-- A depot is looked over: what it holds is told, and nothing changes. `Database` is told only where the database can't work or
+-- there is more than can be counted, if the users of the tables are texts.
+pub record LooksOver {S : Type 0} (g : Ghosts S) (old new : Held S) (result : Result Overview Refusal) : Type 0 where
+  pub answer : IfDone g old new result (λ x old _. IsTrue old.is_open × ((before : Entries) → Stands old.now before → IsOverview old.now.trees before x))
+  pub unchanged : Always g old new LeavesUnchanged
+  pub refused : IfErr result (λ e. (e ≡ refusals.Memory) ⊎ (e ≡ refusals.Database))
+  pub cause : Always g old new (λ old new. AreNamed old.now.trees → IfErr result (IsStoreFault IsUncounted old new))
+  pub survives : CommitsNothing g old new

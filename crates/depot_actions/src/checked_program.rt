@@ -4,10 +4,9 @@
 // read and verify the same filter for each mail, not even if mails of several users come in turn. The bytes are
 // compared, so nothing has to be assumed about the store between two deliveries, and users with the same filter share
 // what was checked.
-ghost use Rattle.std.specs.Prelude.{◌≡◌, ◌⊎◌, All, IfErr, IfOk, IfSome, IsTrue, Some, slice_get, true};
+ghost use Rattle.std.specs.Prelude.{◌≡◌, All, IfErr, IfOk, IfSome, Some, slice_get, true};
 ghost use Rattle.sieve_vm.specs.Stores.{NamesPart};
-ghost use Rattle.refusals.specs.declared.refusal.Refusal.TheVariants.{Memory, Database};
-ghost use Rattle.depot_actions.specs.Causes.{IsSpoilt};
+ghost use Rattle.depot_actions.specs.Private.{IsUnusable};
 ghost use Rattle.depot_actions.specs.DepotState.{AreActions};
 
 use crate::checking::check_stored;
@@ -41,8 +40,7 @@ impl CheckedProgram {
     // Checks a stored program.
     fn check(alloc: Global, octets: Vec<u8>) -> Result<CheckedProgram, Refusal>
         ensures same { IfOk result (λ program. program ≡ octets.items) }
-        ensures refused { IfErr result (λ e. (e ≡ Memory) ⊎ (e ≡ Database)) }
-        ensures cause { IfErr result (λ e. e ≡ Database → IsSpoilt (Some octets.items)) }
+        ensures refused { IfErr result (IsUnusable (Some octets.items)) }
     {
         let verified = check_stored(alloc, &octets)?;
         Ok(CheckedProgram { octets, verified })
@@ -104,8 +102,7 @@ impl CheckedPrograms {
         octets: Vec<u8>,
     ) -> Result<&CheckedProgram, Refusal>
         ensures same { IfOk result (λ program. program.now ≡ octets.items) }
-        ensures refused { IfErr result (λ e. (e ≡ Memory) ⊎ (e ≡ Database)) }
-        ensures cause { IfErr result (λ e. e ≡ Database → IsSpoilt (Some octets.items)) }
+        ensures refused { IfErr result (IsUnusable (Some octets.items)) }
     {
         let place = match self.place_of(&octets) {
             Some(place) => place,

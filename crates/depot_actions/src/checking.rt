@@ -1,8 +1,7 @@
 // Scripts and programs that are to be stored, and programs that are stored.
-ghost use Rattle.std.specs.Prelude.{◌≡◌, ◌⊎◌, IfErr, IfOk, OnOk, Some};
-ghost use Rattle.refusals.specs.declared.refusal.Refusal.TheVariants.{Memory, Database};
+ghost use Rattle.std.specs.Prelude.{IfErr, IfOk, OnOk, Some};
 ghost use Rattle.bytecode_format.specs.Code.{Code};
-ghost use Rattle.depot_actions.specs.Causes.{IsSpoilt};
+ghost use Rattle.depot_actions.specs.Private.{IsUnusable};
 ghost use Rattle.sieve_engine.specs.Execution.{IsChecked, IsProgramRefusal};
 
 use bytecode_verifier::Verified;
@@ -32,8 +31,7 @@ pub(crate) fn check_code(alloc: Global, program: &[u8]) -> Result<(), Refusal>
 /// - `Memory` if memory is refused.
 pub(crate) fn check_stored(alloc: Global, program: &[u8]) -> Result<Verified, Refusal>
     ensures checked { IfOk result (λ verified. IsChecked program.now verified) }
-    ensures refused { IfErr result (λ e. (e ≡ Memory) ⊎ (e ≡ Database)) }
-    ensures cause { IfErr result (λ e. e ≡ Database → IsSpoilt (Some program.now)) }
+    ensures refused { IfErr result (IsUnusable (Some program.now)) }
 {
     match check_program(alloc, program) {
         Ok(verified) => Ok(verified),

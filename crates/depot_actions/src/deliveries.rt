@@ -1,12 +1,13 @@
 // Deliveries, alone and several at once.
 ghost use Rattle.std.specs.Prelude.{◌≡◌, ◌<◌, length, map, IfErr, IsTrue, OnOk};
 ghost use Rattle.part_store.specs.Access.{InTransaction};
-ghost use Rattle.part_store.specs.Calls.{Always, CommitsNothing, IfDone, IfRefused, MayCommit, OnDone, OnRefused, StaysClosed};
+ghost use Rattle.part_store.specs.Calls.{Always, CommitsNothing, IfDone, IfRefused, OnDone, StaysClosed};
 ghost use Rattle.part_store.specs.Inside.{KeepsStored, KeepsTables, StaysInside};
-ghost use Rattle.part_store.specs.Standing.{LeavesUnchanged, listed};
+ghost use Rattle.part_store.specs.Standing.{listed};
+ghost use Rattle.depot_actions.specs.Applying.{Applies, AppliesAll};
 ghost use Rattle.depot_actions.specs.Causes.{IsCause, IsFault, IsSound, MayRefuse};
-ghost use Rattle.depot_actions.specs.Deliveries.{AreRefused, DoesAll, IsRefusedAt, MayLeaveAll, MayRefuseAll, MayRefuseAt, command_of, reply_of};
-ghost use Rattle.depot_actions.specs.DepotState.{Deliver, Does, IsNamed, Listed, MayLeave};
+ghost use Rattle.depot_actions.specs.Deliveries.{IsRefusedAt, MayRefuseAt, command_of, reply_of};
+ghost use Rattle.depot_actions.specs.DepotState.{Deliver, IsNamed, Listed};
 ghost use Rattle.depot_actions.specs.Filing.{IfInside, Reaches, ReachesAll};
 
 use crate::checked_program::CheckedPrograms;
@@ -51,16 +52,7 @@ pub(crate) fn deliver_alone<S: Alter>(
     user: &str,
     message: &[u8],
 ) -> Result<Vec<EntryRow>, Refusal>
-    ensures done { IfDone S.Store store.old store.new result
-        (λ rows. Does (Deliver user.now message.now) (Listed (map listed rows.items))) }
-    ensures unchanged { OnRefused S.Store store.old store.new result LeavesUnchanged }
-    ensures which { IfErr result (MayRefuse (Deliver user.now message.now)) }
-    ensures refused { IfRefused S.Store store.old store.new result
-        (IsCause (Deliver user.now message.now)) }
-    ensures cause { IfRefused S.Store store.old store.new result
-        (IsFault (Deliver user.now message.now)) }
-    ensures survives { MayCommit S.Store store.old store.new
-        (MayLeave (Deliver user.now message.now)) }
+    ensures { Applies S.Store store.old store.new result (Deliver user.now message.now) reply_of }
 {
     let mut tx = begin(&mut store.conn);
     let rows = deliver_within(&mut tx, kept, alloc, user, message)?;
@@ -81,15 +73,8 @@ pub(crate) fn deliver_together<S: Alter>(
     alloc: Global,
     deliveries: &[Delivery<'_>],
 ) -> Result<Vec<Vec<EntryRow>>, RefusedDelivery>
-    ensures done { IfDone S.Store store.old store.new result
-        (λ replies. DoesAll (map command_of deliveries.now) (map reply_of replies.items)) }
-    ensures unchanged { OnRefused S.Store store.old store.new result LeavesUnchanged }
-    ensures which { IfErr result
-        (λ e. MayRefuseAll (map command_of deliveries.now) e.place e.refusal) }
-    ensures refused { IfRefused S.Store store.old store.new result
-        (λ old new e. AreRefused (map command_of deliveries.now) e.place e.refusal old new) }
-    ensures survives { MayCommit S.Store store.old store.new
-        (MayLeaveAll (map command_of deliveries.now)) }
+    ensures { AppliesAll S.Store store.old store.new result (map command_of deliveries.now)
+        (λ replies. map reply_of replies.items) }
 {
     let mut tx = begin(&mut store.conn);
     let replies = deliver_each(&mut tx, kept, alloc, deliveries)?;

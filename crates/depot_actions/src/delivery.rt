@@ -8,15 +8,15 @@
 // store writes: the tree of a message of empty header fields takes 5.3 times the mail, and the database takes five
 // buffers of an entry's length while it writes one. What is kept of a part borrows only the mail's bytes, so nothing
 // needs the tree then.
-ghost use Rattle.std.specs.Prelude.{◌≡◌, ◌<◌, ◌⊎◌, [], ◌∷◌, All, IfErr, IfOk, length, map, option_map};
+ghost use Rattle.std.specs.Prelude.{◌≡◌, ◌<◌, [], ◌∷◌, All, IfErr, IfOk, length, map, option_map};
 ghost use Rattle.bytecode_format.specs.declared.action.Action.TheVariants.{Keep};
 ghost use Rattle.sieve_vm.specs.Stores.{NamesPart};
 ghost use Rattle.part_store.specs.Access.{InTransaction};
 ghost use Rattle.part_store.specs.Entries.{Entries};
 ghost use Rattle.part_store.specs.Sharing.{SharesContents, first_of};
 ghost use Rattle.part_store.specs.Standing.{Stands, draft_of, listed};
-ghost use Rattle.refusals.specs.declared.refusal.Refusal.TheVariants.{Memory, Database};
-ghost use Rattle.depot_actions.specs.Causes.{IsSpoilt, IsStoreFault};
+ghost use Rattle.depot_actions.specs.Causes.{IsStoreFault};
+ghost use Rattle.depot_actions.specs.Private.{IsUnusable};
 ghost use Rattle.part_store.specs.Refusals.{LackRoom};
 ghost use Rattle.depot_actions.specs.DepotState.{AreActions};
 ghost use Rattle.depot_actions.specs.Drafts.{drafts_of};
@@ -53,9 +53,7 @@ pub(crate) fn actions_of(
     ensures actions { IfOk result
         (λ actions. AreActions (option_map (λ v. v.items) program) message.now actions.items) }
     ensures parts { IfOk result (λ actions. All (NamesPart message.now) actions.items) }
-    ensures refused { IfErr result (λ e. (e ≡ Memory) ⊎ (e ≡ Database)) }
-    ensures cause { IfErr result
-        (λ e. e ≡ Database → IsSpoilt (option_map (λ v. v.items) program)) }
+    ensures refused { IfErr result (IsUnusable (option_map (λ v. v.items) program)) }
 {
     let Some(octets) = program else {
         return Ok(keep_alone(alloc)?);

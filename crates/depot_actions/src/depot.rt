@@ -9,20 +9,20 @@ ghost use Rattle.sqlite.specs.Steps.{over_memory};
 ghost use Rattle.part_store.specs.Entries.{Entries, no_entries};
 ghost use Rattle.part_store.specs.Opening.{HoldsNoTables, HoldsStore, IsAt, IsFoundIn, IsReady, IsReadyFrom, TellsWhy};
 ghost use Rattle.sqlite.specs.WalFiles.{image_at};
-ghost use Rattle.part_store.specs.Refusals.{AreNamed};
-ghost use Rattle.part_store.specs.Standing.{HaveDigests, LeavesUnchanged, Stands, listed};
+ghost use Rattle.part_store.specs.Standing.{HaveDigests, LeavesUnchanged, Stands};
 ghost use Rattle.part_store.specs.Tables.{store_schema};
 ghost use Rattle.part_store.specs.Verifying.{IsVerified};
 ghost use Rattle.refusals.specs.declared.refusal.Refusal.TheVariants.{Memory, Database, Write};
-ghost use Rattle.depot_actions.specs.Causes.{IsCause, IsFault, IsStoreFault, IsUncounted, MayRefuse};
-ghost use Rattle.depot_actions.specs.Deliveries.{AreRefused, DoesAll, MayLeaveAll, MayRefuseAll, command_of, reply_of};
-ghost use Rattle.depot_actions.specs.DepotState.{Deliver, Does, Done, Export, ListAll, Listed, MayLeave, Migrate, Migrated, Program, ProgramOf, Remove, SetCode, SetScript, Text};
-ghost use Rattle.depot_actions.specs.Overviews.{IsOverview};
+ghost use Rattle.depot_actions.specs.Applying.{Applies, AppliesAll};
+ghost use Rattle.depot_actions.specs.Causes.{IsCause, IsFault, IsStoreFault, MayRefuse};
+ghost use Rattle.depot_actions.specs.Deliveries.{command_of, reply_of};
+ghost use Rattle.depot_actions.specs.DepotState.{Deliver, Does, Done, Export, ListAll, Migrate, Migrated, Program, ProgramOf, Remove, SetCode, SetScript, Text};
+ghost use Rattle.depot_actions.specs.Overviews.{LooksOver};
 ghost use Rattle.sqlite.specs.Files.{file_state, IsOpened};
 ghost use Rattle.part_store.specs.Looking.{are_tables};
 ghost use Rattle.devices.specs.Device.{HasBegun, HasBroken, HasTaken};
 ghost use Rattle.encodings.specs.Texts.{text_of};
-ghost use Rattle.part_store.specs.Calls.{Always, CommitsNothing, IfDone, IfRefused, MayCommit, OnDone, OnRefused};
+ghost use Rattle.part_store.specs.Calls.{Always, CommitsNothing, IfRefused};
 
 use crate::checked_program::CheckedPrograms;
 use crate::checking::check_code;
@@ -98,16 +98,8 @@ impl<S: Alter> Depot<S> {
     /// - `Database` if the store fails, or has no room for the user's row with the new program.
     /// - `Memory` if memory is refused.
     pub fn set_script(&mut self, alloc: Global, user: &str, script: &[u8]) -> Result<(), Refusal>
-        ensures done { OnDone S.Store self.old self.new result
-            (Does (SetScript user.now script.now) Done) }
-        ensures unchanged { OnRefused S.Store self.old self.new result LeavesUnchanged }
-        ensures which { IfErr result (MayRefuse (SetScript user.now script.now)) }
-        ensures refused { IfRefused S.Store self.old self.new result
-            (IsCause (SetScript user.now script.now)) }
-        ensures cause { IfRefused S.Store self.old self.new result
-            (IsFault (SetScript user.now script.now)) }
-        ensures survives { MayCommit S.Store self.old self.new
-            (MayLeave (SetScript user.now script.now)) }
+        ensures { Applies S.Store self.old self.new result (SetScript user.now script.now)
+            (λ _. Done) }
     {
         if !is_user_name(user) {
             return Err(Refusal::UserName);
@@ -127,16 +119,8 @@ impl<S: Alter> Depot<S> {
     /// - `Database` if the store fails, or has no room for the user's row with the new program.
     /// - `Memory` if memory is refused.
     pub fn set_code(&mut self, alloc: Global, user: &str, program: &[u8]) -> Result<(), Refusal>
-        ensures done { OnDone S.Store self.old self.new result
-            (Does (SetCode user.now program.now) Done) }
-        ensures unchanged { OnRefused S.Store self.old self.new result LeavesUnchanged }
-        ensures which { IfErr result (MayRefuse (SetCode user.now program.now)) }
-        ensures refused { IfRefused S.Store self.old self.new result
-            (IsCause (SetCode user.now program.now)) }
-        ensures cause { IfRefused S.Store self.old self.new result
-            (IsFault (SetCode user.now program.now)) }
-        ensures survives { MayCommit S.Store self.old self.new
-            (MayLeave (SetCode user.now program.now)) }
+        ensures { Applies S.Store self.old self.new result (SetCode user.now program.now)
+            (λ _. Done) }
     {
         if !is_user_name(user) {
             return Err(Refusal::UserName);
@@ -170,16 +154,8 @@ impl<S: Alter> Depot<S> {
         user: &str,
         message: &[u8],
     ) -> Result<Vec<EntryRow>, Refusal>
-        ensures done { IfDone S.Store self.old self.new result
-            (λ rows. Does (Deliver user.now message.now) (Listed (map listed rows.items))) }
-        ensures unchanged { OnRefused S.Store self.old self.new result LeavesUnchanged }
-        ensures which { IfErr result (MayRefuse (Deliver user.now message.now)) }
-        ensures refused { IfRefused S.Store self.old self.new result
-            (IsCause (Deliver user.now message.now)) }
-        ensures cause { IfRefused S.Store self.old self.new result
-            (IsFault (Deliver user.now message.now)) }
-        ensures survives { MayCommit S.Store self.old self.new
-            (MayLeave (Deliver user.now message.now)) }
+        ensures { Applies S.Store self.old self.new result (Deliver user.now message.now)
+            reply_of }
     {
         deliver_alone(&mut self.store, &mut self.kept, alloc, user, message)
     }
@@ -200,15 +176,8 @@ impl<S: Alter> Depot<S> {
         alloc: Global,
         deliveries: &[Delivery<'_>],
     ) -> Result<Vec<Vec<EntryRow>>, RefusedDelivery>
-        ensures done { IfDone S.Store self.old self.new result
-            (λ replies. DoesAll (map command_of deliveries.now) (map reply_of replies.items)) }
-        ensures unchanged { OnRefused S.Store self.old self.new result LeavesUnchanged }
-        ensures which { IfErr result
-            (λ e. MayRefuseAll (map command_of deliveries.now) e.place e.refusal) }
-        ensures refused { IfRefused S.Store self.old self.new result
-            (λ old new e. AreRefused (map command_of deliveries.now) e.place e.refusal old new) }
-        ensures survives { MayCommit S.Store self.old self.new
-            (MayLeaveAll (map command_of deliveries.now)) }
+        ensures { AppliesAll S.Store self.old self.new result (map command_of deliveries.now)
+            (λ replies. map reply_of replies.items) }
     {
         deliver_together(&mut self.store, &mut self.kept, alloc, deliveries)
     }
@@ -221,13 +190,7 @@ impl<S: Alter> Depot<S> {
     /// - `Database` if the store fails.
     /// - `Memory` if memory is refused.
     pub fn list(&mut self, user: &str) -> Result<Vec<EntryRow>, Refusal>
-        ensures done { IfDone S.Store self.old self.new result (λ rows. Does (ListAll user.now)
-            (Listed (map listed rows.items))) }
-        ensures unchanged { Always S.Store self.old self.new LeavesUnchanged }
-        ensures which { IfErr result (MayRefuse (ListAll user.now)) }
-        ensures refused { IfRefused S.Store self.old self.new result (IsCause (ListAll user.now)) }
-        ensures cause { IfRefused S.Store self.old self.new result (IsFault (ListAll user.now)) }
-        ensures survives { CommitsNothing S.Store self.old self.new }
+        ensures { Applies S.Store self.old self.new result (ListAll user.now) reply_of }
     {
         if !is_user_name(user) {
             return Err(Refusal::UserName);
@@ -243,14 +206,8 @@ impl<S: Alter> Depot<S> {
     /// - `Database` if the store fails.
     /// - `Memory` if memory is refused.
     pub fn program_of(&mut self, user: &str) -> Result<Option<Vec<u8>>, Refusal>
-        ensures done { IfDone S.Store self.old self.new result (λ found. Does (ProgramOf user.now)
-            (Program (option_map (λ v. v.items) found))) }
-        ensures unchanged { Always S.Store self.old self.new LeavesUnchanged }
-        ensures which { IfErr result (MayRefuse (ProgramOf user.now)) }
-        ensures refused { IfRefused S.Store self.old self.new result
-            (IsCause (ProgramOf user.now)) }
-        ensures cause { IfRefused S.Store self.old self.new result (IsFault (ProgramOf user.now)) }
-        ensures survives { CommitsNothing S.Store self.old self.new }
+        ensures { Applies S.Store self.old self.new result (ProgramOf user.now)
+            (λ found. Program (option_map (λ v. v.items) found)) }
     {
         if !is_user_name(user) {
             return Err(Refusal::UserName);
@@ -323,15 +280,7 @@ impl<S: Alter> Depot<S> {
     /// - `Database` if the store fails.
     /// - `Memory` if memory is refused.
     pub fn remove(&mut self, user: &str, number: u32) -> Result<(), Refusal>
-        ensures done { OnDone S.Store self.old self.new result
-            (Does (Remove user.now number) Done) }
-        ensures unchanged { OnRefused S.Store self.old self.new result LeavesUnchanged }
-        ensures which { IfErr result (MayRefuse (Remove user.now number)) }
-        ensures refused { IfRefused S.Store self.old self.new result
-            (IsCause (Remove user.now number)) }
-        ensures cause { IfRefused S.Store self.old self.new result
-            (IsFault (Remove user.now number)) }
-        ensures survives { MayCommit S.Store self.old self.new (MayLeave (Remove user.now number)) }
+        ensures { Applies S.Store self.old self.new result (Remove user.now number) (λ _. Done) }
     {
         if !is_user_name(user) {
             return Err(Refusal::UserName);
@@ -351,14 +300,7 @@ impl<S: Alter> Depot<S> {
     ///   user's name isn't UTF-8; or if a new program has no room.
     /// - `Memory` if memory is refused.
     pub fn migrate(&mut self, alloc: Global) -> Result<usize, Refusal>
-        ensures done { IfDone S.Store self.old self.new result (λ number. Does Migrate
-            (Migrated number)) }
-        ensures unchanged { OnRefused S.Store self.old self.new result LeavesUnchanged }
-        ensures which { IfErr result (MayRefuse Migrate) }
-        ensures refused { IfRefused S.Store self.old self.new result (IsCause Migrate) }
-        ensures cause { Always S.Store self.old self.new (λ old new. AreNamed old.now.trees
-            → IfErr result (IsFault Migrate old new)) }
-        ensures survives { MayCommit S.Store self.old self.new (MayLeave Migrate) }
+        ensures { Applies S.Store self.old self.new result Migrate Migrated }
     {
         let stored = self.store.programs().map_err(refused)?;
         let renewed = renewed_programs(alloc, &stored)?;
@@ -379,13 +321,7 @@ impl<S: Alter> Depot<S> {
     ///   user's name isn't UTF-8.
     /// - `Memory` if memory is refused.
     pub fn inspect(&mut self, alloc: Global) -> Result<Overview, Refusal>
-        ensures answer { IfDone S.Store self.old self.new result (λ x old _. IsTrue old.is_open
-            × ((before : Entries) → Stands old.now before → IsOverview old.now.trees before x)) }
-        ensures unchanged { Always S.Store self.old self.new LeavesUnchanged }
-        ensures refused { IfErr result (λ e. (e ≡ Memory) ⊎ (e ≡ Database)) }
-        ensures cause { Always S.Store self.old self.new (λ old new. AreNamed old.now.trees
-            → IfErr result (IsStoreFault IsUncounted old new)) }
-        ensures survives { CommitsNothing S.Store self.old self.new }
+        ensures { LooksOver S.Store self.old self.new result }
     {
         look_over(&mut self.store, alloc)
     }

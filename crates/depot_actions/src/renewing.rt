@@ -9,6 +9,7 @@ ghost use Rattle.refusals.specs.declared.refusal.Refusal.TheVariants.{Memory, Da
 ghost use Rattle.sieve_engine.specs.Execution.{IsChecked, Spells};
 ghost use Rattle.sqlite_rules.specs.Lists.{Has};
 ghost use Rattle.depot_actions.specs.Causes.{IsSpoilt};
+ghost use Rattle.depot_actions.specs.Private.{IsUnusable};
 ghost use Rattle.depot_actions.specs.Renewing.{AreRenewals, renewal, renewed_octets, with_renewal};
 
 use crate::checking::check_stored;
@@ -54,8 +55,7 @@ fn push_renewed(
         ((code : Code) × IsChecked program.now code
         × (map pair_of renewed.new.items ≡ map pair_of renewed.old.items
         ++ with_renewal (renewal code) (user.now, program.now) [])) }
-    ensures refused { IfErr result (λ e. (e ≡ Memory) ⊎ (e ≡ Database)) }
-    ensures cause { IfErr result (λ e. e ≡ Database → IsSpoilt (Some program.now)) }
+    ensures refused { IfErr result (IsUnusable (Some program.now)) }
 {
     if let Some(octets) = renewed_program(alloc, program)? {
         renewed.push((String::from_str(alloc, user)?, octets))?;
@@ -68,8 +68,7 @@ fn renewed_program(alloc: Global, program: &[u8]) -> Result<Option<Vec<u8>>, Ref
     ensures renewed { IfOk result
         (λ renewed. (code : Code) × IsChecked program.now code
         × (option_map (λ v. v.items) renewed ≡ renewal code)) }
-    ensures refused { IfErr result (λ e. (e ≡ Memory) ⊎ (e ≡ Database)) }
-    ensures cause { IfErr result (λ e. e ≡ Database → IsSpoilt (Some program.now)) }
+    ensures refused { IfErr result (IsUnusable (Some program.now)) }
 {
     let verified = check_stored(alloc, program)?;
     if verified.program().version() == LATEST_VERSION {
@@ -82,8 +81,7 @@ fn renewed_program(alloc: Global, program: &[u8]) -> Result<Option<Vec<u8>>, Ref
 fn in_latest_version(alloc: Global, program: &[u8]) -> Result<Vec<u8>, Refusal>
     ensures renewed { IfOk result
         (λ octets. (code : Code) × Spells program.now code × (octets.items ≡ renewed_octets code)) }
-    ensures refused { IfErr result (λ e. (e ≡ Memory) ⊎ (e ≡ Database)) }
-    ensures cause { IfErr result (λ e. e ≡ Database → IsSpoilt (Some program.now)) }
+    ensures refused { IfErr result (IsUnusable (Some program.now)) }
 {
     match Program::read(alloc, program) {
         Ok(program) => Ok(program.in_version_two().write(alloc)?),

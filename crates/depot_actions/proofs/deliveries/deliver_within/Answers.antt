@@ -83,7 +83,7 @@ pub returns-in_err-actions-clause-cause : goal.returns-in_err-actions-clause-cau
 returns-in_err-actions-clause-cause g c clean =
     let found = ok_before c.program_within.result c.map_err.result _ c.in_ok-program.program c.map_err.ensures.cases c.map_err.ensures.variant c.in_ok-program.was in
     let told = IfOk-at_ok _ found (c.program_within.ensures.answer clean) in
-    passed_on c.from_residual-in_err-actions.result _ _ c.from_residual-in_err-actions.ensures.1 (λ inside is before stands. inr (inl (subst IsSpoilt (told before stands) (c.in_err-actions.ensures.cause is))))
+    passed_on c.from_residual-in_err-actions.result _ _ c.from_residual-in_err-actions.ensures.1 (λ inside is before stands. inr (inl (subst IsSpoilt (told before stands) (c.in_err-actions.ensures.refused.cause is))))
 
 pub returns-clause-cause : goal.returns-clause-cause
 returns-clause-cause g c clean =

@@ -15,4 +15,4 @@ returns-in_err-push_renewed-clause-cause c =
     let user = c.deref.result.now in
     let program = c.deref-in-loop-user.result.now in
     let there = stored_there c.args.stored.now c.loop-user.user-index c.loop-user-item.result user program c.loop-user-test.true c.loop-user-item.is c.deref.ensures c.deref-in-loop-user.ensures.value in
-    passed_on c.from_residual.result _ _ c.from_residual.ensures.1 (λ is. ((user, program), there, c.in_err-push_renewed.ensures.cause is))
+    passed_on c.from_residual.result _ _ c.from_residual.ensures.1 (λ is. ((user, program), there, c.in_err-push_renewed.ensures.refused.cause is))
