@@ -88,7 +88,8 @@ fn has_special(segment: &[u8]) -> bool
         .any(|octet| *octet == b'?' || *octet == b'\\')
 }
 
-// The same for a short value, place by place: clearing room for the text would take longer.
+// The same for a short value, whose places are tried one after another. To spell the text first would take longer, because
+// room for it has to be cleared.
 fn find_short(value: &[u8], segment: &[u8], comparator: Comparator) -> (Option<usize>, u64)
     requires { (length value.now + 1) * (length segment.now + 1) < 2 ^ 64 }
     ensures place { result.0 ≡ first_place (begins_with comparator
@@ -102,7 +103,7 @@ fn find_short(value: &[u8], segment: &[u8], comparator: Comparator) -> (Option<u
     )
 }
 
-// How much work that is said to be: as much as without this way. A text without wildcards counts as a search.
+// The estimate of the work, by the same rule as for longer values.
 fn short_bound(value: &[u8], segment: &[u8]) -> u64
     requires { (length value.now + 1) * (length segment.now + 1) < 2 ^ 64 }
     ensures most { result ≤ (length value.now + 1) * (length segment.now + 1) }

@@ -333,14 +333,14 @@ fn has_slash(text: &[u8]) -> bool
     text.iter().any(|octet| *octet == b'/')
 }
 
-// Whether it has a slash or a reference to a variable.
+// Whether a text has a slash, or can have a reference to a variable.
 fn has_slash_or_dollar(text: &[u8]) -> bool
     ensures { result ≡ list_any is_slash_or_dollar text.now }
 {
     text.iter().any(|octet| *octet == b'/' || *octet == b'$')
 }
 
-// Whether it has neither, and isn't empty.
+// Whether a text has neither a slash nor a reference, and isn't empty.
 fn is_bare(text: &[u8]) -> bool
     ensures { result ≡ is_bare text.now }
 {
@@ -361,7 +361,7 @@ fn has_capital(text: &[u8]) -> bool
     text.iter().any(|octet| octet.is_ascii_uppercase())
 }
 
-// Whether it does, and is compared as it is written.
+// Whether a text has an upper-case letter, and is compared as it is written.
 fn is_capital(text: &[u8]) -> bool
     ensures { result ≡ is_capital text.now }
 {
@@ -656,7 +656,7 @@ fn is_other_field(script: &[u8], token: &Token) -> bool
     is_string(token.kind) && !is_word(inner(text_of(script, token)), b"content-type")
 }
 
-// Whether one of the tokens is.
+// Whether one of the tokens is the name of another field than Content-Type.
 fn have_other_field(script: &[u8], names: &[Token]) -> bool
     ensures { result ≡ list_any (is_other_field script.now) names.now }
 {
@@ -1443,7 +1443,7 @@ fn lowers(script: &[u8], token: &Token, rest: &[Token]) -> bool
         && !has_tag(script, b":upperfirst", arguments_of(rest))
 }
 
-// The string with the name of a command's variable; `raised` says that the value has to be able to have such letters.
+// The string with the name of a command's variable; if `raised`, only if the value can have upper-case letters.
 fn named_by(script: &[u8], raised: bool, token: &Token, rest: &[Token]) -> Option<Token>
     ensures { result ≡ named_by script.now raised token.now rest.now }
 {
@@ -1497,7 +1497,8 @@ fn push_given(given: &mut Vec<Token>, script: &[u8], token: Option<Token>) -> Re
     }
 }
 
-// The strings with the names of all variables that a command gives a value; `raised` as above.
+// The strings with the names of all variables that a command gives a value; if `raised`, one that can
+// have upper-case letters.
 fn given_of(source: &Source<'_>, raised: bool, tokens: &[Token]) -> Result<Vec<Token>, AllocError>
     ensures { IfOk result (λ given. NameAlike source.now.octets.now
         given.items (given_of source.now.octets.now raised tokens.now)) }
@@ -1720,7 +1721,7 @@ fn is_octet_at(script: &[u8], token: Option<Token>) -> bool
     }
 }
 
-// Whether it comes after the tag with the token.
+// Whether the token is `:comparator`, and the one after it names the comparator of bytes.
 fn names_octet(script: &[u8], token: &Token, rest: &[Token]) -> bool
     ensures { result ≡ (is_tagged script.now (codes ":comparator") token.now
         && is_octet_at script.now (slice_get rest.now 0)) }
@@ -1748,7 +1749,7 @@ fn is_raised(script: &[u8], raised: &[Token], token: &Token) -> bool
     is_string(token.kind) && (!is_reference(text) || is_named_by(script, raised, referred(text)))
 }
 
-// Whether one of the sources is.
+// Whether one of the sources is no variable, or one whose value can have upper-case letters.
 fn have_raised(script: &[u8], raised: &[Token], sources: &[Token]) -> bool
     ensures { result ≡ list_any (is_raised script.now (is_named_by script.now raised.now)) sources.now }
 {
