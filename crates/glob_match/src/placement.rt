@@ -88,8 +88,8 @@ fn has_special(segment: &[u8]) -> bool
         .any(|octet| *octet == b'?' || *octet == b'\\')
 }
 
-// The same for a short value, whose places are tried one after another. To spell the text first would take longer, because
-// room for it has to be cleared.
+// The same for a short value, whose places are tried one after another. To spell the text first would take longer,
+// because room for it has to be cleared.
 fn find_short(value: &[u8], segment: &[u8], comparator: Comparator) -> (Option<usize>, u64)
     requires { (length value.now + 1) * (length segment.now + 1) < 2 ^ 64 }
     ensures place { result.0 ≡ first_place (begins_with comparator
