@@ -11,7 +11,8 @@ use Rattle.depot_jobs.specs.Words.{AreSaid, IsLine, IsNumber, WritesFrom, Writes
 use Rattle.depot_jobs.specs.declared.line.CommandLine.{CommandLine}
 use Rattle.depot_jobs.specs.declared.line.CommandLine.TheVariants.{Alone, OnDepot}
 use Rattle.depot_jobs.specs.declared.request.OnDepot.TheVariants.{Export, Remove}
-use Rattle.depot_jobs.specs.declared.work.Work.TheVariants.{Limit, Encode, Decode}
+use Rattle.depot_jobs.specs.declared.work.Tool.TheVariants.{Limit, Encode, Decode}
+use Rattle.depot_jobs.specs.declared.work.WithoutDepot.TheVariants.{OnFile}
 
 -- the name of the encoding that a name stands for is that name
 same_name : (text : Text) → IsOneOf text encoding_names → text ≡ name_of (encoding_named text)
@@ -52,15 +53,15 @@ back : (matches : Option (Text × List Row)) (m : Text × List Row) (P : Text ×
 back matches m P is h = subst (λ o. IfSome o P) (sym is) h
 
 pub said : (words : List Text) (line : CommandLine) (is : IsLine words line) → AreSaid line (subcommand_of is.app words)
-said words (Alone (Encode encoding)) is =
+said words (Alone (OnFile (Encode encoding) octets)) is =
     let all = at _ (codes "encode", is.says.0) (λ m. AreComplete commands m.0 m.1) is.says.1 is.complete in
     back _ _ (λ m. first_of (codes "ENCODING") m.1 ≡ Some (name_of encoding)) is.says.1
     (encoding_said is.says.0 encoding (all.1.1.1.1.1.1.1.1.1.1.1.0 refl).0 is.says.2)
-said words (Alone (Decode encoding)) is =
+said words (Alone (OnFile (Decode encoding) text)) is =
     let all = at _ (codes "decode", is.says.0) (λ m. AreComplete commands m.0 m.1) is.says.1 is.complete in
     back _ _ (λ m. first_of (codes "ENCODING") m.1 ≡ Some (name_of encoding)) is.says.1
     (encoding_said is.says.0 encoding (all.1.1.1.1.1.1.1.1.1.1.1.1.0 refl).0 is.says.2)
-said words (Alone (Limit program octets parts)) is =
+said words (Alone (OnFile (Limit octets parts) program)) is =
     let rows = is.says.0 in
     let all = at _ (codes "limit", rows) (λ m. AreComplete commands m.0 m.1) is.says.1 is.complete in
     let has = all.1.1.1.1.0 refl in (

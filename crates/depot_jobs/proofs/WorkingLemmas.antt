@@ -1,37 +1,30 @@
 -- What comes of words, from what comes of their parts.
-use Rattle.std.proofs.Common.{◌≡◌, ◌≢◌, ◌≤◌, ◌⊎◌, ℕ, zero, suc, Bool, true, false, List, [], ◌∷◌, inl, inr, refl, arith}
+use Rattle.std.proofs.Common.{◌≡◌, ◌≢◌, ◌⊎◌, ℕ, Bool, true, false, List, inl, inr, refl}
 use Rattle.clap.specs.Words.{App, Text, takes}
 use Rattle.clap.specs.declared.error.kind.ErrorKind.{ErrorKind}
 use Rattle.clap.specs.declared.error.kind.ErrorKind.TheVariants.{OutOfMemory}
-use Rattle.depot_jobs.specs.Jobs.{HasAnswered, HasFound, HasRefused, HasStopped, HasTold, HostAndOutputs}
-use Rattle.depot_jobs.specs.Host.{HostState, Origin}
-use Rattle.depot_jobs.specs.Inputs.{HasRead, HaveRead}
+use Rattle.depot_jobs.specs.Jobs.{Answer, HasOutcome, HasTold, HostAndOutputs, IsGiven, finds, says, traces, writes}
+use Rattle.depot_jobs.specs.Requests.{Job}
 use Rattle.depot_jobs.specs.Statuses.{refused, usage}
 use Rattle.depot_jobs.specs.Usage.{HasNoLine, HasToldUsage, IsNoLine, KeepsOthers}
-use Rattle.depot_jobs.specs.Working.{HasOutcome}
 use Rattle.depot_words.specs.Commands.{IsDepot}
 use Rattle.refusals.specs.declared.refusal.Refusal.TheVariants.{Memory}
-use Rattle.depot_jobs.specs.declared.job.Job.{Job}
 
--- one was read, and two were
-pub read_one : {origin : Origin} {octets : List ℕ} {s0 s1 : HostState} → HasRead origin octets s0 s1 → HaveRead (origin ∷ []) (octets ∷ []) s0 s1
-read_one {s1 = s1} read = (s1, read, refl)
+module _ {U U2 Q Q2 : Type 0} (unwritten : U → U2) (quiet : Q → Q2) where
+  given : (answer : Answer) (status : ℕ) (old new : HostAndOutputs) → IsGiven U Q answer status old new → IsGiven U2 Q2 answer status old new
+  given (says text) status old new (host, inl whole) = (host, inl (whole.0, whole.1, quiet whole.2))
+  given (says text) status old new (host, inr broken) = (host, inr broken)
+  given (traces text) status old new (host, inl whole) = (host, inl (whole.0, whole.1, quiet whole.2))
+  given (traces text) status old new (host, inr broken) = (host, inr broken)
+  given (finds text refusal) status old new is = is
+  given (writes name source octets) status old new (inl (made, inl whole)) = inl (made, inl (whole.0, whole.1, quiet whole.2))
+  given (writes name source octets) status old new (inl (made, inr broken)) = inl (made, inr broken)
+  given (writes name source octets) status old new (inr (refusal, unmade, no)) = inr (refusal, unmade, (no.0, no.1, unwritten no.2))
 
-pub read_two : {first second : Origin} {xs ys : List ℕ} {s0 s1 s2 : HostState} → HasRead first xs s0 s1 → HasRead second ys s1 s2 → HaveRead (first ∷ second ∷ []) (xs ∷ ys ∷ []) s0 s2
-read_two {s1 = s1} read later = (s1, read, read_one later)
-
--- the last of three, without what else it has
-without_more : {A B C Q : Type 0} → A ⊎ (B ⊎ (C × Q)) → A ⊎ (B ⊎ C)
-without_more (inl a) = inl a
-without_more (inr (inl b)) = inr (inl b)
-without_more (inr (inr c)) = inr (inr c.0)
-
--- a status is that of success or of a refusal
-pub outcome : {P Q : Type 0} (job : Job) (status : ℕ) (old new : HostAndOutputs) → status ≤ 1
-    → (status ≡ 0 → HasAnswered job old new × P) → (status ≡ 1 → HasFound job old new ⊎ (HasStopped job old new ⊎ (HasRefused job old new × Q))) → HasOutcome job status old new
-outcome job zero old new small done failed = inl (refl, (done refl).0)
-outcome job (suc zero) old new small done failed = inr (refl, without_more (failed refl))
-outcome job (suc (suc n)) old new small done failed = absurd (omega arith)
+  -- what is known of outputs that nothing was written to is known of what they took
+  pub outcome : (job : Job) (status : ℕ) (old new : HostAndOutputs) → HasOutcome U Q job status old new → HasOutcome U2 Q2 job status old new
+  outcome job status old new (inl (answer, is, gave)) = inl (answer, is, given answer status old new gave)
+  outcome job status old new (inr (refusal, is, host, no)) = inr (refusal, is, host, (no.0, no.1, unwritten no.2))
 
 not_taken : (b : Bool) (kind : ErrorKind) → (b ≡ true → kind ≡ OutOfMemory) → (kind ≡ OutOfMemory → ⊥) → b ≡ false
 not_taken true kind taken other = absurd (other (taken refl))

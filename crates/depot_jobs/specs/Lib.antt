@@ -1,13 +1,13 @@
 pub mod Limits
 pub mod LimitedReading
 pub mod Host
+pub mod Requests
 pub mod Printed
 pub mod Limit
 pub mod Tracing
+pub mod Statuses
 pub mod Jobs
 pub mod Words
-pub mod Statuses
-pub mod Requests
 pub mod Inputs
 pub mod Working
 pub mod Usage

@@ -1,23 +1,18 @@
--- Private: how files that are being made are named, what is read, and what an answer is made of.
-use Rattle.std.specs.Prelude.{ℕ, List, ◌++◌, codes, [], ◌∷◌, Option, None, Some, string_bytes, ⊤}
+-- Private: how files that are being made are named, and what an answer is made of.
+use Rattle.std.specs.Prelude.{ℕ, List, ◌++◌, codes, string_bytes}
 use Rattle.std.specs.Fmt.{decimal}
-use Rattle.depot_jobs.specs.Host.{Origin, origin_of}
-use Rattle.depot_jobs.specs.declared.inputs.Inputs.{Inputs}
-use Rattle.depot_jobs.specs.declared.inputs.Inputs.TheVariants.{One, Two}
-use Rattle.depot_jobs.specs.Jobs.{GoesOutAsMade, commented}
+use Rattle.depot_jobs.specs.Jobs.{Answer, commented, finds, says, traces, writes}
 use Rattle.depot_jobs.specs.Printed.{ok_text}
 use Rattle.printing.specs.Printed.{line, refusal_line, report_text, wrote_text}
-use Rattle.refusals.specs.declared.refusal.Refusal.{Refusal}
 use Rattle.depot_jobs.specs.declared.job.JobAnswer.{JobAnswer}
 use Rattle.depot_jobs.specs.declared.job.JobAnswer.TheVariants as answers
-use Rattle.depot_jobs.specs.declared.job.Job.{Job}
 use Rattle.depot_jobs.specs.declared.job.Lines.{Lines}
 use Rattle.depot_jobs.specs.declared.job.Verdict.{Verdict}
 use Rattle.depot_jobs.specs.declared.job.Lines.TheVariants as lines
 use Rattle.depot_jobs.specs.declared.job.Verdict.TheVariants as verdicts
 use Rattle.bytecode_trace.specs.Printed as program
 use Rattle.depot_jobs.specs.declared.tracing.Traced.{Traced}
-use Rattle.depot_jobs.specs.declared.tracing.Traced.TheVariants as traces
+use Rattle.depot_jobs.specs.declared.tracing.Traced.TheVariants as kinds
 use Rattle.depot_jobs.specs.declared.tracing.TracedProgram.{TracedProgram}
 use Rattle.depot_jobs.specs.declared.tracing.TracedScript.{TracedScript}
 use Rattle.sieve_check.specs.TypedView.{commands_form}
@@ -28,11 +23,6 @@ use Rattle.sieve_trace.specs.Written.{trace_text}
 abbrev pub new_name : ℕ → ℕ → List ℕ
 new_name number n = codes ".depot-" ++ (decimal number ++ (codes "-" ++ decimal n))
 
--- where what the code says that it reads comes from
-abbrev pub origins_in : Inputs → List Origin
-origins_in (One first) = origin_of first ∷ []
-origins_in (Two first second) = origin_of first ∷ origin_of second ∷ []
-
 -- the line of what the verifier says of a program
 abbrev pub verdict_line : Verdict → List ℕ
 verdict_line (verdicts.Accepted budget) = line (string_bytes budget)
@@ -42,17 +32,11 @@ verdict_line (verdicts.Refused refusal) = refusal_line refusal
 abbrev pub lines_text : Lines → List ℕ
 lines_text lines.NoFault = line ok_text
 lines_text (lines.Remarks text) = line ok_text ++ text.items
-lines_text (lines.Fault text refusal) = text.items
 lines_text (lines.Wrote octets) = line (wrote_text octets)
 lines_text (lines.Budget text) = line (string_bytes text)
 lines_text (lines.Listing listing verdict) = listing.items ++ commented (verdict_line verdict)
 lines_text (lines.Octets octets) = octets.items
 lines_text (lines.Report report) = report_text report.outcome.actions.items report.outcome.charged report.limit
-
--- the refusal that goes with it, if there is one
-abbrev pub refusal_in : Lines → Option Refusal
-refusal_in (lines.Fault text refusal) = Some refusal
-refusal_in _ = None
 
 -- the text of a trace and of the report that is behind it
 abbrev pub script_text : TracedScript → List ℕ
@@ -66,19 +50,12 @@ program_text traced =
     ++ report_text traced.report.outcome.actions.items traced.report.outcome.charged traced.report.limit
 
 abbrev pub traced_text : Traced → List ℕ
-traced_text (traces.Script traced) = script_text traced
-traced_text (traces.Program traced) = program_text traced
+traced_text (kinds.Script traced) = script_text traced
+traced_text (kinds.Program traced) = program_text traced
 
--- the text of an answer, and the refusal that goes with it
-abbrev pub answer_text : JobAnswer → List ℕ
-answer_text (answers.Lines lines) = lines_text lines
-answer_text (answers.Trace traced) = traced_text traced
-
-abbrev pub answer_refusal : JobAnswer → Option Refusal
-answer_refusal (answers.Lines lines) = refusal_in lines
-answer_refusal (answers.Trace traced) = None
-
--- a trace is an answer to jobs whose answer goes out as it is made
-abbrev pub IsAnswerOf : Job → JobAnswer → Type 0
-IsAnswerOf job (answers.Lines lines) = ⊤
-IsAnswerOf job (answers.Trace traced) = GoesOutAsMade job
+-- the answer that the code has made
+abbrev pub answer_in : JobAnswer → Answer
+answer_in (answers.Says lines) = says (lines_text lines)
+answer_in (answers.Traces traced) = traces (traced_text traced)
+answer_in (answers.Finds lines refusal) = finds (lines_text lines) refusal
+answer_in (answers.Writes name source octets) = writes name.now source.now octets.items

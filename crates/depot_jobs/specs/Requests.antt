@@ -1,11 +1,14 @@
--- Commands on a depot, with what stands for their files.
+-- Commands, with what stands for their files.
 use Rattle.std.specs.Prelude.{ℕ, List, Vec}
 use Rattle.std.specs.Borrow.{Bor}
 use Rattle.std.specs.declared.alloc.Global.{Global}
+use Rattle.depot_jobs.specs.declared.host.Input.{Input}
 use Rattle.depot_jobs.specs.declared.request.OnDepot.{OnDepot}
 use Rattle.depot_jobs.specs.declared.request.OnDepot.TheVariants.{Script, Code, Deliver, List as ListEntries, Export, Remove, Migrate}
+use Rattle.depot_jobs.specs.declared.work.File.{File}
+use Rattle.depot_jobs.specs.declared.work.WithoutDepot.{WithoutDepot}
 
--- with the names of their files
+-- on a depot, with the names of their files
 abbrev pub Request : Type 0
 Request = OnDepot (Bor (List ℕ))
 
@@ -13,7 +16,15 @@ Request = OnDepot (Bor (List ℕ))
 abbrev pub Task : Type 0
 Task = OnDepot (Vec ℕ Global)
 
--- the same command, with this for its file
+-- without a depot, with where their files are read from
+abbrev pub Work : Type 0
+Work = WithoutDepot Input
+
+-- with their files, which were read
+abbrev pub Job : Type 0
+Job = WithoutDepot File
+
+-- the same command on a depot, with this for its file
 abbrev pub with_file : {F G : Type 0} → G → OnDepot F → OnDepot G
 with_file file (Script user script) = Script user file
 with_file file (Code user program) = Code user file

@@ -10,10 +10,13 @@ use Rattle.encodings.specs.declared.encoding.Encoding.TheVariants.{Raw}
 use Rattle.encodings.specs.Names.{encoding_of, name_of}
 use Rattle.depot_jobs.specs.declared.line.CommandLine.{CommandLine}
 use Rattle.depot_jobs.specs.declared.line.CommandLine.TheVariants.{Alone, OnDepot, Program, Inspect, Batch}
-use Rattle.depot_jobs.specs.Requests.{Request}
+use Rattle.depot_jobs.specs.Requests.{Request, Work}
+use Rattle.depot_jobs.specs.declared.host.Input.{Input}
+use Rattle.depot_jobs.specs.declared.host.Input.TheVariants.{Standard, File}
 use Rattle.depot_jobs.specs.declared.request.OnDepot.TheVariants.{Script, Code, Deliver, List as ListAll, Export, Remove, Migrate}
-use Rattle.depot_jobs.specs.declared.work.Work.{Work}
-use Rattle.depot_jobs.specs.declared.work.Work.TheVariants.{NoWords, Check, Explain, Compile, Verify, Limit, Run, Disassemble, Assemble, Eval, Trace, Parts, Encode, Decode}
+use Rattle.depot_jobs.specs.declared.work.Runner.TheVariants.{Run, Eval, Trace}
+use Rattle.depot_jobs.specs.declared.work.Tool.TheVariants.{KeepAll, Check, Explain, Compile, Verify, Limit, Disassemble, Assemble, Parts, Encode, Decode}
+use Rattle.depot_jobs.specs.declared.work.WithoutDepot.TheVariants.{OnFile, OnMessage}
 
 -- the text of an argument, empty where it has none
 abbrev pub argument : Text → List Row → Text
@@ -55,43 +58,49 @@ abbrev pub IsNoDepotCommand : Text → Type 0
 IsNoDepotCommand name =
     IsNoRequest name × (name ≢ codes "program") × (name ≢ codes "inspect") × (name ≢ codes "batch")
 
+-- the file whose name is this argument
+abbrev pub IsFile : Text → List Row → Input → Type 0
+IsFile name rows (File file) = file.now ≡ argument name rows
+IsFile name rows Standard = ⊥
+
 -- the work is what the matches say: which command there is, and its arguments
 abbrev pub SaysWork : Work → Option (Text × List Row) → Type 0
-SaysWork NoWords matches = IfSome matches (λ m. IsNoWork m.0 × IsNoDepotCommand m.0)
-SaysWork (Check script) matches = (rows : List Row) × IsCommand (codes "check") matches rows
-    × (script.now ≡ argument (codes "SCRIPT") rows)
-SaysWork (Explain script) matches = (rows : List Row) × IsCommand (codes "explain") matches rows
-    × (script.now ≡ argument (codes "SCRIPT") rows)
-SaysWork (Compile script out) matches =
-    (rows : List Row) × IsCommand (codes "compile") matches rows × (script.now ≡ argument (codes "SCRIPT") rows)
+SaysWork (OnFile KeepAll message) matches =
+    IfSome matches (λ m. IsNoWork m.0 × IsNoDepotCommand m.0) × (message ≡ Standard)
+SaysWork (OnFile Check script) matches = (rows : List Row) × IsCommand (codes "check") matches rows
+    × IsFile (codes "SCRIPT") rows script
+SaysWork (OnFile Explain script) matches = (rows : List Row) × IsCommand (codes "explain") matches rows
+    × IsFile (codes "SCRIPT") rows script
+SaysWork (OnFile (Compile out) script) matches =
+    (rows : List Row) × IsCommand (codes "compile") matches rows × IsFile (codes "SCRIPT") rows script
     × (out.now ≡ argument (codes "OUT") rows)
-SaysWork (Eval script message) matches =
-    (rows : List Row) × IsCommand (codes "eval") matches rows × (script.now ≡ argument (codes "SCRIPT") rows)
-    × (message.now ≡ argument (codes "MESSAGE") rows)
-SaysWork (Trace file message) matches =
-    (rows : List Row) × IsCommand (codes "trace") matches rows × (file.now ≡ argument (codes "FILE") rows)
-    × (message.now ≡ argument (codes "MESSAGE") rows)
-SaysWork (Verify program) matches = (rows : List Row) × IsCommand (codes "verify") matches rows
-    × (program.now ≡ argument (codes "PROGRAM") rows)
-SaysWork (Limit program octets parts) matches =
-    (rows : List Row) × IsCommand (codes "limit") matches rows × (program.now ≡ argument (codes "PROGRAM") rows)
+SaysWork (OnFile Verify program) matches = (rows : List Row) × IsCommand (codes "verify") matches rows
+    × IsFile (codes "PROGRAM") rows program
+SaysWork (OnFile (Limit octets parts) program) matches =
+    (rows : List Row) × IsCommand (codes "limit") matches rows × IsFile (codes "PROGRAM") rows program
     × IsNumber (argument (codes "OCTETS") rows) octets × IsNumber (argument (codes "PARTS") rows) parts
-SaysWork (Run program message) matches =
-    (rows : List Row) × IsCommand (codes "run") matches rows × (program.now ≡ argument (codes "PROGRAM") rows)
-    × (message.now ≡ argument (codes "MESSAGE") rows)
-SaysWork (Disassemble program) matches =
-    (rows : List Row) × IsCommand (codes "disassemble") matches rows × (program.now ≡ argument (codes "PROGRAM") rows)
-SaysWork (Assemble listing out) matches =
-    (rows : List Row) × IsCommand (codes "assemble") matches rows × (listing.now ≡ argument (codes "LISTING") rows)
+SaysWork (OnFile Disassemble program) matches = (rows : List Row) × IsCommand (codes "disassemble") matches rows
+    × IsFile (codes "PROGRAM") rows program
+SaysWork (OnFile (Assemble out) listing) matches =
+    (rows : List Row) × IsCommand (codes "assemble") matches rows × IsFile (codes "LISTING") rows listing
     × (out.now ≡ argument (codes "OUT") rows)
-SaysWork (Parts message) matches = (rows : List Row) × IsCommand (codes "parts") matches rows
-    × (message.now ≡ argument (codes "MESSAGE") rows)
-SaysWork (Encode encoding) matches =
+SaysWork (OnFile Parts message) matches = (rows : List Row) × IsCommand (codes "parts") matches rows
+    × IsFile (codes "MESSAGE") rows message
+SaysWork (OnFile (Encode encoding) octets) matches =
     (rows : List Row) × IsCommand (codes "encode") matches rows
-    × (encoding ≡ encoding_named (argument (codes "ENCODING") rows))
-SaysWork (Decode encoding) matches =
+    × (encoding ≡ encoding_named (argument (codes "ENCODING") rows)) × (octets ≡ Standard)
+SaysWork (OnFile (Decode encoding) text) matches =
     (rows : List Row) × IsCommand (codes "decode") matches rows
-    × (encoding ≡ encoding_named (argument (codes "ENCODING") rows))
+    × (encoding ≡ encoding_named (argument (codes "ENCODING") rows)) × (text ≡ Standard)
+SaysWork (OnMessage Run program message) matches =
+    (rows : List Row) × IsCommand (codes "run") matches rows × IsFile (codes "PROGRAM") rows program
+    × IsFile (codes "MESSAGE") rows message
+SaysWork (OnMessage Eval script message) matches =
+    (rows : List Row) × IsCommand (codes "eval") matches rows × IsFile (codes "SCRIPT") rows script
+    × IsFile (codes "MESSAGE") rows message
+SaysWork (OnMessage Trace file message) matches =
+    (rows : List Row) × IsCommand (codes "trace") matches rows × IsFile (codes "FILE") rows file
+    × IsFile (codes "MESSAGE") rows message
 
 -- the request is what the matches say: which command there is, and these arguments of it, but for the depot
 abbrev pub SaysRequest : Request → Option (Text × List Row) → List Row → Type 0
@@ -155,10 +164,10 @@ WritesFrom name least most number matches =
 
 -- the numbers and the encoding of a command are those that the matches have
 abbrev pub AreSaid : CommandLine → Option (Text × List Row) → Type 0
-AreSaid (Alone (Limit program octets parts)) matches =
+AreSaid (Alone (OnFile (Limit octets parts) program)) matches =
     WritesFrom (codes "OCTETS") 0 max_message octets matches × WritesFrom (codes "PARTS") 1 max_parts parts matches
-AreSaid (Alone (Encode encoding)) matches = NamesEncoding encoding matches
-AreSaid (Alone (Decode encoding)) matches = NamesEncoding encoding matches
+AreSaid (Alone (OnFile (Encode encoding) octets)) matches = NamesEncoding encoding matches
+AreSaid (Alone (OnFile (Decode encoding) text)) matches = NamesEncoding encoding matches
 AreSaid (OnDepot depot (Export user number encoding)) matches =
     WritesNumber number matches × NamesEncoding encoding matches
 AreSaid (OnDepot depot (Remove user number)) matches = WritesNumber number matches

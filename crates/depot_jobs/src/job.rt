@@ -1,38 +1,35 @@
 // Jobs and their answers.
-ghost use Rattle.std.specs.Prelude.{◌≡◌, ◌≢◌, ◌<◌, ◌≤◌, ◌⊎◌, ◌++◌, ℕ, None, IfErr, IfOk, IsErrAnd, MatchOption, OnErr, OnOk, length, string_bytes};
+ghost use Rattle.std.specs.Prelude.{◌≡◌, ◌≢◌, ◌<◌, ◌⊎◌, ◌++◌, IfErr, IfOk, IsErrAnd, length, string_bytes};
 ghost use Rattle.octets.specs.Limits.{max_program};
 ghost use Rattle.bytecode_cost.specs.Text.{budget_text};
 ghost use Rattle.bytecode_format.specs.Code.{Code};
 ghost use Rattle.bytecode_format.specs.Spelling.{spelling};
-ghost use Rattle.bytecode_listing.specs.Items.{FaultsAt, Lists, kind_of};
 ghost use Rattle.bytecode_listing.specs.Listing.{accepted_listing, refused_listing};
 ghost use Rattle.bytecode_verifier.specs.Budget.{budget_of};
 ghost use Rattle.bytecode_verifier.specs.declared.error.Refusal.TheVariants as verifier;
-ghost use Rattle.sieve_check.specs.Typed.{CommandForms};
-ghost use Rattle.sieve_engine.specs.Evaluation.{IsScript};
-ghost use Rattle.sieve_explain.specs.Explaining.{Explains, listing_told};
 ghost use Rattle.refusals.specs.Causes.{of_verifier};
-ghost use Rattle.refusals.specs.Scripts.{IsScriptRefusal};
-ghost use Rattle.refusals.specs.declared.refusal.Refusal.TheVariants.{Listing, Memory, ScriptTooLong, Spelling};
+ghost use Rattle.refusals.specs.declared.refusal.Refusal.TheVariants.{Memory, ScriptTooLong, Spelling, Write};
 ghost use Rattle.sieve_engine.specs.Execution.{IsChecked, IsProgramRefusal};
-ghost use Rattle.depot_jobs.specs.Host.{HasMade, HasNotMade};
 ghost use Rattle.devices.specs.Device.{HasBroken, HasTaken};
 ghost use Rattle.devices.specs.Pages.{Wrote};
-ghost use Rattle.depot_jobs.specs.Jobs.{HasAnswered, HasFound, HasLongProgram, HasLongScript, HasRefused, HasStopped, HasTold, IsFaultless, IsJobRefusal, IsListing, IsShown, IsUnspelled, commented, host_and_outputs};
-ghost use Rattle.depot_jobs.specs.Private.{IsAnswerOf, answer_refusal, answer_text, lines_text, refusal_in, verdict_line};
+ghost use Rattle.depot_jobs.specs.Jobs.{Answers, HasLongProgram, HasLongScript, HasOutcome, HasTold, IsGiven, IsJobRefusal, IsListing, IsUnspelled, commented, host_and_outputs, keeping_code};
+ghost use Rattle.depot_jobs.specs.Private.{answer_in, lines_text, verdict_line};
 ghost use Rattle.depot_jobs.specs.Printed.{ok_text};
-ghost use Rattle.printing.specs.Printed.{line, refusal_line, wrote_text};
+ghost use Rattle.depot_jobs.specs.declared.work.Tool.TheVariants.{Assemble, Explain};
+ghost use Rattle.depot_jobs.specs.declared.work.WithoutDepot.TheVariants.{OnFile, OnMessage};
+ghost use Rattle.printing.specs.Printed.{line, refusal_line};
 
 use crate::host::Host;
 use crate::limit::limit_lines;
 use crate::listing::parts_lines;
 use crate::making::make_file;
 use crate::tracing::{Traced, put_traced, trace_of};
+use crate::work::{File, Job, Runner, Tool};
 use bytecode_format::Program;
 use bytecode_listing::{ListingError, assemble, disassemble_accepted, disassemble_refused};
 use bytecode_verifier::{Refusal as BrokenRule, Verified, verify};
-use devices::{DeviceFailed, Page, Sink};
-use encodings::{Encoding, decode, encode};
+use devices::{DeviceFailed, Page, Sink, put};
+use encodings::{decode, encode};
 use printing::{print_line, print_refusal, print_run, print_wrote, put_refusal};
 use refusals::Refusal;
 use sieve_check::laws::faultless_scripts_have_a_form;
@@ -46,83 +43,14 @@ pub const SUCCESS: u8 = 0;
 /// The status of a command that was refused, or whose answer broke off.
 pub const REFUSED: u8 = 1;
 
-/// A command that needs no depot, with the bytes of its files. [`crate::carry_out`] makes it from [`crate::Work`], and
-/// [`answer`] carries it out.
-#[derive(Clone, Copy)]
-pub enum Job<'a> {
-    /// Check whether a script has a fault.
-    Check {
-        script: &'a [u8],
-    },
-    /// Check whether a script has a fault, and describe it in words.
-    Explain {
-        script: &'a [u8],
-        /// The name of the script's file.
-        name: &'a str,
-    },
-    /// Compile a script and write its program to a file.
-    Compile {
-        script: &'a [u8],
-        /// The name of the script's file.
-        name: &'a str,
-        /// The name of the program's file.
-        out: &'a str,
-    },
-    /// Check whether a program is accepted, and print its budget.
-    Verify {
-        program: &'a [u8],
-    },
-    /// Print how much a program can charge and file at most for messages with at most `octets` bytes and `parts` parts.
-    Limit {
-        program: &'a [u8],
-        octets: u32,
-        parts: u32,
-    },
-    /// Run a program on a message.
-    Run {
-        program: &'a [u8],
-        message: &'a [u8],
-    },
-    /// Print the listing of a program, and the verdict of the verifier.
-    Disassemble {
-        program: &'a [u8],
-    },
-    /// Assemble a listing and write its program to a file.
-    Assemble {
-        listing: &'a [u8],
-        /// The name of the listing's file.
-        name: &'a str,
-        /// The name of the program's file.
-        out: &'a str,
-    },
-    /// Evaluate a script on a message.
-    Eval {
-        script: &'a [u8],
-        message: &'a [u8],
-    },
-    /// Trace a script or a program on a message, step by step.
-    Trace {
-        /// The bytes of the script or the program.
-        octets: &'a [u8],
-        /// The name of their file.
-        name: &'a str,
-        message: &'a [u8],
-    },
-    /// List the parts of a message.
-    Parts {
-        message: &'a [u8],
-    },
-    /// Encode bytes.
-    Encode {
-        encoding: Encoding,
-        octets: &'a [u8],
-    },
-    /// Decode a text.
-    Decode {
-        encoding: Encoding,
-        text: &'a [u8],
-    },
-}
+/// The program that keeps every message.
+const KEEPS_ALL: &[u8] = &[
+    b'S', b'V', b'B', b'C', 1, // the format and its version
+    0, 0, 0, 0, 0, 0, // no variables, numbers and strings
+    0, 0, 0, 2, // two instructions
+    0x13, 0, 0, 0, 0, 0, 0, 0, // keep
+    0x01, 0, 0, 0, 0, 0, 0, 0, // halt
+];
 
 /// The verdict of the verifier on a program; a listing ends with it.
 #[derive(Drop)]
@@ -133,16 +61,13 @@ pub enum Verdict {
     Refused(Refusal),
 }
 
-/// The content of a job's answer, complete before any of it is written. Each case becomes one or more printed lines,
-/// except `Octets`.
+/// A text, complete before any of it is written. Each case becomes one or more printed lines, except `Octets`.
 #[derive(Drop)]
 pub enum Lines {
     /// A script has no fault.
     NoFault,
     /// A script has no fault; these are the notes on it.
     Remarks(Vec<u8>),
-    /// The fault of a script or of a listing, in words, and its refusal.
-    Fault(Vec<u8>, Refusal),
     /// This many bytes were written to a file.
     Wrote(usize),
     /// The text of an accepted program's budget, or of its limits.
@@ -155,13 +80,24 @@ pub enum Lines {
     Octets(Vec<u8>),
 }
 
-/// A job's answer, before it is written.
+/// A job's answer, before any of it is written.
 #[derive(Drop)]
 pub enum JobAnswer<'a> {
-    /// An answer that is complete.
-    Lines(Lines),
+    /// A text.
+    Says(Lines),
     /// A trace, which is made while it is written.
-    Trace(Traced<'a>),
+    Traces(Traced<'a>),
+    /// The fault of a script or of a listing, in words, and its refusal.
+    Finds(Vec<u8>, Refusal),
+    /// The program of a script or of a listing, which becomes a file.
+    Writes {
+        /// The name of the file.
+        name: &'a str,
+        /// The name of the file of the script or the listing.
+        source: &'a str,
+        /// The bytes of the program.
+        octets: Vec<u8>,
+    },
 }
 
 /// Carries out a job, and returns the exit status: it writes the answer to `out` and returns 0, or writes the line of
@@ -188,55 +124,66 @@ pub fn answer<H: Host, O: Sink, E: Sink>(
     out: &mut O,
     err: &mut E,
 ) -> u8
-    ensures status { result ≤ 1 }
-    ensures done { result ≡ 0 → HasAnswered job.entry
+    ensures outcome { HasOutcome (out.new ≡ out.old) (err.new ≡ err.old) job.entry result
         (host_and_outputs (H.state host.old) (O.output out.old) (E.output err.old))
-        (host_and_outputs (H.state host.new) (O.output out.new) (E.output err.new))
-        × (err.new ≡ err.old) }
-    ensures failed { result ≡ 1 →
-        HasFound job.entry
-        (host_and_outputs (H.state host.old) (O.output out.old) (E.output err.old))
-        (host_and_outputs (H.state host.new) (O.output out.new) (E.output err.new))
-        ⊎ (HasStopped job.entry
-        (host_and_outputs (H.state host.old) (O.output out.old) (E.output err.old))
-        (host_and_outputs (H.state host.new) (O.output out.new) (E.output err.new))
-        ⊎ (HasRefused job.entry
-        (host_and_outputs (H.state host.old) (O.output out.old) (E.output err.old))
-        (host_and_outputs (H.state host.new) (O.output out.new) (E.output err.new))
-        × (out.new ≡ out.old))) }
+        (host_and_outputs (H.state host.new) (O.output out.new) (E.output err.new)) }
     ensures long_script { HasLongScript job.entry → (result ≡ 1)
         × HasTold ScriptTooLong (E.output err.old) (E.output err.new) × (out.new ≡ out.old) }
     ensures long_program { HasLongProgram job.entry → (result ≡ 1)
         × HasTold Spelling (E.output err.old) (E.output err.new) × (out.new ≡ out.old) }
 {
-    match carry_out(alloc, job, host) {
-        Ok(JobAnswer::Lines(lines)) => match put_lines(out, &lines) {
-            Ok(()) => tell_found(err, &lines),
-            Err(DeviceFailed) => tell(err, &Refusal::Write),
-        },
-        Ok(JobAnswer::Trace(traced)) => match put_traced(alloc, out, &traced) {
-            Ok(()) => SUCCESS,
-            Err(why) => tell(err, &why),
-        },
+    match answer_of(alloc, job) {
+        Ok(answer) => give(alloc, answer, host, out, err),
         Err(refusal) => tell(err, &refusal),
     }
 }
 
-// Writes the line of the refusal that belongs to lines, if there is one, and returns the status.
-fn tell_found<E: Sink>(err: &mut E, lines: &Lines) -> u8
-    ensures { MatchOption (refusal_in lines.now)
-        ((result ≡ 0) × (err.new ≡ err.old))
-        (λ refusal. (result ≡ 1) × HasTold refusal (E.output err.old) (E.output err.new)) }
+// Makes the file of an answer, if it has one, writes its text, and returns the status. The refusal that belongs to the
+// answer is told, if there is one.
+fn give<H: Host, O: Sink, E: Sink>(
+    alloc: Global,
+    answer: JobAnswer<'_>,
+    host: &mut H,
+    out: &mut O,
+    err: &mut E,
+) -> u8
+    ensures { IsGiven (out.new ≡ out.old) (err.new ≡ err.old) (answer_in answer.entry) result
+        (host_and_outputs (H.state host.old) (O.output out.old) (E.output err.old))
+        (host_and_outputs (H.state host.new) (O.output out.new) (E.output err.new)) }
 {
-    match lines {
-        Lines::Fault(_, refusal) => tell(err, refusal),
-        Lines::NoFault
-        | Lines::Remarks(_)
-        | Lines::Wrote(_)
-        | Lines::Budget(_)
-        | Lines::Listing(..)
-        | Lines::Report(_)
-        | Lines::Octets(_) => SUCCESS,
+    match answer {
+        JobAnswer::Says(lines) => put_lines(out, err, &lines),
+        JobAnswer::Traces(traced) => match put_traced(alloc, out, &traced) {
+            Ok(()) => SUCCESS,
+            Err(why) => tell(err, &why),
+        },
+        JobAnswer::Finds(text, refusal) => match put(out, &text) {
+            Ok(()) => tell(err, &refusal),
+            Err(DeviceFailed) => tell(err, &Refusal::Write),
+        },
+        JobAnswer::Writes {
+            name,
+            source,
+            octets,
+        } => match make_file(alloc, host, name, source, &octets) {
+            Ok(()) => put_lines(out, err, &Lines::Wrote(octets.len())),
+            Err(refusal) => tell(err, &refusal),
+        },
+    }
+}
+
+// Writes lines, on one page, and returns the status. If they break off, the line of `Write` is written to `err`.
+fn put_lines<O: Sink, E: Sink>(out: &mut O, err: &mut E, lines: &Lines) -> u8
+    ensures { ((result ≡ 0) × HasTaken (lines_text lines.now) (O.output out.old) (O.output out.new)
+        × (err.new ≡ err.old))
+        ⊎ ((result ≡ 1) × HasBroken (lines_text lines.now) (O.output out.old) (O.output out.new)
+        × HasTold Write (E.output err.old) (E.output err.new)) }
+{
+    let mut page = Page::new(out);
+    print_lines(&mut page, lines);
+    match page.flush() {
+        Ok(()) => SUCCESS,
+        Err(DeviceFailed) => tell(err, &Refusal::Write),
     }
 }
 
@@ -249,90 +196,127 @@ pub fn tell<E: Sink>(err: &mut E, refusal: &Refusal) -> u8
     REFUSED
 }
 
-// Does the job, and makes everything that its answer consists of.
-fn carry_out<'a, H: Host>(
-    alloc: Global,
-    job: Job<'a>,
-    host: &mut H,
-) -> Result<JobAnswer<'a>, Refusal>
-    ensures shown { IfOk result (λ answer. IsShown job.entry (answer_text answer)
-        (answer_refusal answer) (H.state host.old) (H.state host.new)) }
-    ensures made { IfOk result (IsAnswerOf job.entry) }
-    ensures refused { IfErr result (λ refusal. IsJobRefusal job.entry refusal (H.state host.old)
-        (H.state host.new)) }
+// The answer of a job.
+fn answer_of<'a>(alloc: Global, job: Job<'a>) -> Result<JobAnswer<'a>, Refusal>
+    ensures answers { IfOk result (λ answer. Answers job.entry (answer_in answer)) }
+    ensures refused { IfErr result (λ refusal. IsJobRefusal job.entry refusal) }
     ensures long_script { HasLongScript job.entry → IsErrAnd result (λ e. e ≡ ScriptTooLong) }
     ensures long_program { HasLongProgram job.entry → IsErrAnd result (λ e. e ≡ Spelling) }
 {
     match job {
-        Job::Check { script } => {
-            let _checked = check_script(alloc, script)?;
-            Ok(JobAnswer::Lines(Lines::NoFault))
+        Job::OnFile(tool, file) => answer_on_file(alloc, tool, file),
+        Job::OnMessage(runner, file, message) => answer_on_message(alloc, runner, file, message),
+    }
+}
+
+// The answer of a job on one file.
+fn answer_on_file<'a>(
+    alloc: Global,
+    tool: Tool<'a>,
+    file: File<'a>,
+) -> Result<JobAnswer<'a>, Refusal>
+    ensures answers { IfOk result (λ answer. Answers (OnFile tool.entry file.entry)
+        (answer_in answer)) }
+    ensures refused { IfErr result (λ refusal. IsJobRefusal (OnFile tool.entry file.entry) refusal) }
+    ensures long_script { HasLongScript (OnFile tool.entry file.entry)
+        → IsErrAnd result (λ e. e ≡ ScriptTooLong) }
+    ensures long_program { HasLongProgram (OnFile tool.entry file.entry)
+        → IsErrAnd result (λ e. e ≡ Spelling) }
+{
+    match tool {
+        Tool::KeepAll => {
+            let report = execute(alloc, keeping_program(), file.octets)?;
+            Ok(JobAnswer::Says(Lines::Report(report)))
         }
-        Job::Explain { script, name } => Ok(JobAnswer::Lines(explain_script(alloc, script, name)?)),
-        Job::Compile { script, name, out } => {
-            let program = code_octets(alloc, script)?;
-            make_file(alloc, host, out, name, &program)?;
-            Ok(JobAnswer::Lines(Lines::Wrote(program.len())))
+        Tool::Check => {
+            let _checked = check_script(alloc, file.octets)?;
+            Ok(JobAnswer::Says(Lines::NoFault))
         }
-        Job::Verify { program } => {
-            let budget = budget_line(alloc, program)?;
-            Ok(JobAnswer::Lines(Lines::Budget(budget)))
+        Tool::Explain => explain_script(alloc, file),
+        Tool::Compile { out } => {
+            let octets = code_octets(alloc, file.octets)?;
+            Ok(JobAnswer::Writes {
+                name: out,
+                source: file.name,
+                octets,
+            })
         }
-        Job::Limit {
-            program,
-            octets,
-            parts,
-        } => {
-            let lines = limit_lines(alloc, program, octets, parts)?;
-            Ok(JobAnswer::Lines(Lines::Budget(lines)))
+        Tool::Verify => {
+            let budget = budget_line(alloc, file.octets)?;
+            Ok(JobAnswer::Says(Lines::Budget(budget)))
         }
-        Job::Run { program, message } => {
-            let report = execute(alloc, program, message)?;
-            Ok(JobAnswer::Lines(Lines::Report(report)))
+        Tool::Limit { octets, parts } => {
+            let lines = limit_lines(alloc, file.octets, octets, parts)?;
+            Ok(JobAnswer::Says(Lines::Budget(lines)))
         }
-        Job::Disassemble { program } => Ok(JobAnswer::Lines(list_program(alloc, program)?)),
-        Job::Assemble { listing, name, out } => {
-            let lines = assemble_program(alloc, listing, name, out, host)?;
-            Ok(JobAnswer::Lines(lines))
+        Tool::Disassemble => Ok(JobAnswer::Says(list_program(alloc, file.octets)?)),
+        Tool::Assemble { out } => assemble_program(alloc, out, file),
+        Tool::Parts => {
+            let lines = parts_lines(alloc, file.octets)?;
+            Ok(JobAnswer::Says(Lines::Octets(lines)))
         }
-        Job::Eval { script, message } => {
-            let report = evaluate(alloc, script, message)?;
-            Ok(JobAnswer::Lines(Lines::Report(report)))
+        Tool::Encode { encoding } => {
+            let text = encode(alloc, encoding, file.octets)?;
+            Ok(JobAnswer::Says(Lines::Octets(text)))
         }
-        Job::Trace {
-            octets,
-            name,
-            message,
-        } => Ok(JobAnswer::Trace(trace_of(alloc, name, octets, message)?)),
-        Job::Parts { message } => {
-            let lines = parts_lines(alloc, message)?;
-            Ok(JobAnswer::Lines(Lines::Octets(lines)))
-        }
-        Job::Encode { encoding, octets } => {
-            let text = encode(alloc, encoding, octets)?;
-            Ok(JobAnswer::Lines(Lines::Octets(text)))
-        }
-        Job::Decode { encoding, text } => {
-            let octets = decode(alloc, encoding, text)?;
-            Ok(JobAnswer::Lines(Lines::Octets(octets)))
+        Tool::Decode { encoding } => {
+            let octets = decode(alloc, encoding, file.octets)?;
+            Ok(JobAnswer::Says(Lines::Octets(octets)))
         }
     }
 }
 
-// Whether a script has a fault, and its description in words; or the notes on it.
-fn explain_script(alloc: Global, script: &[u8], name: &str) -> Result<Lines, Refusal>
-    ensures shown { IfOk result (λ lines. MatchOption (refusal_in lines)
-        ((form : CommandForms) × IsScript script.now form
-        × IsFaultless name.now script.now (lines_text lines))
-        (λ refusal. (refusal ≢ Memory) × IsScriptRefusal script.now refusal
-        × Explains name.now script.now refusal (lines_text lines))) }
+// The answer of a job on a script or a program, and a message.
+fn answer_on_message<'a>(
+    alloc: Global,
+    runner: Runner,
+    file: File<'a>,
+    message: File<'a>,
+) -> Result<JobAnswer<'a>, Refusal>
+    ensures answers { IfOk result (λ answer. Answers
+        (OnMessage runner.entry file.entry message.entry) (answer_in answer)) }
+    ensures refused { IfErr result (λ refusal. IsJobRefusal
+        (OnMessage runner.entry file.entry message.entry) refusal) }
+    ensures long_script { HasLongScript (OnMessage runner.entry file.entry message.entry)
+        → IsErrAnd result (λ e. e ≡ ScriptTooLong) }
+    ensures long_program { HasLongProgram (OnMessage runner.entry file.entry message.entry)
+        → IsErrAnd result (λ e. e ≡ Spelling) }
+{
+    match runner {
+        Runner::Run => {
+            let report = execute(alloc, file.octets, message.octets)?;
+            Ok(JobAnswer::Says(Lines::Report(report)))
+        }
+        Runner::Eval => {
+            let report = evaluate(alloc, file.octets, message.octets)?;
+            Ok(JobAnswer::Says(Lines::Report(report)))
+        }
+        Runner::Trace => {
+            let traced = trace_of(alloc, file.name, file.octets, message.octets)?;
+            Ok(JobAnswer::Traces(traced))
+        }
+    }
+}
+
+// The program that keeps every message.
+fn keeping_program() -> &'static [u8]
+    ensures { result.now ≡ spelling keeping_code }
+{
+    KEEPS_ALL
+}
+
+// That a script has no fault, and the notes on it; or its fault, in words.
+fn explain_script<'a>(alloc: Global, script: File<'a>) -> Result<JobAnswer<'a>, Refusal>
+    ensures answers { IfOk result (λ answer. Answers (OnFile Explain script.entry)
+        (answer_in answer)) }
     ensures refused { IfErr result (λ e. e ≡ Memory) }
 {
-    match explain(alloc, name, script)? {
-        Some(found) => Ok(Lines::Fault(found.text, found.refusal)),
+    match explain(alloc, script.name, script.octets)? {
+        Some(found) => Ok(JobAnswer::Finds(found.text, found.refusal)),
         None => {
             faultless_scripts_have_a_form();
-            Ok(Lines::Remarks(remarks_on(alloc, name, script)?))
+            let remarks = remarks_on(alloc, script.name, script.octets)?;
+            Ok(JobAnswer::Says(Lines::Remarks(remarks)))
         }
     }
 }
@@ -350,8 +334,7 @@ fn budget_line(alloc: Global, program: &[u8]) -> Result<String, Refusal>
 
 // The listing of a program, and the verdict of the verifier.
 fn list_program(alloc: Global, program: &[u8]) -> Result<Lines, Refusal>
-    ensures listed { IfOk result (λ lines. (refusal_in lines ≡ None)
-        × IsListing program.now (lines_text lines)) }
+    ensures listed { IfOk result (λ lines. IsListing program.now (lines_text lines)) }
     ensures refused { IfErr result (IsUnspelled program.now) }
     ensures large { max_program < length program.now → IsErrAnd result (λ e. e ≡ Spelling) }
 {
@@ -364,9 +347,8 @@ fn list_program(alloc: Global, program: &[u8]) -> Result<Lines, Refusal>
 
 // The listing of an accepted program, and its budget.
 fn list_accepted(alloc: Global, program: &Verified) -> Result<Lines, Refusal>
-    ensures listed { IfOk result (λ lines. (refusal_in lines ≡ None)
-        × (lines_text lines ≡ accepted_listing program.now
-        ++ commented (line (budget_text (budget_of program.now))))) }
+    ensures listed { IfOk result (λ lines. lines_text lines ≡ accepted_listing program.now
+        ++ commented (line (budget_text (budget_of program.now)))) }
     ensures refused { IfErr result (λ e. e ≡ Memory) }
 {
     let listing = disassemble_accepted(alloc, program)?;
@@ -376,7 +358,7 @@ fn list_accepted(alloc: Global, program: &Verified) -> Result<Lines, Refusal>
 
 // The listing of a program that breaks a rule, and the refusal.
 fn list_refused(alloc: Global, program: &Program, rule: BrokenRule) -> Result<Lines, Refusal>
-    ensures listed { IfOk result (λ lines. (rule ≢ verifier.Memory) × (refusal_in lines ≡ None)
+    ensures listed { IfOk result (λ lines. (rule ≢ verifier.Memory)
         × (lines_text lines ≡ refused_listing rule program.now
         ++ commented (refusal_line (of_verifier rule)))) }
     ensures refused { IfErr result (λ e. e ≡ Memory) }
@@ -388,49 +370,31 @@ fn list_refused(alloc: Global, program: &Program, rule: BrokenRule) -> Result<Li
     Ok(Lines::Listing(listing, Verdict::Refused(Refusal::from(rule))))
 }
 
-// Makes the file of the program that a listing describes; or describes the mistake in the listing.
-fn assemble_program<H: Host>(
+// The program that a listing describes; or the fault of the listing, in words.
+fn assemble_program<'a>(
     alloc: Global,
-    listing: &[u8],
-    name: &str,
-    out: &str,
-    host: &mut H,
-) -> Result<Lines, Refusal>
-    ensures shown { IfOk result (λ lines. MatchOption (refusal_in lines)
-        ((code : Code) × Lists listing.now code
-        × (lines_text lines ≡ line (wrote_text (length (spelling code))))
-        × HasMade out.now name.now (spelling code) (H.state host.old) (H.state host.new))
-        (λ refusal. (place : ℕ) × (refusal ≡ Listing place) × FaultsAt listing.now place
-        × (lines_text lines ≡ listing_told name.now listing.now place (kind_of listing.now))
-        × (H.state host.new ≡ H.state host.old))) }
-    ensures refused { IfErr result (λ e. ((e ≡ Memory) × (H.state host.new ≡ H.state host.old))
-        ⊎ ((code : Code) × Lists listing.now code
-        × HasNotMade e out.now name.now (H.state host.old) (H.state host.new))) }
+    out: &'a str,
+    listing: File<'a>,
+) -> Result<JobAnswer<'a>, Refusal>
+    ensures answers { IfOk result (λ answer. Answers (OnFile (Assemble out.entry) listing.entry)
+        (answer_in answer)) }
+    ensures refused { IfErr result (λ e. e ≡ Memory) }
 {
-    match assemble(alloc, listing) {
+    match assemble(alloc, listing.octets) {
         Ok(program) => {
             let octets = program.write(alloc)?;
-            make_file(alloc, host, out, name, &octets)?;
-            Ok(Lines::Wrote(octets.len()))
+            Ok(JobAnswer::Writes {
+                name: out,
+                source: listing.name,
+                octets,
+            })
         }
         Err(ListingError::Memory) => Err(Refusal::Memory),
         Err(ListingError::Fault { place, kind }) => {
-            let text = listing_explanation(alloc, name, listing, place, kind)?;
-            Ok(Lines::Fault(text, Refusal::Listing { place }))
+            let text = listing_explanation(alloc, listing.name, listing.octets, place, kind)?;
+            Ok(JobAnswer::Finds(text, Refusal::Listing { place }))
         }
     }
-}
-
-// Writes the lines, on one page.
-fn put_lines<O: Sink>(out: &mut O, lines: &Lines) -> Result<(), DeviceFailed>
-    ensures ok { OnOk result (HasTaken (lines_text lines.now) (O.output out.old)
-        (O.output out.new)) }
-    ensures err { OnErr result (HasBroken (lines_text lines.now) (O.output out.old)
-        (O.output out.new)) }
-{
-    let mut page = Page::new(out);
-    print_lines(&mut page, lines);
-    page.flush()
 }
 
 // Prints the lines.
@@ -440,7 +404,6 @@ fn print_lines<O: Sink>(page: &mut Page<'_, O>, lines: &Lines)
     match lines {
         Lines::NoFault => print_line(page, "ok"),
         Lines::Remarks(text) => print_remarks(page, text),
-        Lines::Fault(text, _) => page.write(text),
         Lines::Wrote(octets) => print_wrote(page, *octets),
         Lines::Budget(text) => print_line(page, text.as_str()),
         Lines::Listing(listing, verdict) => print_listing(page, listing, verdict),

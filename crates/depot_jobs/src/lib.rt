@@ -4,16 +4,15 @@
 //! [`line_of`] interprets the words (`specs/Words`) by the commands of `depot_words`: as [`Work`] that needs no depot,
 //! or a [`Request`] to one, each with the names of its files. A [`Host`] opens and makes files; a contract sees what
 //! it was asked for, and what it gave. [`System`] is the host of a real system. [`read_limited`] reads a
-//! [`Source`](devices::Source) up to a limit (`specs/LimitedReading`). With the octets of its files (`specs/Inputs`)
-//! work is a [`Job`]. [`answer`] carries out a job, and [`carry_out`] reads and does it (`specs/Working`): it writes
-//! exactly the answer, or the line of the refusal (`specs/Jobs`, `specs/Printed`). An answer is printed on one
+//! [`Source`](devices::Source) up to a limit (`specs/LimitedReading`). With its files, once they are read
+//! (`specs/Inputs`), work is a [`Job`]. [`answer`] carries out a job, and [`carry_out`] reads and does it
+//! (`specs/Working`): it writes exactly the answer, or the line of the refusal (`specs/Jobs`, `specs/Printed`). An answer is printed on one
 //! [`Page`](devices::Page), so it goes out in one write if it has at most 65,536 bytes. The lines of a trace go out as
 //! they are made, and the lines of its run after them in one piece. Writing takes no memory, except for a trace, and
 //! what a failed sink has got is a prefix of the text.
 //!
 //! A failed write of standard output gives status 1 and the line of Write on standard error; what the job did stays
-//! done. A job that makes a file has its bytes and still its name, so `Work` and `Job` are two enums, while `Request`
-//! and `Task` are one, `OnDepot`.
+//! done. `Work` and `Job` are one enum, [`WithoutDepot`], as `Request` and `Task` are [`OnDepot`].
 //!
 //! # Promises
 //!
@@ -95,7 +94,7 @@ mod working;
 pub use beside::is_beside;
 pub use host::{Host, Input};
 pub use inputs::read_file_of;
-pub use job::{Job, REFUSED, SUCCESS, answer, tell};
+pub use job::{REFUSED, SUCCESS, answer, tell};
 pub use line::{CommandLine, line_of};
 pub use making::make_file;
 pub use process_words::{tell_no_words, texts, words};
@@ -103,5 +102,5 @@ pub use reading::read_limited;
 pub use request::{OnDepot, Request, Task};
 pub use system::System;
 pub use usage::{tell_fault, tell_usage};
-pub use work::Work;
+pub use work::{File, Job, Runner, Tool, WithoutDepot, Work};
 pub use working::carry_out;

@@ -6,10 +6,11 @@ ghost use Rattle.std.specs.Prelude.{◌≡◌, IfOk, IfErr, MatchOption, Some, m
 ghost use Rattle.clap.specs.Words.{App, FailsBy, fault_of, found_of, kind_of, rows_of, subcommand_rows_of, takes};
 ghost use Rattle.clap.specs.declared.error.kind.ErrorKind.TheVariants.{OutOfMemory};
 ghost use Rattle.depot_words.specs.Commands.{AreEncodings, IsDepot};
-ghost use Rattle.depot_jobs.specs.Words.{IsLine, IsNoWork, IsNoRequest, IsNumber, Says, SaysRequest, SaysWork, argument as text_of, encoding_named};
+ghost use Rattle.depot_jobs.specs.Words.{IsFile, IsLine, IsNoWork, IsNoRequest, IsNumber, Says, SaysRequest, SaysWork, argument as text_of, encoding_named};
 
+use crate::host::Input;
 use crate::request::Request;
-use crate::work::Work;
+use crate::work::{Runner, Tool, Work};
 use clap::{ArgMatches, Error};
 use depot_words::depot_command;
 use encodings::Encoding;
@@ -78,7 +79,7 @@ fn line_in<'a>(matches: &ArgMatches<'a>) -> CommandLine<'a>
 {
     match matches.subcommand() {
         Some((name, found)) => command_in(name, found),
-        None => CommandLine::Alone(Work::NoWords),
+        None => CommandLine::Alone(Work::OnFile(Tool::KeepAll, Input::Standard)),
     }
 }
 
@@ -97,35 +98,29 @@ fn work_in<'a>(name: &str, found: &ArgMatches<'a>) -> Option<Work<'a>>
     ensures { MatchOption result (IsNoWork name.now)
         (λ work. SaysWork work (Some (name.now, rows_of (found_of found.now)))) }
 {
-    let script = argument(found, "SCRIPT");
-    let program = argument(found, "PROGRAM");
-    let message = argument(found, "MESSAGE");
+    let script = file(found, "SCRIPT");
+    let program = file(found, "PROGRAM");
+    let message = file(found, "MESSAGE");
     let out = argument(found, "OUT");
     let encoding = encoding_named(argument(found, "ENCODING"));
     match name {
-        "check" => Some(Work::Check { script }),
-        "explain" => Some(Work::Explain { script }),
-        "compile" => Some(Work::Compile { script, out }),
-        "verify" => Some(Work::Verify { program }),
-        "limit" => Some(Work::Limit {
-            program,
-            octets: number(argument(found, "OCTETS")),
-            parts: number(argument(found, "PARTS")),
-        }),
-        "run" => Some(Work::Run { program, message }),
-        "disassemble" => Some(Work::Disassemble { program }),
-        "assemble" => Some(Work::Assemble {
-            listing: argument(found, "LISTING"),
-            out,
-        }),
-        "eval" => Some(Work::Eval { script, message }),
-        "trace" => Some(Work::Trace {
-            file: argument(found, "FILE"),
-            message,
-        }),
-        "parts" => Some(Work::Parts { message }),
-        "encode" => Some(Work::Encode { encoding }),
-        "decode" => Some(Work::Decode { encoding }),
+        "check" => Some(Work::OnFile(Tool::Check, script)),
+        "explain" => Some(Work::OnFile(Tool::Explain, script)),
+        "compile" => Some(Work::OnFile(Tool::Compile { out }, script)),
+        "verify" => Some(Work::OnFile(Tool::Verify, program)),
+        "limit" => {
+            let octets = number(argument(found, "OCTETS"));
+            let parts = number(argument(found, "PARTS"));
+            Some(Work::OnFile(Tool::Limit { octets, parts }, program))
+        }
+        "run" => Some(Work::OnMessage(Runner::Run, program, message)),
+        "disassemble" => Some(Work::OnFile(Tool::Disassemble, program)),
+        "assemble" => Some(Work::OnFile(Tool::Assemble { out }, file(found, "LISTING"))),
+        "eval" => Some(Work::OnMessage(Runner::Eval, script, message)),
+        "trace" => Some(Work::OnMessage(Runner::Trace, file(found, "FILE"), message)),
+        "parts" => Some(Work::OnFile(Tool::Parts, message)),
+        "encode" => Some(Work::OnFile(Tool::Encode { encoding }, Input::Standard)),
+        "decode" => Some(Work::OnFile(Tool::Decode { encoding }, Input::Standard)),
         _ => None,
     }
 }
@@ -146,7 +141,7 @@ fn depot_line_in<'a>(name: &str, found: &ArgMatches<'a>) -> CommandLine<'a>
         "batch" => CommandLine::Batch { depot },
         _ => match request_in(name, found) {
             Some(request) => CommandLine::OnDepot { depot, request },
-            None => CommandLine::Alone(Work::NoWords),
+            None => CommandLine::Alone(Work::OnFile(Tool::KeepAll, Input::Standard)),
         },
     }
 }
@@ -201,6 +196,13 @@ fn argument<'a>(matches: &ArgMatches<'a>, name: &str) -> &'a str
     ensures { result.now ≡ text_of name.now (rows_of (found_of matches.now)) }
 {
     matches.get_str(name).unwrap_or("")
+}
+
+// The file whose name is an argument.
+fn file<'a>(matches: &ArgMatches<'a>, name: &str) -> Input<'a>
+    ensures { IsFile name.now (rows_of (found_of matches.now)) result }
+{
+    Input::File(argument(matches, name))
 }
 
 // The encoding with this name. Only names of encodings come here.

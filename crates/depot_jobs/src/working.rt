@@ -2,27 +2,16 @@
 //
 // `disassemble` returns 0 also for a program that isn't accepted, because its listing is what was asked for. The line
 // of the verifier is the last one, a comment.
-ghost use Rattle.std.specs.Prelude.{◌≡◌, ◌⊎◌, List, ℕ};
-ghost use Rattle.bytecode_format.specs.Spelling.{spelling};
+ghost use Rattle.std.specs.Prelude.{◌⊎◌};
 ghost use Rattle.depot_jobs.specs.Jobs.{host_and_outputs};
-ghost use Rattle.depot_jobs.specs.Inputs.{input};
-ghost use Rattle.depot_jobs.specs.Working.{HasNotWorked, HasWorked, IsJobOf, keeping_code};
+ghost use Rattle.depot_jobs.specs.Working.{HasNotWorked, HasWorked, IsRead};
 
-use crate::host::Host;
-use crate::inputs::{inputs_of, read_inputs};
-use crate::job::{Job, answer, tell};
-use crate::work::Work;
+use crate::host::{Host, Input};
+use crate::inputs::{read_input, read_two};
+use crate::job::{answer, tell};
+use crate::work::{File, Job, Work};
 use devices::Sink;
 use std::alloc::Global;
-
-/// The program that keeps every message.
-const KEEPS_ALL: &[u8] = &[
-    b'S', b'V', b'B', b'C', 1, // the format and its version
-    0, 0, 0, 0, 0, 0, // no variables, numbers and strings
-    0, 0, 0, 2, // two instructions
-    0x13, 0, 0, 0, 0, 0, 0, 0, // keep
-    0x01, 0, 0, 0, 0, 0, 0, 0, // halt
-];
 
 /// Reads what the work reads, in the order of its words, answers its job with [`crate::answer`], and returns the exit
 /// status. If something can't be read, the line of its refusal is written to `err`, nothing after it is opened, and the
@@ -41,70 +30,30 @@ pub fn carry_out<H: Host, O: Sink, E: Sink>(
         (host_and_outputs (H.state host.old) (O.output out.old) (E.output err.old))
         (host_and_outputs (H.state host.new) (O.output out.new) (E.output err.new)) }
 {
-    match read_inputs(alloc, inputs_of(work), host) {
-        Ok((first, second)) => {
-            let job = job_of(work, &first, &second);
-            answer(alloc, job, host, out, err)
-        }
-        Err(refusal) => tell(err, &refusal),
-    }
-}
-
-// The job of this work, with the bytes that it reads. The second bytes are empty if it reads one input.
-fn job_of<'a>(work: Work<'a>, first: &'a [u8], second: &'a [u8]) -> Job<'a>
-    ensures { (inputs : List (List ℕ)) → first.entry.now ≡ input inputs 0
-        → second.entry.now ≡ input inputs 1 → IsJobOf work.entry inputs result }
-{
-    let (octets, text) = (first, first);
     match work {
-        Work::NoWords => Job::Run {
-            program: keeping_program(),
-            message: first,
+        Work::OnFile(tool, input) => match read_input(alloc, input, host) {
+            Ok(octets) => {
+                let job = Job::OnFile(tool, file_read(input, &octets));
+                answer(alloc, job, host, out, err)
+            }
+            Err(refusal) => tell(err, &refusal),
         },
-        Work::Check { .. } => Job::Check { script: first },
-        Work::Explain { script } => Job::Explain {
-            script: first,
-            name: script,
+        Work::OnMessage(runner, file, message) => match read_two(alloc, file, message, host) {
+            Ok((octets, mail)) => {
+                let (file, message) = (file_read(file, &octets), file_read(message, &mail));
+                answer(alloc, Job::OnMessage(runner, file, message), host, out, err)
+            }
+            Err(refusal) => tell(err, &refusal),
         },
-        Work::Compile { script, out } => Job::Compile {
-            script: first,
-            name: script,
-            out,
-        },
-        Work::Verify { .. } => Job::Verify { program: first },
-        Work::Limit { octets, parts, .. } => Job::Limit {
-            program: first,
-            octets,
-            parts,
-        },
-        Work::Run { .. } => Job::Run {
-            program: first,
-            message: second,
-        },
-        Work::Disassemble { .. } => Job::Disassemble { program: first },
-        Work::Assemble { listing, out } => Job::Assemble {
-            listing: first,
-            name: listing,
-            out,
-        },
-        Work::Eval { .. } => Job::Eval {
-            script: first,
-            message: second,
-        },
-        Work::Trace { file, .. } => Job::Trace {
-            octets: first,
-            name: file,
-            message: second,
-        },
-        Work::Parts { .. } => Job::Parts { message: first },
-        Work::Encode { encoding } => Job::Encode { encoding, octets },
-        Work::Decode { encoding } => Job::Decode { encoding, text },
     }
 }
 
-// The program that keeps every message.
-fn keeping_program() -> &'static [u8]
-    ensures { result.now ≡ spelling keeping_code }
+// A file, or standard input, with the bytes that were read.
+fn file_read<'a>(input: Input<'a>, octets: &'a [u8]) -> File<'a>
+    ensures { IsRead input.entry octets.entry.now result }
 {
-    KEEPS_ALL
+    match input {
+        Input::Standard => File { name: "", octets },
+        Input::File(name) => File { name, octets },
+    }
 }
