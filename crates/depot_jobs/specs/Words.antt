@@ -9,7 +9,7 @@ use Rattle.encodings.specs.declared.encoding.Encoding.{Encoding}
 use Rattle.encodings.specs.declared.encoding.Encoding.TheVariants.{Raw}
 use Rattle.encodings.specs.Names.{encoding_of, name_of}
 use Rattle.depot_jobs.specs.declared.line.CommandLine.{CommandLine}
-use Rattle.depot_jobs.specs.declared.line.CommandLine.TheVariants.{Alone, OnDepot, Program, Inspect, Batch}
+use Rattle.depot_jobs.specs.declared.line.CommandLine.TheVariants.{Alone, OnDepot, Program, Inspect, Scrub, Batch}
 use Rattle.depot_jobs.specs.Requests.{Request}
 use Rattle.depot_jobs.specs.declared.request.OnDepot.TheVariants.{Script, Code, Deliver, List as ListAll, Export, Remove, Migrate}
 use Rattle.depot_jobs.specs.declared.work.Work.{Work}
@@ -53,7 +53,7 @@ IsNoRequest name =
 -- nor of any other command on a depot
 abbrev pub IsNoDepotCommand : Text → Type 0
 IsNoDepotCommand name =
-    IsNoRequest name × (name ≢ codes "program") × (name ≢ codes "inspect") × (name ≢ codes "batch")
+    IsNoRequest name × (name ≢ codes "program") × (name ≢ codes "inspect") × (name ≢ codes "scrub") × (name ≢ codes "batch")
 
 -- the work is what the matches say: which command there is, and its arguments
 abbrev pub SaysWork : Work → Option (Text × List Row) → Type 0
@@ -124,6 +124,8 @@ Says (Program depot user out) matches =
     (rows : List Row) × IsCommand (codes "program") matches rows × (depot.now ≡ argument (codes "DB") rows)
     × (user.now ≡ argument (codes "USER") rows) × (out.now ≡ argument (codes "OUT") rows)
 Says (Inspect depot) matches = (rows : List Row) × IsCommand (codes "inspect") matches rows
+    × (depot.now ≡ argument (codes "DB") rows)
+Says (Scrub depot) matches = (rows : List Row) × IsCommand (codes "scrub") matches rows
     × (depot.now ≡ argument (codes "DB") rows)
 Says (Batch depot) matches = (rows : List Row) × IsCommand (codes "batch") matches rows
     × (depot.now ≡ argument (codes "DB") rows)
