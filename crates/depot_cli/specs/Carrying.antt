@@ -2,6 +2,7 @@
 use Rattle.std.specs.Prelude.{◌≡◌, ℕ, Option, None, Some, Result, Ok, Err, ⊤}
 use Rattle.sqlite.specs.State.{State, Survives}
 use Rattle.part_store.specs.declared.looking.Unopened.{Unopened}
+use Rattle.depot_actions.specs.Applying.{MayAdd}
 use Rattle.depot_actions.specs.DepotState.{Command}
 use Rattle.devices.specs.Device.{Output}
 use Rattle.refusals.specs.declared.refusal.Refusal.{Refusal}
@@ -9,7 +10,7 @@ use Rattle.refusals.specs.declared.refusal.Refusal.TheVariants.{Memory, Database
 use Rattle.depot_cli.specs.Looking.{HasLooked, HasSaidWhy}
 use Rattle.depot_jobs.specs.Jobs.{HasTold}
 use Rattle.depot_cli.specs.NoDepots.{no_depot_of}
-use Rattle.depot_cli.specs.Tasks.{HasPerformed, MayAdd, store_and_outputs}
+use Rattle.depot_cli.specs.Tasks.{HasPerformed, store_and_outputs}
 use Rattle.depot_cli.specs.declared.looks.Look.{Look}
 use Rattle.depot_cli.specs.declared.looks.Look.TheVariants.{Inspect, Scrub}
 use Rattle.depot_cli.specs.declared.no_depot.NoDepot.{NoDepot}
