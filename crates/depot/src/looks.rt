@@ -20,10 +20,10 @@ use std::alloc::Global;
 /// files; `None` if they weren't opened as a depot.
 ///
 /// `B` describes what the two files held. If they held the store of a state and the disk returned no wrong data, the
-/// status 0 means that what the look asks of that state was written completely, and that no damage was found; the status
-/// 1 means that there is damage, that it broke off, or that there is nothing for the reason that was reported. The files
-/// then hold the same state, also after a crash, and also if the close fails or a crash comes before its end. No clause
-/// ties `B` to the name: only the body shows that this file is opened.
+/// status 0 means that what the look asks of that state was written completely, and that no content is damaged if it
+/// asks that. The status 1 means that one is, that writing broke off, or that there is no answer for the reason that was
+/// reported. The files then hold the same state, also after a crash, and also if the close fails or a crash comes before
+/// its end. No clause ties `B` to the name: only the body shows that this file is opened.
 pub fn look_from<B: Start, O: Sink, E: Sink>(
     rt: &HostRuntime,
     name: &str,
