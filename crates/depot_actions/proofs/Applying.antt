@@ -108,7 +108,7 @@ abbrev pub IsToldOf : {T : Type 0} → Result T StoreError → Result T Refusal 
 IsToldOf r told = MatchResult r (λ x. told ≡ Ok x) (λ e. IsErrAnd told (λ d. d ≡ of_store e))
 
 module _ {T : Type 0} where
-  ok_told : (P : T → Type 0) (r : Result T StoreError) (told : Result T Refusal) → IsToldOf r told → IfOk r P → IfOk told P
+  pub ok_told : (P : T → Type 0) (r : Result T StoreError) (told : Result T Refusal) → IsToldOf r told → IfOk r P → IfOk told P
   ok_told P (Ok x) told cases h = subst (λ t. IfOk t P) (sym cases) h
   ok_told P (Err e) (Ok x) cases h = absurd cases
   ok_told P (Err e) (Err d) cases h = tt
@@ -118,7 +118,7 @@ module _ {T : Type 0} where
   on_ok_told P (Err e) (Ok x) cases h = absurd cases
   on_ok_told P (Err e) (Err d) cases h = tt
 
-  err_told : (Q : Refusal → Type 0) (r : Result T StoreError) (told : Result T Refusal) → IsToldOf r told → IfErr r (λ e. Q (of_store e)) → IfErr told Q
+  pub err_told : (Q : Refusal → Type 0) (r : Result T StoreError) (told : Result T Refusal) → IsToldOf r told → IfErr r (λ e. Q (of_store e)) → IfErr told Q
   err_told Q (Ok x) told cases h = subst (λ t. IfErr t Q) (sym cases) tt
   err_told Q (Err e) (Ok x) cases h = absurd cases
   err_told Q (Err e) (Err d) cases h = subst Q (sym cases) h
@@ -128,7 +128,7 @@ module _ {T : Type 0} where
   on_err_told P (Err e) (Ok x) cases h = absurd cases
   on_err_told P (Err e) (Err d) cases h = h
 
-  both_ok : (P : T → Type 0) (Q : Type 0) (R : T → Type 0) (r : Result T StoreError) → IfOk r P → OnOk r Q → ((x : T) → P x → Q → R x) → IfOk r R
+  pub both_ok : (P : T → Type 0) (Q : Type 0) (R : T → Type 0) (r : Result T StoreError) → IfOk r P → OnOk r Q → ((x : T) → P x → Q → R x) → IfOk r R
   both_ok P Q R (Ok x) p q f = f x p q
   both_ok P Q R (Err e) p q f = tt
 

@@ -17,7 +17,7 @@ ghost use Rattle.depot_actions.specs.Applying.{Applies, AppliesAll};
 ghost use Rattle.depot_actions.specs.Causes.{IsCause, IsFault, IsStoreFault, MayRefuse};
 ghost use Rattle.depot_actions.specs.Deliveries.{command_of, reply_of};
 ghost use Rattle.depot_actions.specs.DepotState.{Deliver, Does, Done, Export, ListAll, Migrate, Migrated, Program, ProgramOf, Remove, SetCode, SetScript, Text};
-ghost use Rattle.depot_actions.specs.Overviews.{LooksOver};
+ghost use Rattle.depot_actions.specs.Overviews.{IsOverview, LooksOver};
 ghost use Rattle.sqlite.specs.Files.{file_state, IsOpened};
 ghost use Rattle.part_store.specs.Looking.{are_tables};
 ghost use Rattle.devices.specs.Device.{HasBegun, HasBroken, HasTaken};
@@ -321,7 +321,7 @@ impl<S: Alter> Depot<S> {
     ///   user's name isn't UTF-8.
     /// - `Memory` if memory is refused.
     pub fn inspect(&mut self, alloc: Global) -> Result<Overview, Refusal>
-        ensures { LooksOver S.Store self.old self.new result }
+        ensures { LooksOver S.Store self.old self.new result IsOverview }
     {
         look_over(&mut self.store, alloc)
     }
