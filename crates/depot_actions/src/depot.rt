@@ -9,6 +9,7 @@ ghost use Rattle.sqlite.specs.Steps.{over_memory};
 ghost use Rattle.part_store.specs.Entries.{Entries, no_entries};
 ghost use Rattle.part_store.specs.Opening.{HoldsNoTables, HoldsStore, IsAt, IsFoundIn, IsReady, IsReadyFrom, TellsWhy};
 ghost use Rattle.sqlite.specs.WalFiles.{image_at};
+ghost use Rattle.part_store.specs.Scrubbing.{IsScrubbed};
 ghost use Rattle.part_store.specs.Standing.{HaveDigests, LeavesUnchanged, Stands};
 ghost use Rattle.part_store.specs.Tables.{store_schema};
 ghost use Rattle.part_store.specs.Verifying.{IsVerified};
@@ -34,7 +35,7 @@ use crate::renewing::renewed_programs;
 use crate::user::is_user_name;
 use devices::Sink;
 use encodings::{Encoding, put_text};
-use part_store::{Again, EntryRow, PartStore, Unopened};
+use part_store::{Again, EntryRow, PartStore, Scrubbed, Unopened};
 use refusals::Refusal;
 use sieve_engine::code_octets;
 use sqlite::{Alter, File, FileFrom, FileStore, MemStore, Start, Unknown};
@@ -324,6 +325,20 @@ impl<S: Alter> Depot<S> {
         ensures { LooksOver S.Store self.old self.new result IsOverview }
     {
         look_over(&mut self.store, alloc)
+    }
+
+    /// Compares each stored content with the SHA-256 that it is stored under. Returns how many contents there are, how
+    /// many of them are damaged, and the entries that refer to a damaged content. Nothing changes. Damage is reported,
+    /// and isn't an error.
+    ///
+    /// # Errors
+    ///
+    /// - `Database` if the store fails; if the bytes of all contents are 2^64 or more; or if a user's name isn't UTF-8.
+    /// - `Memory` if memory is refused.
+    pub fn scrub(&mut self) -> Result<Scrubbed, Refusal>
+        ensures { LooksOver S.Store self.old self.new result IsScrubbed }
+    {
+        self.store.scrub().map_err(refused)
     }
 }
 
