@@ -233,6 +233,7 @@ Help.
     2>   remove       Remove an entry of a user
     2>   migrate      Convert the filters of all users to the latest version of the bytecode
     2>   inspect      Report whether a file is a depot, and what it holds
+    2>   scrub        Compare every stored content with its SHA-256
     2>   batch        Run the commands on standard input, one a line, on a depot
     2>   help         Print this message or the help of the given subcommand(s)
     2>
@@ -755,6 +756,32 @@ Help.
     2> Refusals: 1, 43, 45. `depot help NUMBER` explains each, and what to do.
     [2]
 
+## help scrub
+    $ depot help scrub
+    2> Compare every stored content with its SHA-256
+    2>
+    2> Usage: depot scrub <DB>
+    2>
+    2> Arguments:
+    2>   <DB>  The file of a depot, or any other file
+    2>
+    2> Options:
+    2>   -h, --help  Print help
+    2>
+    2> Prints `contents N` and `octets N`, the number and size of the contents; `damaged N`, how many of
+    2> them don't have the SHA-256 under which they are stored; and a line for each entry with such a
+    2> content: its number, its user and its folder. It reads every content, changes nothing, and makes no
+    2> depot. Until it ends, other commands on DB wait, and are refused 43 after ten seconds. If DB is no
+    2> depot, `depot inspect DB` prints why.
+    2>
+    2> Example:
+    2>   depot scrub mail.depot
+    2>
+    2> Status 0: no content is damaged. 1: one is, or the command is refused, with the refusal's number
+    2> and name on standard error. 2: the words are not a command, or ask for help.
+    2> Refusals: 1, 43, 45. `depot help NUMBER` explains each, and what to do.
+    [2]
+
 ## help batch
     $ depot help batch
     2> Run the commands on standard input, one a line, on a depot
@@ -774,8 +801,8 @@ Help.
     2> quotation marks; in these \22 is a quotation mark, \5c a backslash, \0a a line break.
     2> Each answer is on standard output, with a line after it: = 0 (done), = 1 (refused), or = 2 (not a
     2> command; then the answer begins with ?).
-    2> Until the batch ends, every other command on DB except `inspect` waits, and is refused 43 after ten
-    2> seconds. After a line that is refused 43 the batch ends, and later lines have no answer.
+    2> Until the batch ends, other commands on DB wait, and are refused 43 after ten seconds; `inspect` and
+    2> `scrub` don't wait. After a line that is refused 43 the batch ends, and later lines have no answer.
     2>
     2> Example:
     2>   echo deliver ann mail.eml | depot batch mail.depot

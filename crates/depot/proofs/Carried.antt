@@ -13,7 +13,8 @@ use Rattle.part_store.specs.Opening.{HoldsState, IsAt, IsReadyFrom}
 use Rattle.part_store.specs.Standing.{IsStored}
 use Rattle.refusals.specs.declared.refusal.Refusal.{Refusal}
 use Rattle.depot_cli.specs.Carrying.{HasCarried, OutlastsCarrying}
-use Rattle.depot_cli.specs.Tasks.{HasPerformed, MayAdd, store_and_outputs}
+use Rattle.depot_actions.specs.Applying.{MayAdd}
+use Rattle.depot_cli.specs.Tasks.{HasPerformed, store_and_outputs}
 use Rattle.depot.specs.Ending.{HasCounted, IsToldAs}
 use Rattle.depot.specs.Private.{IsFound, IsLeftOf, IsShut}
 use Rattle.depot.specs.Tasks.{Answer, HasEnded, IsAnswered, IsKept}

@@ -1,5 +1,5 @@
 -- What is left of files that were opened, by what was done with the depot and how it was closed.
-use Rattle.std.proofs.Common.{◌≡◌, ◌⊎◌, ◌≤◌, ℕ, inl, inr, IsTrue, Option, Some, None, Result, Ok, Err, IfOk, IfErr, refl, sym, subst, ◌∙◌, arith}
+use Rattle.std.proofs.Common.{◌≡◌, ◌⊎◌, ◌≤◌, ℕ, Bool, true, false, inl, inr, IsTrue, Option, Some, None, Result, Ok, Err, IfOk, IfErr, refl, sym, subst, ◌∙◌, arith}
 use Rattle.std.proofs.Math.Logic.{∥∥₁_map}
 use Rattle.sqlite_disk.specs.declared.Disk.{Ghosts}
 use Rattle.sqlite_disk.specs.declared.Files.{Files}
@@ -24,18 +24,19 @@ use Rattle.part_store.proofs.Crashed.{closing_holds_one, files_leave_committed}
 use Rattle.part_store.proofs.Stored.{stored_as}
 use Rattle.refusals.specs.declared.refusal.Refusal.{Refusal}
 use Rattle.refusals.specs.declared.refusal.Refusal.TheVariants.{Memory, Database as Refused}
+use Rattle.depot_actions.specs.Applying.{HasFault, MayAdd, Unless, only_looks}
 use Rattle.depot_actions.specs.Causes.{HasCause, MayRefuse}
-use Rattle.depot_actions.specs.DepotState.{Command, Export, ListAll, MayLeave, ProgramOf}
-use Rattle.depot_cli.specs.Tasks.{HasFault, MayAdd}
+use Rattle.depot_actions.specs.DepotState.{Command, MayLeave}
 use Rattle.depot.specs.Ending.{EndsSo, HasCounted, HoldsKept, IsRefusal, IsRefusedBy}
 use Rattle.depot.specs.Private.{IsFound, IsSeen, IsShut}
 
 -- what a crash may leave of a command is what the command leaves
 pub left_by : (command : Command) (old : State) (trees : Trees) → MayAdd command old trees → MayLeave command old trees
-left_by (ListAll user) old trees may = absurd may
-left_by (ProgramOf user) old trees may = absurd may
-left_by (Export user number encoding) old trees may = absurd may
-left_by _ old trees may = may
+left_by command old trees may = go (only_looks command) may
+  where
+    go : (b : Bool) → Unless b (MayLeave command) old trees → MayLeave command old trees
+    go true may = absurd may
+    go false may = may
 
 -- what was done with a depot came to a state, which it shows while it is open; and what a crash may
 -- leave of it stands for a state that a close may keep
@@ -65,7 +66,7 @@ module _ {D : Type 0} (g : Ghosts D) where
   -- command, and what it counted was counted
   pub refused_by : (left : Result (Files D) (FileStore D g)) (image : Image) (old new : Held (FileStore D g)) (command : Command) (refusal : Refusal) (before : Entries) → IsReadyFrom image old
       → IsAt before (file_state old) → (file_state old).step_limit ≡ None → (file_state old).faults ≤ (file_state new).faults → HasCounted (file_state new).faults left → MayRefuse command refusal
-      → HasCause refusal command (file_state old) → HasFault command refusal (file_state old) (file_state new) → IsRefusedBy left image command before refusal
+      → HasCause refusal command (file_state old) → HasFault command (file_state old) (file_state new) refusal → IsRefusedBy left image command before refusal
   refused_by left image old new command refusal before ready at unlimited counts counted may cause fault =
       let why : IsRefusal left command before refusal = record {
         may = may;

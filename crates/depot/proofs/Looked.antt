@@ -11,39 +11,33 @@ use Rattle.part_store.specs.Entries.{Entries}
 use Rattle.part_store.specs.Opening.{HoldsStore, IsAt, IsFoundIn}
 use Rattle.part_store.specs.declared.looking.Unopened.{Unopened}
 use Rattle.depot_cli.specs.Carrying.{HasReported, HasToldWhy, OutlastsReporting}
-use Rattle.depot_cli.specs.Inspecting.{HasInspected}
+use Rattle.depot_cli.specs.Looking.{HasLooked}
 use Rattle.depot_cli.specs.NoDepots.{no_depot_of}
 use Rattle.depot_cli.specs.Tasks.{store_and_outputs}
 use Rattle.depot.specs.Private.{IsLeftOf, IsSeen, IsShut}
 use Rattle.depot.specs.Ending.{HasCounted}
-use Rattle.depot.specs.Looks.{HasEnded, IsAnswered, IsUntold, Look}
+use Rattle.depot.specs.Looks.{Answer, HasEnded, IsAnswered, IsUntold}
 use Rattle.depot.proofs.Ended.{Came, ends, still_at, unchanged}
 
 module _ {D : Type 0} (g : Ghosts D) where
   -- what a look came to, and the depot after it
-  record Done (image : Image) (left : Result (Files D) (FileStore D g)) (it : Look) (before : Entries) (new : Held (FileStore D g)) : Type 0 where
+  record Done (image : Image) (left : Result (Files D) (FileStore D g)) (it : Answer) (before : Entries) (new : Held (FileStore D g)) : Type 0 where
     answered : IsAnswered image left it before before
     shows : IsTrue (file_state new).is_open → IsAt before (file_state new)
 
-  done : (image : Image) (left : Result (Files D) (FileStore D g)) (old new : Held (FileStore D g)) (it : Look) (before : Entries) → IsFoundIn image old → (file_state old).step_limit ≡ None
+  done : (image : Image) (left : Result (Files D) (FileStore D g)) (old new : Held (FileStore D g)) (it : Answer) (before : Entries) → IsFoundIn image old → (file_state old).step_limit ≡ None
       → HasCounted (file_state new).faults left → IsAt before (file_state old) → HasCleanDisk (file_state new)
-      → HasInspected it.log it.status (store_and_outputs (file_state old) it.out it.err) (store_and_outputs (file_state new) it.out_after it.err_after) → Done image left it before new
-  done image left old new it before finds unlimited counted at clean (inl (status, (x, seen, taken, quiet))) =
+      → HasLooked it.look it.status (store_and_outputs (file_state old) it.out it.err) (store_and_outputs (file_state new) it.out_after it.err_after) → Done image left it before new
+  done image left old new it before finds unlimited counted at clean (inl (x, seen, shown)) =
       let all = seen clean in
       record {
-        answered = (refl, inl (x, (old, finds, at, all.1 before at.0), inl (status, taken, quiet)));
+        answered = (refl, inl (x, (old, finds, at, all.1 before at.0), shown));
         shows = still_at g old new before (λ is_open. at) all.2;
       }
-  done image left old new it before finds unlimited counted at clean (inr (status, inl (x, seen, broken, told))) =
-      let all = seen clean in
-      record {
-        answered = (refl, inl (x, (old, finds, at, all.1 before at.0), inr (status, broken, told)));
-        shows = still_at g old new before (λ is_open. at) all.2;
-      }
-  done image left old new it before finds unlimited counted at clean (inr (status, inr (refusal, which, cause, told, same))) =
-      let all = cause clean in
+  done image left old new it before finds unlimited counted at clean (inr (status, refusal, unseen, told, same)) =
+      let all = unseen.1 clean in
       let why : IsUntold image left before refusal = record {
-        which = which;
+        which = unseen.0;
         depot = old;
         found = finds;
         at = at;
@@ -57,18 +51,18 @@ module _ {D : Type 0} (g : Ghosts D) where
         shows = still_at g old new before (λ is_open. at) all.1;
       }
 
-  came : (image : Image) (left : Result (Files D) (FileStore D g)) (old new : Held (FileStore D g)) → ((file : D) → g.may_leave file (g.seen file)) → (it : Look) (before : Entries) → IsSeen image (Ok old)
+  came : (image : Image) (left : Result (Files D) (FileStore D g)) (old new : Held (FileStore D g)) → ((file : D) → g.may_leave file (g.seen file)) → (it : Answer) (before : Entries) → IsSeen image (Ok old)
       → HasCounted (file_state new).faults left → IsAt before (file_state old) → HasCleanDisk (file_state new)
-      → HasInspected it.log it.status (store_and_outputs (file_state old) it.out it.err) (store_and_outputs (file_state new) it.out_after it.err_after)
+      → HasLooked it.look it.status (store_and_outputs (file_state old) it.out it.err) (store_and_outputs (file_state new) it.out_after it.err_after)
       → Survives (file_state old) (file_state new) (λ _. ⊥) → Came g (IsAnswered image left it) (λ before after answered held. held ≡ before) before new
-  came image left old new stays it before found counted at clean inspected survives =
-      let one = done image left old new it before found.0 found.1 counted at clean inspected in
+  came image left old new stays it before found counted at clean looked survives =
+      let one = done image left old new it before found.0 found.1 counted at clean looked in
       unchanged g old new stays (IsAnswered image left it) before one.answered at clean one.shows survives
 
-  -- what opening gave was inspected, and closed then
+  -- what opening gave was looked at, and closed then
   pub ended : (opened mid : Result (Held (FileStore D g)) Unopened) (left : Option (Result (Files D) (FileStore D g))) → ((file : D) → g.may_leave file (g.seen file))
-      → (it : Look) (image : Image) → IsSeen image opened
-      → HasReported file_state it.log it.status opened mid it.out it.err it.out_after it.err_after → OutlastsReporting file_state opened mid
+      → (it : Answer) (image : Image) → IsSeen image opened
+      → HasReported file_state it.look it.status opened mid it.out it.err it.out_after it.err_after → OutlastsReporting file_state opened mid
       → IsShut mid left → HasEnded it image left
   ended (Ok old) (Ok new) left stays it image found reported survives shut =
       ends g (λ left. IsAnswered image left it) (λ left before after answered held. held ≡ before) Unopened _ (HoldsStore image) new left shut (λ left counted clean before stood.
@@ -80,9 +74,9 @@ module _ {D : Type 0} (g : Ghosts D) where
   ended (Err why) (Err same) (Some left) stays it image found reported survives shut = absurd shut
 
   -- it is left, or it was told why nothing is
-  pub told : (opened mid : Result (Held (FileStore D g)) Unopened) (left : Option (Result (Files D) (FileStore D g))) → (it : Look)
-      → HasReported file_state it.log it.status opened mid it.out it.err it.out_after it.err_after → IsShut mid left
-      → IsLeftOf (λ why. (it.status ≡ 1) × HasToldWhy (no_depot_of why) it.out it.err it.out_after it.err_after) opened left
+  pub told : (opened mid : Result (Held (FileStore D g)) Unopened) (left : Option (Result (Files D) (FileStore D g))) → (it : Answer)
+      → HasReported file_state it.look it.status opened mid it.out it.err it.out_after it.err_after → IsShut mid left
+      → IsLeftOf (λ why. (it.status ≡ 1) × HasToldWhy it.look (no_depot_of why) it.out it.err it.out_after it.err_after) opened left
   told (Ok old) (Ok new) (Some left) it reported shut = tt
   told (Ok old) (Ok new) None it reported shut = absurd shut
   told (Ok old) (Err why) left it reported shut = absurd reported

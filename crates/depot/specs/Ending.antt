@@ -14,10 +14,10 @@ use Rattle.part_store.specs.Opening.{HoldsState, IsAt, IsReadyFrom, KeepsStore}
 use Rattle.refusals.specs.declared.refusal.Refusal.{Refusal}
 use Rattle.refusals.specs.declared.refusal.Refusal.TheVariants.{Memory, Database}
 use Rattle.devices.specs.Device.{Output}
+use Rattle.depot_actions.specs.Applying.{HasFault}
 use Rattle.depot_actions.specs.Causes.{HasCause, MayRefuse}
 use Rattle.depot_actions.specs.DepotState.{Command}
 use Rattle.depot_jobs.specs.Jobs.{HasTold}
-use Rattle.depot_cli.specs.Tasks.{HasFault}
 
 -- ---- what is left
 
@@ -83,7 +83,7 @@ module _ {D : Type 0} {g : Ghosts D} (left : Result (Files D) (FileStore D g)) w
     pub unlimited : (file_state depot).step_limit ≡ None
     pub cause : HasCause refusal command (file_state depot)
     pub after : Held (FileStore D g)
-    pub fault : HasFault command refusal (file_state depot) (file_state after)
+    pub fault : HasFault command (file_state depot) (file_state after) refusal
     pub counts : (file_state depot).faults ≤ (file_state after).faults
     pub counted : HasCounted (file_state after).faults left
 

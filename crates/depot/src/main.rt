@@ -18,7 +18,7 @@
 //! ### Why it is refused
 //!
 //! A refusal is one that the command can get. `NoSuchEntry`, `NumberFull` and `Collision` have their cause in the
-//! state; nothing is said of `Memory`. The clauses of `carry`, `save`, `batch` and `inspect_opened` say exactly why
+//! state; nothing is said of `Memory`. The clauses of `carry`, `save`, `batch` and `look_opened` say exactly why
 //! `Database` is reported, in terms of the depot before and after.
 //!
 //! The theorems from the open to the close say the same, of a depot with this state and without a limit of steps. For a
@@ -39,9 +39,9 @@
 //!
 //! ### Looks, from the open to the close
 //!
-//! A saved program is the one that the user has in that state, and a look reports the overview of that state by the
-//! tables that were found in the files, if they held a store. Both leave the files with the state that they
-//! represented, whatever the close does.
+//! A saved program is the one that the user has in that state. A look reports the overview of that state, or what is
+//! damaged in it, by the tables that were found in the files, if they held a store. All of them leave the files with
+//! the state that they represented, whatever the close does.
 //!
 //! ### If the close fails
 //!
@@ -50,7 +50,7 @@
 //! that was answered, whole, at which a failure shut the depot, with the bytes of its files as the host gave them in
 //! that turn. A premise is left ("What is left of a premise").
 //!
-//! By `carry_from`, `serve_from`, `save_from`, `inspect_from`; `Depot::open_from`, `look_from` of depot_actions.
+//! By `carry_from`, `serve_from`, `save_from`, `look_from`; `Depot::open_from`, `look_from` of depot_actions.
 #![tactic(auto)]
 
 mod batches;
@@ -62,12 +62,12 @@ mod streams;
 mod tasks;
 
 use crate::batches::serve_from;
-use crate::looks::inspect_from;
+use crate::looks::look_from;
 use crate::place::{Obstacle, look_at};
 use crate::programs::save_from;
 use crate::streams::hold_closed;
 use crate::tasks::carry_from;
-use depot_cli::{Next, PendingTask, Saving, run, tell_no_depot};
+use depot_cli::{Look, Next, PendingTask, Saving, run, tell_no_depot};
 use depot_jobs::{Host, System, tell, tell_no_words, texts, words};
 use devices::{OfRead, OfWrite, Sink};
 use refusals::Refusal;
@@ -104,6 +104,7 @@ fn start<O: Sink, E: Sink>(rt: &HostRuntime, out: &mut O, err: &mut E) -> u8 {
         Next::Exit(status) => status,
         Next::Perform(pending) => perform_task(rt, &pending, out, err),
         Next::Inspect(name) => inspect_file(rt, name, out, err),
+        Next::Scrub(name) => scrub_file(rt, name, out, err),
         Next::Save(saving) => save_program(rt, saving, &mut host, out, err),
         Next::Batch(name) => take_batch(rt, name, &mut host, err),
     }
@@ -155,10 +156,22 @@ fn take_batch<H: Host, E: Sink>(rt: &HostRuntime, name: &str, host: &mut H, err:
 fn inspect_file<O: Sink, E: Sink>(rt: &HostRuntime, name: &str, out: &mut O, err: &mut E) -> u8 {
     match look_at(rt, name) {
         Ok(log) => {
-            let (status, _left) = inspect_from(rt, name, log, Unknown, out, err);
+            let (status, _left) = look_from(rt, name, Look::Inspect(log), Unknown, out, err);
             status
         }
         Err(Obstacle::NoDepot(why)) => tell_no_depot(out, err, why),
+        Err(Obstacle::Memory) => tell(err, &Refusal::Memory),
+    }
+}
+
+// Reports what is damaged in a depot, and returns the status. What can be seen without opening it is looked at first.
+fn scrub_file<O: Sink, E: Sink>(rt: &HostRuntime, name: &str, out: &mut O, err: &mut E) -> u8 {
+    match look_at(rt, name) {
+        Ok(_) => {
+            let (status, _left) = look_from(rt, name, Look::Scrub, Unknown, out, err);
+            status
+        }
+        Err(Obstacle::NoDepot(_)) => tell(err, &Refusal::Database),
         Err(Obstacle::Memory) => tell(err, &Refusal::Memory),
     }
 }

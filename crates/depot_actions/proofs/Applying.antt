@@ -1,12 +1,15 @@
 -- What a call of the store comes to for a command of the depot.
-use Rattle.std.proofs.Common.{◌≡◌, ◌≢◌, inl, inr, List, ℕ, Bool, true, false, IsTrue, Result, Ok, Err, IfOk, IfErr, IsErrAnd, MatchResult, OnErr, OnOk, arith, refl, sym, ap, subst}
+use Rattle.std.proofs.Common.{◌≡◌, ◌≢◌, inl, inr, List, ℕ, Bool, true, false, IsTrue, Result, Ok, Err, IfOk, IfErr, IsErrAnd, MatchResult, OnErr, OnOk, Vec, arith, refl, sym, ap, subst, ◌∙◌}
 use Rattle.std.proofs.lemmas.Result.{IfErr-weaker, on_ok_weaker}
+use Rattle.std.specs.declared.alloc.Global.{Global}
 use Rattle.sqlite_trees.specs.declared.store.Store.{Ghosts}
 use Rattle.sqlite_trees.specs.Tree.{Trees}
 use Rattle.sqlite.specs.Held.{Held, state}
 use Rattle.sqlite.specs.State.{State, HasCleanDisk, Survives}
+use Rattle.encodings.specs.Texts.{text_of}
+use Rattle.encodings.specs.declared.encoding.Encoding.{Encoding}
 use Rattle.part_store.specs.Access.{IsFailure, IsFailureOrAbsence, IsRefusedAs, MayMakeOpen, ReadsStore, WritesStore}
-use Rattle.part_store.specs.Calls.{Always, CommitsNothing, DoneWhere, IfRefused, MayCommit, OnRefused, RefusedWhere, Tells}
+use Rattle.part_store.specs.Calls.{Always, CommitsNothing, DoneWhere, IfRefused, MayCommit, OnRefused, RefusedWhere, Tells, WasOpen}
 use Rattle.part_store.specs.Entries.{Entries, Entry, with_program, without_entry}
 use Rattle.part_store.specs.Refusals.{HasNoUserRoom, OnlyWhenFailed, OnlyWhenFailedOrNoUserRoom}
 use Rattle.part_store.specs.Standing.{AddsVerified, HasNone, IsEntryAt, IsStored, LeavesUnchanged, Stands}
@@ -18,11 +21,11 @@ use Rattle.refusals.specs.Scripts.{IsScriptRefusal}
 use Rattle.sieve_engine.specs.Execution.{IsProgramRefusal}
 use Rattle.depot_actions.specs.Applying.{Applies, HasFault, MayAdd, Spares, only_looks}
 use Rattle.depot_actions.specs.Causes.{HasCause, IsFault, IsHindered, IsSound, MayRefuse}
-use Rattle.depot_actions.specs.DepotState.{Accepts, Command, Does, Done, IsNamed, MayLeave, Migrate, Remove, Reply, SetCode, SetScript}
+use Rattle.depot_actions.specs.DepotState.{Accepts, Command, Does, Done, Export, IsNamed, MayLeave, Migrate, Remove, Reply, SetCode, SetScript, Text}
 use Rattle.depot_actions.specs.Private.{of_store}
 use Rattle.depot_actions.specs.Users.{is_user_name}
-use Rattle.depot_actions.proofs.Commands.{left_alone, made_done, removal_left, survives_more, unchanged_self}
-use Rattle.depot_actions.proofs.StoreFaults.{failure_told, fault_told, of_refusal, weaker_fault}
+use Rattle.depot_actions.proofs.Commands.{export_done, left_alone, made_done, removal_left, survives_more, unchanged_self}
+use Rattle.depot_actions.proofs.StoreFaults.{failure_told, fault_told, of_answer, of_refusal, weaker_fault}
 
 -- ---- refused before the store is asked
 
@@ -108,7 +111,7 @@ abbrev pub IsToldOf : {T : Type 0} → Result T StoreError → Result T Refusal 
 IsToldOf r told = MatchResult r (λ x. told ≡ Ok x) (λ e. IsErrAnd told (λ d. d ≡ of_store e))
 
 module _ {T : Type 0} where
-  ok_told : (P : T → Type 0) (r : Result T StoreError) (told : Result T Refusal) → IsToldOf r told → IfOk r P → IfOk told P
+  pub ok_told : (P : T → Type 0) (r : Result T StoreError) (told : Result T Refusal) → IsToldOf r told → IfOk r P → IfOk told P
   ok_told P (Ok x) told cases h = subst (λ t. IfOk t P) (sym cases) h
   ok_told P (Err e) (Ok x) cases h = absurd cases
   ok_told P (Err e) (Err d) cases h = tt
@@ -118,7 +121,7 @@ module _ {T : Type 0} where
   on_ok_told P (Err e) (Ok x) cases h = absurd cases
   on_ok_told P (Err e) (Err d) cases h = tt
 
-  err_told : (Q : Refusal → Type 0) (r : Result T StoreError) (told : Result T Refusal) → IsToldOf r told → IfErr r (λ e. Q (of_store e)) → IfErr told Q
+  pub err_told : (Q : Refusal → Type 0) (r : Result T StoreError) (told : Result T Refusal) → IsToldOf r told → IfErr r (λ e. Q (of_store e)) → IfErr told Q
   err_told Q (Ok x) told cases h = subst (λ t. IfErr t Q) (sym cases) tt
   err_told Q (Err e) (Ok x) cases h = absurd cases
   err_told Q (Err e) (Err d) cases h = subst Q (sym cases) h
@@ -128,7 +131,7 @@ module _ {T : Type 0} where
   on_err_told P (Err e) (Ok x) cases h = absurd cases
   on_err_told P (Err e) (Err d) cases h = h
 
-  both_ok : (P : T → Type 0) (Q : Type 0) (R : T → Type 0) (r : Result T StoreError) → IfOk r P → OnOk r Q → ((x : T) → P x → Q → R x) → IfOk r R
+  pub both_ok : (P : T → Type 0) (Q : Type 0) (R : T → Type 0) (r : Result T StoreError) → IfOk r P → OnOk r Q → ((x : T) → P x → Q → R x) → IfOk r R
   both_ok P Q R (Ok x) p q f = f x p q
   both_ok P Q R (Err e) p q f = tt
 
@@ -250,3 +253,12 @@ module _ {S T : Type 0} (g : Ghosts S) (old new : Held S) (r : Result T StoreErr
     cause = λ clean. failure_told (IsHindered removal) (state g old) (state g new) r told cases (refused.cause clean);
     survives = survives_more (state g old) (state g new) _ _ (removal_left (state g old) (state g new) user named number) writes.survives;
   }
+
+-- an entry's octets are read, and their text is what an export replies
+pub exported : {S : Type 0} (g : Ghosts S) (old new : Held S) (r : Result (Vec ℕ Global) StoreError) (told : Result (Vec ℕ Global) Refusal) → IsToldOf r told → (octets : Vec ℕ Global) → told ≡ Ok octets
+    → (user : List ℕ) (number : ℕ) (encoding : Encoding) (written : List ℕ) → IsTrue (is_user_name user) → written ≡ octets.items
+    → Tells g old new r (λ before octets. (x : Entry) × IsEntryAt before user number x × (octets.items ≡ x.octets)) → ReadsStore g old new r → Always g old new (Does (Export user number encoding) (Text (text_of encoding written)))
+exported g old new r told cases octets was user number encoding written named same answer reads clean =
+    let found = of_answer r told cases in
+    export_done (state g old) (state g new) user named number encoding written (found (λ _. WasOpen (state g old) (state g new)) (reads.was_open clean) octets was) (reads.settled clean) (reads.unchanged clean)
+    (λ before stands. let (x, at, is) = found (λ v. (before : Entries) → Stands (state g old).now before → (x : Entry) × IsEntryAt before user number x × (v.items ≡ x.octets)) (answer clean) octets was before stands in (x, at, same ∙ is))

@@ -97,27 +97,6 @@ module _ (old mid new : State) (user message : List ℕ) (program : Option (List
   -- why they aren't
   pub unfiled_cause : (IsTrue mid.is_open → IsTrue old.is_open) → (e : Refusal) → IsUnfiled e user drafts mid → HasCause e (Deliver user message) old
   unfiled_cause shut refusal.Memory h = tt
-  unfiled_cause shut refusal.MessageTooLarge h = absurd h
-  unfiled_cause shut refusal.TooManyParts h = absurd h
-  unfiled_cause shut refusal.NotCanonical h = absurd h
-  unfiled_cause shut (refusal.Lexical place) h = absurd h
-  unfiled_cause shut refusal.ScriptTooLong h = absurd h
-  unfiled_cause shut (refusal.Syntax place) h = absurd h
-  unfiled_cause shut (refusal.TooDeep place) h = absurd h
-  unfiled_cause shut (refusal.UnknownCommand place) h = absurd h
-  unfiled_cause shut (refusal.MissingCapability place) h = absurd h
-  unfiled_cause shut (refusal.UnknownCapability place) h = absurd h
-  unfiled_cause shut (refusal.BadArguments place) h = absurd h
-  unfiled_cause shut (refusal.Limit place) h = absurd h
-  unfiled_cause shut refusal.Spelling h = absurd h
-  unfiled_cause shut (refusal.Index place) h = absurd h
-  unfiled_cause shut (refusal.Form place) h = absurd h
-  unfiled_cause shut (refusal.End place) h = absurd h
-  unfiled_cause shut (refusal.Loop place) h = absurd h
-  unfiled_cause shut (refusal.Jump place) h = absurd h
-  unfiled_cause shut (refusal.NoPart place) h = absurd h
-  unfiled_cause shut (refusal.Stack place) h = absurd h
-  unfiled_cause shut refusal.NoSuchEntry h = absurd h
   unfiled_cause shut refusal.NumberFull h = (
     named,
     readable,
@@ -134,10 +113,7 @@ module _ (old mid new : State) (user message : List ℕ) (program : Option (List
         (actions, actions_are before stands, subst (λ n. HasRoom before user n) number other.0, subst (λ t. Collides t drafts) same other.1),
   )
   unfiled_cause shut refusal.Database h = (named, readable)
-  unfiled_cause shut refusal.UserName h = absurd h
-  unfiled_cause shut refusal.Write h = absurd h
-  unfiled_cause shut refusal.Read h = absurd h
-  unfiled_cause shut (refusal.Listing place) h = absurd h
+  unfiled_cause shut _ h = absurd h
 
 -- what is unchanged twice is unchanged
 pub unchanged_twice : (old mid new : State) → old.faults ≤ mid.faults → mid.faults ≤ new.faults → LeavesUnchanged old mid → LeavesUnchanged mid new → LeavesUnchanged old new

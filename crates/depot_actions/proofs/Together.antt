@@ -41,35 +41,10 @@ use Rattle.depot_actions.proofs.StoreFaults.{of_database}
 
 -- a cause is told of what a store shows, and of whether it is open
 pub cause_as : (e : Refusal) (command : Command) (s t : State) → t.now ≡ s.now → (IsTrue s.is_open → IsTrue t.is_open) → HasCause e command s → HasCause e command t
-cause_as refusal.Memory command s t same on h = tt
-cause_as refusal.MessageTooLarge command s t same on h = h
-cause_as refusal.TooManyParts command s t same on h = h
-cause_as refusal.NotCanonical command s t same on h = h
-cause_as (refusal.Lexical place) command s t same on h = h
-cause_as refusal.ScriptTooLong command s t same on h = h
-cause_as (refusal.Syntax place) command s t same on h = h
-cause_as (refusal.TooDeep place) command s t same on h = h
-cause_as (refusal.UnknownCommand place) command s t same on h = h
-cause_as (refusal.MissingCapability place) command s t same on h = h
-cause_as (refusal.UnknownCapability place) command s t same on h = h
-cause_as (refusal.BadArguments place) command s t same on h = h
-cause_as (refusal.Limit place) command s t same on h = h
-cause_as refusal.Spelling command s t same on h = h
-cause_as (refusal.Index place) command s t same on h = h
-cause_as (refusal.Form place) command s t same on h = h
-cause_as (refusal.End place) command s t same on h = h
-cause_as (refusal.Loop place) command s t same on h = h
-cause_as (refusal.Jump place) command s t same on h = h
-cause_as (refusal.NoPart place) command s t same on h = h
-cause_as (refusal.Stack place) command s t same on h = h
 cause_as refusal.NoSuchEntry command s t same on h = rw same (h.0, on h.1, h.2)
 cause_as refusal.NumberFull command s t same on h = rw same (h.0, h.1, on h.2, h.3)
 cause_as refusal.Collision command s t same on h = rw same (h.0, h.1, on h.2, h.3)
-cause_as refusal.Database command s t same on h = h
-cause_as refusal.UserName command s t same on h = h
-cause_as refusal.Write command s t same on h = h
-cause_as refusal.Read command s t same on h = h
-cause_as (refusal.Listing place) command s t same on h = h
+cause_as _ command s t same on h = h
 
 -- a failed commit that is told as `Database`
 pub commit_failed : (mid new : State) (e : Error) (told : StoreError) (r : Refusal) → told ≡ refusal_of e → r ≡ of_store told → FailsToCommit mid new e → IsTrue mid.in_transaction → r ≡ refusal.Database → HasFailed mid new

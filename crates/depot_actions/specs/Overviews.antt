@@ -51,10 +51,10 @@ pub record IsOverview (db : Trees) (e : Entries) (x : Overview) : Type 0 where
   pub users : AreSummaries e lines x.users.items
   pub contents : IsTotalOf (db contents_tree) x.contents
 
--- A depot is looked over: what it holds is told, and nothing changes. `Database` is told only where the database can't work or
+-- A depot is looked over: what it holds is told so, and nothing changes. `Database` is told only where the database can't work or
 -- there is more than can be counted, if the users of the tables are texts.
-pub record LooksOver {S : Type 0} (g : Ghosts S) (old new : Held S) (result : Result Overview Refusal) : Type 0 where
-  pub answer : IfDone g old new result (λ x old _. IsTrue old.is_open × ((before : Entries) → Stands old.now before → IsOverview old.now.trees before x))
+pub record LooksOver {S : Type 0} (g : Ghosts S) (old new : Held S) {A : Type 0} (result : Result A Refusal) (Is : Trees → Entries → A → Type 0) : Type 0 where
+  pub answer : IfDone g old new result (λ x old _. IsTrue old.is_open × ((before : Entries) → Stands old.now before → Is old.now.trees before x))
   pub unchanged : Always g old new LeavesUnchanged
   pub refused : IfErr result (λ e. (e ≡ refusals.Memory) ⊎ (e ≡ refusals.Database))
   pub cause : Always g old new (λ old new. AreNamed old.now.trees → IfErr result (IsStoreFault IsUncounted old new))

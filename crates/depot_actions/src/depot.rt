@@ -9,6 +9,7 @@ ghost use Rattle.sqlite.specs.Steps.{over_memory};
 ghost use Rattle.part_store.specs.Entries.{Entries, no_entries};
 ghost use Rattle.part_store.specs.Opening.{HoldsNoTables, HoldsStore, IsAt, IsFoundIn, IsReady, IsReadyFrom, TellsWhy};
 ghost use Rattle.sqlite.specs.WalFiles.{image_at};
+ghost use Rattle.part_store.specs.Scrubbing.{IsScrubbed};
 ghost use Rattle.part_store.specs.Standing.{HaveDigests, LeavesUnchanged, Stands};
 ghost use Rattle.part_store.specs.Tables.{store_schema};
 ghost use Rattle.part_store.specs.Verifying.{IsVerified};
@@ -17,7 +18,7 @@ ghost use Rattle.depot_actions.specs.Applying.{Applies, AppliesAll};
 ghost use Rattle.depot_actions.specs.Causes.{IsCause, IsFault, IsStoreFault, MayRefuse};
 ghost use Rattle.depot_actions.specs.Deliveries.{command_of, reply_of};
 ghost use Rattle.depot_actions.specs.DepotState.{Deliver, Does, Done, Export, ListAll, Migrate, Migrated, Program, ProgramOf, Remove, SetCode, SetScript, Text};
-ghost use Rattle.depot_actions.specs.Overviews.{LooksOver};
+ghost use Rattle.depot_actions.specs.Overviews.{IsOverview, LooksOver};
 ghost use Rattle.sqlite.specs.Files.{file_state, IsOpened};
 ghost use Rattle.part_store.specs.Looking.{are_tables};
 ghost use Rattle.devices.specs.Device.{HasBegun, HasBroken, HasTaken};
@@ -34,7 +35,7 @@ use crate::renewing::renewed_programs;
 use crate::user::is_user_name;
 use devices::Sink;
 use encodings::{Encoding, put_text};
-use part_store::{Again, EntryRow, PartStore, Unopened};
+use part_store::{Again, EntryRow, PartStore, Scrubbed, Unopened};
 use refusals::Refusal;
 use sieve_engine::code_octets;
 use sqlite::{Alter, File, FileFrom, FileStore, MemStore, Start, Unknown};
@@ -321,9 +322,23 @@ impl<S: Alter> Depot<S> {
     ///   user's name isn't UTF-8.
     /// - `Memory` if memory is refused.
     pub fn inspect(&mut self, alloc: Global) -> Result<Overview, Refusal>
-        ensures { LooksOver S.Store self.old self.new result }
+        ensures { LooksOver S.Store self.old self.new result IsOverview }
     {
         look_over(&mut self.store, alloc)
+    }
+
+    /// Compares each stored content with the SHA-256 that it is stored under. Returns how many contents there are, how
+    /// many of them are damaged, and the entries that refer to a damaged content. Nothing changes. Damage is reported,
+    /// and isn't an error.
+    ///
+    /// # Errors
+    ///
+    /// - `Database` if the store fails; if the bytes of all contents are 2^64 or more; or if a user's name isn't UTF-8.
+    /// - `Memory` if memory is refused.
+    pub fn scrub(&mut self) -> Result<Scrubbed, Refusal>
+        ensures { LooksOver S.Store self.old self.new result IsScrubbed }
+    {
+        self.store.scrub().map_err(refused)
     }
 }
 

@@ -7,7 +7,8 @@
 //! none ([`Depot::deliver_all`], `specs/Deliveries`). `specs/Drafts` defines what the actions of a filter file, and
 //! `specs/Users` the names of users.
 //!
-//! [`Depot::inspect`] reports what a depot holds, user by user (`specs/Overviews`), for its operator.
+//! For the operator, [`Depot::inspect`] reports what a depot holds, user by user (`specs/Overviews`), and
+//! [`Depot::scrub`] which contents are damaged.
 //!
 //! A filter is checked when it is run: of a user's commands `deliver` alone verifies the stored program, and answers
 //! Database if it no longer reads or isn't accepted. The others work on such a depot as on any.
@@ -29,8 +30,8 @@
 //! A command is refused if the name is no user's name, the entry doesn't exist, or the numbers don't suffice. It is
 //! refused `Database` only if the store can't work, what is to be put in has no room though its numbers suffice, a
 //! stored filter that it needs no longer reads and verifies, or the bytes that are to be exported were altered; another
-//! command that only reads or removes only for the first of these. For `migrate` and `inspect` that holds if users'
-//! names are UTF-8. `inspect` is also refused if there are more bytes than 64 bits can count.
+//! command that only reads or removes only for the first of these. For `migrate`, `inspect` and `scrub` that holds if
+//! users' names are UTF-8. `inspect` and `scrub` are also refused if there are more bytes than 64 bits can count.
 //!
 //! ### What a delivery files
 //!
@@ -57,6 +58,12 @@
 //! written. If the stored bytes don't have it, or nothing is stored under the digest, the export is refused `Database`,
 //! and nothing is written. If each content has its digest, no export is refused for this (see "Bytes that are read have
 //! their digest").
+//!
+//! ### What a scrub reports
+//!
+//! A scrub of an open depot counts the contents and their bytes, and the damaged contents: those whose bytes don't have
+//! the SHA-256 that they are stored under. It lists exactly the entries that refer to a damaged content: users in the
+//! order of their names, the entries of a user in the order of their numbers. It changes nothing, whatever it finds.
 //!
 //! ### A crash in a command
 //!
@@ -86,7 +93,7 @@
 //! the accepted commands before make.
 //!
 //! By `Depot`: `set_script`, `set_code`, `deliver`, `deliver_all`, `list`, `program_of`, `export`, `remove`,
-//! `migrate`, `inspect`; laws `commands_are_a_fold`, `open_stores_leave_what_is_committed`, `sessions_are_steps`,
+//! `migrate`, `inspect`, `scrub`; laws `commands_are_a_fold`, `open_stores_leave_what_is_committed`, `sessions_are_steps`,
 //! `runs_are_a_fold`, `accepted_commands_have_no_cause`, `migrations_change_no_actions`,
 //! `migrated_programs_run_as_before`, `deliveries_stay_within_their_limit`, `media_types_have_no_line_break`.
 #![tactic(auto)]

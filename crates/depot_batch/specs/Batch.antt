@@ -10,6 +10,7 @@ use Rattle.sqlite.specs.Held.{Held, state}
 use Rattle.sqlite.specs.State.{HasCleanDisk, State, Survives}
 use Rattle.part_store.specs.Entries.{Listing}
 use Rattle.part_store.specs.Standing.{LeavesUnchanged}
+use Rattle.depot_actions.specs.Applying.{MayAdd}
 use Rattle.depot_actions.specs.Deliveries.{DoesAll, MayLeaveAll}
 use Rattle.depot_actions.specs.DepotState.{Command, Export as Exports, Listed, Reply as DepotReply, Text as Written}
 use Rattle.depot_actions.specs.History.{Call}
@@ -21,7 +22,7 @@ use Rattle.printing.specs.Printed.{line, refusal_line}
 use Rattle.depot_jobs.specs.Inputs.{HasNotReadFile, HasReadFile, file_of}
 use Rattle.depot_cli.specs.Printed.{entries_text}
 use Rattle.depot_cli.specs.Requests.{request_command}
-use Rattle.depot_cli.specs.Tasks.{HasAnswered, HasDone, HasRefused, MayAdd}
+use Rattle.depot_cli.specs.Tasks.{HasAnswered, HasDone, HasRefused}
 use Rattle.depot_cli.specs.declared.entries.Detail.TheVariants.{Brief}
 use Rattle.depot_jobs.specs.Requests.{Request}
 use Rattle.depot_jobs.specs.declared.request.OnDepot.TheVariants.{Deliver}

@@ -1,15 +1,18 @@
--- What comes of a task and of an inspection, by what opening the file gave.
+-- What comes of a task and of a look, by what opening the file gave.
 use Rattle.std.specs.Prelude.{◌≡◌, ℕ, Option, None, Some, Result, Ok, Err, ⊤}
 use Rattle.sqlite.specs.State.{State, Survives}
 use Rattle.part_store.specs.declared.looking.Unopened.{Unopened}
+use Rattle.depot_actions.specs.Applying.{MayAdd}
 use Rattle.depot_actions.specs.DepotState.{Command}
 use Rattle.devices.specs.Device.{Output}
 use Rattle.refusals.specs.declared.refusal.Refusal.{Refusal}
-use Rattle.refusals.specs.declared.refusal.Refusal.TheVariants.{Memory}
-use Rattle.depot_cli.specs.Inspecting.{HasInspected, HasSaidWhy}
+use Rattle.refusals.specs.declared.refusal.Refusal.TheVariants.{Memory, Database}
+use Rattle.depot_cli.specs.Looking.{HasLooked, HasSaidWhy}
 use Rattle.depot_jobs.specs.Jobs.{HasTold}
 use Rattle.depot_cli.specs.NoDepots.{no_depot_of}
-use Rattle.depot_cli.specs.Tasks.{HasPerformed, MayAdd, store_and_outputs}
+use Rattle.depot_cli.specs.Tasks.{HasPerformed, store_and_outputs}
+use Rattle.depot_cli.specs.declared.looks.Look.{Look}
+use Rattle.depot_cli.specs.declared.looks.Look.TheVariants.{Inspect, Scrub}
 use Rattle.depot_cli.specs.declared.no_depot.NoDepot.{NoDepot}
 
 -- ---- tasks
@@ -33,24 +36,25 @@ OutlastsCarrying store command (Ok old) (Ok new) =
     Survives (store old) (store new) (MayAdd command (store old))
 OutlastsCarrying store command opened left = ⊤
 
--- ---- inspections
+-- ---- looks
 
--- why a file is no depot was written, or the refusal was told where that can't be known for want of
--- memory
-abbrev pub HasToldWhy : Option NoDepot → Output → Output → Output → Output → Type 0
-HasToldWhy None out err out2 err2 = HasTold Memory err err2 × (out2 ≡ out)
-HasToldWhy (Some reason) out err out2 err2 = HasSaidWhy reason out err out2 err2
+-- why a file is no depot was written by an inspection, and `Database` told by a scrub; or the refusal was
+-- told where that can't be known for want of memory
+abbrev pub HasToldWhy : Look → Option NoDepot → Output → Output → Output → Output → Type 0
+HasToldWhy look None out err out2 err2 = HasTold Memory err err2 × (out2 ≡ out)
+HasToldWhy (Inspect log) (Some reason) out err out2 err2 = HasSaidWhy reason out err out2 err2
+HasToldWhy Scrub (Some reason) out err out2 err2 = HasTold Database err err2 × (out2 ≡ out)
 
--- What opening a file as it is gave was inspected, with this status: what the depot holds was told,
--- and it is open still; or why there is none, with status 1.
+-- What opening a file as it is gave was looked at, with this status: the depot, which is open still; or
+-- it was told why there is none, with status 1.
 abbrev pub HasReported :
-    {H : Type 0} → (H → State) → Option ℕ → ℕ → Result H Unopened → Result H Unopened
+    {H : Type 0} → (H → State) → Look → ℕ → Result H Unopened → Result H Unopened
     → Output → Output → Output → Output → Type 0
-HasReported store log status (Ok old) (Ok new) out err out2 err2 =
-    HasInspected log status (store_and_outputs (store old) out err) (store_and_outputs (store new) out2 err2)
-HasReported store log status (Err why) (Err same) out err out2 err2 =
-    (same ≡ why) × (status ≡ 1) × HasToldWhy (no_depot_of why) out err out2 err2
-HasReported store log status opened left out err out2 err2 = ⊥
+HasReported store look status (Ok old) (Ok new) out err out2 err2 =
+    HasLooked look status (store_and_outputs (store old) out err) (store_and_outputs (store new) out2 err2)
+HasReported store look status (Err why) (Err same) out err out2 err2 =
+    (same ≡ why) × (status ≡ 1) × HasToldWhy look (no_depot_of why) out err out2 err2
+HasReported store look status opened left out err out2 err2 = ⊥
 
 -- a crash leaves nothing of the depot that it couldn't leave before
 abbrev pub OutlastsReporting :

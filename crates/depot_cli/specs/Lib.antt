@@ -2,7 +2,7 @@ pub mod Printed
 pub mod Tasks
 pub mod Requests
 pub mod Running
-pub mod Inspecting
+pub mod Looking
 pub mod NoDepots
 pub mod Carrying
 pub mod Saving

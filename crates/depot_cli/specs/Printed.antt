@@ -5,6 +5,8 @@ use Rattle.std.specs.Fmt.{decimal}
 use Rattle.part_store.specs.Entries.{Listing}
 use Rattle.part_store.specs.declared.entry.Kind.{Kind}
 use Rattle.part_store.specs.declared.entry.Kind.TheVariants.{Message, Part as Piece}
+use Rattle.part_store.specs.declared.scrubbing.DamagedEntry.{DamagedEntry}
+use Rattle.part_store.specs.declared.scrubbing.Scrubbed.{Scrubbed}
 use Rattle.part_store.specs.declared.totals.ContentTotal.{ContentTotal}
 use Rattle.depot_actions.specs.DepotState.{Command, Reply, SetScript, SetCode, Deliver, ListAll, Export, Remove, Migrate, Listed, Migrated}
 use Rattle.depot_actions.specs.DepotState.{Text as Written}
@@ -16,6 +18,8 @@ use Rattle.refusals.specs.Lines.{name_of, number_of}
 use Rattle.printing.specs.Printed.{line, quoted}
 use Rattle.depot_cli.specs.declared.entries.Detail.{Detail}
 use Rattle.depot_cli.specs.declared.entries.Detail.TheVariants.{Brief, Full}
+use Rattle.depot_cli.specs.declared.looks.Seen.{Seen}
+use Rattle.depot_cli.specs.declared.looks.Seen.TheVariants as seen
 use Rattle.depot_cli.specs.declared.no_depot.NoDepot.{NoDepot}
 use Rattle.depot_cli.specs.declared.no_depot.NoDepot.TheVariants as why
 
@@ -116,3 +120,19 @@ users_text users = flat_map user_line users
 abbrev pub overview_text : Option ℕ → Overview → List ℕ
 overview_text log x =
     line (codes "depot") ++ line (log_text log) ++ users_text x.users.items ++ line (contents_text x.contents)
+
+-- an entry whose content is damaged: its number, its user and its folder
+abbrev pub damaged_text : DamagedEntry → List ℕ
+damaged_text entry = decimal entry.number ++ codes " " ++ quoted (string_bytes entry.user) ++ codes " " ++ quoted entry.folder.items
+
+-- the lines of a scrub: how many contents there are, their octets, how many of them are damaged, and the
+-- entries that have one of these
+abbrev pub scrubbed_text : Scrubbed → List ℕ
+scrubbed_text x =
+    line (codes "contents " ++ decimal x.contents.contents) ++ line (codes "octets " ++ decimal x.contents.octets)
+    ++ line (codes "damaged " ++ decimal x.damaged) ++ flat_map (λ e. line (damaged_text e)) x.entries.items
+
+-- the lines of what a look saw
+abbrev pub seen_text : Seen → List ℕ
+seen_text (seen.Overview log x) = overview_text log x
+seen_text (seen.Scrubbed x) = scrubbed_text x

@@ -10,7 +10,7 @@ use Rattle.depot_jobs.specs.Usage.{HasNoLine}
 use Rattle.depot_jobs.specs.Words.{IsLine}
 use Rattle.depot_jobs.specs.Working.{HasNotWorked, HasWorked}
 use Rattle.depot_jobs.specs.declared.line.CommandLine.{CommandLine}
-use Rattle.depot_jobs.specs.declared.line.CommandLine.TheVariants.{Alone, OnDepot, Program, Inspect, Batch}
+use Rattle.depot_jobs.specs.declared.line.CommandLine.TheVariants.{Alone, OnDepot, Program, Inspect, Scrub, Batch}
 use Rattle.depot_jobs.specs.Requests.{Request}
 use Rattle.depot_cli.specs.Requests.{command_of, request_command}
 use Rattle.depot_cli.specs.declared.pending_task.PendingTask.{PendingTask}
@@ -35,7 +35,7 @@ pub record HasNotPrepared (request : Request) (status : ℕ) (old new : HostAndO
 
 -- What comes of a command. Work was done, with a status, and a request became a task; or what they
 -- read was not read. Of all others nothing was done: they are handed on as whose program is saved,
--- from which depot and as which file, as the file that is inspected, and as the depot of a batch.
+-- from which depot and as which file, as the file that is looked at, and as the depot of a batch.
 abbrev pub LeadsTo : CommandLine → Next → HostAndOutputs → HostAndOutputs → Type 0
 LeadsTo (Alone work) (next.Exit status) old new = HasWorked work status old new ⊎ HasNotWorked work status old new
 LeadsTo (OnDepot depot request) (next.Perform pending) old new =
@@ -44,6 +44,7 @@ LeadsTo (OnDepot depot request) (next.Exit status) old new = HasNotPrepared requ
 LeadsTo (Program depot user out) (next.Save saving) old new =
     (saving.name.now ≡ depot.now) × (saving.user.now ≡ user.now) × (saving.out.now ≡ out.now) × (new ≡ old)
 LeadsTo (Inspect depot) (next.Inspect name) old new = (name.now ≡ depot.now) × (new ≡ old)
+LeadsTo (Scrub depot) (next.Scrub name) old new = (name.now ≡ depot.now) × (new ≡ old)
 LeadsTo (Batch depot) (next.Batch name) old new = (name.now ≡ depot.now) × (new ≡ old)
 LeadsTo _ _ old new = ⊥
 

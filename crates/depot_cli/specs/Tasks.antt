@@ -1,12 +1,10 @@
 -- What performing a task does.
 use Rattle.std.specs.Prelude.{◌≡◌, ◌≢◌, ◌⊎◌, ℕ, List, map}
 use Rattle.sqlite.specs.State.{HasCleanDisk, State}
-use Rattle.sqlite_trees.specs.Tree.{Trees}
 use Rattle.part_store.specs.Standing.{LeavesUnchanged, listed}
-use Rattle.part_store.specs.Refusals.{AreNamed}
-use Rattle.depot_actions.specs.Causes.{HasCause, IsExport, IsFault, MayRefuse}
-use Rattle.depot_actions.specs.DepotState.{Command, Does, MayLeave, Reply, ListAll}
-use Rattle.depot_actions.specs.DepotState as depot
+use Rattle.depot_actions.specs.Applying.{HasFault}
+use Rattle.depot_actions.specs.Causes.{HasCause, IsExport, MayRefuse}
+use Rattle.depot_actions.specs.DepotState.{Command, Does, Reply}
 use Rattle.devices.specs.Device.{HasBegun, HasBroken, HasTaken, Output}
 use Rattle.refusals.specs.declared.refusal.Refusal.{Refusal}
 use Rattle.refusals.specs.declared.refusal.Refusal.TheVariants.{Memory, Write}
@@ -17,14 +15,6 @@ use Rattle.depot_cli.specs.declared.task.Reply.{Reply as Replied}
 use Rattle.depot_cli.specs.declared.task.Reply.TheVariants.{Stored, Filed, Listed, Removed, Migrated}
 
 -- ---- what performing does
-
--- What a crash may leave of a command that it couldn't leave before it: tables that stand for what
--- the command leaves. A command that only looks adds nothing.
-abbrev pub MayAdd : Command → State → Trees → Type 0
-MayAdd (ListAll user) old trees = ⊥
-MayAdd (depot.ProgramOf user) old trees = ⊥
-MayAdd (depot.Export user number encoding) old trees = ⊥
-MayAdd command old trees = MayLeave command old trees
 
 -- what a task works with: the store of the depot, standard output and standard error
 pub record StoreAndOutputs : Type 1 where
@@ -52,17 +42,12 @@ abbrev pub HasAnswered : Command → List ℕ → State → State → Type 0
 HasAnswered command text old new =
     (reply : Reply) × HasDone command reply old new × (text ≡ reply_text command reply)
 
--- why the database failed a command; a migration has a cause where the users of the tables are texts
-abbrev pub HasFault : Command → Refusal → State → State → Type 0
-HasFault depot.Migrate refusal old new = AreNamed old.now.trees → IsFault depot.Migrate old new refusal
-HasFault command refusal old new = IsFault command old new refusal
-
 -- The depot refused the command by a refusal that this command may get, whatever the disk does. As
 -- long as the disk returns what was written, the refusal has its cause, and the depot is as it was.
 abbrev pub HasRefused : Command → Refusal → State → State → Type 0
 HasRefused command refusal old new =
     MayRefuse command refusal
-    × (HasCleanDisk new → HasCause refusal command old × HasFault command refusal old new × LeavesUnchanged old new)
+    × (HasCleanDisk new → HasCause refusal command old × HasFault command old new refusal × LeavesUnchanged old new)
 
 -- and the reply was written whole
 abbrev pub HasReplied : Command → StoreAndOutputs → StoreAndOutputs → Type 0

@@ -1,66 +1,17 @@
 // Printing what a depot holds, line by line.
-ghost use Rattle.std.specs.Prelude.{◌≡◌, OnErr, OnOk};
-ghost use Rattle.sqlite.specs.Held.{state};
-ghost use Rattle.sqlite.specs.State.{Survives};
-ghost use Rattle.devices.specs.Device.{HasBroken, HasTaken};
 ghost use Rattle.devices.specs.Pages.{Wrote};
 ghost use Rattle.printing.specs.Printed.{line as line_of};
 ghost use Rattle.depot_actions.specs.declared.overview.ProgramState.TheVariants.{Refused};
-ghost use Rattle.depot_cli.specs.Inspecting.{HasInspected};
 ghost use Rattle.depot_cli.specs.Printed.{contents_text, log_text, numbers_text, overview_text, state_line, user_line, users_text};
-ghost use Rattle.depot_cli.specs.Tasks.{store_and_outputs};
 
-use crate::task::finish;
-use depot_actions::{Depot, Overview, ProgramState, UserOverview};
-use depot_jobs::tell;
-use devices::{DeviceFailed, Page, Sink};
+use depot_actions::{Overview, ProgramState, UserOverview};
+use devices::{Page, Sink};
 use part_store::ContentTotal;
 use printing::{Piece, print, print_line};
 use refusals::Refusal;
-use sqlite::Alter;
-use std::alloc::Global;
 
-/// Writes to `out` what a depot holds and returns 0; or writes the line of its refusal, `Memory` or `Database`, to
-/// `err` and returns 1. `log` is the size of the depot's log in bytes before it was opened, if there was one.
-///
-/// Writing begins when everything is read, and allocates no memory. If `out` fails, the beginning of the lines was
-/// written there, the line of `Write` is written to `err`, and the status is 1. The depot stays as it is.
-pub fn inspect<S: Alter, O: Sink, E: Sink>(
-    alloc: Global,
-    log: Option<u64>,
-    depot: &mut Depot<S>,
-    out: &mut O,
-    err: &mut E,
-) -> u8
-    ensures inspected { HasInspected log result
-        (store_and_outputs (state S.Store depot.old) (O.output out.old) (E.output err.old))
-        (store_and_outputs (state S.Store depot.new) (O.output out.new) (E.output err.new)) }
-    ensures survives { Survives (state S.Store depot.old) (state S.Store depot.new) (λ _. ⊥) }
-{
-    match depot.inspect(alloc) {
-        Ok(overview) => finish(err, put_overview(out, log, &overview)),
-        Err(refusal) => tell(err, &refusal),
-    }
-}
-
-// Writes the lines of a depot. If a call of `out` fails, the beginning of the lines was written.
-fn put_overview<O: Sink>(
-    out: &mut O,
-    log: Option<u64>,
-    overview: &Overview,
-) -> Result<(), DeviceFailed>
-    ensures ok { OnOk result (HasTaken (overview_text log overview.now) (O.output out.old)
-        (O.output out.new)) }
-    ensures err { OnErr result (HasBroken (overview_text log overview.now) (O.output out.old)
-        (O.output out.new)) }
-{
-    let mut page = Page::new(out);
-    print_overview(&mut page, log, overview);
-    page.flush()
-}
-
-// Prints the lines of a depot.
-fn print_overview<O: Sink>(page: &mut Page<'_, O>, log: Option<u64>, overview: &Overview)
+/// Prints the lines of a depot. `log` is the size of its log in bytes before it was opened, if there was one.
+pub fn print_overview<O: Sink>(page: &mut Page<'_, O>, log: Option<u64>, overview: &Overview)
     ensures { Wrote (overview_text log overview.now) page.old page.new }
 {
     print_line(page, "depot");

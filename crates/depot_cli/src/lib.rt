@@ -5,7 +5,7 @@
 //! (`specs/Requests`). [`perform`] has the depot do a task: it writes exactly the reply, or the line of the refusal
 //! (`specs/Tasks`, `specs/Printed`). The caller that opened the depot's file passes a task to [`carry`] as a
 //! [`PendingTask`] (`specs/Carrying`), a program that is saved to [`save`] (`specs/Saving`), and a file that is
-//! inspected to [`inspect_opened`] (`specs/Inspecting`).
+//! inspected or scrubbed to [`look_opened`] (`specs/Looking`).
 //!
 //! Replies and reports are printed on a [`Page`](devices::Page), which the call that has the sink makes and flushes.
 //! So the text of up to 65,536 bytes is one write, and a longer one is written in pieces of that size. Only an export
@@ -20,8 +20,8 @@
 //! ## From the words to the status
 //!
 //! What a command reads is read in the order of its words, then its job is answered with these bytes. A command on a
-//! depot is returned as a pending task, with the bytes that were read; one that inspects or takes a batch as the name
-//! of its file; one that saves a program as its names, with nothing done.
+//! depot is returned as a pending task, with the bytes that were read; one that looks at a file or takes a batch as the
+//! name of its file; one that saves a program as its names, with nothing done.
 //!
 //! By `run`; `carry_out`, `read_file_of` of depot_jobs.
 //!
@@ -42,10 +42,10 @@
 //! ## Tasks
 //!
 //! A task is carried once to the depot that was opened for it, with the status and the texts of its command; or the
-//! refusal of opening is reported, with status 1. So is an inspection, with the reason why there is no depot. The
-//! words of the process are taken as they are, all of them and in their order.
+//! refusal of opening is reported, with status 1. So is an inspection, with the reason why there is no depot, and a
+//! scrub, with `Database`. The words of the process are taken as they are, all of them and in their order.
 //!
-//! By `carry`, `inspect_opened`, `NoDepot::of`; `words`, `texts` of depot_jobs.
+//! By `carry`, `look_opened`, `NoDepot::of`; `words`, `texts` of depot_jobs.
 //!
 //! ## Saving a program
 //!
@@ -65,20 +65,32 @@
 //! status 1; or the line of `Memory` or `Database` is printed. The reason why a file is no depot is printed in the
 //! words of its kind, with status 1.
 //!
-//! By `inspect`, `tell_no_depot`, `NoDepot`; `Depot::inspect` of depot_actions.
+//! By `look_over`, `tell_no_depot`, `NoDepot`; `Depot::inspect` of depot_actions.
+//!
+//! ## Scrubbing
+//!
+//! A scrub reports the number and the size of the contents, how many of them don't have the SHA-256 under which they
+//! are stored, and exactly the entries that have one of these: the number, the user and the folder of each, by users in
+//! the order of their names. The depot stays as it is. The status is 0 exactly if the report is printed whole and
+//! nothing is damaged. With damage, the report is printed and then the line of `Database`; or the report breaks off; or
+//! the line of `Memory` or `Database` is printed alone.
+//!
+//! By `look_over`; `Depot::scrub` of depot_actions.
 #![tactic(auto)]
 
 mod carrying;
 mod entries;
 mod inspection;
+mod looks;
 mod no_depot;
 mod pending_task;
 mod running;
 mod saving;
+mod scrubbing;
 mod task;
 
-pub use carrying::{carry, inspect_opened};
-pub use inspection::inspect;
+pub use carrying::{carry, look_opened};
+pub use looks::{Look, Seen, look_over};
 pub use no_depot::{NoDepot, tell_no_depot};
 pub use pending_task::PendingTask;
 pub use running::{Next, run};

@@ -12,7 +12,7 @@ use refusals::Refusal;
 use std::alloc::Global;
 
 /// What remains to be done after [`run`]. If the command needs no depot, only the exit status is left; otherwise the
-/// program opens the depot's file and continues with [`crate::carry`], [`crate::inspect_opened`], [`crate::save`] or a
+/// program opens the depot's file and continues with [`crate::carry`], [`crate::look_opened`], [`crate::save`] or a
 /// batch.
 #[derive(Drop)]
 pub enum Next<'a> {
@@ -23,6 +23,8 @@ pub enum Next<'a> {
     Perform(PendingTask<'a>),
     /// Report what the file with this name is, and what the depot in it holds. Nothing was opened.
     Inspect(&'a str),
+    /// Compare the contents of the depot in the file with this name with their SHA-256. Nothing was opened.
+    Scrub(&'a str),
     /// Save a user's program as a file. Nothing was opened.
     Save(Saving<'a>),
     /// Do commands on the depot in the file with this name, one after another. None was read.
@@ -30,7 +32,7 @@ pub enum Next<'a> {
 }
 
 /// Carries out what the words say; the first is the program's name. A command on a depot is handed back, so that the
-/// caller opens the depot and performs it, and so is a command that inspects, saves a program, or reads commands.
+/// caller opens the depot and performs it, and so is a command that looks at a file, saves a program, or reads commands.
 ///
 /// The files of the command are read in the order of its words, before anything is done with them, each at most one
 /// byte past the limit of 67,108,864. If one can't be read, its refusal is written to `err`, and nothing after it is
@@ -76,6 +78,7 @@ fn lead<'a, H: Host, O: Sink, E: Sink>(
             out,
         }),
         CommandLine::Inspect { depot } => Next::Inspect(depot),
+        CommandLine::Scrub { depot } => Next::Scrub(depot),
         CommandLine::Batch { depot } => Next::Batch(depot),
     }
 }

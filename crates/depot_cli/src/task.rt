@@ -5,6 +5,7 @@
 ghost use Rattle.std.specs.Prelude.{◌≡◌, IfErr, IfOk, OnErr, OnOk};
 ghost use Rattle.sqlite.specs.Held.{state};
 ghost use Rattle.sqlite.specs.State.{Survives};
+ghost use Rattle.depot_actions.specs.Applying.{MayAdd};
 ghost use Rattle.depot_actions.specs.Causes.{IsExport};
 ghost use Rattle.devices.specs.Device.{HasBroken, HasTaken};
 ghost use Rattle.devices.specs.Pages.{Wrote};
@@ -12,7 +13,7 @@ ghost use Rattle.refusals.specs.declared.refusal.Refusal.TheVariants.{Write};
 ghost use Rattle.depot_jobs.specs.Jobs.{HasTold};
 ghost use Rattle.depot_cli.specs.Printed.{migrated_text, removed_text};
 ghost use Rattle.depot_cli.specs.Requests.{command_of};
-ghost use Rattle.depot_cli.specs.Tasks.{HasAnswered, HasPerformed, HasRefused, MayAdd, store_and_outputs, text_in};
+ghost use Rattle.depot_cli.specs.Tasks.{HasAnswered, HasPerformed, HasRefused, store_and_outputs, text_in};
 
 use crate::entries::{Detail, print_entries};
 use depot_actions::Depot;

@@ -9,7 +9,7 @@ use Rattle.encodings.specs.declared.encoding.Encoding.{Encoding}
 use Rattle.encodings.specs.declared.encoding.Encoding.TheVariants.{Raw}
 use Rattle.encodings.specs.Names.{encoding_of, name_of}
 use Rattle.depot_jobs.specs.declared.line.CommandLine.{CommandLine}
-use Rattle.depot_jobs.specs.declared.line.CommandLine.TheVariants.{Alone, OnDepot, Program, Inspect, Batch}
+use Rattle.depot_jobs.specs.declared.line.CommandLine.TheVariants.{Alone, OnDepot, Program, Inspect, Scrub, Batch}
 use Rattle.depot_jobs.specs.Requests.{Request, Work}
 use Rattle.depot_jobs.specs.declared.host.Input.{Input}
 use Rattle.depot_jobs.specs.declared.host.Input.TheVariants.{Standard, File}
@@ -56,7 +56,7 @@ IsNoRequest name =
 -- nor of any other command on a depot
 abbrev pub IsNoDepotCommand : Text → Type 0
 IsNoDepotCommand name =
-    IsNoRequest name × (name ≢ codes "program") × (name ≢ codes "inspect") × (name ≢ codes "batch")
+    IsNoRequest name × (name ≢ codes "program") × (name ≢ codes "inspect") × (name ≢ codes "scrub") × (name ≢ codes "batch")
 
 -- the file whose name is this argument
 abbrev pub IsFile : Text → List Row → Input → Type 0
@@ -133,6 +133,8 @@ Says (Program depot user out) matches =
     (rows : List Row) × IsCommand (codes "program") matches rows × (depot.now ≡ argument (codes "DB") rows)
     × (user.now ≡ argument (codes "USER") rows) × (out.now ≡ argument (codes "OUT") rows)
 Says (Inspect depot) matches = (rows : List Row) × IsCommand (codes "inspect") matches rows
+    × (depot.now ≡ argument (codes "DB") rows)
+Says (Scrub depot) matches = (rows : List Row) × IsCommand (codes "scrub") matches rows
     × (depot.now ≡ argument (codes "DB") rows)
 Says (Batch depot) matches = (rows : List Row) × IsCommand (codes "batch") matches rows
     × (depot.now ≡ argument (codes "DB") rows)

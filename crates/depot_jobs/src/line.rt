@@ -37,6 +37,10 @@ pub enum CommandLine<'a> {
     Inspect {
         depot: &'a str,
     },
+    /// Compare the contents of the depot in a file with their SHA-256.
+    Scrub {
+        depot: &'a str,
+    },
     /// Do the commands in the lines of standard input on a depot.
     Batch {
         depot: &'a str,
@@ -138,6 +142,7 @@ fn depot_line_in<'a>(name: &str, found: &ArgMatches<'a>) -> CommandLine<'a>
             out: argument(found, "OUT"),
         },
         "inspect" => CommandLine::Inspect { depot },
+        "scrub" => CommandLine::Scrub { depot },
         "batch" => CommandLine::Batch { depot },
         _ => match request_in(name, found) {
             Some(request) => CommandLine::OnDepot { depot, request },

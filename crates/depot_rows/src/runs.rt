@@ -2,7 +2,7 @@
 
 use crate::shelf::{Asked, Known, Shelf};
 use depot_actions::Depot;
-use depot_cli::{Next, PendingTask, Saving, inspect, perform, run, save};
+use depot_cli::{Look, Next, PendingTask, Saving, look_over, perform, run, save};
 use depot_jobs::{Host, tell};
 use devices::{OfWrite, Sink};
 use refusals::Refusal;
@@ -128,7 +128,7 @@ static READ_MADE_AND_PRINTED: [Row; 10] = [
     },
 ];
 
-static ON_A_DEPOT: [Row; 9] = [
+static ON_A_DEPOT: [Row; 10] = [
     Row {
         words: &["depot", "script", "d", "ann", "s"],
         out: "stored\n",
@@ -181,6 +181,11 @@ static ON_A_DEPOT: [Row; 9] = [
     Row {
         words: &["depot", "migrate", "d"],
         out: "migrated 0\n",
+        ..ROW
+    },
+    Row {
+        words: &["depot", "scrub", "d"],
+        out: "contents 0\noctets 0\ndamaged 0\n",
         ..ROW
     },
 ];
@@ -242,15 +247,16 @@ fn carry<S: Alter, O: Sink, E: Sink>(
     }
 }
 
-// Inspects a depot, and gives the status.
-fn look<S: Alter, O: Sink, E: Sink>(
+// Looks at a depot, and gives the status.
+fn see<S: Alter, O: Sink, E: Sink>(
     alloc: Global,
+    look: Look,
     opened: &mut Result<Depot<S>, Refusal>,
     out: &mut O,
     err: &mut E,
 ) -> u8 {
     match opened {
-        Ok(depot) => inspect(alloc, None, depot, out, err),
+        Ok(depot) => look_over(alloc, look, depot, out, err),
         Err(refusal) => tell(err, refusal),
     }
 }
@@ -282,7 +288,8 @@ fn come_to<S: Alter, H: Host, O: Sink, E: Sink>(
     match run(alloc, words, host, out, err) {
         Next::Exit(status) => status,
         Next::Perform(pending) => carry(alloc, &pending, opened, out, err),
-        Next::Inspect(_) => look(alloc, opened, out, err),
+        Next::Inspect(_) => see(alloc, Look::Inspect(None), opened, out, err),
+        Next::Scrub(_) => see(alloc, Look::Scrub, opened, out, err),
         Next::Save(saving) => fetch(alloc, saving, opened, host, out, err),
         // no row has lines
         Next::Batch(_) => 2,

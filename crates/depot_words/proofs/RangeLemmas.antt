@@ -164,6 +164,7 @@ each names are name rows e =
     ▸ asked names name rows e (codes "remove") _ refl refl (λ has. any rows _ has (codes "DB") _ refl refl ▸ any rows _ has (codes "USER") _ refl refl ▸ number rows _ has (codes "NUMBER") _ refl refl refl ▸ tt)
     ▸ asked names name rows e (codes "migrate") _ refl refl (λ has. any rows _ has (codes "DB") _ refl refl ▸ tt)
     ▸ asked names name rows e (codes "inspect") _ refl refl (λ has. any rows _ has (codes "DB") _ refl refl ▸ tt)
+    ▸ asked names name rows e (codes "scrub") _ refl refl (λ has. any rows _ has (codes "DB") _ refl refl ▸ tt)
     ▸ asked names name rows e (codes "batch") _ refl refl (λ has. any rows _ has (codes "DB") _ refl refl ▸ tt)
     ▸ tt
 

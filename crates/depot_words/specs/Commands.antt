@@ -83,6 +83,7 @@ commands =
     ∷ (codes "remove", depot ∷ user ∷ number ∷ [])
     ∷ (codes "migrate", depot ∷ [])
     ∷ (codes "inspect", depot ∷ [])
+    ∷ (codes "scrub", depot ∷ [])
     ∷ (codes "batch", depot ∷ [])
     ∷ []
 

@@ -162,6 +162,12 @@ const COMMANDS: &[Row] = &[
         ending: help::INSPECT,
     },
     Row {
+        word: "scrub",
+        arguments: &[Argument::AnyFile],
+        about: "Compare every stored content with its SHA-256",
+        ending: help::SCRUB,
+    },
+    Row {
         word: "batch",
         arguments: &[Argument::Depot],
         about: "Run the commands on standard input, one a line, on a depot",

