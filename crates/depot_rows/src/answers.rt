@@ -2,7 +2,7 @@
 
 use crate::calls::Calls;
 use crate::shelf::{Known, Shelf};
-use depot_jobs::{Job, answer};
+use depot_jobs::{File, Job, Runner, Tool, answer};
 use devices::OfWrite;
 use encodings::Encoding;
 use std::io;
@@ -26,6 +26,11 @@ fn answered(
     (status, out, err)
 }
 
+// Bytes as a file without a name.
+fn file(octets: &[u8]) -> File<'_> {
+    File { name: "", octets }
+}
+
 // A device that takes whatever it is given.
 fn whole(rt: &HostRuntime) -> Calls {
     Calls::new(rt, 100, 100)
@@ -39,10 +44,10 @@ fn is_answered_by(rt: &HostRuntime, job: Job<'_>, lengths: &[usize]) -> bool {
 
 #[test]
 fn each_line_is_one_call(rt: HostRuntime) {
-    let script = b"keep; discard;";
-    assert!(rt; is_answered_by(&rt, Job::Check { script }, &[3]));
-    let message = b"";
-    assert!(rt; is_answered_by(&rt, Job::Eval { script, message }, &[20]));
+    let script = file(b"keep; discard;");
+    assert!(rt; is_answered_by(&rt, Job::OnFile(Tool::Check, script), &[3]));
+    let job = Job::OnMessage(Runner::Eval, script, file(b""));
+    assert!(rt; is_answered_by(&rt, job, &[20]));
 }
 
 // Whether a job is refused with this line alone, in one call.
@@ -58,10 +63,10 @@ fn is_refused_by(rt: &HostRuntime, job: Job<'_>, line: &[u8]) -> bool {
 
 #[test]
 fn a_refusal_is_one_call(rt: HostRuntime) {
-    let script = b"vacation;";
+    let job = Job::OnFile(Tool::Check, file(b"vacation;"));
     let line = b"refused 15 UnknownCommand at 0\n";
     assert_eq!(rt; line.len(), 31);
-    assert!(rt; is_refused_by(&rt, Job::Check { script }, line));
+    assert!(rt; is_refused_by(&rt, job, line));
 }
 
 /// What foobar is encoded as, in lines.
@@ -69,10 +74,8 @@ const FOOBAR: &[u8] = b"Zm9vYmFy\r\n";
 
 // Encodes foobar to a writer that takes an octet in each of so many calls.
 fn encoded(rt: &HostRuntime, calls: usize) -> (u8, OfWrite<Calls>, OfWrite<Calls>) {
-    let job = Job::Encode {
-        encoding: Encoding::Base64Mime,
-        octets: b"foobar",
-    };
+    let encoding = Encoding::Base64Mime;
+    let job = Job::OnFile(Tool::Encode { encoding }, file(b"foobar"));
     answered(rt, job, Calls::new(rt, 1, calls), whole(rt))
 }
 
@@ -108,10 +111,8 @@ fn an_answer_that_just_fits(rt: HostRuntime) {
 // Whether a refusal whose line is written in so many calls of an octet each is written up to there, and nothing is answered.
 fn is_told_up_to(rt: &HostRuntime, calls: usize) -> bool {
     let told = b"refused 10 NotCanonical\n".as_slice();
-    let job = Job::Decode {
-        encoding: Encoding::Base32,
-        text: b"MZ======",
-    };
+    let encoding = Encoding::Base32;
+    let job = Job::OnFile(Tool::Decode { encoding }, file(b"MZ======"));
     let (status, out, err) = answered(rt, job, whole(rt), Calls::new(rt, 1, calls));
     status == 1
         && err.inner.octets.as_slice() == &told[..calls.min(24)]
@@ -137,13 +138,11 @@ fn written(rt: &HostRuntime, job: Job<'_>) -> Option<Vec<u8>> {
 // Whether a million octets are encoded to a text of two million, which is decoded to them.
 fn come_back(rt: &HostRuntime, octets: &[u8]) -> bool {
     let encoding = Encoding::Base16;
-    let Some(text) = written(rt, Job::Encode { encoding, octets }) else {
+    let job = Job::OnFile(Tool::Encode { encoding }, file(octets));
+    let Some(text) = written(rt, job) else {
         return false;
     };
-    let job = Job::Decode {
-        encoding,
-        text: &text,
-    };
+    let job = Job::OnFile(Tool::Decode { encoding }, file(&text));
     let read = written(rt, job);
     text.len() == 2_000_000 && matches!(&read, Some(read) if read.as_slice() == octets)
 }

@@ -64,13 +64,20 @@ fn is_answered_up_to<S: Alter>(
     )
 }
 
+// Whether they are in a new depot, and how many entries it has then.
+fn answered_up_to(rt: &HostRuntime, calls: usize) -> Result<(bool, usize), Fail> {
+    let mut depot = Depot::in_memory(rt.alloc());
+    let is_answered = is_answered_up_to(rt, &mut depot, calls)?;
+    Ok((is_answered, entries(&mut depot)?))
+}
+
 #[test]
 fn answers_that_break_off(rt: HostRuntime) -> Result<(), Fail> {
     for calls in 0..ANSWERS.len() {
-        let mut depot = Depot::in_memory(rt.alloc());
-        assert!(rt; is_answered_up_to(&rt, &mut depot, calls)?, "{calls}");
+        let (is_answered, count) = answered_up_to(&rt, calls)?;
+        assert!(rt; is_answered, "{calls}");
         // the three lines are ready together
-        assert_eq!(rt; entries(&mut depot)?, 3, "{calls}");
+        assert_eq!(rt; count, 3, "{calls}");
     }
     Ok(())
 }
@@ -87,6 +94,13 @@ fn is_read_up_to<S: Alter>(
     Ok(seen.ends(1, b"refused 46 Read\n") && seen.faults == 1 && seen.out.as_slice() == answers)
 }
 
+// Whether they are in a new depot, and how many entries it has then.
+fn read_up_to(alloc: Global, octets: &[u8], answers: &[u8]) -> Result<(bool, usize), Fail> {
+    let mut depot = Depot::in_memory(alloc);
+    let is_read = is_read_up_to(alloc, &mut depot, octets, answers)?;
+    Ok((is_read, entries(&mut depot)?))
+}
+
 #[test]
 fn lines_that_break_off(rt: HostRuntime) -> Result<(), Fail> {
     let alloc = rt.alloc();
@@ -94,12 +108,9 @@ fn lines_that_break_off(rt: HostRuntime) -> Result<(), Fail> {
     let one = ANSWERS.len() / 3;
     for len in 0..THREE.len() + 1 {
         let whole = len / line;
-        let mut depot = Depot::in_memory(alloc);
-        assert!(rt;
-            is_read_up_to(alloc, &mut depot, &THREE[..len], &ANSWERS[..whole * one])?,
-            "{len}"
-        );
-        assert_eq!(rt; entries(&mut depot)?, whole, "{len}");
+        let (is_read, count) = read_up_to(alloc, &THREE[..len], &ANSWERS[..whole * one])?;
+        assert!(rt; is_read, "{len}");
+        assert_eq!(rt; count, whole, "{len}");
     }
     Ok(())
 }

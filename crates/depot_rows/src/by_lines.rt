@@ -87,18 +87,22 @@ fn is_answered_up_to<S: Alter>(
     Ok(seen.status == 1 && seen.asked.len() == opened && seen.out.octets.as_slice() == answers)
 }
 
+// Whether they are in a new depot, and how many entries it has then.
+fn answered_up_to(rt: &HostRuntime, calls: usize, opened: usize) -> Result<(bool, usize), Fail> {
+    let mut depot = Depot::in_memory(rt.alloc());
+    let is_answered = is_answered_up_to(rt, &mut depot, calls, opened)?;
+    Ok((is_answered, entries(&mut depot)?))
+}
+
 #[test]
 fn answers_that_break_off(rt: HostRuntime) -> Result<(), Fail> {
     let one = ANSWERS.len() / 3;
     for calls in 0..ANSWERS.len() {
         // what was asked until then is done, and nothing more
         let begun = calls / one + 1;
-        let mut depot = Depot::in_memory(rt.alloc());
-        assert!(rt;
-            is_answered_up_to(&rt, &mut depot, calls, begun)?,
-            "{calls}"
-        );
-        assert_eq!(rt; entries(&mut depot)?, begun, "{calls}");
+        let (is_answered, count) = answered_up_to(&rt, calls, begun)?;
+        assert!(rt; is_answered, "{calls}");
+        assert_eq!(rt; count, begun, "{calls}");
     }
     Ok(())
 }

@@ -139,18 +139,26 @@ fn is_given_in_octets<S: Alter>(
     answer.is_ok() && lengths.len() == text.length && octets.as_slice() == whole
 }
 
+// How long the first text is that the message isn't exported as in this way.
+fn first_not_in_octets<S: Alter>(
+    rt: &HostRuntime,
+    depot: &mut Depot<S>,
+    message: &[u8],
+) -> Result<Option<usize>, Fail> {
+    for text in &TEXTS {
+        let whole = encode(rt.alloc(), text.encoding, message)?;
+        if !is_given_in_octets(rt, depot, text, &whole) {
+            return Ok(Some(text.length));
+        }
+    }
+    Ok(None)
+}
+
 #[test]
 fn one_octet_a_call(rt: HostRuntime) -> Result<(), Fail> {
     let message = vec![in rt.alloc(); b'a'; 4_561]?;
     let mut depot = holding(&rt, &message)?;
-    for text in &TEXTS {
-        let whole = encode(rt.alloc(), text.encoding, &message)?;
-        assert!(rt;
-            is_given_in_octets(&rt, &mut depot, text, &whole),
-            "a text of {}",
-            text.length
-        );
-    }
+    assert_eq!(rt; first_not_in_octets(&rt, &mut depot, &message)?, None);
     Ok(())
 }
 
@@ -174,20 +182,41 @@ fn breaks_off_within<S: Alter>(
         && whole.starts_with(written)
 }
 
+// The first number of calls after which an export of a text doesn't.
+fn first_not_within<S: Alter>(
+    rt: &HostRuntime,
+    depot: &mut Depot<S>,
+    text: &Text,
+    message: &[u8],
+) -> Result<Option<usize>, Fail> {
+    let whole = encode(rt.alloc(), text.encoding, message)?;
+    for calls in 0..=text.length / 1_000 {
+        if !breaks_off_within(rt, depot, text, &whole, calls) {
+            return Ok(Some(calls));
+        }
+    }
+    Ok(None)
+}
+
+// The same of the first text that has one, with its length.
+fn first_text_not_within<S: Alter>(
+    rt: &HostRuntime,
+    depot: &mut Depot<S>,
+    message: &[u8],
+) -> Result<Option<(usize, usize)>, Fail> {
+    for text in &TEXTS {
+        if let Some(calls) = first_not_within(rt, depot, text, message)? {
+            return Ok(Some((text.length, calls)));
+        }
+    }
+    Ok(None)
+}
+
 #[test]
 fn a_writer_that_fails_within_a_piece(rt: HostRuntime) -> Result<(), Fail> {
     let message = vec![in rt.alloc(); b'a'; 4_561]?;
     let mut depot = holding(&rt, &message)?;
-    for text in &TEXTS {
-        let whole = encode(rt.alloc(), text.encoding, &message)?;
-        for calls in 0..=text.length / 1_000 {
-            assert!(rt;
-                breaks_off_within(&rt, &mut depot, text, &whole, calls),
-                "a text of {}, {calls}",
-                text.length
-            );
-        }
-    }
+    assert_eq!(rt; first_text_not_within(&rt, &mut depot, &message)?, None);
     Ok(())
 }
 
@@ -233,18 +262,32 @@ fn is_encoding<S: Alter>(
     Ok(out.inner == whole)
 }
 
+// Whether the entry is exported as the encoding of these octets in each of the encodings.
+fn are_encodings<S: Alter>(
+    alloc: Global,
+    depot: &mut Depot<S>,
+    octets: &[u8],
+) -> Result<bool, Fail> {
+    for text in &TEXTS {
+        if !is_encoding(alloc, depot, text.encoding, octets)? {
+            return Ok(false);
+        }
+    }
+    Ok(true)
+}
+
+// Whether a message of these octets is.
+fn is_exported(rt: &HostRuntime, octets: &[u8]) -> Result<bool, Fail> {
+    let mut depot = holding(rt, octets)?;
+    are_encodings(rt.alloc(), &mut depot, octets)
+}
+
 #[test]
 fn lengths_around_pieces(rt: HostRuntime) -> Result<(), Fail> {
     let message = mixed(rt.alloc(), 9_200)?;
     for length in [0, 1, 4_559, 4_560, 4_561, 9_119, 9_120, 9_121, 9_200] {
         let (octets, _) = message.split_at(length.min(message.len()));
-        let mut depot = holding(&rt, octets)?;
-        for text in &TEXTS {
-            assert!(rt;
-                is_encoding(rt.alloc(), &mut depot, text.encoding, octets)?,
-                "{length}"
-            );
-        }
+        assert!(rt; is_exported(&rt, octets)?, "{length}");
     }
     Ok(())
 }

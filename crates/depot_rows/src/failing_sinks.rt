@@ -192,15 +192,36 @@ fn is_mute(rt: &HostRuntime, row: &Row, whole: &Held) -> Result<bool, Fail> {
     Ok(status == 1 && held == *whole)
 }
 
+/// Whether a task prints its line, what it leaves, and whether it leaves the same if its reply can't be written, and if
+/// nothing can.
+#[derive(Clone, Copy)]
+struct Came {
+    is_printed: bool,
+    leaves: [usize; 3],
+    is_told: bool,
+    is_mute: bool,
+}
+
+// What comes of a row's task.
+fn came_of(rt: &HostRuntime, row: &Row) -> Result<Came, Fail> {
+    let (is_printed, held) = whole(rt.alloc(), row)?;
+    Ok(Came {
+        is_printed,
+        leaves: held.rows,
+        is_told: is_told(rt, row, &held)?,
+        is_mute: is_mute(rt, row, &held)?,
+    })
+}
+
 #[test]
 fn what_was_done_stands(rt: HostRuntime) -> Result<(), Fail> {
     for row in &ROWS {
         let line = row.line;
-        let (is_printed, held) = whole(rt.alloc(), row)?;
-        assert!(rt; is_printed, "{line}");
-        assert_eq!(rt; held.rows, row.leaves, "{line}");
-        assert!(rt; is_told(&rt, row, &held)?, "{line}");
-        assert!(rt; is_mute(&rt, row, &held)?, "{line}");
+        let came = came_of(&rt, row)?;
+        assert!(rt; came.is_printed, "{line}");
+        assert_eq!(rt; came.leaves, row.leaves, "{line}");
+        assert!(rt; came.is_told, "{line}");
+        assert!(rt; came.is_mute, "{line}");
     }
     Ok(())
 }
@@ -213,28 +234,31 @@ fn is_broken_off(status: u8, octets: &[u8], told: &[u8], written: usize) -> bool
         && told == b"refused 45 Write\n".as_slice()
 }
 
+// Whether an export breaks off after so many calls of an octet each.
+fn breaks_off_after(rt: &HostRuntime, calls: usize) -> Result<bool, Fail> {
+    let (status, writer, told) = exported(rt.alloc(), Calls::new(rt, 1, calls))?;
+    Ok(is_broken_off(status, &writer.octets, &told, calls))
+}
+
 #[test]
 fn exports_that_break_off(rt: HostRuntime) -> Result<(), Fail> {
     for calls in 0..10usize {
-        let (status, writer, told) = exported(rt.alloc(), Calls::new(&rt, 1, calls))?;
-        assert!(rt;
-            is_broken_off(status, &writer.octets, &told, calls),
-            "{calls}"
-        );
+        assert!(rt; breaks_off_after(&rt, calls)?, "{calls}");
     }
     Ok(())
 }
 
+// Whether an export to a writer with room for so many octets breaks off when it is full.
+fn breaks_off_when_full(alloc: Global, room: usize) -> Result<bool, Fail> {
+    let octets = Vec::new(alloc);
+    let (status, writer, told) = exported(alloc, Full { octets, room })?;
+    Ok(is_broken_off(status, &writer.octets, &told, room))
+}
+
 #[test]
 fn exports_to_a_writer_that_is_full(rt: HostRuntime) -> Result<(), Fail> {
-    let alloc = rt.alloc();
     for room in 0..10usize {
-        let octets = Vec::new(alloc);
-        let (status, writer, told) = exported(alloc, Full { octets, room })?;
-        assert!(rt;
-            is_broken_off(status, &writer.octets, &told, room),
-            "{room}"
-        );
+        assert!(rt; breaks_off_when_full(rt.alloc(), room)?, "{room}");
     }
     Ok(())
 }
@@ -262,6 +286,32 @@ fn breaks_off<S: Alter>(
     matches!(exported, Err(Refusal::Write)) && written.len() == calls && text.starts_with(written)
 }
 
+// The first of every 97th number of calls after which an export of a text doesn't.
+fn first_not_broken_off<S: Alter>(
+    rt: &HostRuntime,
+    depot: &mut Depot<S>,
+    encoding: Encoding,
+    text: &[u8],
+) -> Option<usize> {
+    for calls in (0..text.len()).step_by(97) {
+        if !breaks_off(rt, depot, encoding, text, calls) {
+            return Some(calls);
+        }
+    }
+    None
+}
+
+// How long the text of a message is, and that number.
+fn broken_off<S: Alter>(
+    rt: &HostRuntime,
+    depot: &mut Depot<S>,
+    encoding: Encoding,
+    message: &[u8],
+) -> Result<(usize, Option<usize>), Fail> {
+    let text = encode(rt.alloc(), encoding, message)?;
+    Ok((text.len(), first_not_broken_off(rt, depot, encoding, &text)))
+}
+
 #[test]
 fn every_97th_call_fails(rt: HostRuntime) -> Result<(), Fail> {
     let alloc = rt.alloc();
@@ -269,14 +319,9 @@ fn every_97th_call_fails(rt: HostRuntime) -> Result<(), Fail> {
     let mut depot = Depot::in_memory(alloc)?;
     depot.deliver(alloc, "ann", &message)?;
     for encoding in &ENCODINGS {
-        let text = encode(alloc, *encoding, &message)?;
-        assert!(rt; text.len() >= 10_000);
-        for calls in (0..text.len()).step_by(97) {
-            assert!(rt;
-                breaks_off(&rt, &mut depot, *encoding, &text, calls),
-                "{calls}"
-            );
-        }
+        let (length, first) = broken_off(&rt, &mut depot, *encoding, &message)?;
+        assert!(rt; length >= 10_000);
+        assert_eq!(rt; first, None);
     }
     Ok(())
 }

@@ -63,6 +63,19 @@ fn joined(alloc: Global, texts: [&[u8]; 3]) -> Result<Vec<u8>, Fail> {
     Ok(whole)
 }
 
+// Whether lines are answered in a new depot by three texts, and how many entries it has then.
+fn answered(
+    alloc: Global,
+    lines: &[u8],
+    texts: [&[u8]; 3],
+    files: usize,
+) -> Result<(bool, usize), Fail> {
+    let answer = joined(alloc, texts)?;
+    let mut depot = Depot::in_memory(alloc);
+    let is_answered = are_answered(alloc, &mut depot, lines, &answer, files)?;
+    Ok((is_answered, entries(&mut depot)?))
+}
+
 #[test]
 fn withdrawn_groups(rt: HostRuntime) -> Result<(), Fail> {
     let alloc = rt.alloc();
@@ -105,13 +118,9 @@ fn withdrawn_groups(rt: HostRuntime) -> Result<(), Fail> {
         ),
     ];
     for (lines, texts, opened) in rows {
-        let mut depot = Depot::in_memory(alloc);
-        let answer = joined(alloc, texts)?;
-        assert!(rt;
-            are_answered(alloc, &mut depot, lines, &answer, opened)?,
-            "{opened}"
-        );
-        assert_eq!(rt; entries(&mut depot)?, 2, "{opened}");
+        let (is_answered, count) = answered(alloc, lines, texts, opened)?;
+        assert!(rt; is_answered, "{opened}");
+        assert_eq!(rt; count, 2, "{opened}");
     }
     Ok(())
 }
@@ -144,17 +153,18 @@ fn are_answered_as_ready<S: Alter>(
     Ok(is_whole(&seen, lines.len(), answer, 11))
 }
 
-#[test]
-fn whatever_is_ready(rt: HostRuntime) -> Result<(), Fail> {
-    let alloc = rt.alloc();
+// Whether the mixed lines are answered so in a new depot.
+fn is_answered_as_ready(alloc: Global, ready: usize) -> Result<bool, Fail> {
     let lines = mixed_lines(alloc)?;
     let answer = mixed_answers(alloc)?;
+    let mut depot = Depot::in_memory(alloc);
+    are_answered_as_ready(alloc, &mut depot, ready, &lines, &answer)
+}
+
+#[test]
+fn whatever_is_ready(rt: HostRuntime) -> Result<(), Fail> {
     for ready in [1, 16, 17, 33, 34, 35, 60, 1_000] {
-        let mut depot = Depot::in_memory(alloc);
-        assert!(rt;
-            are_answered_as_ready(alloc, &mut depot, ready, &lines, &answer)?,
-            "{ready}"
-        );
+        assert!(rt; is_answered_as_ready(rt.alloc(), ready)?, "{ready}");
     }
     Ok(())
 }
@@ -178,18 +188,27 @@ fn is_answered_up_to<S: Alter>(
     )
 }
 
+// Whether they are in a new depot, and how many entries it has then.
+fn answered_up_to(
+    rt: &HostRuntime,
+    lines: &[u8],
+    answer: &[u8],
+    calls: usize,
+) -> Result<(bool, usize), Fail> {
+    let mut depot = Depot::in_memory(rt.alloc());
+    let is_answered = is_answered_up_to(rt, &mut depot, lines, answer, calls)?;
+    Ok((is_answered, entries(&mut depot)?))
+}
+
 #[test]
 fn writers_that_fail_in_a_group(rt: HostRuntime) -> Result<(), Fail> {
     let alloc = rt.alloc();
     let lines = deliveries(alloc, 3)?;
     let answer = filed(alloc, 1, 3)?;
     for calls in 0..answer.len() {
-        let mut depot = Depot::in_memory(alloc);
-        assert!(rt;
-            is_answered_up_to(&rt, &mut depot, &lines, &answer, calls)?,
-            "{calls}"
-        );
-        assert_eq!(rt; entries(&mut depot)?, 3, "{calls}");
+        let (is_answered, count) = answered_up_to(&rt, &lines, &answer, calls)?;
+        assert!(rt; is_answered, "{calls}");
+        assert_eq!(rt; count, 3, "{calls}");
     }
     Ok(())
 }

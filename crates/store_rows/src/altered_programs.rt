@@ -146,6 +146,22 @@ fn does<S: Alter>(
     Ok(delivered && depot.list("ann")?.is_empty())
 }
 
+// Tries the program that keeps with another octet at a place.
+fn tried_with<S: Alter + Drop>(
+    alloc: Global,
+    laid: Depot<S>,
+    place: usize,
+    octet: u8,
+    counts: &mut Counts,
+) -> Result<Depot<S>, Fail> {
+    let program = with_octet(alloc, KEEP, place, octet)?;
+    let mut depot = altered(laid, &program)?;
+    if !does(alloc, &mut depot, &program, counts)? {
+        counts.different = counts.different.saturating_add(1);
+    }
+    Ok(depot)
+}
+
 // Tries each of the octets at a place of the program that keeps.
 fn tried_at<S: Alter + Drop>(
     alloc: Global,
@@ -155,13 +171,23 @@ fn tried_at<S: Alter + Drop>(
 ) -> Result<Depot<S>, Fail> {
     let mut depot = laid;
     for octet in 0..=255u8 {
-        let program = with_octet(alloc, KEEP, place, octet)?;
-        depot = altered(depot, &program)?;
-        if !does(alloc, &mut depot, &program, counts)? {
-            counts.different = counts.different.saturating_add(1);
-        }
+        depot = tried_with(alloc, depot, place, octet, counts)?;
     }
     Ok(depot)
+}
+
+// Tries each of the octets at each place, in a depot where ann has the program that keeps.
+fn tried<S: Alter + Drop>(alloc: Global, laid: Depot<S>) -> Result<Counts, Fail> {
+    let mut counts = Counts {
+        accepted: 0,
+        refused: 0,
+        different: 0,
+    };
+    let mut depot = laid;
+    for place in 0..KEEP.len() {
+        depot = tried_at(alloc, depot, place, &mut counts)?;
+    }
+    Ok(counts)
 }
 
 #[test]
@@ -169,14 +195,7 @@ fn each_octet_set_to_each_value(rt: HostRuntime) -> Result<(), Fail> {
     let alloc = rt.alloc();
     let mut depot = Depot::in_memory(alloc)?;
     depot.set_code(alloc, "ann", KEEP)?;
-    let mut counts = Counts {
-        accepted: 0,
-        refused: 0,
-        different: 0,
-    };
-    for place in 0..KEEP.len() {
-        depot = tried_at(alloc, depot, place, &mut counts)?;
-    }
+    let counts = tried(alloc, depot)?;
     assert_eq!(rt; counts.different, 0);
     assert_eq!(rt; counts.accepted.saturating_add(counts.refused), 7_936);
     assert!(rt; counts.accepted > 31);

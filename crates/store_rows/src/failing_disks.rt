@@ -473,15 +473,41 @@ fn swept(alloc: Global, states: &States, command: Command, stops: Stops) -> Resu
     Ok(counts)
 }
 
+/// What a command that nothing stops leaves, whether that is what was there, and how its runs came out by what stops.
+#[derive(Clone, Copy)]
+struct Sweep {
+    leaves: [usize; 3],
+    is_unchanged: bool,
+    counts: [Counts; 3],
+}
+
+// How the runs of a command came out that the log, the database or both stop.
+fn counts_of(alloc: Global, states: &States, command: Command) -> Result<[Counts; 3], Fail> {
+    let log = swept(alloc, states, command, Stops::Log)?;
+    let database = swept(alloc, states, command, Stops::Database)?;
+    let both = swept(alloc, states, command, Stops::Both)?;
+    Ok([log, database, both])
+}
+
+// All that is seen of a command.
+fn swept_whole(alloc: Global, command: Command) -> Result<Sweep, Fail> {
+    let states = states_around(alloc, command)?;
+    let counts = counts_of(alloc, &states, command)?;
+    Ok(Sweep {
+        leaves: states.after.rows,
+        is_unchanged: states.before == states.after,
+        counts,
+    })
+}
+
 #[test]
 fn a_command_is_done_or_not(rt: HostRuntime) -> Result<(), Fail> {
     for row in &ROWS {
         let is_first = matches!(row.command, Command::Adopt);
-        let states = states_around(rt.alloc(), row.command)?;
-        assert_eq!(rt; states.after.rows, row.leaves, "{}", row.name);
-        assert_eq!(rt; states.before == states.after, is_first, "{}", row.name);
-        for stops in [Stops::Log, Stops::Database, Stops::Both] {
-            let counts = swept(rt.alloc(), &states, row.command, stops)?;
+        let swept = swept_whole(rt.alloc(), row.command)?;
+        assert_eq!(rt; swept.leaves, row.leaves, "{}", row.name);
+        assert_eq!(rt; swept.is_unchanged, is_first, "{}", row.name);
+        for counts in swept.counts {
             assert_eq!(rt; counts.neither, 0, "{}", row.name);
             assert!(rt; counts.has_ended, "{}", row.name);
             assert!(rt; counts.after > 0, "{}", row.name);

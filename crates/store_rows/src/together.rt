@@ -106,14 +106,16 @@ fn are_alike<S: Alter + Drop>(
     Ok(alike && one == other)
 }
 
+// Whether so many deliveries do the same one by one and together.
+fn are_alike_of(alloc: Global, count: usize) -> Result<bool, Fail> {
+    let deliveries = deliveries_of(alloc, count, count)?;
+    are_alike(alloc, depot_of(alloc)?, depot_of(alloc)?, &deliveries)
+}
+
 #[test]
 fn groups_are_as_one_by_one(rt: HostRuntime) -> Result<(), Fail> {
-    let alloc = rt.alloc();
     for count in [0, 1, 3, 64] {
-        let deliveries = deliveries_of(alloc, count, count)?;
-        let alone = depot_of(alloc)?;
-        let together = depot_of(alloc)?;
-        assert!(rt; are_alike(alloc, alone, together, &deliveries)?, "{count}");
+        assert!(rt; are_alike_of(rt.alloc(), count)?, "{count}");
     }
     Ok(())
 }
@@ -142,19 +144,45 @@ fn makes<S: Alter>(alloc: Global, depot: &mut Depot<S>, number: u32) -> Result<b
     Ok(rows.len() == 1 && rows[0].number == number)
 }
 
+// What comes of a delivery, of a group that is refused, and of one more delivery.
+#[derive(Clone, Copy)]
+struct Came {
+    makes_the_first: bool,
+    is_refused: bool,
+    holds_one: bool,
+    makes_the_second: bool,
+}
+
+// What comes of a group of these, which is refused at a place, in an empty depot.
+fn came_of<S: Alter>(
+    alloc: Global,
+    depot: &mut Depot<S>,
+    deliveries: &[Delivery<'_>],
+    place: usize,
+) -> Result<Came, Refusal> {
+    Ok(Came {
+        makes_the_first: makes(alloc, depot, 1)?,
+        is_refused: is_refused_at(alloc, depot, deliveries, place),
+        holds_one: holds_one(depot)?,
+        makes_the_second: makes(alloc, depot, 2)?,
+    })
+}
+
+// The same of three deliveries, of which the one at the place is for nobody.
+fn came_at(alloc: Global, place: usize) -> Result<Came, Fail> {
+    let deliveries = deliveries_of(alloc, 3, place)?;
+    let mut depot = depot_of(alloc)?;
+    Ok(came_of(alloc, &mut depot, &deliveries, place)?)
+}
+
 #[test]
 fn a_refused_one_leaves_all_as_it_was(rt: HostRuntime) -> Result<(), Fail> {
-    let alloc = rt.alloc();
     for place in [0, 1, 2] {
-        let deliveries = deliveries_of(alloc, 3, place)?;
-        let mut depot = depot_of(alloc)?;
-        assert!(rt; makes(alloc, &mut depot, 1)?, "{place}");
-        assert!(rt;
-            is_refused_at(alloc, &mut depot, &deliveries, place),
-            "{place}"
-        );
-        assert!(rt; holds_one(&mut depot)?, "{place}");
-        assert!(rt; makes(alloc, &mut depot, 2)?, "{place}");
+        let came = came_at(rt.alloc(), place)?;
+        assert!(rt; came.makes_the_first, "{place}");
+        assert!(rt; came.is_refused, "{place}");
+        assert!(rt; came.holds_one, "{place}");
+        assert!(rt; came.makes_the_second, "{place}");
     }
     Ok(())
 }
