@@ -6,8 +6,6 @@ pub mod Subjects
 pub mod Marking
 pub mod Pieces
 pub mod Printing
-pub mod PrintingTables
-pub mod PrintableText
 pub mod NoteLemmas
 pub mod Levels
 pub mod Naming
