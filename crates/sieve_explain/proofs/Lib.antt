@@ -1,4 +1,3 @@
-pub mod TokenLemmas
 pub mod TellingLemmas
 pub mod OneText
 pub mod OwnStrings

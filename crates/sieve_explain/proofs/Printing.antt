@@ -3,8 +3,7 @@ use Rattle.std.proofs.Common.{◌≡◌, ◌∙◌, ℕ, zero, suc, ◌+◌, ◌
 use Rattle.std.specs.List.{list_all}
 use Rattle.std.specs.Char.{encode_utf8}
 use Rattle.std.specs.Str.{all_scalars}
-use Rattle.std.specs.Prelude.{nat_le, nat_lt, not, ◌&&◌, ◌||◌, ◌==◌, if◌then◌else◌, flat_map, map, drop, min, take, encode_utf8_all}
-use Rattle.std.specs.List.{slice_get}
+use Rattle.std.specs.Prelude.{nat_le, nat_lt, not, ◌&&◌, ◌||◌, ◌==◌, if◌then◌else◌, flat_map, drop, take, encode_utf8_all}
 use Rattle.std.specs.Fmt.{digit_glyph}
 use Rattle.std.proofs.Math.Utf8.{low_scalar, scalar}
 use Rattle.std.proofs.lemmas.Str.{encode_ascii, encodes-append}
@@ -233,8 +232,8 @@ readable name text visible (remarks, e) = subst IsReadable (sym e) (each remarks
       readable_append (shown_name name ++ own) (printed name rs) (readable_append (shown_name name) own (readable_name name visible) (readable_text r)) (each rs)
 
 fault_printed : (name script : List ℕ) (refusal : Refusal) (text : List ℕ) → TellsFault name script refusal text → IsPrinted name text
-fault_printed name script (refused.Lexical place) text e = let at = min place (length script) in (told script at (lexical_blanks (drop at script)), e)
-fault_printed name script refused.ScriptTooLong text e = (told script (min max_script (length script)) too_long_blanks, e)
+fault_printed name script (refused.Lexical place) text e = (told script place (lexical_blanks (drop place script)), e)
+fault_printed name script refused.ScriptTooLong text e = (told script max_script too_long_blanks, e)
 fault_printed name script (refused.Syntax number) text (tokens, are, e) = (syntax_told script number tokens, e)
 fault_printed name script (refused.TooDeep number) text (tokens, are, e) = (depth_told script number tokens, e)
 fault_printed name script (refused.UnknownCommand number) text (commands, parsed, (tokens, are, e)) = (reasons_told script commands tokens, e)
@@ -251,4 +250,4 @@ explanation_printed name script refusal text it =
     (remarks ++ look, it.whole ∙ ap (λ (t : List ℕ). t ++ printed name look) e ∙ sym (flat_map-append (printed_one name) remarks look))
 
 pub listing_printed : (name listing : List ℕ) (place : ℕ) (kind : FaultKind) → IsPrinted name (listing_told name listing place kind)
-listing_printed name listing place kind = let at = min place (length listing) in (told listing at (listing_blanks kind (drop at listing)), refl)
+listing_printed name listing place kind = (told listing place (listing_blanks kind (drop place listing)), refl)

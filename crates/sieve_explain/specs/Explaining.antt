@@ -45,9 +45,10 @@ column script place = length (pieces (slice_range script (place - octets_before 
 unfoldable pub heading : List ℕ → List ℕ → ℕ → List ℕ
 heading kind script place = numbered (line_number script place) ++ numbered (column script place) ++ kind
 
--- a remark of that kind about a place of the script, with the line of the place and a mark under it
+-- a remark of that kind about a place of the script, at most its end, with the line of the place and a mark under it
 unfoldable pub remark : List ℕ → List ℕ → ℕ → Blanks → List ℕ
-remark kind script place blanks = line (heading kind script place ++ filled blanks) ++ excerpt script place
+remark kind script place blanks =
+    let at = min place (length script) in line (heading kind script at ++ filled blanks) ++ excerpt script at
 
 -- a remark about the whole file; the same, if there is something to remark
 unfoldable pub note : Blanks → List ℕ
@@ -213,9 +214,8 @@ TellsReasons name script text =
 -- what is told of a refused script: the refusal's place, a sentence and the line; a script gets no other refusal
 abbrev pub TellsFault : List ℕ → List ℕ → Refusal → List ℕ → Type 0
 TellsFault name script (refused.Lexical place) text =
-    let at = min place (length script) in text ≡ printed name (told script at (lexical_blanks (drop at script)))
-TellsFault name script refused.ScriptTooLong text = text
-    ≡ printed name (told script (min max_script (length script)) too_long_blanks)
+    text ≡ printed name (told script place (lexical_blanks (drop place script)))
+TellsFault name script refused.ScriptTooLong text = text ≡ printed name (told script max_script too_long_blanks)
 TellsFault name script (refused.Syntax number) text = Tells name script (syntax_told script number) text
 TellsFault name script (refused.TooDeep number) text = Tells name script (depth_told script number) text
 TellsFault name script (refused.UnknownCommand number) text = TellsReasons name script text
@@ -237,7 +237,7 @@ pub record Explains (name script : List ℕ) (refusal : Refusal) (text : List �
 
 -- a note about a script with which nothing is wrong
 unfoldable pub note_told : List ℕ → Noted → List ℕ
-note_told script noted = remark (codes ": note: ") script (min noted.place (length script)) (note_blanks noted.kind)
+note_told script noted = remark (codes ": note: ") script noted.place (note_blanks noted.kind)
 
 -- notes, in order, up to `max_notes` of them, and whether there are more; those of the script
 abbrev pub listed_told : List ℕ → List Noted → List (List ℕ)
@@ -263,5 +263,4 @@ answer_of answer = option_map (λ (found : Explanation). (found.refusal, found.t
 
 -- what is told of a listing of a program, whose fault is of that kind: its place, a sentence and the line
 abbrev pub listing_told : List ℕ → List ℕ → ℕ → FaultKind → List ℕ
-listing_told name listing place kind =
-    let at = min place (length listing) in printed name (told listing at (listing_blanks kind (drop at listing)))
+listing_told name listing place kind = printed name (told listing place (listing_blanks kind (drop place listing)))

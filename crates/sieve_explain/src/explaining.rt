@@ -10,7 +10,7 @@ ghost use Rattle.sieve_parser.specs.Refusals.{parse_error};
 ghost use Rattle.sieve_parser.specs.Scripts.{IsGrammarRefusal, IsParsed};
 ghost use Rattle.sieve_parser.specs.View.{commands_tree};
 ghost use Rattle.sieve_explain.specs.Explaining.{IsExplained, IsRemarked, TellsFault, depth_told, end_told, bare_word, listed_told, listing_told, look_told, marked_by, marked_token, note_if, note_told, notes_told, opened, printed, reason_told, syntax_told};
-ghost use Rattle.sieve_explain.specs.Private.{IsFaultTold, Stands};
+ghost use Rattle.sieve_explain.specs.Private.{IsFaultTold};
 ghost use Rattle.sieve_explain.specs.Faults.{look_text, more_blanks};
 ghost use Rattle.sieve_explain.specs.Marks.{string_among};
 ghost use Rattle.sieve_explain.specs.Notes.{max_notes};
@@ -20,12 +20,13 @@ use crate::faults::{
     lexical_sentence, listing_sentence, look_text, misplaced_sentence, more_sentence,
     too_deep_sentence, too_long_sentence, unclosed_sentence,
 };
-use crate::marks::{start_of, string_behind, token_numbered, unclosed};
+use crate::marks::{start_of, string_among, token_at, tokens_from, unclosed};
 use crate::notes::{MAX_NOTES, Noted, more_notes_sentence, note_sentence, notes_of};
 use crate::reasons::{bare_word, fault_sentence};
 use crate::remarks::{Source, push_note_if, push_remark, told};
 use crate::sentence::plain;
 use bytecode_listing::FaultKind;
+use readable_text::places::around;
 use refusals::Refusal;
 use sieve_check::{MAX_REASONS, ReasonKind, Refused, reasons_of};
 use sieve_lexer::laws::tokens_have_no_fault;
@@ -125,14 +126,10 @@ fn lexical_told(source: &Source<'_>, error: &LexicalError) -> Result<Vec<u8>, Al
 {
     match error {
         LexicalError::Memory => Err(AllocError),
-        LexicalError::ScriptTooLong => {
-            let place = MAX_SCRIPT.min(source.octets.len());
-            told(source, place, &too_long_sentence())
-        }
+        LexicalError::ScriptTooLong => told(source, MAX_SCRIPT, &too_long_sentence()),
         LexicalError::Lexical { place } => {
-            let place = (*place).min(source.octets.len());
-            let (_, rest) = source.octets.split_at(place);
-            told(source, place, &lexical_sentence(rest))
+            let (_, rest) = around(source.octets, *place);
+            told(source, *place, &lexical_sentence(rest))
         }
     }
 }
@@ -159,13 +156,12 @@ fn grammar_told(
 // The description of the token with this number, which isn't allowed in its place, or of the script's end.
 #[tactic(auto, unfolding(crate::specs::Explaining::syntax_told))]
 fn syntax_told(source: &Source<'_>, tokens: &[Token], number: usize) -> Result<Vec<u8>, AllocError>
-    requires { AreTokens source.now.octets.now tokens.now }
     ensures { IfOk result (λ text.
         text.items ≡ printed source.now.name.now (syntax_told source.now.octets.now number tokens.now)) }
 {
-    match token_numbered(source.octets, tokens, number) {
+    match token_at(tokens, number) {
         Some(token) => {
-            let before = token_numbered(source.octets, tokens, number.saturating_sub(1));
+            let before = token_at(tokens, number.saturating_sub(1));
             told(
                 source,
                 token.start,
@@ -179,7 +175,6 @@ fn syntax_told(source: &Source<'_>, tokens: &[Token], number: usize) -> Result<V
 // The description of a script that ends too early.
 #[tactic(auto, unfolding(crate::specs::Explaining::end_told))]
 fn end_told(source: &Source<'_>, tokens: &[Token]) -> Result<Vec<u8>, AllocError>
-    requires { AreTokens source.now.octets.now tokens.now }
     ensures { IfOk result (λ text.
         text.items ≡ printed source.now.name.now (end_told source.now.octets.now tokens.now)) }
 {
@@ -188,7 +183,7 @@ fn end_told(source: &Source<'_>, tokens: &[Token]) -> Result<Vec<u8>, AllocError
         source.octets.len(),
         &plain("the script ends before its last command is complete"),
     )?;
-    push_opened(&mut text, source, unclosed(source.octets, tokens))?;
+    push_opened(&mut text, source, unclosed(tokens))?;
     Ok(text)
 }
 
@@ -199,7 +194,6 @@ fn push_opened(
     source: &Source<'_>,
     brace: Option<Token>,
 ) -> Result<(), AllocError>
-    requires { Stands source.now.octets.now brace }
     ensures { OnOk result (out.new.items ≡ out.old.items
         ++ printed source.now.name.now (opened source.now.octets.now brace)) }
 {
@@ -212,11 +206,10 @@ fn push_opened(
 // The description of the token with this number, which is nested too deep.
 #[tactic(auto, unfolding(crate::specs::Explaining::depth_told))]
 fn depth_told(source: &Source<'_>, tokens: &[Token], number: usize) -> Result<Vec<u8>, AllocError>
-    requires { AreTokens source.now.octets.now tokens.now }
     ensures { IfOk result (λ text.
         text.items ≡ printed source.now.name.now (depth_told source.now.octets.now number tokens.now)) }
 {
-    let token = token_numbered(source.octets, tokens, number);
+    let token = token_at(tokens, number);
     told(source, start_of(source.octets, token), &too_deep_sentence())
 }
 
@@ -226,14 +219,18 @@ fn reasons_told(
     tokens: &[Token],
     reasons: &[Refused<'_>],
 ) -> Result<Vec<u8>, AllocError>
-    requires { AreTokens source.now.octets.now tokens.now }
     ensures { IfOk result (λ text. text.items ≡ printed source.now.name.now
         (map (reason_told source.now.octets.now tokens.now)
         (map refused_view (take max_reasons reasons.now))
         ++ note_if (nat_lt max_reasons (length reasons.now)) more_blanks)) }
 {
     let mut text = first_told(source, tokens, first_of(reasons))?;
-    push_note_if(&mut text, source, reasons.len() > MAX_REASONS, &more_sentence())?;
+    push_note_if(
+        &mut text,
+        source,
+        reasons.len() > MAX_REASONS,
+        &more_sentence(),
+    )?;
     Ok(text)
 }
 
@@ -252,7 +249,6 @@ fn first_told(
     tokens: &[Token],
     reasons: &[Refused<'_>],
 ) -> Result<Vec<u8>, AllocError>
-    requires { AreTokens source.now.octets.now tokens.now }
     ensures { IfOk result (λ text. text.items ≡ printed source.now.name.now
         (map (reason_told source.now.octets.now tokens.now) (map refused_view reasons.now))) }
 {
@@ -271,7 +267,6 @@ fn push_reason(
     tokens: &[Token],
     found: Refused<'_>,
 ) -> Result<(), AllocError>
-    requires { AreTokens source.now.octets.now tokens.now }
     ensures { OnOk result (out.new.items ≡ out.old.items ++ printed source.now.name.now
         (reason_told source.now.octets.now tokens.now (refused_view found.entry) ∷ [])) }
 {
@@ -286,15 +281,6 @@ fn push_reason(
     )
 }
 
-// The word that is in the place of a missing string, if there is one.
-fn word_marked(source: &Source<'_>, tokens: &[Token], found: Refused<'_>) -> Option<Token>
-    requires { AreTokens source.now.octets.now tokens.now }
-    ensures token { result ≡ bare_word source.now.octets.now tokens.now (refused_view found.entry) }
-    ensures within { Stands source.now.octets.now result }
-{
-    bare_word(source.octets, tokens, found)
-}
-
 // The token that gets the mark.
 #[tactic(auto, unfolding(crate::specs::Explaining::marked_token))]
 fn marked_token(
@@ -302,12 +288,10 @@ fn marked_token(
     tokens: &[Token],
     found: Refused<'_>,
 ) -> Result<Option<Token>, AllocError>
-    requires { AreTokens source.now.octets.now tokens.now }
-    ensures token { IfOk result (λ token.
+    ensures { IfOk result (λ token.
         token ≡ marked_token source.now.octets.now tokens.now (refused_view found.entry)) }
-    ensures within { IfOk result (λ token. Stands source.now.octets.now token) }
 {
-    match word_marked(source, tokens, found) {
+    match bare_word(source.octets, tokens, found) {
         Some(word) => Ok(Some(word)),
         None => marked_by(source, tokens, found),
     }
@@ -319,17 +303,19 @@ fn marked_by(
     tokens: &[Token],
     found: Refused<'_>,
 ) -> Result<Option<Token>, AllocError>
-    requires { AreTokens source.now.octets.now tokens.now }
-    ensures token { IfOk result (λ token. token ≡ marked_by found.entry.reason.kind
+    ensures { IfOk result (λ token. token ≡ marked_by found.entry.reason.kind
         (string_among source.now.octets.now found.entry.reason.subject.now
         (drop found.entry.token tokens.now)) (slice_get tokens.now found.entry.token)) }
-    ensures within { IfOk result (λ token. Stands source.now.octets.now token) }
 {
     match found.reason.kind {
         ReasonKind::UnknownCapability => {
-            string_behind(source, tokens, found.token, found.reason.subject)
+            string_among(
+                source,
+                found.reason.subject,
+                tokens_from(tokens, found.token),
+            )
         }
-        _ => Ok(token_numbered(source.octets, tokens, found.token)),
+        _ => Ok(token_at(tokens, found.token)),
     }
 }
 
@@ -377,7 +363,12 @@ fn listed_told(source: &Source<'_>, notes: &[Noted]) -> Result<Vec<u8>, AllocErr
         text.items ≡ printed source.now.name.now (listed_told source.now.octets.now notes.now)) }
 {
     let mut text = first_noted(source, first_notes(notes))?;
-    push_note_if(&mut text, source, notes.len() > MAX_NOTES, &more_notes_sentence())?;
+    push_note_if(
+        &mut text,
+        source,
+        notes.len() > MAX_NOTES,
+        &more_notes_sentence(),
+    )?;
     Ok(text)
 }
 
@@ -408,8 +399,13 @@ fn push_noted(out: &mut Vec<u8>, source: &Source<'_>, noted: Noted) -> Result<()
     ensures { OnOk result (out.new.items ≡ out.old.items
         ++ printed source.now.name.now (note_told source.now.octets.now noted ∷ [])) }
 {
-    let place = noted.place.min(source.octets.len());
-    push_remark(out, ": note: ", source, place, &note_sentence(noted.kind))
+    push_remark(
+        out,
+        ": note: ",
+        source,
+        noted.place,
+        &note_sentence(noted.kind),
+    )
 }
 
 /// Describes why a program's listing is refused, for the person who wrote it: the place, a sentence for a fault of this
@@ -433,7 +429,6 @@ pub fn listing_explanation(
         name,
         octets: listing,
     };
-    let place = place.min(listing.len());
-    let (_, rest) = listing.split_at(place);
+    let (_, rest) = around(listing, place);
     told(&source, place, &listing_sentence(kind, rest))
 }

@@ -67,11 +67,8 @@ fn push_printed(out: &mut Vec<u8>, name: &str, remark: &[u8]) -> Result<(), Allo
     push_text(out, remark)
 }
 
-/// Appends a remark about a place of the script, with the line of the place and a mark under it.
-///
-/// # Requires
-///
-/// The place is in the script or at its end: `place` is at most the script's length.
+/// Appends a remark about a place of the script, with the line of the place and a mark under it. A place beyond the
+/// script's end counts as its end.
 ///
 /// # Errors
 ///
@@ -84,10 +81,10 @@ pub fn push_remark(
     place: usize,
     sentence: &Sentence<'_>,
 ) -> Result<(), AllocError>
-    requires { place ≤ length source.now.octets.now }
     ensures { OnOk result (out.new.items ≡ out.old.items ++ printed source.now.name.now
         (remark kind.now source.now.octets.now place (blanks_of sentence.now) ∷ [])) }
 {
+    let place = place.min(source.octets.len());
     let mut text = Vec::new(source.alloc);
     push_heading(&mut text, kind, source.octets, place)?;
     push_sentence(&mut text, sentence)?;
@@ -123,10 +120,6 @@ pub fn push_note_if(
 
 /// What is wrong at a place of the script, with the line of the place and a mark under it.
 ///
-/// # Requires
-///
-/// The place is in the script or at its end: `place` is at most the script's length.
-///
 /// # Errors
 ///
 /// `AllocError` if memory is refused.
@@ -135,7 +128,6 @@ pub fn told(
     place: usize,
     sentence: &Sentence<'_>,
 ) -> Result<Vec<u8>, AllocError>
-    requires { place ≤ length source.now.octets.now }
     ensures { IfOk result (λ text. text.items
         ≡ printed source.now.name.now (told source.now.octets.now place (blanks_of sentence.now))) }
 {

@@ -146,7 +146,7 @@ fn push_pieces(out: &mut Vec<u8>, style: Style, text: &[u8], most: usize) -> Res
 /// # Errors
 ///
 /// `AllocError` if memory is refused.
-#[tactic(auto, using(std::proofs::Math::Seq::take-length))]
+#[tactic(auto, using(std::proofs::lemmas::List::take_all))]
 pub fn push_text(out: &mut Vec<u8>, text: &[u8]) -> Result<(), AllocError>
     ensures { OnOk result (out.new.items ≡ out.old.items ++ shown Line (pieces text.now)) }
 {
