@@ -307,14 +307,9 @@ fn marked_by(
         (string_among source.now.octets.now found.entry.reason.subject.now
         (drop found.entry.token tokens.now)) (slice_get tokens.now found.entry.token)) }
 {
+    let behind = tokens_from(tokens, found.token);
     match found.reason.kind {
-        ReasonKind::UnknownCapability => {
-            string_among(
-                source,
-                found.reason.subject,
-                tokens_from(tokens, found.token),
-            )
-        }
+        ReasonKind::UnknownCapability => string_among(source, found.reason.subject, behind),
         _ => Ok(token_at(tokens, found.token)),
     }
 }
