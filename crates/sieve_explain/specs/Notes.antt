@@ -106,10 +106,12 @@ begins_capture most text =
     (bytes_eq (take 2 text) (codes "${") && list_any (is_number_above most) (take 1 (drop 2 text)))
     && bytes_eq (take 1 (drop 3 text)) (codes "}")
 
--- there is one anywhere
+-- there is one at that place; anywhere
+abbrev pub captures_at : ℕ → List ℕ → ℕ → Bool
+captures_at most text place = begins_capture most (drop place text)
+
 abbrev pub has_capture : ℕ → List ℕ → Bool
-has_capture most [] = false
-has_capture most (c ∷ text) = begins_capture most (c ∷ text) || has_capture most text
+has_capture most text = list_any (captures_at most text) (range_with_len 0 (length text))
 
 -- a key with a slash; one without, which isn't empty and has no reference either
 abbrev pub is_slash : ℕ → Bool
@@ -642,9 +644,11 @@ is_named_by script given name = list_any (may_name script name) given
 abbrev pub refers_to_none : (List ℕ → Bool) → List ℕ → Bool
 refers_to_none has text = let name = referred text in nat_lt 0 (length name) && not (has name)
 
+abbrev pub lacks_at : (List ℕ → Bool) → List ℕ → ℕ → Bool
+lacks_at has text place = refers_to_none has (drop place text)
+
 abbrev pub lacks_value : (List ℕ → Bool) → List ℕ → Bool
-lacks_value has [] = false
-lacks_value has (c ∷ text) = refers_to_none has (c ∷ text) || lacks_value has text
+lacks_value has text = list_any (lacks_at has text) (range_with_len 0 (length text))
 
 -- the string has such a reference
 abbrev pub has_no_value : List ℕ → (List ℕ → Bool) → Token → Bool
@@ -653,9 +657,11 @@ has_no_value script has token = is_quoted token.kind && lacks_value has (inner (
 -- ---- variables that nothing reads
 
 -- the text has a reference to the variable of that name
+abbrev pub refers_at : List ℕ → List ℕ → ℕ → Bool
+refers_at name text place = is_word (referred (drop place text)) name
+
 abbrev pub refers_to : List ℕ → List ℕ → Bool
-refers_to name [] = false
-refers_to name (c ∷ text) = is_word (referred (c ∷ text)) name || refers_to name text
+refers_to name text = list_any (refers_at name text) (range_with_len 0 (length text))
 
 -- the string may have one: in one with a backslash it isn't looked for
 abbrev pub may_refer : List ℕ → List ℕ → Token → Bool

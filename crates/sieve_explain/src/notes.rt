@@ -293,12 +293,7 @@ fn is_number_above(most: usize, octet: u8) -> bool
 fn has_number_above(most: usize, text: &[u8]) -> bool
     ensures { result ≡ list_any (is_number_above most) text.now }
 {
-    for octet in text {
-        if is_number_above(most, *octet) {
-            return true;
-        }
-    }
-    false
+    text.iter().any(|octet| is_number_above(most, *octet))
 }
 
 // Whether a reference to a capture above this number comes first.
@@ -316,14 +311,10 @@ fn begins_capture(most: usize, text: &[u8]) -> bool
 fn has_capture(most: usize, text: &[u8]) -> bool
     ensures { result ≡ has_capture most text.now }
 {
-    for place in 0..text.len() {
-        let _octet = text[place];
+    (0..text.len()).any(|place| {
         let (_, rest) = around(text, place);
-        if begins_capture(most, rest) {
-            return true;
-        }
-    }
-    false
+        begins_capture(most, rest)
+    })
 }
 
 // Whether a text has a slash.
@@ -472,12 +463,10 @@ fn noted_as(kind: NoteKind, token: Token) -> Noted
 fn first_noted(script: &[u8], kind: NoteKind, tokens: &[Token]) -> Option<Token>
     ensures { result ≡ find (is_noted script.now kind) tokens.now }
 {
-    for token in tokens {
-        if is_noted(script, kind, token) {
-            return Some(*token);
-        }
-    }
-    None
+    tokens
+        .iter()
+        .copied()
+        .find(|token| is_noted(script, kind, token))
 }
 
 // The same as a note.
@@ -523,12 +512,7 @@ fn is_tagged(script: &[u8], tag: &[u8], token: &Token) -> bool
 fn has_tag(script: &[u8], tag: &[u8], arguments: &[Token]) -> bool
     ensures { result ≡ has_tag script.now tag.now arguments.now }
 {
-    for token in arguments {
-        if is_tagged(script, tag, token) {
-            return true;
-        }
-    }
-    false
+    arguments.iter().any(|token| is_tagged(script, tag, token))
 }
 
 // Whether the token opens a list.
@@ -616,12 +600,7 @@ fn has_wildcard(script: &[u8], token: &Token) -> bool
 fn have_wildcard(script: &[u8], keys: &[Token]) -> bool
     ensures { result ≡ list_any (has_wildcard script.now) keys.now }
 {
-    for token in keys {
-        if has_wildcard(script, token) {
-            return true;
-        }
-    }
-    false
+    keys.iter().any(|token| has_wildcard(script, token))
 }
 
 // The note on keys of `:matches`.
@@ -660,12 +639,7 @@ fn is_other_field(script: &[u8], token: &Token) -> bool
 fn have_other_field(script: &[u8], names: &[Token]) -> bool
     ensures { result ≡ list_any (is_other_field script.now) names.now }
 {
-    for token in names {
-        if is_other_field(script, token) {
-            return true;
-        }
-    }
-    false
+    names.iter().any(|token| is_other_field(script, token))
 }
 
 // Whether a test with these arguments compares with the type or the subtype alone.
@@ -745,12 +719,7 @@ fn is_other_source(script: &[u8], token: &Token) -> bool
 fn have_other_source(script: &[u8], sources: &[Token]) -> bool
     ensures { result ≡ list_any (is_other_source script.now) sources.now }
 {
-    for token in sources {
-        if is_other_source(script, token) {
-            return true;
-        }
-    }
-    false
+    sources.iter().any(|token| is_other_source(script, token))
 }
 
 // The note on a key of a `string` that no variable can match.
@@ -1192,12 +1161,7 @@ fn has_inbox(script: &[u8], rest: &[Token]) -> bool
     ensures { result ≡ has_inbox script.now rest.now }
 {
     let arguments = arguments_of(rest);
-    for token in arguments {
-        if is_inbox(script, token) {
-            return true;
-        }
-    }
-    false
+    arguments.iter().any(|token| is_inbox(script, token))
 }
 
 // Whether such a `fileinto` comes first.
@@ -1273,12 +1237,7 @@ fn is_variables(script: &[u8], token: &Token) -> bool
 fn has_variables(script: &[u8], arguments: &[Token]) -> bool
     ensures { result ≡ list_any (is_variables script.now) arguments.now }
 {
-    for token in arguments {
-        if is_variables(script, token) {
-            return true;
-        }
-    }
-    false
+    arguments.iter().any(|token| is_variables(script, token))
 }
 
 // Whether the token is a `require` of it.
@@ -1390,12 +1349,10 @@ fn has_empty(script: &[u8], most: usize, token: &Token) -> bool
 fn first_empty(script: &[u8], most: usize, tokens: &[Token]) -> Option<Token>
     ensures { result ≡ find (has_empty script.now most) tokens.now }
 {
-    for token in tokens {
-        if has_empty(script, most, token) {
-            return Some(*token);
-        }
-    }
-    None
+    tokens
+        .iter()
+        .copied()
+        .find(|token| has_empty(script, most, token))
 }
 
 // Whether the token is a string.
@@ -1409,12 +1366,7 @@ fn is_text(token: &Token) -> bool
 fn first_text(tokens: &[Token]) -> Option<Token>
     ensures { result ≡ find is_text tokens.now }
 {
-    for token in tokens {
-        if is_text(token) {
-            return Some(*token);
-        }
-    }
-    None
+    tokens.iter().copied().find(|token| is_text(token))
 }
 
 // Whether the command gives a variable its value.
@@ -1473,12 +1425,7 @@ fn may_name(script: &[u8], name: &[u8], token: &Token) -> bool
 fn is_named_by(script: &[u8], given: &[Token], name: &[u8]) -> bool
     ensures { result ≡ is_named_by script.now given.now name.now }
 {
-    for token in given {
-        if may_name(script, name, token) {
-            return true;
-        }
-    }
-    false
+    given.iter().any(|token| may_name(script, name, token))
 }
 
 // Appends the string with a name of a variable, unless one of the others has the same name.
@@ -1554,14 +1501,10 @@ fn refers_to_none(script: &[u8], given: &[Token], text: &[u8]) -> bool
 fn lacks_value(script: &[u8], given: &[Token], text: &[u8]) -> bool
     ensures { result ≡ lacks_value (is_named_by script.now given.now) text.now }
 {
-    for place in 0..text.len() {
-        let _octet = text[place];
+    (0..text.len()).any(|place| {
         let (_, rest) = around(text, place);
-        if refers_to_none(script, given, rest) {
-            return true;
-        }
-    }
-    false
+        refers_to_none(script, given, rest)
+    })
 }
 
 // Whether the string has such a reference.
@@ -1576,26 +1519,20 @@ fn has_no_value(script: &[u8], given: &[Token], token: &Token) -> bool
 fn first_without_value(script: &[u8], given: &[Token], tokens: &[Token]) -> Option<Token>
     ensures { result ≡ find (has_no_value script.now (is_named_by script.now given.now)) tokens.now }
 {
-    for token in tokens {
-        if has_no_value(script, given, token) {
-            return Some(*token);
-        }
-    }
-    None
+    tokens
+        .iter()
+        .copied()
+        .find(|token| has_no_value(script, given, token))
 }
 
 // Whether the text has a reference to the variable of this name.
 fn refers_to(name: &[u8], text: &[u8]) -> bool
     ensures { result ≡ refers_to name.now text.now }
 {
-    for place in 0..text.len() {
-        let _octet = text[place];
+    (0..text.len()).any(|place| {
         let (_, rest) = around(text, place);
-        if is_word(referred(rest), name) {
-            return true;
-        }
-    }
-    false
+        is_word(referred(rest), name)
+    })
 }
 
 // Whether the string can have one.
@@ -1610,12 +1547,7 @@ fn may_refer(script: &[u8], name: &[u8], token: &Token) -> bool
 fn some_refer(script: &[u8], name: &[u8], arguments: &[Token]) -> bool
     ensures { result ≡ list_any (may_refer script.now name.now) arguments.now }
 {
-    for token in arguments {
-        if may_refer(script, name, token) {
-            return true;
-        }
-    }
-    false
+    arguments.iter().any(|token| may_refer(script, name, token))
 }
 
 // Whether the string is this name.
@@ -1653,12 +1585,10 @@ fn is_read(script: &[u8], tokens: &[Token], name: &[u8]) -> bool
 fn first_named(script: &[u8], given: &[Token], name: &[u8]) -> Option<Token>
     ensures { result ≡ first_named script.now given.now name.now }
 {
-    for token in given {
-        if may_name(script, name, token) {
-            return Some(*token);
-        }
-    }
-    None
+    given
+        .iter()
+        .copied()
+        .find(|token| may_name(script, name, token))
 }
 
 // What is known of the whole script.
@@ -1753,12 +1683,7 @@ fn is_raised(script: &[u8], raised: &[Token], token: &Token) -> bool
 fn have_raised(script: &[u8], raised: &[Token], sources: &[Token]) -> bool
     ensures { result ≡ list_any (is_raised script.now (is_named_by script.now raised.now)) sources.now }
 {
-    for token in sources {
-        if is_raised(script, raised, token) {
-            return true;
-        }
-    }
-    false
+    sources.iter().any(|token| is_raised(script, raised, token))
 }
 
 // The note on a key with upper-case letters of a `string` with these arguments.
