@@ -10,17 +10,17 @@ use Rattle.sieve_explain.specs.Private.{max_noted}
 use Rattle.sieve_explain.specs.declared.notes.Noted.{Noted}
 use Rattle.sieve_lexer.specs.declared.token.Token.{Token}
 
-pub first_notes : (found all : List Noted) → found ≡ take max_noted all → take max_notes found ≡ take max_notes all
+pub first_notes : {A : Type 0} (found all : List A) → found ≡ take max_noted all → take max_notes found ≡ take max_notes all
 first_notes found all is = ap (take max_notes) is ∙ take-take max_notes max_noted all (omega arith)
 
-pub more_notes : (found all : List Noted) → found ≡ take max_noted all → nat_lt max_notes (length found) ≡ nat_lt max_notes (length all)
-more_notes found all is =
-    ap (λ (l : List Noted). nat_lt max_notes (length l)) is ∙
+pub more_notes : {A : Type 0} (found all : List A) → found ≡ take max_noted all → nat_lt max_notes (length found) ≡ nat_lt max_notes (length all)
+more_notes {A} found all is =
+    ap (λ (l : List A). nat_lt max_notes (length l)) is ∙
     elim (cases_lt max_notes (length all)) [
       | inl many ↦
           let some : max_notes < length (take max_noted all) = omega (arith, many, length-take max_noted all) in
           lt-ltb max_notes (length (take max_noted all)) some ∙ sym (lt-ltb max_notes (length all) many)
-      | inr few ↦ ap (λ (l : List Noted). nat_lt max_notes (length l)) (take_all max_noted all (omega (arith, few)))
+      | inr few ↦ ap (λ (l : List A). nat_lt max_notes (length l)) (take_all max_noted all (omega (arith, few)))
     ]
 
 -- one more note, or none

@@ -13,14 +13,13 @@ ghost use Rattle.sieve_explain.specs.Explaining.{IsExplained, IsRemarked, TellsF
 ghost use Rattle.sieve_explain.specs.Private.{IsFaultTold};
 ghost use Rattle.sieve_explain.specs.Faults.{look_text, more_blanks};
 ghost use Rattle.sieve_explain.specs.Marks.{string_among};
-ghost use Rattle.sieve_explain.specs.Notes.{max_notes};
 
 use crate::explanation::Explanation;
 use crate::faults::{
     lexical_sentence, listing_sentence, look_text, misplaced_sentence, more_sentence,
     too_deep_sentence, too_long_sentence, unclosed_sentence,
 };
-use crate::marks::{start_of, string_among, token_at, tokens_from, unclosed};
+use crate::marks::{first_of, start_of, string_among, token_at, tokens_from, unclosed};
 use crate::notes::{MAX_NOTES, Noted, more_notes_sentence, note_sentence, notes_of};
 use crate::reasons::{bare_word, fault_sentence};
 use crate::remarks::{Source, push_note_if, push_remark, told};
@@ -224,7 +223,7 @@ fn reasons_told(
         (map refused_view (take max_reasons reasons.now))
         ++ note_if (nat_lt max_reasons (length reasons.now)) more_blanks)) }
 {
-    let mut text = first_told(source, tokens, first_of(reasons))?;
+    let mut text = first_told(source, tokens, first_of(reasons, MAX_REASONS))?;
     push_note_if(
         &mut text,
         source,
@@ -232,15 +231,6 @@ fn reasons_told(
         &more_sentence(),
     )?;
     Ok(text)
-}
-
-// The reasons that are printed.
-#[tactic(auto, using(std::proofs::lemmas::List::take_min))]
-fn first_of<'a, 'r>(reasons: &'a [Refused<'r>]) -> &'a [Refused<'r>]
-    ensures { result.now ≡ take max_reasons reasons.now }
-{
-    let (told, _) = reasons.split_at(MAX_REASONS.min(reasons.len()));
-    told
 }
 
 // Why each of the commands and tests is refused.
@@ -357,7 +347,7 @@ fn listed_told(source: &Source<'_>, notes: &[Noted]) -> Result<Vec<u8>, AllocErr
     ensures { IfOk result (λ text.
         text.items ≡ printed source.now.name.now (listed_told source.now.octets.now notes.now)) }
 {
-    let mut text = first_noted(source, first_notes(notes))?;
+    let mut text = first_noted(source, first_of(notes, MAX_NOTES))?;
     push_note_if(
         &mut text,
         source,
@@ -365,15 +355,6 @@ fn listed_told(source: &Source<'_>, notes: &[Noted]) -> Result<Vec<u8>, AllocErr
         &more_notes_sentence(),
     )?;
     Ok(text)
-}
-
-// The notes that are printed.
-#[tactic(auto, using(std::proofs::lemmas::List::take_min))]
-fn first_notes(notes: &[Noted]) -> &[Noted]
-    ensures { result.now ≡ take max_notes notes.now }
-{
-    let (told, _) = notes.split_at(MAX_NOTES.min(notes.len()));
-    told
 }
 
 // Each of the notes.

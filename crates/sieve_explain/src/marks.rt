@@ -3,7 +3,7 @@
 // The mark is under the name of the command or test, which is the place that `check` names, also if an argument is at
 // fault; the sentence names the argument. A second place would be a second rule about what is at fault. Only a string
 // that is no capability is marked itself.
-ghost use Rattle.std.specs.Prelude.{◌≡◌, ◌<◌, ◌≤◌, ◌+◌, ◌-◌, ◌^◌, IfOk, drop, is_some, length, take_while};
+ghost use Rattle.std.specs.Prelude.{◌≡◌, ◌<◌, ◌≤◌, ◌+◌, ◌-◌, ◌^◌, IfOk, drop, is_some, length, take, take_while};
 ghost use Rattle.std.specs.List.{list_any, slice_get};
 ghost use Rattle.sieve_check.specs.Names.{command_named, test_named};
 ghost use Rattle.sieve_explain.specs.Explaining.{start_of};
@@ -17,6 +17,15 @@ use readable_text::places::around;
 use sieve_check::{command_named, test_named};
 use sieve_lexer::{Token, TokenKind, string_of};
 use std::alloc::AllocError;
+
+/// The first ones, up to this number of them.
+#[tactic(auto, using(std::proofs::lemmas::List::take_min))]
+pub fn first_of<T>(all: &[T], number: usize) -> &[T]
+    ensures { result.now ≡ take number all.now }
+{
+    let (first, _) = all.split_at(number.min(all.len()));
+    first
+}
 
 /// The tokens from this number on.
 #[tactic(auto, using(std::proofs::lemmas::List::drop_min))]

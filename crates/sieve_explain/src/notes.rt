@@ -18,7 +18,7 @@ ghost use Rattle.sieve_explain.specs.Marks.{is_amount, is_name};
 ghost use Rattle.sieve_explain.specs.Private.{NameAlike, blanks_of, known_view, max_noted};
 
 use crate::marks::{
-    arguments_length, is_name, is_separator, is_string, text_of, token_at, tokens_from,
+    arguments_length, first_of, is_name, is_separator, is_string, text_of, token_at, tokens_from,
 };
 use crate::remarks::Source;
 use crate::sentence::{Sentence, plain};
@@ -479,15 +479,6 @@ fn note_in(script: &[u8], kind: NoteKind, tokens: &[Token]) -> Option<Noted>
     }
 }
 
-// The tokens before this number.
-#[tactic(auto, using(std::proofs::lemmas::List::take_min))]
-fn tokens_before(tokens: &[Token], number: usize) -> &[Token]
-    ensures { result.now ≡ take number tokens.now }
-{
-    let (before, _) = tokens.split_at(number.min(tokens.len()));
-    before
-}
-
 // The arguments after the name of a test, without a comma at their end.
 fn arguments_of(rest: &[Token]) -> &[Token]
     ensures { result.now ≡ arguments_of rest.now }
@@ -495,9 +486,9 @@ fn arguments_of(rest: &[Token]) -> &[Token]
     let size = arguments_length(rest);
     let short = size.saturating_sub(1);
     if is_separator(token_at(rest, short)) {
-        tokens_before(rest, short)
+        first_of(rest, short)
     } else {
-        tokens_before(rest, size)
+        first_of(rest, size)
     }
 }
 
@@ -571,7 +562,7 @@ fn last_of(arguments: &[Token]) -> &[Token]
 fn earlier_of(arguments: &[Token]) -> &[Token]
     ensures { result.now ≡ earlier_of arguments.now }
 {
-    tokens_before(arguments, before_last(arguments))
+    first_of(arguments, before_last(arguments))
 }
 
 // The note on names of fields.
@@ -985,7 +976,7 @@ fn is_constant(script: &[u8], word: &[u8], other: &[u8], group: &[u8], tokens: &
 fn tests_of(tokens: &[Token]) -> &[Token]
     ensures { result.now ≡ take_while is_no_opening tokens.now }
 {
-    tokens_before(tokens, opening_at(tokens))
+    first_of(tokens, opening_at(tokens))
 }
 
 // Whether the test with these tokens is true of every message.
@@ -1023,7 +1014,7 @@ fn block_and_rest(tokens: &[Token]) -> (&[Token], &[Token])
 {
     let blocks = blocks_of(tokens);
     let size = block_length(blocks);
-    (tokens_before(blocks, size), tokens_from(blocks, size))
+    (first_of(blocks, size), tokens_from(blocks, size))
 }
 
 // Whether the token opens a block.
