@@ -4,7 +4,7 @@
 // can't know what another command would be allowed. If a file is there and the rights are the problem, or a folder on
 // the way can't be searched, it says that.
 ghost use Rattle.std.specs.Prelude.{◌≡◌};
-ghost use Rattle.depot_cli.specs.Inspecting.{HasSaidWhy};
+ghost use Rattle.depot_cli.specs.Looking.{HasSaidWhy};
 ghost use Rattle.depot_cli.specs.NoDepots.{no_depot_of};
 ghost use Rattle.depot_cli.specs.Printed.{why_text};
 
