@@ -51,3 +51,7 @@ mod Room
 mod NoRoom
 mod RefusedAdding
 mod Queries
+mod Damaged
+mod Referring
+mod Scanned
+mod Scrubs

@@ -46,7 +46,7 @@ counts_itself r rows =
     let one : one_if (number_in r) r ≡ 1 = rw (eq-eqb (number_in r) (number_in r) refl) refl in
     omega (arith, sum_by-cons (one_if (number_in r)) r rows, one)
 
-all_weaker : {X : Type 0} (P Q : X → Type 0) (xs : List X) → ((x : X) → P x → Q x) → AllByRecursion P xs → AllByRecursion Q xs
+pub all_weaker : {X : Type 0} (P Q : X → Type 0) (xs : List X) → ((x : X) → P x → Q x) → AllByRecursion P xs → AllByRecursion Q xs
 all_weaker P Q [] f all = tt
 all_weaker P Q (x ∷ xs) f all = (f x all.0, all_weaker P Q xs f all.1)
 

@@ -65,9 +65,9 @@ module _ (old new : State) (before : Entries) (stands : Stands old.now before) (
       let r = found_user old.now.trees before stands.tables user found.0 found.1 found.2 in
       subst (IsShortAt 0) (sym (found.3 ∙ ap (columns (2 ∷ [])) r.1)) (omega arith, (before.lasts user, refl, omega (arith, stands.tables.numbers.limit user)))
 
--- content under a digest is found
-pub not_unsized : (old new : State) (before : Entries) → Stands old.now before → (digest octets : List ℕ)
-    → Steps (Reads (λ db. IsFound contents_tree (equals 1 (Blob digest)) (length_at 2) db None)) old new → HasContent (old.now.trees contents_tree) digest octets → ⊥
-not_unsized old new before stands digest octets reads there =
+-- content under a digest is found, whatever is shown of it
+pub not_missing : (shown : Row → Row) (old new : State) (before : Entries) → Stands old.now before → (digest octets : List ℕ)
+    → Steps (Reads (λ db. IsFound contents_tree (equals 1 (Blob digest)) shown db None)) old new → HasContent (old.now.trees contents_tree) digest octets → ⊥
+not_missing shown old new before stands digest octets reads there =
     let none = (reads stands.schema).change.1 _ there.1 in
     true≢false (sym (bytes_same digest) ∙ sym (equal_blobs digest digest) ∙ none)

@@ -73,7 +73,7 @@ above_mine user x (y ∷ es) own up =
       | inr other ↦ rw other more
     ]
 
-rises_mine : (user : List ℕ) (es : List Entry) → IsAscending (λ x y. x.user ≡ y.user → x.number < y.number) es → IsAscending (λ (x y : Entry). x.number < y.number) (filter (λ y. bytes_eq y.user user) es)
+pub rises_mine : (user : List ℕ) (es : List Entry) → IsAscending (λ x y. x.user ≡ y.user → x.number < y.number) es → IsAscending (λ (x y : Entry). x.number < y.number) (filter (λ y. bytes_eq y.user user) es)
 rises_mine user [] up = tt
 rises_mine user (x ∷ es) up =
     let more = rises_mine user es up.1 in

@@ -21,7 +21,7 @@ use Rattle.part_store.proofs.Equals.{blob_length}
 use Rattle.part_store.proofs.Rows.{has_permuted}
 
 -- a row of an answer is shown of one of the table
-from_table : (tree : ℕ) (test : Row → _) (shown : Row → Row) (rows : List Row) (db : Trees) (row : Row) → IsListed tree test shown rows db → Has rows row
+pub from_table : (tree : ℕ) (test : Row → _) (shown : Row → Row) (rows : List Row) (db : Trees) (row : Row) → IsListed tree test shown rows db → Has rows row
     → (r : Row) × Has (db tree) r × (test r ≡ true) × (row ≡ shown r)
 from_table tree test shown rows db row listed there =
     let r = has_mapped shown (filter test (db tree)) row (has_permuted rows (map shown (filter test (db tree))) row (IsPermutation-sym _ _ listed.same) there) in

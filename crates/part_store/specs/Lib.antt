@@ -25,3 +25,4 @@ pub mod Additions
 pub mod Connections
 pub mod Blaming
 pub mod Asking
+pub mod Scanning

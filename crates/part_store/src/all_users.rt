@@ -9,7 +9,8 @@ ghost use Rattle.part_store.specs.Readings.{answer_of, ShowsUser};
 ghost use Rattle.std.specs.List.{AllByRecursion};
 ghost use Rattle.part_store.specs.Refusals.{refusal_of, OnlyWhenUnnamed};
 ghost use Rattle.part_store.specs.declared.error.StoreError.TheVariants.{Memory, Database};
-ghost use Rattle.part_store.specs.Calls.{IfDone, IfRefused};
+ghost use Rattle.part_store.specs.Calls.{IfDone, IfRefused, OnDone};
+ghost use Rattle.part_store.specs.Inside.{Stays};
 
 use crate::error::StoreError;
 use crate::user_row::UserRow;
@@ -22,6 +23,7 @@ pub(crate) fn list_users<S: Alter>(tx: &mut Transaction<'_, S>) -> Result<Vec<Us
     ensures answer { IfDone S.Store tx.old.conn.now tx.new.conn.now result
         (λ users old _. (before : _) → Stands old.now before
         → AreUsersOf (old.now.trees users_tree) before (map line_of users.items)) }
+    ensures same { OnDone S.Store tx.old.conn.now tx.new.conn.now result Stays }
     ensures refused { IfErr result (λ e. (e ≡ Memory) ⊎ (e ≡ Database)) }
     ensures cause { IfRefused S.Store tx.old.conn.now tx.new.conn.now result OnlyWhenUnnamed }
     ensures within { InTransaction S.Store tx.old.conn.now tx.new.conn.now result }

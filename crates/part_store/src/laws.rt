@@ -3,7 +3,7 @@
 //! A crash is a disk that fails from some call on, so what a crash can leave in the middle of a call is what it can
 //! leave once that call has ended. Each call says in `survives` which stores these are, and `open_from` opens files by
 //! what they hold.
-ghost use Rattle.std.specs.Prelude.{◌≡◌, ◌⊎◌, IsTrue};
+ghost use Rattle.std.specs.Prelude.{◌≡◌, ◌⊎◌, [], IsTrue};
 ghost use Rattle.sqlite.specs.Effect.{Database};
 ghost use Rattle.sqlite.specs.Files.{file_state};
 ghost use Rattle.sqlite.specs.FileStore.{view};
@@ -17,6 +17,8 @@ ghost use Rattle.part_store.specs.Entries.{Entries, no_entries};
 ghost use Rattle.part_store.specs.Opening.{HasOtherTables, Holds, HoldsState, HoldsStore, IsAt, IsFoundIn, IsReadyFrom};
 ghost use Rattle.part_store.specs.Standing.{AddsVerified, HaveDigests, MayMake, Stands, StandsFor};
 ghost use Rattle.part_store.specs.Tables.{store_schema};
+ghost use Rattle.part_store.specs.Scrubbing.{IsScrubbed};
+ghost use Rattle.part_store.specs.declared.scrubbing.Scrubbed.{Scrubbed};
 
 use crate::store::PartStore;
 use crate::within::know_connection;
@@ -70,6 +72,16 @@ pub fn contents_keep_their_digests<D: Disk + Drop>()
     ensures looked { (image : Image) (d : Database) (found : Held (FileStore D D.Disk))
         → Holds image d → IsFoundIn image found → HasCleanDisk (file_state found)
         → (file_state found).now ≡ d }
+{}
+
+/// A scrub reports damage exactly if a content doesn't have its digest. If each content has its digest, no content is
+/// reported as damaged and no entry is listed. If no content is reported, each has its digest, so no entry's bytes are
+/// refused as altered.
+pub fn scrubs_report_all_damage()
+    ensures none { (db : Trees) (e : Entries) (x : Scrubbed) → StandsFor db e → HaveDigests db
+        → IsScrubbed db e x → (x.damaged ≡ 0) × (x.entries.items ≡ []) }
+    ensures sound { (db : Trees) (e : Entries) (x : Scrubbed) → StandsFor db e → IsScrubbed db e x
+        → x.damaged ≡ 0 → HaveDigests db }
 {}
 
 /// If the disk is clean, files that hold a store are never reported to have other tables (`look_from`).

@@ -56,6 +56,13 @@
 //! calls, and no read is refused for this. A store is opened with the contents that its files held, and closed into
 //! files that hold the same ones (clause `same` of `close_files`).
 //!
+//! ### What a scrub reports
+//!
+//! `scrub` counts the contents and their bytes, and those contents whose SHA-256 isn't the digest that they are stored
+//! under. It lists exactly the entries that refer to such a content: users in the order of their names, the entries of
+//! a user in the order of their numbers. It reports none exactly if each content has its digest
+//! (`scrubs_report_all_damage`). It changes nothing. It is refused `Database` for the causes of `users` and `contents`.
+//!
 //! ### A crash in a call of the store
 //!
 //! A crash leaves what it could have left before the call, or the state after it. A call that finds the store shut
@@ -69,9 +76,9 @@
 //! connection is taken inside of a transaction.
 //!
 //! By `PartStore`: `set_program`, `replace_programs`, `add_entries`, `add_sharing_entries`, `remove_entry`,
-//! `program_of`, `programs`, `users`, `contents`, `entries_of`, `bytes_of`, `adopt`, `in_memory`, `release`; and
+//! `program_of`, `programs`, `users`, `contents`, `entries_of`, `bytes_of`, `scrub`, `adopt`, `in_memory`, `release`; and
 //! `begin`, `program_within`, `add_within`; laws `open_stores_list_their_tables`, `calls_leave_what_was_or_is`,
-//! `contents_keep_their_digests`.
+//! `contents_keep_their_digests`, `scrubs_report_all_damage`.
 //!
 //! ## Connections that are taken as they are
 //!

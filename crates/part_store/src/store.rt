@@ -45,7 +45,7 @@ use crate::entry::{EntryRow, NewEntry};
 use crate::error::StoreError;
 use crate::listing::list_all;
 use crate::looking::{Unopened, has_tables};
-use crate::scrubbing::Scrubbed;
+use crate::scrubbing::{Scrubbed, scrub_all};
 use crate::shared::Shared;
 use crate::stored_programs::{list_programs, put_program, read_program, replace_all};
 use crate::totals::{ContentTotal, count_contents};
@@ -182,7 +182,10 @@ fn digest_of<S: Alter>(
 }
 
 /// The content under a digest that an entry names.
-fn content_of<S: Alter>(tx: &mut Transaction<'_, S>, digest: &[u8]) -> Result<Vec<u8>, Error>
+pub(crate) fn content_of<S: Alter>(
+    tx: &mut Transaction<'_, S>,
+    digest: &[u8],
+) -> Result<Vec<u8>, Error>
     ensures same_reference { tx.new.conn.ghost_name ≡ tx.old.conn.ghost_name }
     ensures answer { IfDone S.Store tx.old.conn.now tx.new.conn.now result
         (λ octets old _. (before : _) → Stands old.now before
@@ -193,6 +196,9 @@ fn content_of<S: Alter>(tx: &mut Transaction<'_, S>, digest: &[u8]) -> Result<Ve
     ensures lacking { IfRefused S.Store tx.old.conn.now tx.new.conn.now result
         (λ old new e. refusal_of e ≡ Database → old.now.schema ≡ store_schema
         → HasFailed old new ⊎ Lacks old.now.trees digest.now) }
+    ensures cause { IfRefused S.Store tx.old.conn.now tx.new.conn.now result
+        (λ old new e. (octets : _) → HasContent (old.now.trees contents_tree) digest.now octets
+        → OnlyWhenFailed old new (refusal_of e)) }
     ensures same { OnDone S.Store tx.old.conn.now tx.new.conn.now result Stays }
     ensures kept { Always S.Store tx.old.conn.now tx.new.conn.now KeepsStored }
     ensures survives { CommitsNothing S.Store tx.old.conn.now tx.new.conn.now }
@@ -440,8 +446,8 @@ impl<S: Alter> PartStore<S> {
         ensures reads { ReadsStore S.Store self.old self.new result }
         ensures refused { IsRefusedAs S.Store self.old self.new result IsFailure OnlyWhenUncounted }
     {
-        let mut _tx = begin(&mut self.conn);
-        Err(StoreError::Memory)
+        let mut tx = begin(&mut self.conn);
+        scrub_all(&mut tx)
     }
 
     /// Replaces the programs of the listed users. A listed user without a program is skipped; if a user is listed

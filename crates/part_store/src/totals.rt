@@ -42,7 +42,7 @@ pub(crate) fn count_contents<S: Alter>(
 }
 
 /// The total of the rows of an answer, or `Database` if it is more than 64 bits can count.
-fn total_of(rows: &Vec<Row>) -> Result<ContentTotal, StoreError>
+pub(crate) fn total_of(rows: &Vec<Row>) -> Result<ContentTotal, StoreError>
     ensures total { IfOk result (λ total. (total.contents ≡ length rows.now.items)
         × (total.octets ≡ sum_by (λ r. number_of (column r 1)) rows.now.items)) }
     ensures refused { IfErr result (λ e. (e ≡ Memory) ⊎ (e ≡ Database)) }

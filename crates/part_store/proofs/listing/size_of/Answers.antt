@@ -2,7 +2,8 @@ use Rattle.sqlite.specs.Held.{state}
 use Rattle.part_store.proofs.Finding.{size_there}
 use Rattle.part_store.proofs.Runs.{err_then, if_ok}
 use Rattle.part_store.proofs.Failing.{unread}
-use Rattle.part_store.proofs.Readable.{not_unsized, size_readable}
+use Rattle.part_store.proofs.Readable.{not_missing, size_readable}
+use Rattle.part_store.specs.Changes.{length_at}
 use Rattle.part_store.proofs.listing.size_of.Goals as goal
 
 pub returns-in-Some-clause-answer : goal.returns-in-Some-clause-answer
@@ -17,4 +18,4 @@ returns-in-Some-clause-cause g c clean =
 
 pub returns-in-None-clause-cause : goal.returns-in-None-clause-cause
 returns-in-None-clause-cause g c clean octets there is before stands =
-    absurd (not_unsized (state g.S.Store c.args.tx.now.conn.now) (state g.S.Store c.size.new.tx.conn.now) before stands c.args.digest.now octets (rw c.in-None.is at (c.in_ok-row.ensures.step clean)) there)
+    absurd (not_missing (length_at 2) (state g.S.Store c.args.tx.now.conn.now) (state g.S.Store c.size.new.tx.conn.now) before stands c.args.digest.now octets (rw c.in-None.is at (c.in_ok-row.ensures.step clean)) there)
