@@ -9,9 +9,9 @@ use Rattle.sqlite.specs.State.{State, HasCleanDisk, Survives}
 use Rattle.encodings.specs.Texts.{text_of}
 use Rattle.encodings.specs.declared.encoding.Encoding.{Encoding}
 use Rattle.part_store.specs.Access.{IsFailure, IsFailureOrAbsence, IsRefusedAs, MayMakeOpen, ReadsStore, WritesStore}
-use Rattle.part_store.specs.Calls.{Always, CommitsNothing, DoneWhere, IfRefused, MayCommit, OnRefused, RefusedWhere, Tells, WasOpen}
+use Rattle.part_store.specs.Calls.{Always, CommitsNothing, DoneWhere, IfDone, IfRefused, MayCommit, OnRefused, RefusedWhere, Tells, WasOpen}
 use Rattle.part_store.specs.Entries.{Entries, Entry, with_program, without_entry}
-use Rattle.part_store.specs.Refusals.{HasNoUserRoom, OnlyWhenFailed, OnlyWhenFailedOrNoUserRoom}
+use Rattle.part_store.specs.Refusals.{AreNamed, HasNoUserRoom, OnlyWhenFailed, OnlyWhenFailedOr, OnlyWhenFailedOrNoUserRoom}
 use Rattle.part_store.specs.Standing.{AddsVerified, HasNone, IsEntryAt, IsStored, LeavesUnchanged, Stands}
 use Rattle.part_store.specs.declared.error.StoreError.{StoreError}
 use Rattle.part_store.specs.declared.error.StoreError.TheVariants as store
@@ -20,8 +20,9 @@ use Rattle.refusals.specs.declared.refusal.Refusal.TheVariants.{Memory, NoSuchEn
 use Rattle.refusals.specs.Scripts.{IsScriptRefusal}
 use Rattle.sieve_engine.specs.Execution.{IsProgramRefusal}
 use Rattle.depot_actions.specs.Applying.{Applies, HasFault, MayAdd, Spares, only_looks}
-use Rattle.depot_actions.specs.Causes.{HasCause, IsFault, IsHindered, IsSound, MayRefuse}
+use Rattle.depot_actions.specs.Causes.{HasCause, IsFault, IsHindered, IsSound, IsUncounted, MayRefuse}
 use Rattle.depot_actions.specs.DepotState.{Accepts, Command, Does, Done, Export, IsNamed, MayLeave, Migrate, Remove, Reply, SetCode, SetScript, Text}
+use Rattle.depot_actions.specs.Overviews.{LooksOver}
 use Rattle.depot_actions.specs.Private.{of_store}
 use Rattle.depot_actions.specs.Users.{is_user_name}
 use Rattle.depot_actions.proofs.Commands.{export_done, left_alone, made_done, removal_left, survives_more, unchanged_self}
@@ -111,7 +112,7 @@ abbrev pub IsToldOf : {T : Type 0} → Result T StoreError → Result T Refusal 
 IsToldOf r told = MatchResult r (λ x. told ≡ Ok x) (λ e. IsErrAnd told (λ d. d ≡ of_store e))
 
 module _ {T : Type 0} where
-  pub ok_told : (P : T → Type 0) (r : Result T StoreError) (told : Result T Refusal) → IsToldOf r told → IfOk r P → IfOk told P
+  ok_told : (P : T → Type 0) (r : Result T StoreError) (told : Result T Refusal) → IsToldOf r told → IfOk r P → IfOk told P
   ok_told P (Ok x) told cases h = subst (λ t. IfOk t P) (sym cases) h
   ok_told P (Err e) (Ok x) cases h = absurd cases
   ok_told P (Err e) (Err d) cases h = tt
@@ -121,7 +122,7 @@ module _ {T : Type 0} where
   on_ok_told P (Err e) (Ok x) cases h = absurd cases
   on_ok_told P (Err e) (Err d) cases h = tt
 
-  pub err_told : (Q : Refusal → Type 0) (r : Result T StoreError) (told : Result T Refusal) → IsToldOf r told → IfErr r (λ e. Q (of_store e)) → IfErr told Q
+  err_told : (Q : Refusal → Type 0) (r : Result T StoreError) (told : Result T Refusal) → IsToldOf r told → IfErr r (λ e. Q (of_store e)) → IfErr told Q
   err_told Q (Ok x) told cases h = subst (λ t. IfErr t Q) (sym cases) tt
   err_told Q (Err e) (Ok x) cases h = absurd cases
   err_told Q (Err e) (Err d) cases h = subst Q (sym cases) h
@@ -131,7 +132,7 @@ module _ {T : Type 0} where
   on_err_told P (Err e) (Ok x) cases h = absurd cases
   on_err_told P (Err e) (Err d) cases h = h
 
-  pub both_ok : (P : T → Type 0) (Q : Type 0) (R : T → Type 0) (r : Result T StoreError) → IfOk r P → OnOk r Q → ((x : T) → P x → Q → R x) → IfOk r R
+  both_ok : (P : T → Type 0) (Q : Type 0) (R : T → Type 0) (r : Result T StoreError) → IfOk r P → OnOk r Q → ((x : T) → P x → Q → R x) → IfOk r R
   both_ok P Q R (Ok x) p q f = f x p q
   both_ok P Q R (Err e) p q f = tt
 
@@ -262,3 +263,15 @@ exported g old new r told cases octets was user number encoding written named sa
     let found = of_answer r told cases in
     export_done (state g old) (state g new) user named number encoding written (found (λ _. WasOpen (state g old) (state g new)) (reads.was_open clean) octets was) (reads.settled clean) (reads.unchanged clean)
     (λ before stands. let (x, at, is) = found (λ v. (before : Entries) → Stands (state g old).now before → (x : Entry) × IsEntryAt before user number x × (v.items ≡ x.octets)) (answer clean) octets was before stands in (x, at, same ∙ is))
+
+-- a depot is looked over by one call of the store
+pub looked_over : {S T : Type 0} (g : Ghosts S) (old new : Held S) (r : Result T StoreError) (told : Result T Refusal) → IsToldOf r told → (Is : Trees → Entries → T → Type 0)
+    → IfDone g old new r (λ x old _. (before : Entries) → Stands old.now before → Is old.now.trees before x) → ReadsStore g old new r → (Why : State → State → StoreError → Type 0) → IsRefusedAs g old new r IsFailure Why
+    → ((e : StoreError) → AreNamed (state g old).now.trees → Why (state g old) (state g new) e → OnlyWhenFailedOr IsUncounted (state g old) (state g new) e) → LooksOver g old new told Is
+looked_over g old new r told cases Is answer reads Why refused blamed = record {
+  answer = λ clean. ok_told _ r told cases (both_ok _ _ _ r (answer clean) (reads.was_open clean) (λ x is was_open. (was_open, is)));
+  unchanged = reads.unchanged;
+  refused = err_told _ r told cases (IfErr-weaker r _ _ (λ e failure. elim failure [ inl is ↦ inl (ap of_store is) | inr is ↦ inr (ap of_store is) ]) refused.which);
+  cause = λ clean named. fault_told IsUncounted (state g old) (state g new) r told cases (IfErr-weaker r _ _ (λ e h. blamed e named h) (refused.cause clean));
+  survives = reads.survives;
+}

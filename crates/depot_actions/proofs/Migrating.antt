@@ -246,4 +246,4 @@ pub roomless_fault : {P Q : Trees → Type 0} (old mid new : State) (stored rene
     → LeavesUnchanged old mid → Survives old mid P → Survives mid new Q → HasCleanDisk new → IsStoreFault (HaveNoUserRoom renewed) mid new e → IsFault Migrate old new e
 roomless_fault old mid new stored renewed e told are spares one two clean fault =
     weaker_fault (HaveNoUserRoom renewed) (IsHindered Migrate) old new e (λ before stands none. inr (stored, renewed, told before stands, are, none))
-    (later_fault (HaveNoUserRoom renewed) old mid new e spares one two clean (λ same. fault))
+    (later_fault (HaveNoUserRoom renewed) old mid new e spares one two clean fault)

@@ -40,14 +40,11 @@ module _ {T : Type 0} (Other : Entries → Trees → Type 0) (old new : State) w
 
 -- a later call of a store that was only read
 pub later_fault : {P Q : Trees → Type 0} (Other : Entries → Trees → Type 0) (old mid new : State) (refusal : Refusal) → LeavesUnchanged old mid → Survives old mid P → Survives mid new Q → HasCleanDisk new
-    → (mid.now ≡ old.now → IsStoreFault Other mid new refusal) → IsStoreFault Other old new refusal
+    → IsStoreFault Other mid new refusal → IsStoreFault Other old new refusal
 later_fault Other old mid new refusal spares one two clean fault is before stands = elim (cases_Bool mid.is_open) [
   | inl on ↦
-      let same = (spares.same stands.schema on).0 in
-      elim (fault same is before (stands_still old mid before spares stands on)) [
-        | inl failed ↦ inl (later_failed old mid new one two clean failed)
-        | inr other ↦ inr (subst (λ (d : Held). Other before d.trees) same other)
-      ]
+      let same = ap (λ (d : Held). d.trees) (spares.same stands.schema on).0 in
+      elim (fault is before (stands_still old mid before spares stands on)) [ inl failed ↦ inl (later_failed old mid new one two clean failed) | inr other ↦ inr (subst (Other before) same other) ]
   | inr shut ↦ inl (later_failed old mid new one two clean (inr (inl shut)))
 ]
 

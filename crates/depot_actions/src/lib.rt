@@ -59,7 +59,7 @@
 //! and nothing is written. If each content has its digest, no export is refused for this (see "Bytes that are read have
 //! their digest").
 //!
-//! ### What a scrub reports
+//! ### Scrubbing a depot
 //!
 //! A scrub of an open depot counts the contents and their bytes, and the damaged contents: those whose bytes don't have
 //! the SHA-256 that they are stored under. It lists exactly the entries that refer to a damaged content: users in the
