@@ -808,8 +808,8 @@ Only if: command -v flock && command -v timeout && [ -d /proc/self ] # there is 
     $ grep -c ' 0 odd$' report
     1
 
-## admit and the lines that split a file, of docs/OPERATING.md, and scrub
-Only if: command -v flock && command -v sqlite3 && python3 -c 'import sqlite3' # there is no flock, no sqlite3 or no sqlite3 for python3
+## admit and the lines that split a file and write its entries, of docs/OPERATING.md, and scrub
+Only if: command -v flock && command -v sqlite3 # there is no flock or no sqlite3
     $ sed -n '/# gives a user a filter, unless/,/^    }/s/^    //p' "$TOP/docs/OPERATING.md" > admit
     $ printf 'require ["foreverypart", "fileinto"];\nforeverypart { foreverypart { foreverypart { fileinto "Found"; } } }\n' > greedy
     $ . ./admit; admit mail.depot ann examples/documents.sieve; admit mail.depot ann greedy; echo $?; admit mail.depot ann none; echo $?
@@ -834,33 +834,37 @@ Only if: command -v flock && command -v sqlite3 && python3 -c 'import sqlite3' #
     3 part "Documents"
     4 message "INBOX"
     $ "$TOP/contrib/scrub" all.depot
-    $ "$TOP/contrib/scrub" all.depot out && ls out && cmp examples/invoice.eml out/bob-1.eml && depot export mail.depot ann 1 raw | cmp - out/ann-1.part
+    $ sed -n '/^    mkdir out && sqlite3 /,/null$/s/^    //p' "$TOP/docs/OPERATING.md" > write && (umask 077 && sh write) && ls out
     ann-1.part
     ann-2.eml
     bob-1.eml
+    $ cmp examples/invoice.eml out/bob-1.eml && depot export mail.depot ann 1 raw | cmp - out/ann-1.part
     $ : > filter && echo examples/invoice.eml | "$TOP/contrib/refile" filed.depot ann filter journal && "$TOP/contrib/refilter" mail.depot ann filter --apply new.depot
     1 mail: 0 filed before, 1 filed now, 0 refused
     2 "INBOX": 1 message "INBOX"
     1 message, and 1 part stored apart
-    $ stat -c '%a %n' out/bob-1.eml filed.depot journal new.depot
-    600 out/bob-1.eml
+    $ stat -c '%a %n' filed.depot journal new.depot
     600 filed.depot
     600 journal
     600 new.depot
-    $ sed -i 's/%PDF-/%PDG-/' all.depot && "$TOP/contrib/scrub" all.depot
-    altered ann 1
+    $ sed -i 's/%PDF-/%PDG-/' all.depot && cp all.depot before && "$TOP/contrib/scrub" all.depot
+    contents 2
+    octets 28181
+    damaged 1
+    1 "ann" "Documents"
+    2> scrub: all.depot: refused 43 Database
     [65]
-    $ "$TOP/contrib/scrub" none; echo $?; test ! -e none; : > empty; "$TOP/contrib/scrub" empty; echo $?; "$TOP/contrib/scrub" mail.depot out; echo $?
+    $ cmp all.depot before && depot export all.depot ann 2 raw | cmp - examples/invoice.eml && rm before
+    $ "$TOP/contrib/scrub" none; echo $?; test ! -e none; : > empty; "$TOP/contrib/scrub" empty; echo $?; "$TOP/contrib/scrub" all.depot out; echo $?
     66
     65
-    73
+    64
     2> scrub: there is no file none
-    2> scrub: empty can't be read: no such table: entries
-    2> scrub: out can't be made: File exists
-    $ mkdir old && printf 'Error, sqlite_version, sqlite_version_info = OSError, "3.34.1", (3, 34, 1)\n' > old/sqlite3.py && PYTHONPATH=old "$TOP/contrib/scrub" mail.depot
-    2> scrub: the SQLite of python3 is 3.34.1, and a depot needs 3.37 or later
-    [69]
-    $ rm -r boxes ann.svbc out empty old
+    2> scrub: empty: refused 43 Database: it is empty
+    2> scrub: the words are scrub DEPOT
+    $ DEPOT=none "$TOP/contrib/scrub" all.depot 2>&1 | grep -c 'there is no program none'
+    1
+    $ rm -r boxes ann.svbc out empty
 
 ## the lines that file an archive, of docs/OPERATING.md, and those that compare it with its originals
 Only if: command -v flock && command -v sqlite3 && command -v sha256sum # there is no flock, no sqlite3 or no sha256sum

@@ -57,5 +57,5 @@ traced_text (kinds.Program traced) = program_text traced
 abbrev pub answer_in : JobAnswer → Answer
 answer_in (answers.Says lines) = says (lines_text lines)
 answer_in (answers.Traces traced) = traces (traced_text traced)
-answer_in (answers.Finds lines refusal) = finds (lines_text lines) refusal
+answer_in (answers.Finds text refusal) = finds text.items refusal
 answer_in (answers.Writes name source octets) = writes name.now source.now octets.items

@@ -133,7 +133,7 @@ pub fn answer<H: Host, O: Sink, E: Sink>(
         × HasTold Spelling (E.output err.old) (E.output err.new) × (out.new ≡ out.old) }
 {
     match answer_of(alloc, job) {
-        Ok(answer) => give(alloc, answer, host, out, err),
+        Ok(answer) => give(alloc, &answer, host, out, err),
         Err(refusal) => tell(err, &refusal),
     }
 }
@@ -142,30 +142,30 @@ pub fn answer<H: Host, O: Sink, E: Sink>(
 // answer is told, if there is one.
 fn give<H: Host, O: Sink, E: Sink>(
     alloc: Global,
-    answer: JobAnswer<'_>,
+    answer: &JobAnswer<'_>,
     host: &mut H,
     out: &mut O,
     err: &mut E,
 ) -> u8
-    ensures { IsGiven (out.new ≡ out.old) (err.new ≡ err.old) (answer_in answer.entry) result
+    ensures { IsGiven (out.new ≡ out.old) (err.new ≡ err.old) (answer_in answer.now) result
         (host_and_outputs (H.state host.old) (O.output out.old) (E.output err.old))
         (host_and_outputs (H.state host.new) (O.output out.new) (E.output err.new)) }
 {
     match answer {
-        JobAnswer::Says(lines) => put_lines(out, err, &lines),
-        JobAnswer::Traces(traced) => match put_traced(alloc, out, &traced) {
+        JobAnswer::Says(lines) => put_lines(out, err, lines),
+        JobAnswer::Traces(traced) => match put_traced(alloc, out, traced) {
             Ok(()) => SUCCESS,
             Err(why) => tell(err, &why),
         },
-        JobAnswer::Finds(text, refusal) => match put(out, &text) {
-            Ok(()) => tell(err, &refusal),
+        JobAnswer::Finds(text, refusal) => match put(out, text) {
+            Ok(()) => tell(err, refusal),
             Err(DeviceFailed) => tell(err, &Refusal::Write),
         },
         JobAnswer::Writes {
             name,
             source,
             octets,
-        } => match make_file(alloc, host, name, source, &octets) {
+        } => match make_file(alloc, host, name, source, octets) {
             Ok(()) => put_lines(out, err, &Lines::Wrote(octets.len())),
             Err(refusal) => tell(err, &refusal),
         },
@@ -274,12 +274,12 @@ fn answer_on_message<'a>(
     message: File<'a>,
 ) -> Result<JobAnswer<'a>, Refusal>
     ensures answers { IfOk result (λ answer. Answers
-        (OnMessage runner.entry file.entry message.entry) (answer_in answer)) }
+        (OnMessage runner file.entry message.entry) (answer_in answer)) }
     ensures refused { IfErr result (λ refusal. IsJobRefusal
-        (OnMessage runner.entry file.entry message.entry) refusal) }
-    ensures long_script { HasLongScript (OnMessage runner.entry file.entry message.entry)
+        (OnMessage runner file.entry message.entry) refusal) }
+    ensures long_script { HasLongScript (OnMessage runner file.entry message.entry)
         → IsErrAnd result (λ e. e ≡ ScriptTooLong) }
-    ensures long_program { HasLongProgram (OnMessage runner.entry file.entry message.entry)
+    ensures long_program { HasLongProgram (OnMessage runner file.entry message.entry)
         → IsErrAnd result (λ e. e ≡ Spelling) }
 {
     match runner {

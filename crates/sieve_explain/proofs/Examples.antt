@@ -15,7 +15,7 @@ use Rattle.sieve_lexer.specs.declared.token.TokenKind.{TokenKind}
 use Rattle.sieve_lexer.specs.declared.token.TokenKind.TheVariants.{ClosingBrace, ClosingBracket, Comma, Identifier, MultiLineString, Number, OpeningBrace, OpeningBracket, QuotedString, Semicolon}
 use Rattle.sieve_check.specs.declared.causes.ReasonKind.{ReasonKind}
 use Rattle.sieve_check.specs.declared.causes.ReasonKind.TheVariants.{ExtraArgument, ForeignTag, LongString, MissingArgument, MissingCapability, Misplaced, UnknownCapability, UnknownCommand, UnknownTag, UnknownTest, WrongTests}
-use Rattle.sieve_explain.specs.Explaining.{column, heading, label_blanks, look_told, note, numbered, remark, told}
+use Rattle.sieve_explain.specs.Explaining.{column, heading, label_blanks, look_told, note, numbered, printed, remark, told}
 use Rattle.sieve_explain.specs.Faults.{beginnings, end_blanks, lexical_blanks, look_text, misplaced_token, more_blanks, token_blanks}
 use Rattle.sieve_explain.specs.Hints.{known_capabilities, known_commands, known_tags, known_tests, lacking, meant, meant_too, unknown_capability, unknown_command, unknown_tag, unknown_test}
 use Rattle.sieve_explain.specs.Words.{begin_off, differ_at, is_near, nearest}
@@ -198,18 +198,18 @@ labels = (refl, refl, refl, refl)
 
 -- that there is more, and what a file looks like: a program, a mail, and others
 notes :
-    (note (codes "my.sieve") more_blanks ≡ line (codes "my.sieve: note: only the first 20 errors are shown"))
+    (note more_blanks ≡ line (codes ": note: only the first 20 errors are shown"))
     × (look_text (codes "SVBC" ++ 2 ∷ []) ≡ codes "the file begins like a compiled program: `depot disassemble` prints the instructions of one")
     × (look_text (codes "Return-Path: <a@b>") ≡ codes "the file begins with a header field, like a mail: is it a script?")
     × (look_text (codes "keep:x") ≡ [])
     × (look_text (codes ": x") ≡ [])
     × (look_text (codes "# Note: x") ≡ [])
-    × (look_told (codes "my.sieve") [] ≡ [])
-unfolding digits note look_text filled_octet name_octet
+    × (look_told [] ≡ [])
+unfolding digits note look_text filled_octet
 notes = (refl, refl, refl, refl, refl, refl, refl)
 
 -- all of it
-whole : told (codes "my.sieve") (codes "keep;\nstop }\n") 11 (token_blanks (codes "keep;\nstop }\n") (record { kind = ClosingBrace; start = 11; end = 12 }))
+whole : printed (codes "my.sieve") (told (codes "keep;\nstop }\n") 11 (token_blanks (codes "keep;\nstop }\n") (record { kind = ClosingBrace; start = 11; end = 12 })))
     ≡ line (codes "my.sieve:2:6: error: `}` isn't allowed here: is a semicolon missing before it, or its opening brace?") ++ line (codes "  stop }") ++ line (codes "       ^")
 unfolding digits remark excerpt misplaced_token marked filled_octet column columns unicode_width name_octet pieces more_octets shown_character shown_start shown_end heading numbered line_number octets_before octets_after without_return
 whole = refl

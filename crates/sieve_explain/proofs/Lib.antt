@@ -1,4 +1,3 @@
-pub mod TokenLemmas
 pub mod TellingLemmas
 pub mod OneText
 pub mod OwnStrings
@@ -6,8 +5,6 @@ pub mod Subjects
 pub mod Marking
 pub mod Pieces
 pub mod Printing
-pub mod PrintingTables
-pub mod PrintableText
 pub mod NoteLemmas
 pub mod Levels
 pub mod Naming

@@ -3,24 +3,24 @@ use Rattle.std.proofs.Common.{◌≡◌, ◌∙◌, ◌<◌, ◌+◌, ℕ, Bool,
 use Rattle.std.proofs.lemmas.Bool.{cases_lt, lt-ltb}
 use Rattle.std.proofs.lemmas.List.{append-nil, append_assoc, drop_more, length-take, take-take, take_all}
 use Rattle.std.proofs.Math.Seq.{take-append_seam}
-use Rattle.std.specs.Prelude.{Err, IfOk, None, Ok, Option, Result, Some, flat_map}
-use Rattle.sieve_explain.specs.Explaining.{listed_told, more_notes_told, note_told}
-use Rattle.sieve_explain.specs.Notes.{Known, inside_behind, max_notes, note_at, notes_from, onto}
+use Rattle.std.specs.Prelude.{Err, IfOk, None, Ok, Option, Result, Some, map}
+use Rattle.sieve_explain.specs.Explaining.{listed_told, note_if, note_told}
+use Rattle.sieve_explain.specs.Notes.{Known, inside_behind, max_notes, more_notes_blanks, note_at, notes_from, onto}
 use Rattle.sieve_explain.specs.Private.{max_noted}
 use Rattle.sieve_explain.specs.declared.notes.Noted.{Noted}
 use Rattle.sieve_lexer.specs.declared.token.Token.{Token}
 
-pub first_notes : (found all : List Noted) → found ≡ take max_noted all → take max_notes found ≡ take max_notes all
+pub first_notes : {A : Type 0} (found all : List A) → found ≡ take max_noted all → take max_notes found ≡ take max_notes all
 first_notes found all is = ap (take max_notes) is ∙ take-take max_notes max_noted all (omega arith)
 
-pub more_notes : (found all : List Noted) → found ≡ take max_noted all → nat_lt max_notes (length found) ≡ nat_lt max_notes (length all)
-more_notes found all is =
-    ap (λ (l : List Noted). nat_lt max_notes (length l)) is ∙
+pub more_notes : {A : Type 0} (found all : List A) → found ≡ take max_noted all → nat_lt max_notes (length found) ≡ nat_lt max_notes (length all)
+more_notes {A} found all is =
+    ap (λ (l : List A). nat_lt max_notes (length l)) is ∙
     elim (cases_lt max_notes (length all)) [
       | inl many ↦
           let some : max_notes < length (take max_noted all) = omega (arith, many, length-take max_noted all) in
           lt-ltb max_notes (length (take max_noted all)) some ∙ sym (lt-ltb max_notes (length all) many)
-      | inr few ↦ ap (λ (l : List Noted). nat_lt max_notes (length l)) (take_all max_noted all (omega (arith, few)))
+      | inr few ↦ ap (λ (l : List A). nat_lt max_notes (length l)) (take_all max_noted all (omega (arith, few)))
     ]
 
 -- one more note, or none
@@ -53,10 +53,10 @@ found_all found left all is none few =
     sym (take_all max_noted found few) ∙ ap (take max_noted) whole
 
 -- so what is told of those that are found is what is told of all
-pub listed_first : (name script : List ℕ) (found all : List Noted) → found ≡ take max_noted all → listed_told name script found ≡ listed_told name script all
-listed_first name script found all is =
-    ap (λ (l : List Noted). flat_map (note_told name script) l ++ more_notes_told name (nat_lt max_notes (length found))) (first_notes found all is)
-    ∙ ap (λ (b : Bool). flat_map (note_told name script) (take max_notes all) ++ more_notes_told name b) (more_notes found all is)
+pub listed_first : (script : List ℕ) (found all : List Noted) → found ≡ take max_noted all → listed_told script found ≡ listed_told script all
+listed_first script found all is =
+    ap (λ (l : List Noted). map (note_told script) l ++ note_if (nat_lt max_notes (length found)) more_notes_blanks) (first_notes found all is)
+    ∙ ap (λ (b : Bool). map (note_told script) (take max_notes all) ++ note_if b more_notes_blanks) (more_notes found all is)
 
 -- what is known of a value, if there is one, follows
 pub if_ok_more : {T E : Type 0} {P Q : T → Type 0} (r : Result T E) → ((x : T) → P x → Q x) → IfOk r P → IfOk r Q

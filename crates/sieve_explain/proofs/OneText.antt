@@ -16,7 +16,7 @@ use Rattle.sieve_parser.specs.Tree.{CommandsTree}
 use Rattle.sieve_parser.specs.declared.error.ParseError.{ParseError}
 use Rattle.sieve_parser.specs.declared.error.ParseError.TheVariants as parser
 use Rattle.sieve_explain.specs.declared.explanation.Explanation.{Explanation}
-use Rattle.sieve_explain.specs.Explaining.{Explains, IsExplained, IsRemarked, Tells, TellsFault, TellsReasons, answer_of, depth_told, look_told, notes_told, reasons_told, syntax_told}
+use Rattle.sieve_explain.specs.Explaining.{Explains, IsExplained, IsRemarked, Tells, TellsFault, TellsReasons, answer_of, depth_told, look_told, notes_told, printed, reasons_told, syntax_told}
 use Rattle.sieve_explain.specs.Faults.{look_text}
 
 -- the laws that a script has one list of tokens, and one tree
@@ -26,19 +26,19 @@ OneList = (script : List ℕ) (tokens others : List Token) → AreTokens script 
 abbrev pub OneTree : Type 0
 OneTree = (script : List ℕ) (commands others : CommandsTree) → IsParsed script commands → IsParsed script others → commands ≡ others
 
-one_telling : OneList → (script : List ℕ) (told : List Token → List ℕ) (text other : List ℕ) → Tells script told text → Tells script told other → text ≡ other
-one_telling law script told text other (tokens, are, e) (others, are', e') = e ∙ ap told (law script tokens others are are') ∙ sym e'
+one_telling : OneList → (name script : List ℕ) (told : List Token → List (List ℕ)) (text other : List ℕ) → Tells name script told text → Tells name script told other → text ≡ other
+one_telling law name script told text other (tokens, are, e) (others, are', e') = e ∙ ap (λ (ts : List Token). printed name (told ts)) (law script tokens others are are') ∙ sym e'
 
 one_reasoning : OneList → OneTree → (name script text other : List ℕ) → TellsReasons name script text → TellsReasons name script other → text ≡ other
 one_reasoning law same name script text other (commands, parsed, tells) (others, parsed', tells') =
-    one_telling law script (reasons_told name script commands) text other tells
-    (subst (λ (cs : CommandsTree). Tells script (reasons_told name script cs) other) (same script others commands parsed' parsed) tells')
+    one_telling law name script (reasons_told script commands) text other tells
+    (subst (λ (cs : CommandsTree). Tells name script (reasons_told script cs) other) (same script others commands parsed' parsed) tells')
 
 one_fault : OneList → OneTree → (name script : List ℕ) (refusal : Refusal) (text other : List ℕ) → TellsFault name script refusal text → TellsFault name script refusal other → text ≡ other
 one_fault law same name script (refused.Lexical place) text other p q = p ∙ sym q
 one_fault law same name script refused.ScriptTooLong text other p q = p ∙ sym q
-one_fault law same name script (refused.Syntax number) text other p q = one_telling law script (syntax_told name script number) text other p q
-one_fault law same name script (refused.TooDeep number) text other p q = one_telling law script (depth_told name script number) text other p q
+one_fault law same name script (refused.Syntax number) text other p q = one_telling law name script (syntax_told script number) text other p q
+one_fault law same name script (refused.TooDeep number) text other p q = one_telling law name script (depth_told script number) text other p q
 one_fault law same name script (refused.UnknownCommand number) text other p q = one_reasoning law same name script text other p q
 one_fault law same name script (refused.MissingCapability number) text other p q = one_reasoning law same name script text other p q
 one_fault law same name script (refused.UnknownCapability number) text other p q = one_reasoning law same name script text other p q
@@ -48,10 +48,10 @@ one_fault law same name script _ text other p q = absurd p
 
 pub one_text : OneList → OneTree → (name script : List ℕ) (refusal : Refusal) (text other : List ℕ) → Explains name script refusal text → Explains name script refusal other → text ≡ other
 one_text law same name script refusal text other p q =
-    p.whole ∙ ap (λ (t : List ℕ). t ++ look_told name (look_text script)) (one_fault law same name script refusal p.fault q.fault p.tells q.tells) ∙ sym q.whole
+    p.whole ∙ ap (λ (t : List ℕ). t ++ printed name (look_told (look_text script))) (one_fault law same name script refusal p.fault q.fault p.tells q.tells) ∙ sym q.whole
 
 pub one_remark : OneList → (name script text other : List ℕ) → IsRemarked name script text → IsRemarked name script other → text ≡ other
-one_remark law name script text other p q = one_telling law script (notes_told name script) text other p q
+one_remark law name script text other p q = one_telling law name script (notes_told script) text other p q
 
 -- the laws that a script has one refusal of the parser, and none where it has a tree
 abbrev pub OneRefusal : Type 0

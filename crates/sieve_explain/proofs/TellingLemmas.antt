@@ -1,7 +1,6 @@
 -- A refusal that is told is the script's explanation.
-use Rattle.std.proofs.Common.{◌≡◌, ◌≢◌, ◌∙◌, ◌<◌, ℕ, List, length, map, nat_lt, take, ap, subst, sym, arith, inl, inr}
-use Rattle.std.proofs.lemmas.Bool.{cases_lt, lt-ltb}
-use Rattle.std.proofs.lemmas.List.{length-map, length-take, take-map, take-take, take_all}
+use Rattle.std.proofs.Common.{◌≡◌, ◌≢◌, ◌∙◌, ℕ, List, length, map, nat_lt, take, ap, subst, sym}
+use Rattle.std.proofs.lemmas.List.{length-map, take-map}
 use Rattle.refusals.specs.Causes.{of_checker, of_parser}
 use Rattle.refusals.specs.Scripts.{IsFaulty, IsScriptRefusal}
 use Rattle.refusals.specs.declared.refusal.Refusal.{Refusal}
@@ -21,6 +20,7 @@ use Rattle.sieve_parser.specs.Scripts.{IsParseRefusal}
 use Rattle.sieve_parser.specs.declared.error.ParseError.{ParseError}
 use Rattle.sieve_parser.specs.declared.error.ParseError.TheVariants as parser
 use Rattle.sieve_explain.specs.Explaining.{TellsFault, TellsReasons}
+use Rattle.sieve_explain.proofs.NoteLemmas.{first_notes, more_notes}
 
 -- what `IsFaultTold` says of a refusal and its text
 abbrev pub IsTold : List ℕ → List ℕ → Refusal → List ℕ → Type 0
@@ -60,14 +60,7 @@ told_by_lexer name script lexer.ScriptTooLong r text same is told = told_by_pars
 
 -- the reasons that are found have those first that are told, and say whether there are more
 pub first_found : (found : List Refused) (all : List causes.Refused) → map refused_view found ≡ take max_found all → map refused_view (take max_reasons found) ≡ take max_reasons all
-first_found found all is = sym (take-map refused_view max_reasons found) ∙ ap (take max_reasons) is ∙ take-take max_reasons max_found all (omega arith)
+first_found found all is = sym (take-map refused_view max_reasons found) ∙ first_notes (map refused_view found) all is
 
 pub more_found : (found : List Refused) (all : List causes.Refused) → map refused_view found ≡ take max_found all → nat_lt max_reasons (length found) ≡ nat_lt max_reasons (length all)
-more_found found all is =
-    ap (nat_lt max_reasons) (sym (length-map found refused_view) ∙ ap length is) ∙
-    elim (cases_lt max_reasons (length all)) [
-      | inl many ↦
-          let some : max_reasons < length (take max_found all) = omega (arith, many, length-take max_found all) in
-          lt-ltb max_reasons (length (take max_found all)) some ∙ sym (lt-ltb max_reasons (length all) many)
-      | inr few ↦ ap (λ (l : List causes.Refused). nat_lt max_reasons (length l)) (take_all max_found all (omega (arith, few)))
-    ]
+more_found found all is = ap (nat_lt max_reasons) (sym (length-map found refused_view)) ∙ more_notes (map refused_view found) all is

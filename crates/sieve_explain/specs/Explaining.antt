@@ -1,5 +1,5 @@
 -- What is told of a refused script.
-use Rattle.std.specs.Prelude.{◌≡◌, ◌≢◌, ℕ, ◌+◌, ◌-◌, Bool, true, false, ◌&&◌, IsTrue, List, [], ◌∷◌, ◌++◌, if◌then◌else◌, flat_map, length, nat_lt, take, take_while, drop, min, Option, Some, None, option_map, codes, slice_range}
+use Rattle.std.specs.Prelude.{◌≡◌, ◌≢◌, ℕ, ◌+◌, ◌-◌, Bool, true, false, ◌&&◌, IsTrue, List, [], ◌∷◌, ◌++◌, if◌then◌else◌, flat_map, length, map, nat_lt, take, take_while, drop, min, Option, Some, None, option_map, codes, slice_range}
 use Rattle.std.specs.Fmt.{decimal}
 use Rattle.std.specs.List.{Contains, slice_get}
 use Rattle.std.specs.Option.{option_or}
@@ -30,8 +30,8 @@ use Rattle.readable_text.specs.Places.{line_number, octets_before}
 use Rattle.sieve_explain.specs.Reasons.{reason_blanks}
 use Rattle.sieve_explain.specs.Sentences.{Blanks, filled, plain}
 use Rattle.sieve_explain.specs.Characters.{pieces}
-use Rattle.sieve_explain.specs.Shown.{excerpt, line, shown_name}
-use Rattle.sieve_explain.specs.Words.{with_words}
+use Rattle.sieve_explain.specs.Shown.{excerpt, line, shown, shown_name}
+use Rattle.sieve_explain.specs.declared.shown.Style.TheVariants.{Line}
 
 -- a colon, and the number
 unfoldable pub numbered : ℕ → List ℕ
@@ -41,21 +41,32 @@ numbered number = codes ":" ++ decimal number
 unfoldable pub column : List ℕ → ℕ → ℕ
 column script place = length (pieces (slice_range script (place - octets_before script place) place)) + 1
 
--- the name of the script as it can be printed, the line and the column of a place in it, and what kind of remark it is
-unfoldable pub heading : List ℕ → List ℕ → List ℕ → ℕ → List ℕ
-heading kind name script place = shown_name name ++ numbered (line_number script place) ++ numbered (column script place) ++ kind
+-- the line and the column of a place in the script, and what kind of remark it is
+unfoldable pub heading : List ℕ → List ℕ → ℕ → List ℕ
+heading kind script place = numbered (line_number script place) ++ numbered (column script place) ++ kind
 
--- a remark of that kind about a place of the script, with the line of the place and a mark under it
-unfoldable pub remark : List ℕ → List ℕ → List ℕ → ℕ → Blanks → List ℕ
-remark kind name script place blanks = line (heading kind name script place ++ filled blanks) ++ excerpt script place
+-- a remark of that kind about a place of the script, at most its end, with the line of the place and a mark under it
+unfoldable pub remark : List ℕ → List ℕ → ℕ → Blanks → List ℕ
+remark kind script place blanks =
+    let at = min place (length script) in line (heading kind script at ++ filled blanks) ++ excerpt script at
 
--- a remark about the whole file
-unfoldable pub note : List ℕ → Blanks → List ℕ
-note name blanks = line (shown_name name ++ codes ": note: " ++ filled blanks)
+-- a remark about the whole file; the same, if there is something to remark
+unfoldable pub note : Blanks → List ℕ
+note blanks = line (codes ": note: " ++ filled blanks)
+
+abbrev pub note_if : Bool → Blanks → List (List ℕ)
+note_if some blanks = if some then note blanks ∷ [] else []
 
 -- what is wrong at a place
-abbrev pub told : List ℕ → List ℕ → ℕ → Blanks → List ℕ
-told name script place blanks = remark (codes ": error: ") name script place blanks
+abbrev pub told : List ℕ → ℕ → Blanks → List (List ℕ)
+told script place blanks = remark (codes ": error: ") script place blanks ∷ []
+
+-- remarks as they are printed: before each stands the name of the script as it can be printed, and all behind it is escaped
+abbrev pub printed_one : List ℕ → List ℕ → List ℕ
+printed_one name remark = shown_name name ++ shown Line (pieces remark)
+
+abbrev pub printed : List ℕ → List (List ℕ) → List ℕ
+printed name = flat_map (printed_one name)
 
 -- where a token begins; behind the last one the script's end
 abbrev pub start_of : List ℕ → Option Token → ℕ
@@ -63,13 +74,13 @@ start_of script None = length script
 start_of script (Some token) = token.start
 
 -- where the brace stands that is never closed
-unfoldable pub opened : List ℕ → List ℕ → Option Token → List ℕ
-opened name script None = []
-opened name script (Some brace) = remark (codes ": note: ") name script brace.start unclosed_blanks
+unfoldable pub opened : List ℕ → Option Token → List (List ℕ)
+opened script None = []
+opened script (Some brace) = remark (codes ": note: ") script brace.start unclosed_blanks ∷ []
 
 -- of the end, and which brace is never closed, where one isn't
-unfoldable pub end_told : List ℕ → List ℕ → List Token → List ℕ
-end_told name script tokens = told name script (length script) end_blanks ++ opened name script (unclosed tokens)
+unfoldable pub end_told : List ℕ → List Token → List (List ℕ)
+end_told script tokens = told script (length script) end_blanks ++ opened script (unclosed tokens)
 
 -- of the token at fault, by the token before it
 abbrev pub misplaced_blanks : List ℕ → Option Token → Token → Blanks
@@ -77,17 +88,17 @@ misplaced_blanks script before token =
     if is_word_in_list before token then word_blanks (text_of script token) else token_blanks script token
 
 -- of the token at fault, or of the end
-abbrev pub token_told : List ℕ → List ℕ → Option Token → Option Token → List Token → List ℕ
-token_told name script before None tokens = end_told name script tokens
-token_told name script before (Some token) tokens = told name script token.start (misplaced_blanks script before token)
+abbrev pub token_told : List ℕ → Option Token → Option Token → List Token → List (List ℕ)
+token_told script before None tokens = end_told script tokens
+token_told script before (Some token) tokens = told script token.start (misplaced_blanks script before token)
 
 -- 13, at the token with that number, the first being 0
-unfoldable pub syntax_told : List ℕ → List ℕ → ℕ → List Token → List ℕ
-syntax_told name script number tokens = token_told name script (slice_get tokens (number - 1)) (slice_get tokens number) tokens
+unfoldable pub syntax_told : List ℕ → ℕ → List Token → List (List ℕ)
+syntax_told script number tokens = token_told script (slice_get tokens (number - 1)) (slice_get tokens number) tokens
 
 -- 14
-unfoldable pub depth_told : List ℕ → List ℕ → ℕ → List Token → List ℕ
-depth_told name script number tokens = told name script (start_of script (slice_get tokens number)) too_deep_blanks
+unfoldable pub depth_told : List ℕ → ℕ → List Token → List (List ℕ)
+depth_told script number tokens = told script (start_of script (slice_get tokens number)) too_deep_blanks
 
 -- under a string that is no capability, else under the command
 abbrev pub marked_by : ReasonKind → Option Token → Option Token → Option Token
@@ -182,36 +193,31 @@ fault_blanks script tokens found =
     word_or script (bare_word script tokens found) (argument_blanks script (tokens_behind tokens found.token) found)
 
 -- why a command or test is refused
-unfoldable pub reason_told : List ℕ → List ℕ → List Token → Refused → List ℕ
-reason_told name script tokens found =
-    told name script (start_of script (marked_token script tokens found)) (fault_blanks script tokens found)
-
--- that more is refused than is told, where that is so
-abbrev pub more_told : List ℕ → Bool → List ℕ
-more_told name more = if more then note name more_blanks else []
+unfoldable pub reason_told : List ℕ → List Token → Refused → List ℕ
+reason_told script tokens found =
+    remark (codes ": error: ") script (start_of script (marked_token script tokens found)) (fault_blanks script tokens found)
 
 -- 15 to 19: why each of them is, in order, up to `max_reasons` of them, and whether there are more
-abbrev pub reasons_told : List ℕ → List ℕ → CommandsTree → List Token → List ℕ
-reasons_told name script commands tokens =
-    flat_map (reason_told name script tokens) (take max_reasons (reasons_of commands))
-    ++ more_told name (nat_lt max_reasons (length (reasons_of commands)))
+abbrev pub reasons_told : List ℕ → CommandsTree → List Token → List (List ℕ)
+reasons_told script commands tokens =
+    map (reason_told script tokens) (take max_reasons (reasons_of commands))
+    ++ note_if (nat_lt max_reasons (length (reasons_of commands))) more_blanks
 
 -- the text is what is told by the script's tokens
-abbrev pub Tells : List ℕ → (List Token → List ℕ) → List ℕ → Type 0
-Tells script told text = (tokens : List Token) × AreTokens script tokens × (text ≡ told tokens)
+abbrev pub Tells : List ℕ → List ℕ → (List Token → List (List ℕ)) → List ℕ → Type 0
+Tells name script told text = (tokens : List Token) × AreTokens script tokens × (text ≡ printed name (told tokens))
 
 abbrev pub TellsReasons : List ℕ → List ℕ → List ℕ → Type 0
 TellsReasons name script text =
-    (commands : CommandsTree) × IsParsed script commands × Tells script (reasons_told name script commands) text
+    (commands : CommandsTree) × IsParsed script commands × Tells name script (reasons_told script commands) text
 
 -- what is told of a refused script: the refusal's place, a sentence and the line; a script gets no other refusal
 abbrev pub TellsFault : List ℕ → List ℕ → Refusal → List ℕ → Type 0
 TellsFault name script (refused.Lexical place) text =
-    let at = min place (length script) in text ≡ told name script at (lexical_blanks (drop at script))
-TellsFault name script refused.ScriptTooLong text = text
-    ≡ told name script (min max_script (length script)) too_long_blanks
-TellsFault name script (refused.Syntax number) text = Tells script (syntax_told name script number) text
-TellsFault name script (refused.TooDeep number) text = Tells script (depth_told name script number) text
+    text ≡ printed name (told script place (lexical_blanks (drop place script)))
+TellsFault name script refused.ScriptTooLong text = text ≡ printed name (told script max_script too_long_blanks)
+TellsFault name script (refused.Syntax number) text = Tells name script (syntax_told script number) text
+TellsFault name script (refused.TooDeep number) text = Tells name script (depth_told script number) text
 TellsFault name script (refused.UnknownCommand number) text = TellsReasons name script text
 TellsFault name script (refused.MissingCapability number) text = TellsReasons name script text
 TellsFault name script (refused.UnknownCapability number) text = TellsReasons name script text
@@ -220,34 +226,30 @@ TellsFault name script (refused.Limit number) text = TellsReasons name script te
 TellsFault name script _ text = ⊥
 
 -- what the file looks like, where it looks like something else than a script
-abbrev pub look_told : List ℕ → List ℕ → List ℕ
-look_told name text = with_words text (note name (plain text)) []
+abbrev pub look_told : List ℕ → List (List ℕ)
+look_told text = note_if (nat_lt 0 (length text)) (plain text)
 
 -- all that is told of a refused script: of the refusal, and what the file looks like
 pub record Explains (name script : List ℕ) (refusal : Refusal) (text : List ℕ) : Type 0 where
   pub fault : List ℕ
   pub tells : TellsFault name script refusal fault
-  pub whole : text ≡ fault ++ look_told name (look_text script)
+  pub whole : text ≡ fault ++ printed name (look_told (look_text script))
 
 -- a note about a script with which nothing is wrong
-unfoldable pub note_told : List ℕ → List ℕ → Noted → List ℕ
-note_told name script noted = remark (codes ": note: ") name script (min noted.place (length script)) (note_blanks noted.kind)
-
--- that more is noted than is told, where that is so
-abbrev pub more_notes_told : List ℕ → Bool → List ℕ
-more_notes_told name more = if more then note name more_notes_blanks else []
+unfoldable pub note_told : List ℕ → Noted → List ℕ
+note_told script noted = remark (codes ": note: ") script noted.place (note_blanks noted.kind)
 
 -- notes, in order, up to `max_notes` of them, and whether there are more; those of the script
-abbrev pub listed_told : List ℕ → List ℕ → List Noted → List ℕ
-listed_told name script notes =
-    flat_map (note_told name script) (take max_notes notes) ++ more_notes_told name (nat_lt max_notes (length notes))
+abbrev pub listed_told : List ℕ → List Noted → List (List ℕ)
+listed_told script notes =
+    map (note_told script) (take max_notes notes) ++ note_if (nat_lt max_notes (length notes)) more_notes_blanks
 
-abbrev pub notes_told : List ℕ → List ℕ → List Token → List ℕ
-notes_told name script tokens = listed_told name script (notes_of script tokens)
+abbrev pub notes_told : List ℕ → List Token → List (List ℕ)
+notes_told script tokens = listed_told script (notes_of script tokens)
 
 -- what is remarked of a script with which nothing is wrong
 abbrev pub IsRemarked : List ℕ → List ℕ → List ℕ → Type 0
-IsRemarked name script text = Tells script (notes_told name script) text
+IsRemarked name script text = Tells name script (notes_told script) text
 
 -- nothing is wrong with the script; or this is its refusal, and this is told of it
 abbrev pub IsExplained : List ℕ → List ℕ → Option Explanation → Type 0
@@ -261,4 +263,4 @@ answer_of answer = option_map (λ (found : Explanation). (found.refusal, found.t
 
 -- what is told of a listing of a program, whose fault is of that kind: its place, a sentence and the line
 abbrev pub listing_told : List ℕ → List ℕ → ℕ → FaultKind → List ℕ
-listing_told name listing place kind = let at = min place (length listing) in told name listing at (listing_blanks kind (drop at listing))
+listing_told name listing place kind = printed name (told listing place (listing_blanks kind (drop place listing)))

@@ -1,5 +1,5 @@
 -- Private: how tables and sentences of the code are seen, and what is told of a fault first.
-use Rattle.std.specs.Prelude.{ℕ, List, map, ◌≡◌, ◌≢◌, Option, Some, None, ◌≤◌, length, IfSome}
+use Rattle.std.specs.Prelude.{ℕ, List, map, ◌≡◌, ◌≢◌, Option, Some, None}
 use Rattle.std.specs.Borrow.{Bor}
 use Rattle.sieve_explain.specs.Words.{Hint, hint}
 use Rattle.refusals.specs.Scripts.{IsScriptRefusal}
@@ -52,10 +52,6 @@ vocabulary_of known = record {
   hinting_two = known.hinting_two.now;
   alone = known.alone.now;
 }
-
--- the token, where there is one, stands in the script
-abbrev pub Stands : List ℕ → Option Token → Type 0
-Stands script token = IfSome token (λ t. (t.start ≤ t.end) × (t.end ≤ length script))
 
 abbrev pub blanks_of : Sentence → Blanks
 blanks_of s = record { text = s.text.now; name = s.name.now; subject = s.subject.now; words = s.words.now; others = s.others.now; number = s.number }

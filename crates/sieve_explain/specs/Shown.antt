@@ -1,5 +1,5 @@
 -- How texts are printed: escaped, and cut where they are long.
-use Rattle.std.specs.Prelude.{ℕ, ◌-◌, ◌/◌, ◌%◌, false, nat_le, nat_lt, not, ◌&&◌, ◌==◌, if◌then◌else◌, Bool, List, [], ◌∷◌, ◌++◌, length, take, drop, replicate, flat_map, codes, Option, Some, None}
+use Rattle.std.specs.Prelude.{ℕ, ◌-◌, ◌/◌, ◌%◌, false, nat_le, nat_lt, not, ◌&&◌, ◌||◌, ◌==◌, if◌then◌else◌, Bool, List, [], ◌∷◌, ◌++◌, length, take, drop, replicate, flat_map, codes, Option, Some, None}
 use Rattle.std.specs.Fmt.{digit_glyph}
 use Rattle.readable_text.specs.Places.{line_at, octets_before}
 use Rattle.sieve_explain.specs.Characters.{Piece, pieces, is_visible, columns}
@@ -16,11 +16,11 @@ escaped octet = 92 ∷ digit_glyph false (octet / 16 % 16) ∷ digit_glyph false
 
 -- ---- a piece of a text
 
--- a visible character is printed as it is. Between two marks the second mark and the backslash aren't: what stands there can't
--- end before it does
+-- a visible character is printed as it is, and the end of a line. Between two marks the end of a line, the second mark and the
+-- backslash aren't: what stands there can't end before it does
 abbrev pub is_plain : Style → ℕ → Bool
 is_plain (Between mark) c = is_visible c && not (c == mark) && not (c == 92)
-is_plain _ c = is_visible c
+is_plain _ c = is_visible c || c == 10
 
 -- the character is printed as a space: TAB in a line of a script
 abbrev pub is_blank : Style → ℕ → Bool

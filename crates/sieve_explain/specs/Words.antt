@@ -1,6 +1,6 @@
 -- Tables of words, and words that are one letter off.
-use Rattle.std.specs.Prelude.{ℕ, zero, suc, ◌+◌, Bool, false, not, ◌&&◌, ◌||◌, if◌then◌else◌, List, [], ◌∷◌, length, take, drop}
-use Rattle.std.specs.List.{list_any}
+use Rattle.std.specs.Prelude.{ℕ, ◌+◌, Bool, not, ◌&&◌, ◌||◌, if◌then◌else◌, List, [], ◌∷◌, length, take, drop}
+use Rattle.std.specs.List.{list_any, range_with_len}
 use Rattle.octets.specs.Ascii.{is_word}
 
 -- ---- tables
@@ -38,13 +38,9 @@ begin_off a b = is_word (drop 1 a) (drop 1 b) || is_word a (drop 1 b) || is_word
 unfoldable pub differ_at : List ℕ → List ℕ → ℕ → Bool
 differ_at a b place = is_word (take place a) (take place b) && begin_off (drop place a) (drop place b)
 
-abbrev pub differ_below : List ℕ → List ℕ → ℕ → Bool
-differ_below a b zero = false
-differ_below a b (suc place) = differ_below a b place || differ_at a b place
-
 -- the name is the word but for one letter, or but for the case of ASCII letters
 unfoldable pub is_near : List ℕ → List ℕ → Bool
-is_near name word = differ_below name word (length word + 1)
+is_near name word = list_any (differ_at name word) (range_with_len 0 (length word + 1))
 
 -- the first of the words that is near and isn't a word that was found before, or nothing
 abbrev pub nearest_but : List ℕ → List ℕ → List (List ℕ) → List ℕ

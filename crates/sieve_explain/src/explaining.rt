@@ -1,5 +1,5 @@
 // Why a script is refused, and the text that describes it.
-ghost use Rattle.std.specs.Prelude.{◌≡◌, ◌≤◌, ◌++◌, IfOk, None, OnOk, drop, flat_map, length, map, nat_lt, take};
+ghost use Rattle.std.specs.Prelude.{◌≡◌, ◌≤◌, ◌∷◌, ◌++◌, [], IfOk, None, OnOk, drop, length, map, nat_lt, take};
 ghost use Rattle.std.specs.List.{slice_get};
 ghost use Rattle.octets.specs.Limits.{max_script};
 ghost use Rattle.refusals.specs.Causes.{of_parser};
@@ -9,23 +9,23 @@ ghost use Rattle.sieve_lexer.specs.Tokens.{AreTokens};
 ghost use Rattle.sieve_parser.specs.Refusals.{parse_error};
 ghost use Rattle.sieve_parser.specs.Scripts.{IsGrammarRefusal, IsParsed};
 ghost use Rattle.sieve_parser.specs.View.{commands_tree};
-ghost use Rattle.sieve_explain.specs.Explaining.{IsExplained, IsRemarked, TellsFault, depth_told, end_told, bare_word, listed_told, listing_told, look_told, marked_by, marked_token, more_notes_told, more_told, note_told, notes_told, opened, reason_told, syntax_told};
-ghost use Rattle.sieve_explain.specs.Private.{IsFaultTold, Stands};
-ghost use Rattle.sieve_explain.specs.Faults.{look_text};
+ghost use Rattle.sieve_explain.specs.Explaining.{IsExplained, IsRemarked, TellsFault, depth_told, end_told, bare_word, listed_told, listing_told, look_told, marked_by, marked_token, note_if, note_told, notes_told, opened, printed, reason_told, syntax_told};
+ghost use Rattle.sieve_explain.specs.Private.{IsFaultTold};
+ghost use Rattle.sieve_explain.specs.Faults.{look_text, more_blanks};
 ghost use Rattle.sieve_explain.specs.Marks.{string_among};
-ghost use Rattle.sieve_explain.specs.Notes.{max_notes};
 
 use crate::explanation::Explanation;
 use crate::faults::{
     lexical_sentence, listing_sentence, look_text, misplaced_sentence, more_sentence,
     too_deep_sentence, too_long_sentence, unclosed_sentence,
 };
-use crate::marks::{start_of, string_behind, token_numbered, unclosed};
+use crate::marks::{first_of, start_of, string_among, token_at, tokens_from, unclosed};
 use crate::notes::{MAX_NOTES, Noted, more_notes_sentence, note_sentence, notes_of};
 use crate::reasons::{bare_word, fault_sentence};
-use crate::remarks::{Source, push_note, push_remark, told};
+use crate::remarks::{Source, push_note_if, push_remark, told};
 use crate::sentence::plain;
 use bytecode_listing::FaultKind;
+use readable_text::places::around;
 use refusals::Refusal;
 use sieve_check::{MAX_REASONS, ReasonKind, Refused, reasons_of};
 use sieve_lexer::laws::tokens_have_no_fault;
@@ -58,25 +58,15 @@ pub fn explain(alloc: Global, name: &str, script: &[u8]) -> Result<Option<Explan
     }
 }
 
-// A refusal with its description, and then what the file looks like.
+// A refusal with its description, and then what the file looks like, if there is something to say.
 fn with_look(found: Explanation, source: &Source<'_>) -> Result<Explanation, AllocError>
     ensures { IfOk result (λ all. (all.refusal ≡ found.refusal) × (all.text.items ≡ found.text.items
-        ++ look_told source.now.name.now (look_text source.now.octets.now))) }
+        ++ printed source.now.name.now (look_told (look_text source.now.octets.now)))) }
 {
     let mut all = found;
-    push_look(&mut all.text, source, look_text(source.octets))?;
+    let text = look_text(source.octets);
+    push_note_if(&mut all.text, source, text.len() > 0, &plain(text))?;
     Ok(all)
-}
-
-// Appends what the file looks like, if there is something to say.
-fn push_look(out: &mut Vec<u8>, source: &Source<'_>, text: &'static str) -> Result<(), AllocError>
-    ensures { OnOk result (out.new.items ≡ out.old.items
-        ++ look_told source.now.name.now text.now) }
-{
-    if text.is_empty() {
-        return Ok(());
-    }
-    push_note(out, source, &plain(text))
 }
 
 // Why the script is refused, and the description of that.
@@ -135,14 +125,10 @@ fn lexical_told(source: &Source<'_>, error: &LexicalError) -> Result<Vec<u8>, Al
 {
     match error {
         LexicalError::Memory => Err(AllocError),
-        LexicalError::ScriptTooLong => {
-            let place = MAX_SCRIPT.min(source.octets.len());
-            told(source, place, &too_long_sentence())
-        }
+        LexicalError::ScriptTooLong => told(source, MAX_SCRIPT, &too_long_sentence()),
         LexicalError::Lexical { place } => {
-            let place = (*place).min(source.octets.len());
-            let (_, rest) = source.octets.split_at(place);
-            told(source, place, &lexical_sentence(rest))
+            let (_, rest) = around(source.octets, *place);
+            told(source, *place, &lexical_sentence(rest))
         }
     }
 }
@@ -169,13 +155,12 @@ fn grammar_told(
 // The description of the token with this number, which isn't allowed in its place, or of the script's end.
 #[tactic(auto, unfolding(crate::specs::Explaining::syntax_told))]
 fn syntax_told(source: &Source<'_>, tokens: &[Token], number: usize) -> Result<Vec<u8>, AllocError>
-    requires { AreTokens source.now.octets.now tokens.now }
     ensures { IfOk result (λ text.
-        text.items ≡ syntax_told source.now.name.now source.now.octets.now number tokens.now) }
+        text.items ≡ printed source.now.name.now (syntax_told source.now.octets.now number tokens.now)) }
 {
-    match token_numbered(source.octets, tokens, number) {
+    match token_at(tokens, number) {
         Some(token) => {
-            let before = token_numbered(source.octets, tokens, number.saturating_sub(1));
+            let before = token_at(tokens, number.saturating_sub(1));
             told(
                 source,
                 token.start,
@@ -189,16 +174,15 @@ fn syntax_told(source: &Source<'_>, tokens: &[Token], number: usize) -> Result<V
 // The description of a script that ends too early.
 #[tactic(auto, unfolding(crate::specs::Explaining::end_told))]
 fn end_told(source: &Source<'_>, tokens: &[Token]) -> Result<Vec<u8>, AllocError>
-    requires { AreTokens source.now.octets.now tokens.now }
     ensures { IfOk result (λ text.
-        text.items ≡ end_told source.now.name.now source.now.octets.now tokens.now) }
+        text.items ≡ printed source.now.name.now (end_told source.now.octets.now tokens.now)) }
 {
     let mut text = told(
         source,
         source.octets.len(),
         &plain("the script ends before its last command is complete"),
     )?;
-    push_opened(&mut text, source, unclosed(source.octets, tokens))?;
+    push_opened(&mut text, source, unclosed(tokens))?;
     Ok(text)
 }
 
@@ -209,9 +193,8 @@ fn push_opened(
     source: &Source<'_>,
     brace: Option<Token>,
 ) -> Result<(), AllocError>
-    requires { Stands source.now.octets.now brace }
     ensures { OnOk result (out.new.items ≡ out.old.items
-        ++ opened source.now.name.now source.now.octets.now brace) }
+        ++ printed source.now.name.now (opened source.now.octets.now brace)) }
 {
     match brace {
         Some(brace) => push_remark(out, ": note: ", source, brace.start, &unclosed_sentence()),
@@ -222,11 +205,10 @@ fn push_opened(
 // The description of the token with this number, which is nested too deep.
 #[tactic(auto, unfolding(crate::specs::Explaining::depth_told))]
 fn depth_told(source: &Source<'_>, tokens: &[Token], number: usize) -> Result<Vec<u8>, AllocError>
-    requires { AreTokens source.now.octets.now tokens.now }
     ensures { IfOk result (λ text.
-        text.items ≡ depth_told source.now.name.now source.now.octets.now number tokens.now) }
+        text.items ≡ printed source.now.name.now (depth_told source.now.octets.now number tokens.now)) }
 {
-    let token = token_numbered(source.octets, tokens, number);
+    let token = token_at(tokens, number);
     told(source, start_of(source.octets, token), &too_deep_sentence())
 }
 
@@ -236,34 +218,19 @@ fn reasons_told(
     tokens: &[Token],
     reasons: &[Refused<'_>],
 ) -> Result<Vec<u8>, AllocError>
-    requires { AreTokens source.now.octets.now tokens.now }
-    ensures { IfOk result (λ text. text.items
-        ≡ flat_map (reason_told source.now.name.now source.now.octets.now tokens.now)
+    ensures { IfOk result (λ text. text.items ≡ printed source.now.name.now
+        (map (reason_told source.now.octets.now tokens.now)
         (map refused_view (take max_reasons reasons.now))
-        ++ more_told source.now.name.now (nat_lt max_reasons (length reasons.now))) }
+        ++ note_if (nat_lt max_reasons (length reasons.now)) more_blanks)) }
 {
-    let mut text = first_told(source, tokens, first_of(reasons))?;
-    push_more(&mut text, source, reasons.len() > MAX_REASONS)?;
+    let mut text = first_told(source, tokens, first_of(reasons, MAX_REASONS))?;
+    push_note_if(
+        &mut text,
+        source,
+        reasons.len() > MAX_REASONS,
+        &more_sentence(),
+    )?;
     Ok(text)
-}
-
-// The reasons that are printed.
-#[tactic(auto, using(std::proofs::lemmas::List::take_min))]
-fn first_of<'a, 'r>(reasons: &'a [Refused<'r>]) -> &'a [Refused<'r>]
-    ensures { result.now ≡ take max_reasons reasons.now }
-{
-    let (told, _) = reasons.split_at(MAX_REASONS.min(reasons.len()));
-    told
-}
-
-// Appends that there are more, if there are.
-fn push_more(out: &mut Vec<u8>, source: &Source<'_>, more: bool) -> Result<(), AllocError>
-    ensures { OnOk result (out.new.items ≡ out.old.items ++ more_told source.now.name.now more) }
-{
-    if !more {
-        return Ok(());
-    }
-    push_note(out, source, &more_sentence())
 }
 
 // Why each of the commands and tests is refused.
@@ -272,10 +239,8 @@ fn first_told(
     tokens: &[Token],
     reasons: &[Refused<'_>],
 ) -> Result<Vec<u8>, AllocError>
-    requires { AreTokens source.now.octets.now tokens.now }
-    ensures { IfOk result (λ text. text.items
-        ≡ flat_map (reason_told source.now.name.now source.now.octets.now tokens.now)
-        (map refused_view reasons.now)) }
+    ensures { IfOk result (λ text. text.items ≡ printed source.now.name.now
+        (map (reason_told source.now.octets.now tokens.now) (map refused_view reasons.now))) }
 {
     let mut text = Vec::new(source.alloc);
     for found in reasons {
@@ -292,10 +257,8 @@ fn push_reason(
     tokens: &[Token],
     found: Refused<'_>,
 ) -> Result<(), AllocError>
-    requires { AreTokens source.now.octets.now tokens.now }
-    ensures { OnOk result (out.new.items ≡ out.old.items
-        ++ reason_told source.now.name.now source.now.octets.now tokens.now
-        (refused_view found.entry)) }
+    ensures { OnOk result (out.new.items ≡ out.old.items ++ printed source.now.name.now
+        (reason_told source.now.octets.now tokens.now (refused_view found.entry) ∷ [])) }
 {
     let token = marked_token(source, tokens, found)?;
     let sentence = fault_sentence(source.octets, tokens, found);
@@ -308,15 +271,6 @@ fn push_reason(
     )
 }
 
-// The word that is in the place of a missing string, if there is one.
-fn word_marked(source: &Source<'_>, tokens: &[Token], found: Refused<'_>) -> Option<Token>
-    requires { AreTokens source.now.octets.now tokens.now }
-    ensures token { result ≡ bare_word source.now.octets.now tokens.now (refused_view found.entry) }
-    ensures within { Stands source.now.octets.now result }
-{
-    bare_word(source.octets, tokens, found)
-}
-
 // The token that gets the mark.
 #[tactic(auto, unfolding(crate::specs::Explaining::marked_token))]
 fn marked_token(
@@ -324,12 +278,10 @@ fn marked_token(
     tokens: &[Token],
     found: Refused<'_>,
 ) -> Result<Option<Token>, AllocError>
-    requires { AreTokens source.now.octets.now tokens.now }
-    ensures token { IfOk result (λ token.
+    ensures { IfOk result (λ token.
         token ≡ marked_token source.now.octets.now tokens.now (refused_view found.entry)) }
-    ensures within { IfOk result (λ token. Stands source.now.octets.now token) }
 {
-    match word_marked(source, tokens, found) {
+    match bare_word(source.octets, tokens, found) {
         Some(word) => Ok(Some(word)),
         None => marked_by(source, tokens, found),
     }
@@ -341,17 +293,14 @@ fn marked_by(
     tokens: &[Token],
     found: Refused<'_>,
 ) -> Result<Option<Token>, AllocError>
-    requires { AreTokens source.now.octets.now tokens.now }
-    ensures token { IfOk result (λ token. token ≡ marked_by found.entry.reason.kind
+    ensures { IfOk result (λ token. token ≡ marked_by found.entry.reason.kind
         (string_among source.now.octets.now found.entry.reason.subject.now
         (drop found.entry.token tokens.now)) (slice_get tokens.now found.entry.token)) }
-    ensures within { IfOk result (λ token. Stands source.now.octets.now token) }
 {
+    let behind = tokens_from(tokens, found.token);
     match found.reason.kind {
-        ReasonKind::UnknownCapability => {
-            string_behind(source, tokens, found.token, found.reason.subject)
-        }
-        _ => Ok(token_numbered(source.octets, tokens, found.token)),
+        ReasonKind::UnknownCapability => string_among(source, found.reason.subject, behind),
+        _ => Ok(token_at(tokens, found.token)),
     }
 }
 
@@ -387,7 +336,7 @@ pub fn remarks_on(alloc: Global, name: &str, script: &[u8]) -> Result<Vec<u8>, A
 #[tactic(auto, using(crate::proofs::NoteLemmas::listed_first))]
 fn notes_told(source: &Source<'_>, tokens: &[Token]) -> Result<Vec<u8>, AllocError>
     ensures { IfOk result (λ text.
-        text.items ≡ notes_told source.now.name.now source.now.octets.now tokens.now) }
+        text.items ≡ printed source.now.name.now (notes_told source.now.octets.now tokens.now)) }
 {
     let found = notes_of(source, tokens)?;
     listed_told(source, &found)
@@ -396,26 +345,22 @@ fn notes_told(source: &Source<'_>, tokens: &[Token]) -> Result<Vec<u8>, AllocErr
 // The first of these notes, and whether there are more.
 fn listed_told(source: &Source<'_>, notes: &[Noted]) -> Result<Vec<u8>, AllocError>
     ensures { IfOk result (λ text.
-        text.items ≡ listed_told source.now.name.now source.now.octets.now notes.now) }
+        text.items ≡ printed source.now.name.now (listed_told source.now.octets.now notes.now)) }
 {
-    let mut text = first_noted(source, first_notes(notes))?;
-    push_more_notes(&mut text, source, notes.len() > MAX_NOTES)?;
+    let mut text = first_noted(source, first_of(notes, MAX_NOTES))?;
+    push_note_if(
+        &mut text,
+        source,
+        notes.len() > MAX_NOTES,
+        &more_notes_sentence(),
+    )?;
     Ok(text)
-}
-
-// The notes that are printed.
-#[tactic(auto, using(std::proofs::lemmas::List::take_min))]
-fn first_notes(notes: &[Noted]) -> &[Noted]
-    ensures { result.now ≡ take max_notes notes.now }
-{
-    let (told, _) = notes.split_at(MAX_NOTES.min(notes.len()));
-    told
 }
 
 // Each of the notes.
 fn first_noted(source: &Source<'_>, notes: &[Noted]) -> Result<Vec<u8>, AllocError>
     ensures { IfOk result (λ text. text.items
-        ≡ flat_map (note_told source.now.name.now source.now.octets.now) notes.now) }
+        ≡ printed source.now.name.now (map (note_told source.now.octets.now) notes.now)) }
 {
     let mut text = Vec::new(source.alloc);
     for noted in notes {
@@ -428,21 +373,15 @@ fn first_noted(source: &Source<'_>, notes: &[Noted]) -> Result<Vec<u8>, AllocErr
 #[tactic(auto, unfolding(crate::specs::Explaining::note_told))]
 fn push_noted(out: &mut Vec<u8>, source: &Source<'_>, noted: Noted) -> Result<(), AllocError>
     ensures { OnOk result (out.new.items ≡ out.old.items
-        ++ note_told source.now.name.now source.now.octets.now noted) }
+        ++ printed source.now.name.now (note_told source.now.octets.now noted ∷ [])) }
 {
-    let place = noted.place.min(source.octets.len());
-    push_remark(out, ": note: ", source, place, &note_sentence(noted.kind))
-}
-
-// Appends that there are more notes, if there are.
-fn push_more_notes(out: &mut Vec<u8>, source: &Source<'_>, more: bool) -> Result<(), AllocError>
-    ensures { OnOk result (out.new.items ≡ out.old.items
-        ++ more_notes_told source.now.name.now more) }
-{
-    if !more {
-        return Ok(());
-    }
-    push_note(out, source, &more_notes_sentence())
+    push_remark(
+        out,
+        ": note: ",
+        source,
+        noted.place,
+        &note_sentence(noted.kind),
+    )
 }
 
 /// Describes why a program's listing is refused, for the person who wrote it: the place, a sentence for a fault of this
@@ -466,7 +405,6 @@ pub fn listing_explanation(
         name,
         octets: listing,
     };
-    let place = place.min(listing.len());
-    let (_, rest) = listing.split_at(place);
+    let (_, rest) = around(listing, place);
     told(&source, place, &listing_sentence(kind, rest))
 }

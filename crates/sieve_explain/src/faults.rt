@@ -1,8 +1,8 @@
 // What is said about a script that isn't parsed.
-ghost use Rattle.std.specs.Prelude.{◌≡◌, ◌≤◌, Some, bytes_eq, length, map, take, take_while};
+ghost use Rattle.std.specs.Prelude.{◌≡◌, ◌≤◌, bytes_eq, length, map, take, take_while};
 ghost use Rattle.sieve_explain.specs.Faults.{beginnings, begins_as_mail, dark_at, is_dark, is_field_octet, is_symbol, lexical_blanks, listing_blanks, listing_text, look_text, misplaced_text, more_blanks, misplaced_token, other_text, symbol_at, text_at, token_blanks, too_deep_blanks, too_long_blanks, unclosed_blanks, word_blanks};
 ghost use Rattle.sieve_explain.specs.Explaining.{misplaced_blanks};
-ghost use Rattle.sieve_explain.specs.Private.{beginning_of, Stands, blanks_of};
+ghost use Rattle.sieve_explain.specs.Private.{beginning_of, blanks_of};
 
 use crate::characters::first_octets;
 use crate::marks::{is_word_in_list, text_of};
@@ -328,12 +328,7 @@ pub fn word_sentence(word: &[u8]) -> Sentence<'_>
 }
 
 /// The sentence for a token that isn't allowed in its place, by the token before it.
-///
-/// # Requires
-///
-/// The token is within the script.
 pub fn misplaced_sentence(script: &[u8], before: Option<Token>, token: Token) -> Sentence<'_>
-    requires { Stands script.now (Some token) }
     ensures { blanks_of result ≡ misplaced_blanks script.now before token }
 {
     if is_word_in_list(before, token) {
@@ -345,11 +340,10 @@ pub fn misplaced_sentence(script: &[u8], before: Option<Token>, token: Token) ->
 
 // The sentence for a token that isn't allowed in its place.
 fn token_sentence(script: &[u8], token: Token) -> Sentence<'_>
-    requires { Stands script.now (Some token) }
     ensures { blanks_of result ≡ token_blanks script.now token }
 {
     Sentence {
-        name: token.text(script),
+        name: text_of(script, &token),
         ..plain(misplaced_token(token.kind))
     }
 }

@@ -3,13 +3,11 @@
 // The mark is under the name of the command or test, which is the place that `check` names, also if an argument is at
 // fault; the sentence names the argument. A second place would be a second rule about what is at fault. Only a string
 // that is no capability is marked itself.
-ghost use Rattle.std.specs.Prelude.{◌≡◌, ◌<◌, ◌≤◌, ◌+◌, ◌-◌, ◌^◌, IfOk, drop, is_some, length, take_while};
+ghost use Rattle.std.specs.Prelude.{◌≡◌, ◌<◌, ◌≤◌, ◌+◌, ◌-◌, ◌^◌, IfOk, drop, is_some, length, take, take_while};
 ghost use Rattle.std.specs.List.{list_any, slice_get};
 ghost use Rattle.sieve_check.specs.Names.{command_named, test_named};
-ghost use Rattle.sieve_lexer.specs.Tokens.{AreTokens};
 ghost use Rattle.sieve_explain.specs.Explaining.{start_of};
 ghost use Rattle.sieve_explain.specs.Marks.{bare_behind, has_unit, has_value, if_bare, if_unclosed, is_bare, is_name, is_no_name, is_number_at, is_of_arguments, is_separator, is_string, is_unit, is_unit_at, is_word_in_list, label_at, label_behind, precedes_string, string_among, text_of, unclosed, unopened, unopened_over};
-ghost use Rattle.sieve_explain.specs.Private.{Stands};
 
 use crate::hints::is_tag;
 use crate::remarks::Source;
@@ -19,6 +17,15 @@ use readable_text::places::around;
 use sieve_check::{command_named, test_named};
 use sieve_lexer::{Token, TokenKind, string_of};
 use std::alloc::AllocError;
+
+/// The first ones, up to this number of them.
+#[tactic(auto, using(std::proofs::lemmas::List::take_min))]
+pub fn first_of<T>(all: &[T], number: usize) -> &[T]
+    ensures { result.now ≡ take number all.now }
+{
+    let (first, _) = all.split_at(number.min(all.len()));
+    first
+}
 
 /// The tokens from this number on.
 #[tactic(auto, using(std::proofs::lemmas::List::drop_min))]
@@ -36,28 +43,9 @@ pub fn token_at(tokens: &[Token], number: usize) -> Option<Token>
     tokens.get(number).copied()
 }
 
-/// The token of the script with this number, if there is one.
-///
-/// # Requires
-///
-/// The tokens are those of the script.
-pub fn token_numbered(script: &[u8], tokens: &[Token], number: usize) -> Option<Token>
-    requires { AreTokens script.now tokens.now }
-    ensures token { result ≡ slice_get tokens.now number }
-    ensures within { Stands script.now result }
-{
-    token_at(tokens, number)
-}
-
 /// Where the token begins; for no token, the script's end.
-///
-/// # Requires
-///
-/// The token, if there is one, is within the script.
 pub fn start_of(script: &[u8], token: Option<Token>) -> usize
-    requires { Stands script.now token }
-    ensures start { result ≡ start_of script.now token }
-    ensures within { result ≤ length script.now }
+    ensures { result ≡ start_of script.now token }
 {
     match token {
         Some(token) => token.start,
@@ -93,8 +81,12 @@ fn has_value(source: &Source<'_>, string: &[u8], token: &Token) -> Result<bool, 
     Ok(value.as_slice() == string)
 }
 
-// The first of the tokens that is a string with this value, if there is one.
-fn string_among(
+/// The first of the tokens that is a string with this value, if there is one.
+///
+/// # Errors
+///
+/// `AllocError` if memory is refused.
+pub fn string_among(
     source: &Source<'_>,
     string: &[u8],
     tokens: &[Token],
@@ -108,29 +100,6 @@ fn string_among(
         }
     }
     Ok(None)
-}
-
-/// The same among the tokens from this number on.
-///
-/// # Requires
-///
-/// The tokens are those of the script.
-///
-/// # Errors
-///
-/// `AllocError` if memory is refused.
-pub fn string_behind(
-    source: &Source<'_>,
-    tokens: &[Token],
-    number: usize,
-    string: &[u8],
-) -> Result<Option<Token>, AllocError>
-    requires { AreTokens source.now.octets.now tokens.now }
-    ensures token { IfOk result (λ found.
-        found ≡ string_among source.now.octets.now string.now (drop number tokens.now)) }
-    ensures within { IfOk result (λ found. Stands source.now.octets.now found) }
-{
-    string_among(source, string, tokens_from(tokens, number))
 }
 
 // Whether the token is a number.
@@ -334,14 +303,8 @@ fn if_unclosed(token: Token, waiting: usize) -> Option<Token>
 }
 
 /// The last opening brace without a partner, if there is one.
-///
-/// # Requires
-///
-/// The tokens are those of the script.
-pub fn unclosed(script: &[u8], tokens: &[Token]) -> Option<Token>
-    requires { AreTokens script.now tokens.now }
-    ensures token { result ≡ unclosed tokens.now }
-    ensures within { Stands script.now result }
+pub fn unclosed(tokens: &[Token]) -> Option<Token>
+    ensures { result ≡ unclosed tokens.now }
 {
     let mut waiting = 0;
     let mut found = None;

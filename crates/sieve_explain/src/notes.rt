@@ -13,12 +13,12 @@ ghost use Rattle.std.specs.List.{cons_option, filter, find, list_all, list_any, 
 ghost use Rattle.sieve_explain.specs.declared.notes.NoteKind.TheVariants.{AfterIf};
 ghost use Rattle.sieve_lexer.specs.Classes.{continues_identifier};
 ghost use Rattle.sieve_lexer.specs.Values.{inner};
-ghost use Rattle.sieve_explain.specs.Notes.{arguments_of, before_last, begins_branch, begins_capture, begins_inbox, begins_last, begins_literal, begins_with_star, behind_block, block_length, block_of, blocks_of, branch_note, capital_note, capture_kind, capture_note, chain_note, closes_block, closes_group, command_at, command_note, compares_octets, earlier_of, ends, ends_with_colon, ends_with_star, expands_references, fields_note, first_named, given_by, given_in, given_of, gives_value, has_capture, has_empty, has_inbox, has_literal, has_no_value, has_tag, has_wildcard, header_note, if_note, inbox_note, inside_behind, is_always_false, is_always_true, is_backslash, is_bare, is_beyond, is_blank, is_capital, is_constant, is_digest, is_digit, is_else, is_ending, is_first, is_inbox, is_inside, is_large, is_literal, is_long, is_named, is_named_by, is_no_opening, is_noted, is_noted_text, is_number_above, is_octet_at, is_other_field, is_other_source, is_part_field, is_raised, is_read, is_reference, is_root_field, is_slash, is_slash_or_dollar, is_star, is_star_or_mark, is_tagged, is_text, is_unclear, is_unread, is_variables, is_wildcard, is_word_at, kept_note, keys_note, lacks_value, last_of, long_note, loop_note, lower_note, lowers, may_name, may_refer, more_notes_blanks, most_captures, most_in, most_of, named_by, names_loop, names_note, next_note, next_of, note_at, note_blanks, note_in, note_number, note_text, noted_as, notes_from, notes_of, onto, open_behind, opens_block, opens_group, opens_list, part_note, patterns_note, precedes_test, reads, referred, refers_to, refers_to_none, requires_variables, root_note, scope_note, size_note, string_note, takes_part, takes_piece, takes_types, test_note, type_note, unread_note, value_note, wildcards_of, word_note};
+ghost use Rattle.sieve_explain.specs.Notes.{arguments_of, before_last, begins_branch, begins_capture, begins_inbox, begins_last, begins_literal, begins_with_star, behind_block, block_length, block_of, blocks_of, branch_note, capital_note, capture_kind, capture_note, chain_note, closes_block, closes_group, command_at, command_note, compares_octets, earlier_of, ends, ends_with_colon, ends_with_star, expands_references, fields_note, first_named, given_by, given_in, given_of, gives_value, has_capture, has_empty, has_inbox, has_literal, has_no_value, has_tag, has_wildcard, header_note, if_note, inbox_note, inside_behind, is_always_false, is_always_true, is_backslash, is_bare, is_beyond, is_blank, is_capital, is_constant, is_digest, is_digit, is_else, is_first, is_inbox, is_inside, is_large, is_literal, is_long, is_named, is_named_by, is_no_opening, is_noted, is_noted_text, is_number_above, is_octet_at, is_one_at, is_other_field, is_other_source, is_part_field, is_raised, is_read, is_reference, is_root_field, is_slash, is_slash_or_dollar, is_star, is_star_or_mark, is_tagged, is_text, is_unclear, is_unread, is_variables, is_wildcard, is_word_at, kept_note, keys_note, lacks_value, last_of, long_note, loop_note, lower_note, lowers, may_name, may_refer, more_notes_blanks, most_captures, most_in, most_of, named_by, names_loop, names_note, next_note, next_of, note_at, note_blanks, note_in, note_number, note_text, noted_as, notes_from, notes_of, onto, open_behind, opens_block, opens_group, opens_list, own_word, part_note, patterns_note, precedes_test, reads, referred, refers_to, refers_to_none, requires_variables, root_note, scope_note, size_note, string_note, takes_part, takes_piece, takes_types, test_note, type_note, unread_note, value_note, wildcards_of, word_note};
 ghost use Rattle.sieve_explain.specs.Marks.{is_amount, is_name};
-ghost use Rattle.sieve_explain.specs.Private.{NameAlike, blanks_of, known_view, max_noted};
+ghost use Rattle.sieve_explain.specs.Private.{NameAlike, blanks_of, known_view, max_noted, texts_of};
 
 use crate::marks::{
-    arguments_length, is_name, is_separator, is_string, text_of, token_at, tokens_from,
+    arguments_length, first_of, is_name, is_separator, is_string, text_of, token_at, tokens_from,
 };
 use crate::remarks::Source;
 use crate::sentence::{Sentence, plain};
@@ -293,12 +293,7 @@ fn is_number_above(most: usize, octet: u8) -> bool
 fn has_number_above(most: usize, text: &[u8]) -> bool
     ensures { result ≡ list_any (is_number_above most) text.now }
 {
-    for octet in text {
-        if is_number_above(most, *octet) {
-            return true;
-        }
-    }
-    false
+    text.iter().any(|octet| is_number_above(most, *octet))
 }
 
 // Whether a reference to a capture above this number comes first.
@@ -316,14 +311,10 @@ fn begins_capture(most: usize, text: &[u8]) -> bool
 fn has_capture(most: usize, text: &[u8]) -> bool
     ensures { result ≡ has_capture most text.now }
 {
-    for place in 0..text.len() {
-        let _octet = text[place];
+    (0..text.len()).any(|place| {
         let (_, rest) = around(text, place);
-        if begins_capture(most, rest) {
-            return true;
-        }
-    }
-    false
+        begins_capture(most, rest)
+    })
 }
 
 // Whether a text has a slash.
@@ -472,12 +463,10 @@ fn noted_as(kind: NoteKind, token: Token) -> Noted
 fn first_noted(script: &[u8], kind: NoteKind, tokens: &[Token]) -> Option<Token>
     ensures { result ≡ find (is_noted script.now kind) tokens.now }
 {
-    for token in tokens {
-        if is_noted(script, kind, token) {
-            return Some(*token);
-        }
-    }
-    None
+    tokens
+        .iter()
+        .copied()
+        .find(|token| is_noted(script, kind, token))
 }
 
 // The same as a note.
@@ -490,15 +479,6 @@ fn note_in(script: &[u8], kind: NoteKind, tokens: &[Token]) -> Option<Noted>
     }
 }
 
-// The tokens before this number.
-#[tactic(auto, using(std::proofs::lemmas::List::take_min))]
-fn tokens_before(tokens: &[Token], number: usize) -> &[Token]
-    ensures { result.now ≡ take number tokens.now }
-{
-    let (before, _) = tokens.split_at(number.min(tokens.len()));
-    before
-}
-
 // The arguments after the name of a test, without a comma at their end.
 fn arguments_of(rest: &[Token]) -> &[Token]
     ensures { result.now ≡ arguments_of rest.now }
@@ -506,9 +486,9 @@ fn arguments_of(rest: &[Token]) -> &[Token]
     let size = arguments_length(rest);
     let short = size.saturating_sub(1);
     if is_separator(token_at(rest, short)) {
-        tokens_before(rest, short)
+        first_of(rest, short)
     } else {
-        tokens_before(rest, size)
+        first_of(rest, size)
     }
 }
 
@@ -523,12 +503,7 @@ fn is_tagged(script: &[u8], tag: &[u8], token: &Token) -> bool
 fn has_tag(script: &[u8], tag: &[u8], arguments: &[Token]) -> bool
     ensures { result ≡ has_tag script.now tag.now arguments.now }
 {
-    for token in arguments {
-        if is_tagged(script, tag, token) {
-            return true;
-        }
-    }
-    false
+    arguments.iter().any(|token| is_tagged(script, tag, token))
 }
 
 // Whether the token opens a list.
@@ -587,7 +562,7 @@ fn last_of(arguments: &[Token]) -> &[Token]
 fn earlier_of(arguments: &[Token]) -> &[Token]
     ensures { result.now ≡ earlier_of arguments.now }
 {
-    tokens_before(arguments, before_last(arguments))
+    first_of(arguments, before_last(arguments))
 }
 
 // The note on names of fields.
@@ -616,12 +591,7 @@ fn has_wildcard(script: &[u8], token: &Token) -> bool
 fn have_wildcard(script: &[u8], keys: &[Token]) -> bool
     ensures { result ≡ list_any (has_wildcard script.now) keys.now }
 {
-    for token in keys {
-        if has_wildcard(script, token) {
-            return true;
-        }
-    }
-    false
+    keys.iter().any(|token| has_wildcard(script, token))
 }
 
 // The note on keys of `:matches`.
@@ -660,12 +630,7 @@ fn is_other_field(script: &[u8], token: &Token) -> bool
 fn have_other_field(script: &[u8], names: &[Token]) -> bool
     ensures { result ≡ list_any (is_other_field script.now) names.now }
 {
-    for token in names {
-        if is_other_field(script, token) {
-            return true;
-        }
-    }
-    false
+    names.iter().any(|token| is_other_field(script, token))
 }
 
 // Whether a test with these arguments compares with the type or the subtype alone.
@@ -745,12 +710,7 @@ fn is_other_source(script: &[u8], token: &Token) -> bool
 fn have_other_source(script: &[u8], sources: &[Token]) -> bool
     ensures { result ≡ list_any (is_other_source script.now) sources.now }
 {
-    for token in sources {
-        if is_other_source(script, token) {
-            return true;
-        }
-    }
-    false
+    sources.iter().any(|token| is_other_source(script, token))
 }
 
 // The note on a key of a `string` that no variable can match.
@@ -1016,7 +976,7 @@ fn is_constant(script: &[u8], word: &[u8], other: &[u8], group: &[u8], tokens: &
 fn tests_of(tokens: &[Token]) -> &[Token]
     ensures { result.now ≡ take_while is_no_opening tokens.now }
 {
-    tokens_before(tokens, opening_at(tokens))
+    first_of(tokens, opening_at(tokens))
 }
 
 // Whether the test with these tokens is true of every message.
@@ -1054,7 +1014,7 @@ fn block_and_rest(tokens: &[Token]) -> (&[Token], &[Token])
 {
     let blocks = blocks_of(tokens);
     let size = block_length(blocks);
-    (tokens_before(blocks, size), tokens_from(blocks, size))
+    (first_of(blocks, size), tokens_from(blocks, size))
 }
 
 // Whether the token opens a block.
@@ -1071,34 +1031,46 @@ fn closes_block(token: &Token) -> bool
     matches!(token.kind, TokenKind::ClosingBrace)
 }
 
-// Whether the token is a command after which no other of its block runs.
-fn is_ending(script: &[u8], token: Option<Token>) -> bool
-    ensures { result ≡ is_ending script.now token }
+// Whether the token is one of these words.
+fn is_one_at(script: &[u8], words: &[&str], token: Option<Token>) -> bool
+    ensures { result ≡ is_one_at script.now (texts_of words.now) token }
 {
-    is_word_at(script, b"stop", token) || is_word_at(script, b"break", token)
+    match token {
+        Some(token) => is_any(text_of(script, &token), words),
+        None => false,
+    }
 }
 
-// Whether the token is such a command; `own` says whether it is at the level of its block.
-fn ends_here(script: &[u8], own: bool, token: Option<Token>) -> bool
-    ensures { result ≡ (own && is_ending script.now token) }
+// The same at a place of a block; `own` says whether it is at the block's own level.
+fn is_own_word(script: &[u8], words: &[&str], own: bool, token: Option<Token>) -> bool
+    ensures { result ≡ (own && is_one_at script.now (texts_of words.now) token) }
 {
-    own && is_ending(script, token)
+    own && is_one_at(script, words, token)
 }
 
-// Whether the block has such a command at its own level.
-fn ends(script: &[u8], block: &[Token]) -> bool
-    ensures { result ≡ ends script.now block.now }
+// The first of these words at the own level of the block.
+fn own_word(script: &[u8], words: &[&str], block: &[Token]) -> Option<Token>
+    ensures { result ≡ own_word script.now (texts_of words.now) block.now }
 {
     let mut opened = 0;
     let mut closed = 0;
     for place in 0..block.len() {
-        if ends_here(script, is_level(opened, closed), token_at(block, place)) {
-            return true;
+        let token = token_at(block, place);
+        if is_own_word(script, words, is_level(opened, closed), token) {
+            return token;
         }
         opened = counted(opened, opens_block(&block[place]));
         closed = counted(closed, closes_block(&block[place]));
     }
-    false
+    None
+}
+
+// Whether a command at the own level of the block is one after which no other runs.
+#[tactic(auto, unfolding(crate::specs::Notes::ends))]
+fn ends(script: &[u8], block: &[Token]) -> bool
+    ensures { result ≡ ends script.now block.now }
+{
+    own_word(script, &["stop", "break"], block).is_some()
 }
 
 // Whether the branch is that of `else`.
@@ -1149,28 +1121,12 @@ fn chain_note(script: &[u8], only: bool, tokens: &[Token]) -> Option<Noted>
     None
 }
 
-// Whether the token is a `store`; `own` says whether it is at the level of its block.
-fn stores_here(script: &[u8], own: bool, token: Option<Token>) -> bool
-    ensures { result ≡ (own && is_word_at script.now (codes "store") token) }
-{
-    own && is_word_at(script, b"store", token)
-}
-
 // The note on the first `store` at the own level of a loop's block.
+#[tactic(auto, unfolding(crate::specs::Notes::loop_note))]
 fn loop_note(script: &[u8], block: &[Token]) -> Option<Noted>
     ensures { result ≡ loop_note script.now block.now }
 {
-    let mut opened = 0;
-    let mut closed = 0;
-    for place in 0..block.len() {
-        let token = token_at(block, place);
-        if stores_here(script, is_level(opened, closed), token) {
-            return command_at(NoteKind::StoresAll, token);
-        }
-        opened = counted(opened, opens_block(&block[place]));
-        closed = counted(closed, closes_block(&block[place]));
-    }
-    None
+    command_at(NoteKind::StoresAll, own_word(script, &["store"], block))
 }
 
 // The tokens from the command on that follows one that ends with a semicolon.
@@ -1192,12 +1148,7 @@ fn has_inbox(script: &[u8], rest: &[Token]) -> bool
     ensures { result ≡ has_inbox script.now rest.now }
 {
     let arguments = arguments_of(rest);
-    for token in arguments {
-        if is_inbox(script, token) {
-            return true;
-        }
-    }
-    false
+    arguments.iter().any(|token| is_inbox(script, token))
 }
 
 // Whether such a `fileinto` comes first.
@@ -1273,12 +1224,7 @@ fn is_variables(script: &[u8], token: &Token) -> bool
 fn has_variables(script: &[u8], arguments: &[Token]) -> bool
     ensures { result ≡ list_any (is_variables script.now) arguments.now }
 {
-    for token in arguments {
-        if is_variables(script, token) {
-            return true;
-        }
-    }
-    false
+    arguments.iter().any(|token| is_variables(script, token))
 }
 
 // Whether the token is a `require` of it.
@@ -1390,12 +1336,10 @@ fn has_empty(script: &[u8], most: usize, token: &Token) -> bool
 fn first_empty(script: &[u8], most: usize, tokens: &[Token]) -> Option<Token>
     ensures { result ≡ find (has_empty script.now most) tokens.now }
 {
-    for token in tokens {
-        if has_empty(script, most, token) {
-            return Some(*token);
-        }
-    }
-    None
+    tokens
+        .iter()
+        .copied()
+        .find(|token| has_empty(script, most, token))
 }
 
 // Whether the token is a string.
@@ -1409,12 +1353,7 @@ fn is_text(token: &Token) -> bool
 fn first_text(tokens: &[Token]) -> Option<Token>
     ensures { result ≡ find is_text tokens.now }
 {
-    for token in tokens {
-        if is_text(token) {
-            return Some(*token);
-        }
-    }
-    None
+    tokens.iter().copied().find(|token| is_text(token))
 }
 
 // Whether the command gives a variable its value.
@@ -1473,12 +1412,7 @@ fn may_name(script: &[u8], name: &[u8], token: &Token) -> bool
 fn is_named_by(script: &[u8], given: &[Token], name: &[u8]) -> bool
     ensures { result ≡ is_named_by script.now given.now name.now }
 {
-    for token in given {
-        if may_name(script, name, token) {
-            return true;
-        }
-    }
-    false
+    given.iter().any(|token| may_name(script, name, token))
 }
 
 // Appends the string with a name of a variable, unless one of the others has the same name.
@@ -1554,14 +1488,10 @@ fn refers_to_none(script: &[u8], given: &[Token], text: &[u8]) -> bool
 fn lacks_value(script: &[u8], given: &[Token], text: &[u8]) -> bool
     ensures { result ≡ lacks_value (is_named_by script.now given.now) text.now }
 {
-    for place in 0..text.len() {
-        let _octet = text[place];
+    (0..text.len()).any(|place| {
         let (_, rest) = around(text, place);
-        if refers_to_none(script, given, rest) {
-            return true;
-        }
-    }
-    false
+        refers_to_none(script, given, rest)
+    })
 }
 
 // Whether the string has such a reference.
@@ -1576,26 +1506,20 @@ fn has_no_value(script: &[u8], given: &[Token], token: &Token) -> bool
 fn first_without_value(script: &[u8], given: &[Token], tokens: &[Token]) -> Option<Token>
     ensures { result ≡ find (has_no_value script.now (is_named_by script.now given.now)) tokens.now }
 {
-    for token in tokens {
-        if has_no_value(script, given, token) {
-            return Some(*token);
-        }
-    }
-    None
+    tokens
+        .iter()
+        .copied()
+        .find(|token| has_no_value(script, given, token))
 }
 
 // Whether the text has a reference to the variable of this name.
 fn refers_to(name: &[u8], text: &[u8]) -> bool
     ensures { result ≡ refers_to name.now text.now }
 {
-    for place in 0..text.len() {
-        let _octet = text[place];
+    (0..text.len()).any(|place| {
         let (_, rest) = around(text, place);
-        if is_word(referred(rest), name) {
-            return true;
-        }
-    }
-    false
+        is_word(referred(rest), name)
+    })
 }
 
 // Whether the string can have one.
@@ -1610,12 +1534,7 @@ fn may_refer(script: &[u8], name: &[u8], token: &Token) -> bool
 fn some_refer(script: &[u8], name: &[u8], arguments: &[Token]) -> bool
     ensures { result ≡ list_any (may_refer script.now name.now) arguments.now }
 {
-    for token in arguments {
-        if may_refer(script, name, token) {
-            return true;
-        }
-    }
-    false
+    arguments.iter().any(|token| may_refer(script, name, token))
 }
 
 // Whether the string is this name.
@@ -1653,12 +1572,10 @@ fn is_read(script: &[u8], tokens: &[Token], name: &[u8]) -> bool
 fn first_named(script: &[u8], given: &[Token], name: &[u8]) -> Option<Token>
     ensures { result ≡ first_named script.now given.now name.now }
 {
-    for token in given {
-        if may_name(script, name, token) {
-            return Some(*token);
-        }
-    }
-    None
+    given
+        .iter()
+        .copied()
+        .find(|token| may_name(script, name, token))
 }
 
 // What is known of the whole script.
@@ -1753,12 +1670,7 @@ fn is_raised(script: &[u8], raised: &[Token], token: &Token) -> bool
 fn have_raised(script: &[u8], raised: &[Token], sources: &[Token]) -> bool
     ensures { result ≡ list_any (is_raised script.now (is_named_by script.now raised.now)) sources.now }
 {
-    for token in sources {
-        if is_raised(script, raised, token) {
-            return true;
-        }
-    }
-    false
+    sources.iter().any(|token| is_raised(script, raised, token))
 }
 
 // The note on a key with upper-case letters of a `string` with these arguments.

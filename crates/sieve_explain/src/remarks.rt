@@ -1,12 +1,12 @@
 // Remarks about a place of a script.
-ghost use Rattle.std.specs.Prelude.{◌≡◌, ◌≤◌, ◌++◌, IfOk, OnOk, length};
-ghost use Rattle.sieve_explain.specs.Explaining.{column, heading, note, numbered, remark, told};
+ghost use Rattle.std.specs.Prelude.{◌≡◌, ◌≤◌, ◌∷◌, ◌++◌, [], IfOk, OnOk, length};
+ghost use Rattle.sieve_explain.specs.Explaining.{column, heading, note, note_if, numbered, printed, remark, told};
 ghost use Rattle.sieve_explain.specs.Private.{blanks_of};
 
 use crate::characters::count_pieces;
 use crate::excerpt::push_excerpt;
 use crate::sentence::{Sentence, push_sentence};
-use crate::shown::push_name;
+use crate::shown::{push_name, push_text};
 use itoa::Buffer;
 use readable_text::places::{line_number, octets_before};
 use std::alloc::{AllocError, Global};
@@ -41,30 +41,34 @@ fn column(script: &[u8], place: usize) -> u128
     count_pieces(&script[start..place]) as u128 + 1
 }
 
-// Appends the script's name, the line and the column of the place, and the kind of the remark.
+// Appends the line and the column of the place, and the kind of the remark.
 //
 // The place is at most the script's length.
+#[tactic(auto, unfolding(crate::specs::Explaining::heading))]
 fn push_heading(
     out: &mut Vec<u8>,
     kind: &str,
-    source: &Source<'_>,
+    script: &[u8],
     place: usize,
 ) -> Result<(), AllocError>
-    requires { place ≤ length source.now.octets.now }
-    ensures { OnOk result (out.new.items ≡ out.old.items
-        ++ heading kind.now source.now.name.now source.now.octets.now place) }
+    requires { place ≤ length script.now }
+    ensures { OnOk result (out.new.items ≡ out.old.items ++ heading kind.now script.now place) }
 {
-    push_name(out, source.name)?;
-    push_number(out, line_number(source.octets, place))?;
-    push_number(out, column(source.octets, place))?;
+    push_number(out, line_number(script, place))?;
+    push_number(out, column(script, place))?;
     out.extend_from_slice(kind.as_bytes())
 }
 
-/// Appends a remark about a place of the script, with the line of the place and a mark under it.
-///
-/// # Requires
-///
-/// The place is in the script or at its end: `place` is at most the script's length.
+// Appends a remark as it is printed: after the name of the script, and escaped.
+fn push_printed(out: &mut Vec<u8>, name: &str, remark: &[u8]) -> Result<(), AllocError>
+    ensures { OnOk result (out.new.items ≡ out.old.items ++ printed name.now (remark.now ∷ [])) }
+{
+    push_name(out, name)?;
+    push_text(out, remark)
+}
+
+/// Appends a remark about a place of the script, with the line of the place and a mark under it. A place beyond the
+/// script's end counts as its end.
 ///
 /// # Errors
 ///
@@ -77,42 +81,44 @@ pub fn push_remark(
     place: usize,
     sentence: &Sentence<'_>,
 ) -> Result<(), AllocError>
-    requires { place ≤ length source.now.octets.now }
-    ensures { OnOk result (out.new.items ≡ out.old.items
-        ++ remark kind.now source.now.name.now source.now.octets.now place
-        (blanks_of sentence.now)) }
+    ensures { OnOk result (out.new.items ≡ out.old.items ++ printed source.now.name.now
+        (remark kind.now source.now.octets.now place (blanks_of sentence.now) ∷ [])) }
 {
-    push_heading(out, kind, source, place)?;
-    push_sentence(out, sentence)?;
-    out.extend_from_slice(b"\n")?;
-    push_excerpt(out, source.octets, place)
+    let place = place.min(source.octets.len());
+    let mut text = Vec::new(source.alloc);
+    push_heading(&mut text, kind, source.octets, place)?;
+    push_sentence(&mut text, sentence)?;
+    text.extend_from_slice(b"\n")?;
+    push_excerpt(&mut text, source.octets, place)?;
+    push_printed(out, source.name, &text)
 }
 
-/// Appends a remark about the whole script.
+/// Appends a remark about the whole script, if there is something to remark.
 ///
 /// # Errors
 ///
 /// `AllocError` if memory is refused.
 #[tactic(auto, unfolding(crate::specs::Explaining::note))]
-pub fn push_note(
+pub fn push_note_if(
     out: &mut Vec<u8>,
     source: &Source<'_>,
+    some: bool,
     sentence: &Sentence<'_>,
 ) -> Result<(), AllocError>
     ensures { OnOk result (out.new.items ≡ out.old.items
-        ++ note source.now.name.now (blanks_of sentence.now)) }
+        ++ printed source.now.name.now (note_if some (blanks_of sentence.now))) }
 {
-    push_name(out, source.name)?;
-    out.extend_from_slice(b": note: ")?;
-    push_sentence(out, sentence)?;
-    out.extend_from_slice(b"\n")
+    if !some {
+        return Ok(());
+    }
+    let mut text = Vec::new(source.alloc);
+    text.extend_from_slice(b": note: ")?;
+    push_sentence(&mut text, sentence)?;
+    text.extend_from_slice(b"\n")?;
+    push_printed(out, source.name, &text)
 }
 
 /// What is wrong at a place of the script, with the line of the place and a mark under it.
-///
-/// # Requires
-///
-/// The place is in the script or at its end: `place` is at most the script's length.
 ///
 /// # Errors
 ///
@@ -122,9 +128,8 @@ pub fn told(
     place: usize,
     sentence: &Sentence<'_>,
 ) -> Result<Vec<u8>, AllocError>
-    requires { place ≤ length source.now.octets.now }
     ensures { IfOk result (λ text. text.items
-        ≡ told source.now.name.now source.now.octets.now place (blanks_of sentence.now)) }
+        ≡ printed source.now.name.now (told source.now.octets.now place (blanks_of sentence.now))) }
 {
     let mut text = Vec::new(source.alloc);
     push_remark(&mut text, ": error: ", source, place, sentence)?;

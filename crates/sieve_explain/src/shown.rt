@@ -3,6 +3,7 @@ ghost use Rattle.std.specs.Prelude.{◌≡◌, ◌<◌, ◌++◌, OnOk, false, f
 ghost use Rattle.std.specs.Fmt.{digit_glyph};
 ghost use Rattle.sieve_explain.specs.Characters.{pieces};
 ghost use Rattle.sieve_explain.specs.Private.{piece_of};
+ghost use Rattle.sieve_explain.specs.declared.shown.Style.TheVariants.{Line};
 ghost use Rattle.sieve_explain.specs.Shown.{between, cut_mark, escaped, escaped_in, if_cut, is_blank, is_plain, kept, name_octet, shown, shown_character, shown_end, shown_name, shown_piece, shown_start};
 
 use crate::characters::{Piece, columns, count_pieces, is_visible, pieces_from, split_first};
@@ -14,7 +15,7 @@ const MAX_SHOWN: usize = 60;
 /// Where a text is printed; it decides how.
 #[derive(Clone, Copy)]
 pub enum Style {
-    /// In a line of a script.
+    /// In a line of a script, or in a whole remark, whose line breaks stay.
     Line,
     /// Under a line of a script, as spaces of the same width.
     Under,
@@ -75,7 +76,7 @@ fn is_plain(style: Style, c: char) -> bool
     ensures { result ≡ is_plain style c }
 {
     match style {
-        Style::Line | Style::Under => is_visible(c),
+        Style::Line | Style::Under => is_visible(c) || c == '\n',
         Style::Between(mark) => is_visible(c) && c != mark as char && c != '\\',
     }
 }
@@ -138,6 +139,18 @@ fn push_pieces(out: &mut Vec<u8>, style: Style, text: &[u8], most: usize) -> Res
         left -= 1;
     }
     Ok(())
+}
+
+/// Appends a whole text, with its line breaks; all else that can't be seen is escaped.
+///
+/// # Errors
+///
+/// `AllocError` if memory is refused.
+#[tactic(auto, using(std::proofs::lemmas::List::take_all))]
+pub fn push_text(out: &mut Vec<u8>, text: &[u8]) -> Result<(), AllocError>
+    ensures { OnOk result (out.new.items ≡ out.old.items ++ shown Line (pieces text.now)) }
+{
+    push_pieces(out, Style::Line, text, count_pieces(text))
 }
 
 // Appends what says that something was cut off, or what is under it.

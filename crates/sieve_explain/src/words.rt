@@ -96,11 +96,7 @@ fn differ_at(a: &[u8], b: &[u8], place: usize) -> bool
 fn is_near(name: &[u8], word: &[u8]) -> bool
     ensures { result ≡ is_near name.now word.now }
 {
-    let mut near = false;
-    for place in 0..word.len() + 1 {
-        near = near || differ_at(name, word, place);
-    }
-    near
+    (0..word.len() + 1).any(|place| differ_at(name, word, place))
 }
 
 // The first of the words that is near and wasn't found before; otherwise nothing.

@@ -1,7 +1,0 @@
-use Rattle.std.proofs.Common.{◌≡◌, drop}
-use Rattle.std.specs.List.{list_any}
-use Rattle.sieve_explain.specs.Notes.{is_variables}
-use Rattle.sieve_explain.proofs.notes.has_variables.Given as goal
-
-abbrev pub invariant-loop-token : goal.invariant-loop-token
-invariant-loop-token l = list_any (is_variables l.script) (drop l.token-index l.arguments) ≡ list_any (is_variables l.script) l.arguments
