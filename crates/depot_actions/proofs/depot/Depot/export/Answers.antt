@@ -1,4 +1,4 @@
-use Rattle.depot_actions.specs.DepotState.{Does, Export}
+use Rattle.depot_actions.specs.DepotState.{Does, Export, Text}
 use Rattle.depot_actions.proofs.Applying.{exported}
 use Rattle.depot_actions.proofs.StoreFaults.{failure_told, fault_told, of_refusal, passed_on}
 use Rattle.std.proofs.Common.{IfErr, IsTrue, rules, subst}
@@ -38,20 +38,27 @@ returns-in_err-octets-clause-sound g c clean =
 pub returns-clause-done : goal.returns-clause-done
 returns-clause-done g c =
     let new = c.bytes_of.new.self in
+    let command = Export c.args.user.now c.args.number c.args.encoding in
+    let text = text_of c.args.encoding c.deref.result.now in
     let named : IsTrue (is_user_name c.args.user.now) = search rules in
-    let does = exported g.S.Store c.self.inside.store new c.bytes_of.result c.map_err.result c.map_err.ensures.cases c.in_ok-octets.octets c.in_ok-octets.was c.args.user.now c.args.number c.args.encoding _ named c.deref.ensures.value
-    c.bytes_of.ensures.answer c.bytes_of.ensures.reads in
-    IfOk-weaker c.put_text.result _ _ (λ _ taken. (text_of c.args.encoding c.deref.result.now, taken, subst (λ h. Always g.S.Store h new (Does _ _)) c.self.view_is does)) c.put_text.ensures.ok
+    IfOk-weaker c.put_text.result _ _ (λ _ taken. (
+      text,
+      taken,
+      subst (λ h. Always g.S.Store h new (Does command (Text text))) c.self.view_is
+      (exported g.S.Store c.self.inside.store new c.bytes_of.result c.map_err.result c.map_err.ensures.cases c.in_ok-octets.octets c.in_ok-octets.was c.args.user.now c.args.number c.args.encoding c.deref.result.now named
+      c.deref.ensures.value c.bytes_of.ensures.answer c.bytes_of.ensures.reads),
+    )) c.put_text.ensures.ok
 
 pub returns-clause-stopped : goal.returns-clause-stopped
 returns-clause-stopped g c =
     let new = c.bytes_of.new.self in
-    let named : IsTrue (is_user_name c.args.user.now) = search rules in
-    let does = exported g.S.Store c.self.inside.store new c.bytes_of.result c.map_err.result c.map_err.ensures.cases c.in_ok-octets.octets c.in_ok-octets.was c.args.user.now c.args.number c.args.encoding _ named c.deref.ensures.value
-    c.bytes_of.ensures.answer c.bytes_of.ensures.reads in
+    let command = Export c.args.user.now c.args.number c.args.encoding in
     let text = text_of c.args.encoding c.deref.result.now in
+    let named : IsTrue (is_user_name c.args.user.now) = search rules in
     IfErr-weaker c.put_text.result _ _ (λ e stopped is. (
       text,
       subst (λ w. HasStopped w text (g.W.Sink.output c.args.writer.now) (g.W.Sink.output c.put_text.new.writer)) is stopped,
-      subst (λ h. Always g.S.Store h new (Does _ _)) c.self.view_is does,
+      subst (λ h. Always g.S.Store h new (Does command (Text text))) c.self.view_is
+      (exported g.S.Store c.self.inside.store new c.bytes_of.result c.map_err.result c.map_err.ensures.cases c.in_ok-octets.octets c.in_ok-octets.was c.args.user.now c.args.number c.args.encoding c.deref.result.now named
+      c.deref.ensures.value c.bytes_of.ensures.answer c.bytes_of.ensures.reads),
     )) c.put_text.ensures.err
