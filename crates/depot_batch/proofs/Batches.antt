@@ -10,7 +10,7 @@ use Rattle.refusals.specs.declared.refusal.Refusal.TheVariants.{Database, Memory
 use Rattle.depot_jobs.specs.Jobs.{HasTold}
 use Rattle.depot_batch.specs.Batch.{AreTaken, Breaks, Happens, HasServed, IsAnsweredBy, DepotAndOutput}
 use Rattle.depot_batch.specs.Lines.{HasNotTaken, HasShown, HasTakenAll, IsLine, IsUnfinished}
-use Rattle.depot_batch.specs.Private.{ComesNext, HasCome, HasTakenNext, HasTried, HasTurned, IsAhead}
+use Rattle.depot_batch.specs.Private.{ComesNext, HasTakenNext, HasTried, HasTurned, IsAhead}
 use Rattle.depot_batch.specs.Turns.{Alone, EndsBy, GoesOn, MakeProgress, Takes, Together, Turn, Withdrawn}
 use Rattle.depot_batch.specs.declared.ahead.Ahead.{Ahead}
 use Rattle.depot_batch.specs.declared.outcome.Outcome.{Outcome}
@@ -102,18 +102,18 @@ pub answered_as : {S : Type 0} (g : Ghosts S) {Written : List ℕ → Output →
 answered_as {S} g {Written} {name} {a} {b} {outcome} {old} {new} same answered = subst (λ (line : List ℕ). IsAnsweredBy g Written name line outcome old new) same answered
 
 -- what is ready, known by its name
-pub ahead_as : {a b : Ahead} {s0 s1 : Supply} → a ≡ b → IsAhead a s0 s1 → IsAhead b s0 s1
-ahead_as {a} {b} {s0} {s1} is ahead = subst (λ (a : Ahead). IsAhead a s0 s1) is ahead
+pub ahead_as : {a b : Ahead} (s0 s1 : Supply) → a ≡ b → IsAhead a s0 s1 → IsAhead b s0 s1
+ahead_as s0 s1 is ahead = subst (λ (a : Ahead). IsAhead a s0 s1) is ahead
 
 -- what came of lines that were to be done together, known by its name
-pub tried_as : {S : Type 0} (g : Ghosts S) {t u : Tried} {lines : List (List ℕ)} {old new : DepotAndOutput S} → t ≡ u → HasTried g t lines old new → HasTried g u lines old new
-tried_as {S} g {t} {u} {lines} {old} {new} is tried = subst (λ (t : Tried). HasTried g t lines old new) is tried
+pub tried_as : {S : Type 0} (g : Ghosts S) {t u : Tried} (lines : List (List ℕ)) (old new : DepotAndOutput S) → t ≡ u → HasTried g t lines old new → HasTried g u lines old new
+tried_as g lines old new is tried = subst (λ (t : Tried). HasTried g t lines old new) is tried
 
 -- what was taken, known by its name
-pub taken_as : {t u : Taken} {octets : List ℕ} {s0 s1 : Supply} → t ≡ u → HasTakenNext t octets s0 s1 → HasTakenNext u octets s0 s1
-taken_as {t} {u} {octets} {s0} {s1} is taken = subst (λ (t : Taken). HasTakenNext t octets s0 s1) is taken
+pub taken_as : {t u : Taken} (octets : List ℕ) (s0 s1 : Supply) → t ≡ u → HasTakenNext t octets s0 s1 → HasTakenNext u octets s0 s1
+taken_as octets s0 s1 is taken = subst (λ (t : Taken). HasTakenNext t octets s0 s1) is taken
 
-module _ {S : Type 0} (g : Ghosts S) {name : List ℕ} where
+module _ {S : Type 0} (g : Ghosts S) (name : List ℕ) where
   -- why a batch ends, whatever number of turns it had
   abbrev Ends : ℕ → ℕ → List Turn → Supply → Supply → DepotAndOutput S → DepotAndOutput S → Output → Output → Type 0
   Ends status count last rest left old new err err2 = EndsBy (Happens g name) (Breaks g name) status count last rest left old new err err2
@@ -129,6 +129,12 @@ module _ {S : Type 0} (g : Ghosts S) {name : List ℕ} where
   pub stands_first : {input : Supply} {old : DepotAndOutput S} → StandsAfter g name 0 0 input input old old
   stands_first = record { turns = []; taken = (refl, refl); counted = refl; progress = tt; owed = tt }
 
+  -- the reasons don't hang on the number of turns, but for that of counting
+  ends_at : (status count : ℕ) (last : List Turn) (rest left : Supply) (old new : DepotAndOutput S) (err err2 : Output) → Ends status 0 last rest left old new err err2
+      → Ends status count last rest left old new err err2
+  ends_at status count last rest left old new err err2 (inl all) = inl (all.0, all.1, elim all.2 [ inl end ↦ inl end | inr counted ↦ absurd (omega (arith, counted.0)) ], all.3, all.4)
+  ends_at status count last rest left old new err err2 (inr others) = inr others
+
   module _ {count alone later : ℕ} {input rest left : Supply} {old mid new : DepotAndOutput S} (before : StandsAfter g name count alone input rest old mid) where
     pub stands_on : HasTurned g name (Ok None) alone later rest left mid new → StandsAfter g name (count + 1) later input left old new
     stands_on turned =
@@ -141,14 +147,9 @@ module _ {S : Type 0} (g : Ghosts S) {name : List ℕ} where
           owed = owe_next before.turns come.0 alone later before.owed come.4;
         }
 
-    -- the reasons don't hang on the number of turns, but for that of counting
-    ends_at : (status : ℕ) (last : List Turn) (err err2 : Output) → Ends status 0 last rest left mid new err err2 → Ends status (length before.turns) last rest left mid new err err2
-    ends_at status last err err2 (inl all) = inl (all.0, all.1, elim all.2 [ inl end ↦ inl end | inr counted ↦ absurd (omega (arith, counted.0)) ], all.3, all.4)
-    ends_at status last err err2 (inr others) = inr others
-
     -- a turn with which the batch ends, or a refusal that was told
-    pub ends : {status : ℕ} {err : Output} → HasTurned g name (Ok (Some status)) alone later rest left mid new → HasServed g name status input left old new err err
-    ends {status} {err} turned =
+    pub ends : {status : ℕ} {err err2 : Output} → err2 ≡ err → HasTurned g name (Ok (Some status)) alone later rest left mid new → HasServed g name status input left old new err err2
+    ends {status} {err} silent turned =
         let come = turned.come in
         record {
           turns = before.turns;
@@ -156,12 +157,15 @@ module _ {S : Type 0} (g : Ghosts S) {name : List ℕ} where
           mid = mid;
           taken = before.taken;
           last = come.0;
-          ended = ends_at status come.0 err err (come.1 err);
+          ended =
+              subst (λ (e : Output). Ends status (length before.turns) come.0 rest left mid new err e) (sym silent)
+              (ends_at status (length before.turns) come.0 rest left mid new err err (come.1 err));
           progress = progress_last before.turns come.0 alone later before.progress before.owed come.2;
         }
 
-    pub ends_told : {refusal : Refusal} {err err2 : Output} → HasTurned g name (Err refusal) alone later rest left mid new → HasTold refusal err err2 → HasServed g name 1 input left old new err err2
-    ends_told {refusal} {err} {err2} turned told =
+    pub ends_told : {refusal : Refusal} {err err2 err3 : Output} → err2 ≡ err → HasTurned g name (Err refusal) alone later rest left mid new → HasTold refusal err2 err3
+        → HasServed g name 1 input left old new err err3
+    ends_told {refusal} {err} {err2} {err3} silent turned told =
         let come = turned.come in
         record {
           turns = before.turns;
@@ -169,24 +173,48 @@ module _ {S : Type 0} (g : Ghosts S) {name : List ℕ} where
           mid = mid;
           taken = before.taken;
           last = come.0;
-          ended = ends_at 1 come.0 err err2 (come.1 err err2 told);
+          ended = ends_at 1 (length before.turns) come.0 rest left mid new err err3 (come.1 err err3 (subst (λ (e : Output). HasTold refusal e err3) silent told));
           progress = progress_last before.turns come.0 alone later before.progress before.owed come.2;
         }
 
   -- the end of counting
-  pub ends_counting : {count alone : ℕ} {input rest : Supply} {old new : DepotAndOutput S} {err : Output} → StandsAfter g name count alone input rest old new
-      → count ≡ 2 ^ 64 - 1 → HasServed g name 0 input rest old new err err
-  ends_counting {count} {alone} {input} {rest} {old} {new} {err} before all = record {
+  pub ends_counting : {count alone : ℕ} {input rest : Supply} {old new : DepotAndOutput S} {err err2 : Output} → StandsAfter g name count alone input rest old new
+      → err2 ≡ err → count ≡ 2 ^ 64 - 1 → HasServed g name 0 input rest old new err err2
+  ends_counting {count} {alone} {input} {rest} {old} {new} before silent all = record {
     turns = before.turns;
     rest = rest;
     mid = new;
     taken = before.taken;
     last = [];
-    ended = inl (refl, refl, inr (before.counted ∙ all, refl), refl, refl);
+    ended = inl (refl, refl, inr (before.counted ∙ all, refl), refl, silent);
     progress = progress_last before.turns [] alone alone before.progress before.owed tt;
   }
 
   -- ---- one turn
+
+  -- the input was only looked at before a turn
+  ends_after : (status : ℕ) (last : List Turn) (s0 s1 s2 : Supply) (old new : DepotAndOutput S) (err err2 : Output) → HasShown [] s0 s1 → Ends status 0 last s1 s2 old new err err2
+      → Ends status 0 last s0 s2 old new err err2
+  ends_after status last s0 s1 s2 old new err err2 first (inl all) =
+      inl (all.0, all.1, inl (elim all.2 [ inl end ↦ all_after s0 s1 s2 first [] end | inr counted ↦ absurd (omega (arith, counted.0)) ]), all.3, all.4)
+  ends_after status last s0 s1 s2 old new err err2 first (inr (inl all)) = inr (inl (all.0, all.1, all.2, all.3, all_after s0 s1 s2 first all.0 all.4, all.5))
+  ends_after status last s0 s1 s2 old new err err2 first (inr (inr (inl all))) = inr (inr (inl (all.0, all.1, all.2, all.3, given_after s0 s1 s2 first all.1 all.4, all.5, all.6)))
+  ends_after status last s0 s1 s2 old new err err2 first (inr (inr (inr (inl all)))) =
+      inr (inr (inr (inl (all.0, all.1, all.2, takes_after s0 s1 s2 first all.1 all.3, all.4, all.5))))
+  ends_after status last s0 s1 s2 old new err err2 first (inr (inr (inr (inr all)))) =
+      inr (inr (inr (inr (all.0, all.1, all.2, all.3, unread_after s0 s1 s2 first all.2 all.3 all.4, all.5, all.6))))
+
+  pub turned_after : (came : Result (Option ℕ) Refusal) {alone later : ℕ} {s0 s1 s2 : Supply} {old new : DepotAndOutput S} → HasShown [] s0 s1
+      → HasTurned g name came alone later s1 s2 old new → HasTurned g name came alone later s0 s2 old new
+  turned_after (Ok None) {alone} {later} {s0} {s1} {s2} first turned =
+      let come = turned.come in
+      record { come = (come.0, takes_after s0 s1 s2 first come.0 come.1, come.2, come.3, come.4) }
+  turned_after (Ok (Some status)) {alone} {later} {s0} {s1} {s2} {old} {new} first turned =
+      let come = turned.come in
+      record { come = (come.0, (λ err. ends_after status come.0 s0 s1 s2 old new err err first (come.1 err)), come.2) }
+  turned_after (Err refusal) {alone} {later} {s0} {s1} {s2} {old} {new} first turned =
+      let come = turned.come in
+      record { come = (come.0, (λ err err2 told. ends_after 1 come.0 s0 s1 s2 old new err err2 first (come.1 err err2 told)), come.2) }
 
   module _ {alone later : ℕ} {s0 s1 : Supply} {old : DepotAndOutput S} where
     -- the end of the input
@@ -198,22 +226,6 @@ module _ {S : Type 0} (g : Ghosts S) {name : List ℕ} where
     turned_unread {refusal} octets unread = record { come = ([], (λ err err2 told. inr (inr (inr (inr (refl, refl, refusal, octets, unread, told, refl))))), tt) }
 
   module _ {alone later : ℕ} {s0 s1 : Supply} {old new : DepotAndOutput S} where
-    -- the input was only looked at before a turn
-    ends_after : {status : ℕ} {last : List Turn} {err err2 : Output} (s2 : Supply) → HasShown [] s0 s1 → Ends status 0 last s1 s2 old new err err2 → Ends status 0 last s0 s2 old new err err2
-    ends_after s2 first (inl all) = inl (all.0, all.1, inl (elim all.2 [ inl end ↦ all_after s0 s1 s2 first [] end | inr counted ↦ absurd (omega (arith, counted.0)) ]), all.3, all.4)
-    ends_after s2 first (inr (inl all)) = inr (inl (all.0, all.1, all.2, all.3, all_after s0 s1 s2 first all.0 all.4, all.5))
-    ends_after s2 first (inr (inr (inl all))) = inr (inr (inl (all.0, all.1, all.2, all.3, given_after s0 s1 s2 first all.1 all.4, all.5, all.6)))
-    ends_after s2 first (inr (inr (inr (inl all)))) = inr (inr (inr (inl (all.0, all.1, all.2, takes_after s0 s1 s2 first all.1 all.3, all.4, all.5))))
-    ends_after s2 first (inr (inr (inr (inr all)))) = inr (inr (inr (inr (all.0, all.1, all.2, all.3, unread_after s0 s1 s2 first all.2 all.3 all.4, all.5, all.6))))
-
-    come_after : (came : Result (Option ℕ) Refusal) (s2 : Supply) → HasShown [] s0 s1 → HasCome g name came alone later s1 s2 old new → HasCome g name came alone later s0 s2 old new
-    come_after (Ok None) s2 first come = (come.0, takes_after s0 s1 s2 first come.0 come.1, come.2, come.3, come.4)
-    come_after (Ok (Some status)) s2 first come = (come.0, (λ err. ends_after s2 first (come.1 err)), come.2)
-    come_after (Err refusal) s2 first come = (come.0, (λ err err2 told. ends_after s2 first (come.1 err err2 told)), come.2)
-
-    pub turned_after : {came : Result (Option ℕ) Refusal} {s2 : Supply} → HasShown [] s0 s1 → HasTurned g name came alone later s1 s2 old new → HasTurned g name came alone later s0 s2 old new
-    turned_after {came} {s2} first turned = record { come = come_after came s2 first turned.come }
-
     -- answers broke off
     pub turned_broken : (turn : Turn) → ComesNext alone turn later → Takes turn s0 s1 → Breaks g name turn old new → HasTurned g name (Err Write) alone later s0 s1 old new
     turned_broken turn next takes breaks = record { come = (turn ∷ [], (λ err err2 told. inr (inr (inr (inl (refl, turn, refl, takes, breaks, told))))), next) }

@@ -126,19 +126,19 @@ module _ {S : Type 0} (g : Ghosts S) where
   HasTried tried.Withdrawn lines old new = AreWithdrawn g lines old new
 
   -- a turn was taken, and the batch goes on; it ended, with this status; or it ended with a refusal, once that is told
-  abbrev pub HasCome : Text → Result (Option ℕ) Refusal → ℕ → ℕ → Supply → Supply → DepotAndOutput S → DepotAndOutput S → Type 0
-  HasCome name (Ok None) alone later input rest old new =
+  abbrev pub TurnsOut : Text → Result (Option ℕ) Refusal → ℕ → ℕ → Supply → Supply → DepotAndOutput S → DepotAndOutput S → Type 0
+  TurnsOut name (Ok None) alone later input rest old new =
       (turn : Turn) × Takes turn input rest × Happens g name turn old new × GoesOn turn × ComesNext alone turn later
-  HasCome name (Ok (Some status)) alone later input rest old new =
+  TurnsOut name (Ok (Some status)) alone later input rest old new =
       (last : List Turn) × ((err : Output) → EndsBy (Happens g name) (Breaks g name) status 0 last input rest old new err err) × ComesLast alone last later
-  HasCome name (Err refusal) alone later input rest old new =
+  TurnsOut name (Err refusal) alone later input rest old new =
       (last : List Turn)
       × ((err err2 : Output) → HasTold refusal err err2 → EndsBy (Happens g name) (Breaks g name) 1 0 last input rest old new err err2)
       × ComesLast alone last later
 
   -- this came of a turn
   pub record HasTurned (name : Text) (came : Result (Option ℕ) Refusal) (alone later : ℕ) (input rest : Supply) (old new : DepotAndOutput S) : Type 0 where
-    pub come : HasCome name came alone later input rest old new
+    pub come : TurnsOut name came alone later input rest old new
 
 -- ---- the desk
 
