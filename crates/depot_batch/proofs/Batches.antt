@@ -1,20 +1,22 @@
 -- Turns that are taken one after another, and why that ends.
-use Rattle.std.proofs.Common.{◌≡◌, ◌≤◌, ◌+◌, ◌-◌, ◌^◌, ◌++◌, ◌∙◌, length-append, ap, inl, inr, min, refl, subst, sym, arith, ℕ, zero, suc, List, [], ◌∷◌, Option, Some, None, IfSome, length}
+use Rattle.std.proofs.Common.{◌≡◌, ◌≤◌, ◌+◌, ◌-◌, ◌^◌, ◌++◌, ◌∙◌, length-append, ap, inl, inr, min, refl, subst, sym, arith, ℕ, zero, suc, List, [], ◌∷◌, Option, Some, None, Result, Ok, Err, IfNone, IfSome, length}
 use Rattle.std.specs.Io.KnownBytes.{Keeps}
 use Rattle.std.proofs.KnownBytes.{Consumes-kept, Consumes-nil, Consumes-trans, Keeps-trans}
 use Rattle.sqlite_trees.specs.declared.store.Store.{Ghosts}
-use Rattle.devices.specs.Device.{Output, counted}
+use Rattle.devices.specs.Device.{HasBroken, HasTaken, Output, counted}
 use Rattle.devices.specs.Supply.{HasGiven, HasStoppedGiving, Supply}
 use Rattle.refusals.specs.declared.refusal.Refusal.{Refusal}
 use Rattle.refusals.specs.declared.refusal.Refusal.TheVariants.{Database, Memory, Read, Write}
 use Rattle.depot_jobs.specs.Jobs.{HasTold}
 use Rattle.depot_batch.specs.Batch.{AreTaken, Breaks, Happens, HasServed, IsAnsweredBy, DepotAndOutput}
-use Rattle.devices.specs.Device.{HasTaken}
 use Rattle.depot_batch.specs.Lines.{HasNotTaken, HasShown, HasTakenAll, IsLine, IsUnfinished}
-use Rattle.depot_batch.specs.Private.{ComesNext, HasServedLast, HasTurned}
+use Rattle.depot_batch.specs.Private.{ComesNext, HasTakenNext, HasTried, HasTurned, IsAhead}
 use Rattle.depot_batch.specs.Turns.{Alone, EndsBy, GoesOn, MakeProgress, Takes, Together, Turn, Withdrawn}
+use Rattle.depot_batch.specs.declared.ahead.Ahead.{Ahead}
 use Rattle.depot_batch.specs.declared.outcome.Outcome.{Outcome}
 use Rattle.depot_batch.specs.declared.outcome.Outcome.TheVariants.{Refused}
+use Rattle.depot_batch.specs.declared.reading.Taken.{Taken}
+use Rattle.depot_batch.specs.declared.together.Tried.{Tried}
 use Rattle.depot_batch.proofs.Progress.{Owe, owe_next, progress_last, progress_next}
 
 -- ---- what is read
@@ -81,13 +83,35 @@ module _ (s0 s1 s2 : Supply) (first : HasShown [] s0 s1) where
 -- ---- turns
 
 -- where a batch stands after so many turns, when so many lines are to be done alone
-pub record StandsAfter {S : Type 0} (g : Ghosts S) (name : List ℕ) (count alone : ℕ) (input rest : Supply) (old new : DepotAndOutput S) (err err2 : Output) : Type 0 where
+pub record StandsAfter {S : Type 0} (g : Ghosts S) (name : List ℕ) (count alone : ℕ) (input rest : Supply) (old new : DepotAndOutput S) : Type 0 where
   pub turns : List Turn
   pub taken : AreTaken g name turns input rest old new
   pub counted : length turns ≡ count
-  pub silent : err2 ≡ err
   pub progress : MakeProgress turns
   pub owed : Owe alone turns
+
+-- the same turn, by an equal name and an equal result
+pub turned_as : {S : Type 0} (g : Ghosts S) {n m : List ℕ} {x y : Result (Option ℕ) Refusal} {alone later : ℕ} {s0 s1 : Supply} {old new : DepotAndOutput S} → n ≡ m → x ≡ y
+    → HasTurned g n x alone later s0 s1 old new → HasTurned g m y alone later s0 s1 old new
+turned_as {S} g {n} {m} {x} {y} {alone} {later} {s0} {s1} {old} {new} same is turned =
+    subst (λ (name : List ℕ). HasTurned g name y alone later s0 s1 old new) same (subst (λ (came : Result (Option ℕ) Refusal). HasTurned g n came alone later s0 s1 old new) is turned)
+
+-- the same answer, to an equal line
+pub answered_as : {S : Type 0} (g : Ghosts S) {Written : List ℕ → Output → Output → Type 0} {name a b : List ℕ} {outcome : Outcome} {old new : DepotAndOutput S} → a ≡ b
+    → IsAnsweredBy g Written name a outcome old new → IsAnsweredBy g Written name b outcome old new
+answered_as {S} g {Written} {name} {a} {b} {outcome} {old} {new} same answered = subst (λ (line : List ℕ). IsAnsweredBy g Written name line outcome old new) same answered
+
+-- what is ready, known by its name
+pub ahead_as : {a b : Ahead} (s0 s1 : Supply) → a ≡ b → IsAhead a s0 s1 → IsAhead b s0 s1
+ahead_as s0 s1 is ahead = subst (λ (a : Ahead). IsAhead a s0 s1) is ahead
+
+-- what came of lines that were to be done together, known by its name
+pub tried_as : {S : Type 0} (g : Ghosts S) {t u : Tried} (lines : List (List ℕ)) (old new : DepotAndOutput S) → t ≡ u → HasTried g t lines old new → HasTried g u lines old new
+tried_as g lines old new is tried = subst (λ (t : Tried). HasTried g t lines old new) is tried
+
+-- what was taken, known by its name
+pub taken_as : {t u : Taken} (octets : List ℕ) (s0 s1 : Supply) → t ≡ u → HasTakenNext t octets s0 s1 → HasTakenNext u octets s0 s1
+taken_as octets s0 s1 is taken = subst (λ (t : Taken). HasTakenNext t octets s0 s1) is taken
 
 module _ {S : Type 0} (g : Ghosts S) (name : List ℕ) where
   -- why a batch ends, whatever number of turns it had
@@ -102,19 +126,8 @@ module _ {S : Type 0} (g : Ghosts S) (name : List ℕ) where
   taken_more (first ∷ turns) turn input rest left old mid new before takes happens on =
       (before.0, before.1, before.2, before.3, before.4, taken_more turns turn before.0 rest left before.1 mid new before.5 takes happens on)
 
-  pub stands_first : (input : Supply) (old : DepotAndOutput S) (err : Output) → StandsAfter g name 0 0 input input old old err err
-  stands_first input old err = record { turns = []; taken = (refl, refl); counted = refl; silent = refl; progress = tt; owed = tt }
-
-  pub stands_on : (count alone later : ℕ) (input rest left : Supply) (old mid new : DepotAndOutput S) (err err2 err3 : Output) → StandsAfter g name count alone input rest old mid err err2
-      → HasTurned g name None alone later rest left mid new err2 err3 → StandsAfter g name (count + 1) later input left old new err err3
-  stands_on count alone later input rest left old mid new err err2 err3 before turned = record {
-    turns = before.turns ++ turned.0 ∷ [];
-    taken = taken_more before.turns turned.0 input rest left old mid new before.taken turned.1 turned.2 turned.3;
-    counted = length-append before.turns (turned.0 ∷ []) ∙ ap (λ m. m + 1) before.counted;
-    silent = turned.4 ∙ before.silent;
-    progress = progress_next before.turns turned.0 alone later before.progress before.owed turned.5;
-    owed = owe_next before.turns turned.0 alone later before.owed turned.5;
-  }
+  pub stands_first : {input : Supply} {old : DepotAndOutput S} → StandsAfter g name 0 0 input input old old
+  stands_first = record { turns = []; taken = (refl, refl); counted = refl; progress = tt; owed = tt }
 
   -- the reasons don't hang on the number of turns, but for that of counting
   ends_at : (status count : ℕ) (last : List Turn) (rest left : Supply) (old new : DepotAndOutput S) (err err2 : Output) → Ends status 0 last rest left old new err err2
@@ -122,73 +135,118 @@ module _ {S : Type 0} (g : Ghosts S) (name : List ℕ) where
   ends_at status count last rest left old new err err2 (inl all) = inl (all.0, all.1, elim all.2 [ inl end ↦ inl end | inr counted ↦ absurd (omega (arith, counted.0)) ], all.3, all.4)
   ends_at status count last rest left old new err err2 (inr others) = inr others
 
-  -- a turn with which the batch ends
-  pub ends : (status count alone later : ℕ) (input rest left : Supply) (old mid new : DepotAndOutput S) (err err2 err3 : Output) → StandsAfter g name count alone input rest old mid err err2
-      → HasTurned g name (Some status) alone later rest left mid new err2 err3 → HasServed g name status input left old new err err3
-  ends status count alone later input rest left old mid new err err2 err3 before turned = record {
-    turns = before.turns;
-    rest = rest;
-    mid = mid;
-    taken = before.taken;
-    last = turned.0;
-    ended = subst (λ (e : Output). Ends status (length before.turns) turned.0 rest left mid new e err3) before.silent (ends_at status (length before.turns) turned.0 rest left mid new err2 err3 turned.1);
-    progress = progress_last before.turns turned.0 alone later before.progress before.owed turned.2;
-  }
+  module _ {count alone later : ℕ} {input rest left : Supply} {old mid new : DepotAndOutput S} (before : StandsAfter g name count alone input rest old mid) where
+    pub stands_on : HasTurned g name (Ok None) alone later rest left mid new → StandsAfter g name (count + 1) later input left old new
+    stands_on turned =
+        let come = turned.come in
+        record {
+          turns = before.turns ++ come.0 ∷ [];
+          taken = taken_more before.turns come.0 input rest left old mid new before.taken come.1 come.2 come.3;
+          counted = length-append before.turns (come.0 ∷ []) ∙ ap (λ m. m + 1) before.counted;
+          progress = progress_next before.turns come.0 alone later before.progress before.owed come.4;
+          owed = owe_next before.turns come.0 alone later before.owed come.4;
+        }
+
+    -- a turn with which the batch ends, or a refusal that was told
+    pub ends : {status : ℕ} {err err2 : Output} → err2 ≡ err → HasTurned g name (Ok (Some status)) alone later rest left mid new → HasServed g name status input left old new err err2
+    ends {status} {err} silent turned =
+        let come = turned.come in
+        record {
+          turns = before.turns;
+          rest = rest;
+          mid = mid;
+          taken = before.taken;
+          last = come.0;
+          ended =
+              subst (λ (e : Output). Ends status (length before.turns) come.0 rest left mid new err e) (sym silent)
+              (ends_at status (length before.turns) come.0 rest left mid new err err (come.1 err));
+          progress = progress_last before.turns come.0 alone later before.progress before.owed come.2;
+        }
+
+    pub ends_told : {refusal : Refusal} {err err2 err3 : Output} → err2 ≡ err → HasTurned g name (Err refusal) alone later rest left mid new → HasTold refusal err2 err3
+        → HasServed g name 1 input left old new err err3
+    ends_told {refusal} {err} {err2} {err3} silent turned told =
+        let come = turned.come in
+        record {
+          turns = before.turns;
+          rest = rest;
+          mid = mid;
+          taken = before.taken;
+          last = come.0;
+          ended = ends_at 1 (length before.turns) come.0 rest left mid new err err3 (come.1 err err3 (subst (λ (e : Output). HasTold refusal e err3) silent told));
+          progress = progress_last before.turns come.0 alone later before.progress before.owed come.2;
+        }
 
   -- the end of counting
-  pub ends_counting : (count alone : ℕ) (input rest : Supply) (old new : DepotAndOutput S) (err err2 : Output) → StandsAfter g name count alone input rest old new err err2
-      → count ≡ 2 ^ 64 - 1 → HasServed g name 0 input rest old new err err2
-  ends_counting count alone input rest old new err err2 before all = record {
+  pub ends_counting : {count alone : ℕ} {input rest : Supply} {old new : DepotAndOutput S} {err err2 : Output} → StandsAfter g name count alone input rest old new
+      → err2 ≡ err → count ≡ 2 ^ 64 - 1 → HasServed g name 0 input rest old new err err2
+  ends_counting {count} {alone} {input} {rest} {old} {new} before silent all = record {
     turns = before.turns;
     rest = rest;
     mid = new;
     taken = before.taken;
     last = [];
-    ended = inl (refl, refl, inr (before.counted ∙ all, refl), refl, before.silent);
+    ended = inl (refl, refl, inr (before.counted ∙ all, refl), refl, silent);
     progress = progress_last before.turns [] alone alone before.progress before.owed tt;
   }
 
   -- ---- one turn
 
   -- the input was only looked at before a turn
-  pub turned_after : (came : Option ℕ) (alone later : ℕ) (s0 s1 s2 : Supply) (old new : DepotAndOutput S) (err err2 : Output) → HasShown [] s0 s1
-      → HasTurned g name came alone later s1 s2 old new err err2 → HasTurned g name came alone later s0 s2 old new err err2
-  turned_after None alone later s0 s1 s2 old new err err2 first turned = (turned.0, takes_after s0 s1 s2 first turned.0 turned.1, turned.2, turned.3, turned.4, turned.5)
-  turned_after (Some status) alone later s0 s1 s2 old new err err2 first turned = (turned.0, after turned.1, turned.2)
-    where
-      after : Ends status 0 turned.0 s1 s2 old new err err2 → Ends status 0 turned.0 s0 s2 old new err err2
-      after (inl all) = inl (all.0, all.1, inl (elim all.2 [ inl end ↦ all_after s0 s1 s2 first [] end | inr counted ↦ absurd (omega (arith, counted.0)) ]), all.3, all.4)
-      after (inr (inl all)) = inr (inl (all.0, all.1, all.2, all.3, all_after s0 s1 s2 first all.0 all.4, all.5))
-      after (inr (inr (inl all))) = inr (inr (inl (all.0, all.1, all.2, all.3, given_after s0 s1 s2 first all.1 all.4, all.5, all.6)))
-      after (inr (inr (inr (inl all)))) = inr (inr (inr (inl (all.0, all.1, all.2, takes_after s0 s1 s2 first all.1 all.3, all.4, all.5))))
-      after (inr (inr (inr (inr all)))) = inr (inr (inr (inr (all.0, all.1, all.2, all.3, unread_after s0 s1 s2 first all.2 all.3 all.4, all.5, all.6))))
+  ends_after : (status : ℕ) (last : List Turn) (s0 s1 s2 : Supply) (old new : DepotAndOutput S) (err err2 : Output) → HasShown [] s0 s1 → Ends status 0 last s1 s2 old new err err2
+      → Ends status 0 last s0 s2 old new err err2
+  ends_after status last s0 s1 s2 old new err err2 first (inl all) =
+      inl (all.0, all.1, inl (elim all.2 [ inl end ↦ all_after s0 s1 s2 first [] end | inr counted ↦ absurd (omega (arith, counted.0)) ]), all.3, all.4)
+  ends_after status last s0 s1 s2 old new err err2 first (inr (inl all)) = inr (inl (all.0, all.1, all.2, all.3, all_after s0 s1 s2 first all.0 all.4, all.5))
+  ends_after status last s0 s1 s2 old new err err2 first (inr (inr (inl all))) = inr (inr (inl (all.0, all.1, all.2, all.3, given_after s0 s1 s2 first all.1 all.4, all.5, all.6)))
+  ends_after status last s0 s1 s2 old new err err2 first (inr (inr (inr (inl all)))) =
+      inr (inr (inr (inl (all.0, all.1, all.2, takes_after s0 s1 s2 first all.1 all.3, all.4, all.5))))
+  ends_after status last s0 s1 s2 old new err err2 first (inr (inr (inr (inr all)))) =
+      inr (inr (inr (inr (all.0, all.1, all.2, all.3, unread_after s0 s1 s2 first all.2 all.3 all.4, all.5, all.6))))
 
-  -- the end of the input
-  pub turned_end : (alone later : ℕ) (s0 s1 : Supply) (old : DepotAndOutput S) (err : Output) → HasTakenAll [] s0 s1 → HasTurned g name (Some 0) alone later s0 s1 old old err err
-  turned_end alone later s0 s1 old err end = ([], inl (refl, refl, inl end, refl, refl), tt)
+  pub turned_after : (came : Result (Option ℕ) Refusal) {alone later : ℕ} {s0 s1 s2 : Supply} {old new : DepotAndOutput S} → HasShown [] s0 s1
+      → HasTurned g name came alone later s1 s2 old new → HasTurned g name came alone later s0 s2 old new
+  turned_after (Ok None) {alone} {later} {s0} {s1} {s2} first turned =
+      let come = turned.come in
+      record { come = (come.0, takes_after s0 s1 s2 first come.0 come.1, come.2, come.3, come.4) }
+  turned_after (Ok (Some status)) {alone} {later} {s0} {s1} {s2} {old} {new} first turned =
+      let come = turned.come in
+      record { come = (come.0, (λ err. ends_after status come.0 s0 s1 s2 old new err err first (come.1 err)), come.2) }
+  turned_after (Err refusal) {alone} {later} {s0} {s1} {s2} {old} {new} first turned =
+      let come = turned.come in
+      record { come = (come.0, (λ err err2 told. ends_after 1 come.0 s0 s1 s2 old new err err2 first (come.1 err err2 told)), come.2) }
 
-  -- the end of the input within a line
-  pub turned_within : (status alone later : ℕ) (octets : List ℕ) (s0 s1 : Supply) (old new : DepotAndOutput S) (err err2 : Output) → alone ≤ later + 1 → IsUnfinished octets × HasTakenAll octets s0 s1
-      → HasServedLast g name status octets old new err err2 → HasTurned g name (Some status) alone later s0 s1 old new err err2
-  turned_within status alone later octets s0 s1 old new err err2 one taken served =
-      (Alone octets served.0 ∷ [], inr (inl (octets, served.0, refl, taken.0, taken.1, served.1)), one)
+  module _ {alone later : ℕ} {s0 s1 : Supply} {old : DepotAndOutput S} where
+    -- the end of the input
+    pub turned_end : HasTakenAll [] s0 s1 → HasTurned g name (Ok (Some 0)) alone later s0 s1 old old
+    turned_end end = record { come = ([], (λ err. inl (refl, refl, inl end, refl, refl)), tt) }
 
-  -- a line was answered
-  pub turned_on : (alone later : ℕ) (line : List ℕ) (outcome : Outcome) (s0 s1 : Supply) (old new : DepotAndOutput S) (err : Output) → alone ≤ later + 1 → IsLine line × HasGiven line s0 s1
-      → IsAnsweredBy g HasTaken name line outcome old new → (outcome ≡ Refused Database → ⊥) → HasTurned g name None alone later s0 s1 old new err err
-  turned_on alone later line outcome s0 s1 old new err one taken answered on = (Alone line outcome, taken, answered, on, refl, one)
+    -- no line could be read
+    pub turned_unread : {refusal : Refusal} (octets : List ℕ) → HasNotTaken refusal octets s0 s1 → HasTurned g name (Err refusal) alone later s0 s1 old old
+    turned_unread {refusal} octets unread = record { come = ([], (λ err err2 told. inr (inr (inr (inr (refl, refl, refusal, octets, unread, told, refl))))), tt) }
 
-  -- a line was refused `Database`
-  pub turned_shut : (alone later : ℕ) (line : List ℕ) (s0 s1 : Supply) (old new : DepotAndOutput S) (err : Output) → alone ≤ later + 1 → IsLine line × HasGiven line s0 s1
-      → IsAnsweredBy g HasTaken name line (Refused Database) old new → HasTurned g name (Some 1) alone later s0 s1 old new err err
-  turned_shut alone later line s0 s1 old new err one taken answered = (Alone line (Refused Database) ∷ [], inr (inr (inl (refl, line, refl, taken.0, taken.1, answered, refl))), one)
+  module _ {alone later : ℕ} {s0 s1 : Supply} {old new : DepotAndOutput S} where
+    -- answers broke off
+    pub turned_broken : (turn : Turn) → ComesNext alone turn later → Takes turn s0 s1 → Breaks g name turn old new → HasTurned g name (Err Write) alone later s0 s1 old new
+    turned_broken turn next takes breaks = record { come = (turn ∷ [], (λ err err2 told. inr (inr (inr (inl (refl, turn, refl, takes, breaks, told))))), next) }
 
-  -- answers broke off
-  pub turned_broken : (turn : Turn) (status alone later : ℕ) (s0 s1 : Supply) (old new : DepotAndOutput S) (err err2 : Output) → ComesNext alone turn later → Takes turn s0 s1 → Breaks g name turn old new
-      → status ≡ 1 → HasTold Write err err2 → HasTurned g name (Some status) alone later s0 s1 old new err err2
-  turned_broken turn status alone later s0 s1 old new err err2 next takes breaks one told = (turn ∷ [], inr (inr (inr (inl (one, turn, refl, takes, breaks, told)))), next)
+    module _ (octets : List ℕ) (outcome : Outcome) (one : alone ≤ later + 1) where
+      -- a line was answered: the batch goes on, or ends since it was refused `Database`
+      pub turned_line : (came : Option ℕ) → IsLine octets × HasGiven octets s0 s1 → IsAnsweredBy g HasTaken name octets outcome old new
+          → IfSome came (λ status. (status ≡ 1) × (outcome ≡ Refused Database)) → IfNone came (outcome ≡ Refused Database → ⊥) → HasTurned g name (Ok came) alone later s0 s1 old new
+      turned_line None taken answered shut on = record { come = (Alone octets outcome, taken, answered, on, one) }
+      turned_line (Some status) taken answered shut on =
+          let refused = subst (λ (o : Outcome). IsAnsweredBy g HasTaken name octets o old new) shut.1 answered in
+          record { come = (Alone octets (Refused Database) ∷ [], (λ err. inr (inr (inl (shut.0, octets, refl, taken.0, taken.1, refused, refl)))), one) }
 
-  -- no line could be read
-  pub turned_unread : (refusal : Refusal) (octets : List ℕ) (status alone later : ℕ) (s0 s1 : Supply) (old : DepotAndOutput S) (err err2 : Output) → HasNotTaken refusal octets s0 s1
-      → status ≡ 1 → HasTold refusal err err2 → HasTurned g name (Some status) alone later s0 s1 old old err err2
-  turned_unread refusal octets status alone later s0 s1 old err err2 unread one told = ([], inr (inr (inr (inr (one, refl, refusal, octets, unread, told, refl)))), tt)
+      -- the end of the input within a line, whose answer was written, or broke off
+      module _ (taken : IsUnfinished octets × HasTakenAll octets s0 s1) where
+        pub turned_within : IsAnsweredBy g HasTaken name octets outcome old new → HasTurned g name (Ok (Some 0)) alone later s0 s1 old new
+        turned_within answered = record {
+          come = (Alone octets outcome ∷ [], (λ err. inr (inl (octets, outcome, refl, taken.0, taken.1, inl (refl, answered, refl)))), one);
+        }
+
+        pub broken_within : IsAnsweredBy g HasBroken name octets outcome old new → HasTurned g name (Err Write) alone later s0 s1 old new
+        broken_within broken = record {
+          come = (Alone octets outcome ∷ [], (λ err err2 told. inr (inl (octets, outcome, refl, taken.0, taken.1, inr (refl, broken, told)))), one);
+        }

@@ -2,7 +2,7 @@
 use Rattle.std.proofs.Common.{◌≡◌, ◌++◌, ◌∙◌, ◌+◌, ◌<◌, ◌≤◌, suc, zero, arith, append-nil, ap, inl, inr, refl, subst, sym, ℕ, IfNone, List, [], ◌∷◌, None, Option, Some, length, map, take, drop, Vec, Global}
 use Rattle.std.specs.List.{flat_map}
 use Rattle.std.proofs.Math.ListN.{get_or}
-use Rattle.std.proofs.lemmas.List.{drop_more, map-append, take-append-drop, take-map, take_more}
+use Rattle.std.proofs.lemmas.List.{drop_more, length-map, map-append, take-append-drop, take-map, take_more}
 use Rattle.sqlite_trees.specs.declared.store.Store.{Ghosts}
 use Rattle.sqlite.specs.Held.{state}
 use Rattle.sqlite.specs.State.{HasCleanDisk, State, Survives}
@@ -13,10 +13,11 @@ use Rattle.devices.specs.Device.{Output}
 use Rattle.depot_actions.specs.Deliveries.{DoesAll, MayLeaveAll, reply_of}
 use Rattle.depot_actions.specs.DepotState.{Command, Listed}
 use Rattle.depot_jobs.specs.Host.{HostState}
-use Rattle.depot_batch.specs.Batch.{AreAnsweredBy, AreDeliveries, AreLookedUp, AreWithdrawn, IsDelivery, DepotAndOutput, filed_text, most_together}
+use Rattle.depot_batch.specs.Batch.{AreAnsweredBy, AreDeliveries, AreLookedUp, AreWithdrawn, IsDelivery, MayMakeAll, DepotAndOutput, filed_text, most_together}
 use Rattle.depot_batch.specs.Private.{IsPassedOver, command_of, filed_by, lines_of}
 use Rattle.depot_batch.specs.declared.mails.Mail.{Mail}
 use Rattle.depot_batch.proofs.LineLemmas.{more_left}
+use Rattle.depot_batch.proofs.Readying.{first_few}
 
 -- ---- messages that were read
 
@@ -68,38 +69,6 @@ as_many (line ∷ lines) (command ∷ commands) host host2 are = ap suc (as_many
 as_many [] (command ∷ commands) host host2 are = absurd are
 as_many (line ∷ lines) [] host host2 are = absurd are
 
--- ---- on a depot
-
-module _ {S : Type 0} (g : Ghosts S) where
-  -- they were withdrawn since it refused them
-  pub withdrawn_late : (lines : List (List ℕ)) (commands : List Command) (old new : DepotAndOutput S) → 0 < length commands → length lines ≤ most_together → AreDeliveries lines commands old.host new.host
-      → (HasCleanDisk (state g new.depot) → LeavesUnchanged (state g old.depot) (state g new.depot))
-      → Survives (state g old.depot) (state g new.depot) (MayLeaveAll commands (state g old.depot)) → new.out ≡ old.out → AreWithdrawn g lines old new
-  withdrawn_late lines commands old new some few files unchanged survives out = record {
-    some = omega (arith, some, as_many lines commands old.host new.host files);
-    few = few;
-    files = record { read = lines; later = []; are = sym (append-nil lines); commands = commands; mid = new.host; files = files; stops = inl refl };
-    unchanged = unchanged;
-    out = out;
-    outlasts = more_left (state g old.depot) (state g new.depot) (λ db made. (commands, files, made)) survives;
-  }
-
-  -- they were done
-  pub answered_together : (Written : List ℕ → Output → Output → Type 0) (lines : List (List ℕ)) (commands : List Command) (filed : List (List Listing)) (old new : DepotAndOutput S)
-      → length lines ≤ most_together → AreDeliveries lines commands old.host new.host
-      → (HasCleanDisk (state g new.depot) → DoesAll commands (map Listed filed) (state g old.depot) (state g new.depot))
-      → Survives (state g old.depot) (state g new.depot) (MayLeaveAll commands (state g old.depot)) → Written (flat_map filed_text filed) old.out new.out
-      → AreAnsweredBy g Written lines old new
-  answered_together Written lines commands filed old new few files done survives written = record {
-    few = few;
-    commands = commands;
-    files = files;
-    filed = filed;
-    done = done;
-    written = written;
-    outlasts = more_left (state g old.depot) (state g new.depot) (λ db made. (commands, files, made)) survives;
-  }
-
 -- the first of lines, by their octets
 pub cut_lines : (lines shown cut : List (Vec ℕ Global)) (n k : ℕ) → cut ≡ take n lines → n ≡ k → shown ≡ lines → take k (lines_of shown) ≡ lines_of cut
 cut_lines lines shown cut n k is count same =
@@ -117,6 +86,49 @@ first_some (line ∷ lines) (suc n) some all = omega arith
 pub cut_some : (lines cut : List (Vec ℕ Global)) (n k : ℕ) → cut ≡ take n lines → n ≡ k → 0 < k → 0 < length (lines_of lines) → 0 < length (lines_of cut)
 cut_some lines cut n k is count some all =
     subst (λ (ls : List (Vec ℕ Global)). 0 < length (lines_of ls)) (sym is) (first_some lines n (omega (arith, count, some)) all)
+
+-- ---- on a depot
+
+-- The lines were cut to as many as there are mails, all of whose files were read, and the depot was asked for them.
+module _ {S : Type 0} (g : Ghosts S) {lines shown cut : List (Vec ℕ Global)} {n : ℕ} {mails mails2 : List Mail} (old new : DepotAndOutput S)
+    (is : cut ≡ take n lines) (count : n ≡ length mails) (same : shown ≡ lines) (same2 : mails2 ≡ mails) (few : length (lines_of lines) ≤ most_together)
+    (files : AreDeliveries (take (length mails) (lines_of shown)) (map command_of mails) old.host new.host)
+    (survives : Survives (state g old.depot) (state g new.depot) (MayLeaveAll (map command_of mails2) (state g old.depot))) where
+  cut_files : AreDeliveries (lines_of cut) (map command_of mails) old.host new.host
+  cut_files = subst (λ (ls : List (List ℕ)). AreDeliveries ls (map command_of mails) old.host new.host) (cut_lines lines shown cut n (length mails) is count same) files
+
+  cut_few : length (lines_of cut) ≤ most_together
+  cut_few = first_few lines cut (drop n lines) (cut_rest lines cut n is) most_together few
+
+  lasts : Survives (state g old.depot) (state g new.depot) (MayMakeAll (lines_of cut) (state g old.depot) old.host new.host)
+  lasts =
+      more_left (state g old.depot) (state g new.depot) (λ db made. (map command_of mails, cut_files, made))
+      (subst (λ (ms : List Mail). Survives (state g old.depot) (state g new.depot) (MayLeaveAll (map command_of ms) (state g old.depot))) same2 survives)
+
+  -- they were withdrawn since it refused them
+  pub withdrawn_late : 0 < length mails → (HasCleanDisk (state g new.depot) → LeavesUnchanged (state g old.depot) (state g new.depot)) → new.out ≡ old.out → AreWithdrawn g (lines_of cut) old new
+  withdrawn_late some unchanged out = record {
+    some = omega (arith, some, length-map mails command_of, as_many (lines_of cut) (map command_of mails) old.host new.host cut_files);
+    few = cut_few;
+    files = record { read = lines_of cut; later = []; are = sym (append-nil (lines_of cut)); commands = map command_of mails; mid = new.host; files = cut_files; stops = inl refl };
+    unchanged = unchanged;
+    out = out;
+    outlasts = lasts;
+  }
+
+  -- they were done
+  pub answered_together : (Written : List ℕ → Output → Output → Type 0) (filed : List (List Listing))
+      → (HasCleanDisk (state g new.depot) → DoesAll (map command_of mails2) (map Listed filed) (state g old.depot) (state g new.depot))
+      → Written (flat_map filed_text filed) old.out new.out → AreAnsweredBy g Written (lines_of cut) old new
+  answered_together Written filed done written = record {
+    few = cut_few;
+    commands = map command_of mails;
+    files = cut_files;
+    filed = filed;
+    done = subst (λ (ms : List Mail). HasCleanDisk (state g new.depot) → DoesAll (map command_of ms) (map Listed filed) (state g old.depot) (state g new.depot)) same2 done;
+    written = written;
+    outlasts = lasts;
+  }
 
 -- ---- answers
 

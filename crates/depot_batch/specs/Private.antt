@@ -1,5 +1,6 @@
 -- Private: how lines are read, parted and done together.
-use Rattle.std.specs.Prelude.{◌≡◌, ◌≢◌, ◌⊎◌, ◌<◌, ◌≤◌, ◌+◌, ◌^◌, ℕ, List, [], ◌∷◌, ◌++◌, Option, Some, None, IfSome, take, drop, length, map, Vec, string_bytes}
+use Rattle.std.specs.Prelude.{◌≡◌, ◌≢◌, ◌⊎◌, ◌<◌, ◌≤◌, ◌+◌, ◌^◌, ℕ, List, [], ◌∷◌, ◌++◌, Option, Some, None, Result, Ok, Err, IfSome, take, drop, length, map, Vec, string_bytes}
+use Rattle.std.specs.Borrow.{GName}
 use Rattle.std.specs.Io.{StartsWith}
 use Rattle.std.specs.List.{All, concat}
 use Rattle.std.specs.declared.alloc.Global.{Global}
@@ -11,8 +12,11 @@ use Rattle.devices.specs.Device.{HasTaken, Output}
 use Rattle.devices.specs.Supply.{HasGiven, Supply}
 use Rattle.depot_actions.specs.DepotState.{Command, Deliver}
 use Rattle.depot_jobs.specs.Host.{HostState}
+use Rattle.depot_jobs.specs.Jobs.{HasTold}
+use Rattle.refusals.specs.declared.refusal.Refusal.{Refusal}
 use Rattle.depot_batch.specs.declared.ahead.Ahead.{Ahead}
 use Rattle.depot_batch.specs.declared.ahead.Ahead.TheVariants.{Deliveries, Other, End}
+use Rattle.depot_batch.specs.declared.desk.Desk.{Desk}
 use Rattle.depot_batch.specs.declared.mails.Mail.{Mail}
 use Rattle.depot_batch.specs.declared.outcome.Outcome.{Outcome}
 use Rattle.depot_batch.specs.declared.reading.Taken.{Taken}
@@ -20,9 +24,9 @@ use Rattle.depot_batch.specs.declared.reading.Taken.TheVariants.{Line, Unfinishe
 use Rattle.depot_batch.specs.declared.together.Tried.{Tried}
 use Rattle.depot_batch.specs.declared.together.Tried.TheVariants as tried
 use Rattle.depot_batch.specs.Asked.{Text}
-use Rattle.depot_batch.specs.Batch.{AreAnsweredBy, AreWithdrawn, Breaks, Happens, IsUnread, DepotAndOutput, most_together}
+use Rattle.depot_batch.specs.Batch.{AreAnsweredBy, AreWithdrawn, Breaks, Happens, IsUnread, DepotAndOutput, depot_and_output, most_together}
 use Rattle.depot_batch.specs.Lines.{HasShown, HasTakenAll, IsLine, IsUnfinished}
-use Rattle.depot_batch.specs.Turns.{Alone, EndsBy, GoesOn, HasServedLastBy, Takes, Together, Turn, Withdrawn}
+use Rattle.depot_batch.specs.Turns.{Alone, EndsBy, GoesOn, Takes, Together, Turn, Withdrawn}
 use Rattle.depot_batch.specs.Words.{texts_of}
 
 -- what was taken of an input next: a line; what it ends with; or nothing, at its end
@@ -121,14 +125,35 @@ module _ {S : Type 0} (g : Ghosts S) where
   HasTried tried.Done lines old new = AreAnsweredBy g HasTaken lines old new
   HasTried tried.Withdrawn lines old new = AreWithdrawn g lines old new
 
-  -- a turn was taken, and the batch goes on; or it ended, with this status
-  abbrev pub HasTurned : Text → Option ℕ → ℕ → ℕ → Supply → Supply → DepotAndOutput S → DepotAndOutput S → Output → Output → Type 0
-  HasTurned name None alone later input rest old new err err2 =
-      (turn : Turn) × Takes turn input rest × Happens g name turn old new × GoesOn turn × (err2 ≡ err) × ComesNext alone turn later
-  HasTurned name (Some status) alone later input rest old new err err2 =
-      (last : List Turn) × EndsBy (Happens g name) (Breaks g name) status 0 last input rest old new err err2 × ComesLast alone last later
+  -- a turn was taken, and the batch goes on; it ended, with this status; or it ended with a refusal, once that is told
+  abbrev pub TurnsOut : Text → Result (Option ℕ) Refusal → ℕ → ℕ → Supply → Supply → DepotAndOutput S → DepotAndOutput S → Type 0
+  TurnsOut name (Ok None) alone later input rest old new =
+      (turn : Turn) × Takes turn input rest × Happens g name turn old new × GoesOn turn × ComesNext alone turn later
+  TurnsOut name (Ok (Some status)) alone later input rest old new =
+      (last : List Turn) × ((err : Output) → EndsBy (Happens g name) (Breaks g name) status 0 last input rest old new err err) × ComesLast alone last later
+  TurnsOut name (Err refusal) alone later input rest old new =
+      (last : List Turn)
+      × ((err err2 : Output) → HasTold refusal err err2 → EndsBy (Happens g name) (Breaks g name) 1 0 last input rest old new err err2)
+      × ComesLast alone last later
 
-  -- the last octets of the input were answered, in which no line break is
-  abbrev pub HasServedLast : Text → ℕ → List ℕ → DepotAndOutput S → DepotAndOutput S → Output → Output → Type 0
-  HasServedLast name status octets old new err err2 =
-      (outcome : Outcome) × HasServedLastBy (Happens g name) (Breaks g name) status (Alone octets outcome) old new err err2
+  -- this came of a turn
+  pub record HasTurned (name : Text) (came : Result (Option ℕ) Refusal) (alone later : ℕ) (input rest : Supply) (old new : DepotAndOutput S) : Type 0 where
+    pub come : TurnsOut name came alone later input rest old new
+
+-- ---- the desk
+
+-- the name of the depot's file, and which depot, host and writer there are
+pub record Places : Type 0 where
+  pub name : Text
+  pub depot : GName
+  pub host : GName
+  pub out : GName
+
+module _ {S H W : Type 0} where
+  abbrev pub places_of : Desk S H W → Places
+  places_of desk = record { name = desk.name.now; depot = desk.depot.ghost_name; host = desk.host.ghost_name; out = desk.out.ghost_name }
+
+  -- what lines are answered with there
+  abbrev pub on : Ghosts S → (H → HostState) → (W → Option (List ℕ)) → Desk S H W → DepotAndOutput S
+  on g state contents desk =
+      depot_and_output g desk.depot.now (state desk.host.now) (record { written = contents desk.out.now.inner; faults = desk.out.now.faults })

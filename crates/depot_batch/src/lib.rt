@@ -73,6 +73,7 @@
 mod ahead;
 mod answering;
 mod asked;
+mod desk;
 mod fault;
 pub mod laws;
 mod line;

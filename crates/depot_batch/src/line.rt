@@ -9,11 +9,13 @@ ghost use Rattle.sqlite.specs.State.{Survives};
 ghost use Rattle.devices.specs.Device.{HasBroken, HasFailed, HasTaken};
 ghost use Rattle.depot_batch.specs.Answers.{AreNoTexts, HasComeOf, HasLineWords, IsReportOn, IsUnasked, answer_text, outcome_of, unasked_report};
 ghost use Rattle.depot_batch.specs.Asked.{Asks, Text};
-ghost use Rattle.depot_batch.specs.Batch.{IsAnsweredBy, MayMake, depot_and_output};
+ghost use Rattle.depot_batch.specs.Batch.{IsAnsweredBy, MayMake};
+ghost use Rattle.depot_batch.specs.Private.{on, places_of};
 ghost use Rattle.depot_batch.specs.declared.outcome.Outcome.{Outcome};
 
 use crate::answering::answer_to;
 use crate::asked::{Asked, asked_by};
+use crate::desk::Desk;
 use crate::fault::LineFault;
 use crate::outcome::Outcome;
 use crate::report::{Report, put_report};
@@ -54,23 +56,19 @@ impl Unasked {
 ///
 /// `DeviceFailed` if the writer fails. What the command did remains done.
 pub fn serve<S: Alter, H: Host, W: Write + Drop>(
-    alloc: Global,
-    name: &str,
+    desk: &mut Desk<'_, '_, '_, '_, S, H, W>,
     line: &[u8],
-    depot: &mut Depot<S>,
-    host: &mut H,
-    out: &mut OfWrite<W>,
 ) -> Result<Outcome, DeviceFailed>
-    ensures answered { IfOk result (λ outcome. IsAnsweredBy S.Store HasTaken name.now line.now outcome
-        (depot_and_output S.Store depot.old (H.state host.old) (⟦<OfWrite<W> as Sink>⟧.output out.old))
-        (depot_and_output S.Store depot.new (H.state host.new) (⟦<OfWrite<W> as Sink>⟧.output out.new))) }
+    ensures same { places_of desk.new ≡ places_of desk.old }
+    ensures answered { IfOk result (λ outcome.
+        IsAnsweredBy S.Store HasTaken desk.old.name.now line.now outcome
+        (on S.Store H.state W.contents desk.old) (on S.Store H.state W.contents desk.new)) }
     ensures broken { OnErr result ((outcome : Outcome)
-        × IsAnsweredBy S.Store HasBroken name.now line.now outcome
-        (depot_and_output S.Store depot.old (H.state host.old) (⟦<OfWrite<W> as Sink>⟧.output out.old))
-        (depot_and_output S.Store depot.new (H.state host.new) (⟦<OfWrite<W> as Sink>⟧.output out.new))) }
+        × IsAnsweredBy S.Store HasBroken desk.old.name.now line.now outcome
+        (on S.Store H.state W.contents desk.old) (on S.Store H.state W.contents desk.new)) }
 {
-    let report = report_on(alloc, name, line, depot, host);
-    give(out, report)
+    let report = report_on(desk.alloc, desk.name, line, desk.depot, desk.host);
+    give(desk.out, report)
 }
 
 // Does the command of a line, and returns what the line is answered with.

@@ -6,16 +6,17 @@
 // line would be a system call. The page is flushed after the line with the status, and so is the writer, before the
 // next line is read; a caller that waits for the answer has all of it. An answer of more than 65,536 bytes is several
 // writes.
-ghost use Rattle.std.specs.Prelude.{◌≡◌, ◌<◌, ◌≤◌, ◌+◌, ◌^◌, ℕ, length, true, false};
+ghost use Rattle.std.specs.Prelude.{◌≡◌, ◌<◌, ◌≤◌, ◌+◌, ◌^◌, ℕ, IfNone, IfSome, length};
 ghost use Rattle.std.specs.List.{All, concat};
 ghost use Rattle.refusals.specs.declared.refusal.Refusal.TheVariants.{Database};
 ghost use Rattle.devices.specs.Supply.{Supply};
-ghost use Rattle.depot_batch.specs.Batch.{HasServed, IsServed, most_together, depot_and_output};
+ghost use Rattle.depot_batch.specs.Batch.{HasServed, IsServed, most_together};
 ghost use Rattle.depot_batch.specs.Lines.{HasShown, IsLine};
-ghost use Rattle.depot_batch.specs.Private.{CanTake, HasServedLast, HasTurned, lines_of};
+ghost use Rattle.depot_batch.specs.Private.{CanTake, HasTurned, lines_of, on, places_of};
 ghost use Rattle.depot_batch.specs.declared.outcome.Outcome.TheVariants.{Refused};
 
 use crate::ahead::{Ahead, look_ahead, take_lines};
+use crate::desk::Desk;
 use crate::line::serve;
 use crate::outcome::Outcome;
 use crate::reading::{Taken, next_line};
@@ -63,31 +64,39 @@ pub fn batch<S: Alter, H: Host, R: BufRead + Drop, W: Write + Drop, E: Sink>(
         (E.output err.old) (E.output err.new) }
 {
     match opened {
-        Ok(depot) => serve_lines(alloc, name, depot, host, input, out, err),
+        Ok(depot) => {
+            let mut desk = Desk {
+                alloc,
+                name,
+                depot,
+                host,
+                out,
+            };
+            serve_lines(&mut desk, input, err)
+        }
         Err(refusal) => tell(err, refusal),
     }
 }
 
-// Does the commands in the lines of the input on a depot, turn by turn.
+// Does the commands in the lines of the input, turn by turn, and returns the status. A refusal that ends the batch is
+// told here.
 fn serve_lines<S: Alter, H: Host, R: BufRead + Drop, W: Write + Drop, E: Sink>(
-    alloc: Global,
-    name: &str,
-    depot: &mut Depot<S>,
-    host: &mut H,
+    desk: &mut Desk<'_, '_, '_, '_, S, H, W>,
     input: &mut OfRead<R>,
-    out: &mut OfWrite<W>,
     err: &mut E,
 ) -> u8
-    ensures { HasServed S.Store name.now result (⟦<OfRead<R> as Source>⟧.supply input.old)
-        (⟦<OfRead<R> as Source>⟧.supply input.new)
-        (depot_and_output S.Store depot.old (H.state host.old) (⟦<OfWrite<W> as Sink>⟧.output out.old))
-        (depot_and_output S.Store depot.new (H.state host.new) (⟦<OfWrite<W> as Sink>⟧.output out.new))
+    ensures same { places_of desk.new ≡ places_of desk.old }
+    ensures served { HasServed S.Store desk.old.name.now result
+        (⟦<OfRead<R> as Source>⟧.supply input.old) (⟦<OfRead<R> as Source>⟧.supply input.new)
+        (on S.Store H.state W.contents desk.old) (on S.Store H.state W.contents desk.new)
         (E.output err.old) (E.output err.new) }
 {
     let mut alone = 0;
     'turns: for _ in 0..u64::MAX {
-        if let Some(status) = take_turn(alloc, name, &mut alone, depot, host, input, out, err) {
-            return status;
+        match take_turn(desk, &mut alone, input) {
+            Ok(None) => {}
+            Ok(Some(status)) => return status,
+            Err(refusal) => return tell(err, &refusal),
         }
     }
     SUCCESS
@@ -95,148 +104,117 @@ fn serve_lines<S: Alter, H: Host, R: BufRead + Drop, W: Write + Drop, E: Sink>(
 
 // Takes a turn: does lines together that are ready and begin as deliveries do, or else the next line alone, also if so
 // many lines are to be done alone. Returns the status of a batch that ends with this turn.
-fn take_turn<S: Alter, H: Host, R: BufRead + Drop, W: Write + Drop, E: Sink>(
-    alloc: Global,
-    name: &str,
+//
+// # Errors
+//
+// The refusal with which the batch ends: `Read`, `Write` or `Memory`.
+fn take_turn<S: Alter, H: Host, R: BufRead + Drop, W: Write + Drop>(
+    desk: &mut Desk<'_, '_, '_, '_, S, H, W>,
     alone: &mut usize,
-    depot: &mut Depot<S>,
-    host: &mut H,
     input: &mut OfRead<R>,
-    out: &mut OfWrite<W>,
-    err: &mut E,
-) -> Option<u8>
-    ensures { HasTurned S.Store name.now result alone.old alone.new
+) -> Result<Option<u8>, Refusal>
+    ensures same { places_of desk.new ≡ places_of desk.old }
+    ensures turned { HasTurned S.Store desk.old.name.now result alone.old alone.new
         (⟦<OfRead<R> as Source>⟧.supply input.old) (⟦<OfRead<R> as Source>⟧.supply input.new)
-        (depot_and_output S.Store depot.old (H.state host.old) (⟦<OfWrite<W> as Sink>⟧.output out.old))
-        (depot_and_output S.Store depot.new (H.state host.new) (⟦<OfWrite<W> as Sink>⟧.output out.new))
-        (E.output err.old) (E.output err.new) }
+        (on S.Store H.state W.contents desk.old) (on S.Store H.state W.contents desk.new) }
 {
     if *alone > 0 {
         *alone -= 1;
-        return take_alone(alloc, name, depot, host, input, out, err);
+        return take_alone(desk, input);
     }
-    match look_ahead(alloc, input) {
-        Ok(Ahead::Deliveries(lines)) => {
-            take_together(alloc, name, lines, alone, depot, host, input, out, err)
-        }
-        Ok(Ahead::Other) => take_alone(alloc, name, depot, host, input, out, err),
-        Ok(Ahead::End) => Some(SUCCESS),
-        Err(refusal) => Some(tell(err, &refusal)),
+    match look_ahead(desk.alloc, input) {
+        Ok(Ahead::Deliveries(lines)) => take_together(desk, lines, alone, input),
+        Ok(Ahead::Other) => take_alone(desk, input),
+        Ok(Ahead::End) => Ok(Some(SUCCESS)),
+        Err(refusal) => Err(refusal),
     }
 }
 
 // Does lines together that the input has ready, and takes them; or, if they were withdrawn, notes that so many of them
-// are to be done alone. Returns the status of a batch that ends with them.
+// are to be done alone. The batch goes on after them.
 //
 // # Requires
 //
 // - No line is to be done alone.
 // - There are 1 to 64 lines, each whole, with fewer than 2^64 bytes together.
-fn take_together<S: Alter, H: Host, R: BufRead + Drop, W: Write + Drop, E: Sink>(
-    alloc: Global,
-    name: &str,
+//
+// # Errors
+//
+// `Write` if the answers can't be written.
+fn take_together<S: Alter, H: Host, R: BufRead + Drop, W: Write + Drop>(
+    desk: &mut Desk<'_, '_, '_, '_, S, H, W>,
     lines: Vec<Vec<u8>>,
     alone: &mut usize,
-    depot: &mut Depot<S>,
-    host: &mut H,
     input: &mut OfRead<R>,
-    out: &mut OfWrite<W>,
-    err: &mut E,
-) -> Option<u8>
+) -> Result<Option<u8>, Refusal>
     requires none { alone.old ≡ 0 }
     requires whole { All IsLine (lines_of lines.items) }
     requires some { 0 < length (lines_of lines.items) }
     requires few { length (lines_of lines.items) ≤ most_together }
     requires small { length (concat (lines_of lines.items)) < 2 ^ 64 }
-    ensures { (before : Supply)
+    ensures same { places_of desk.new ≡ places_of desk.old }
+    ensures turned { (before : Supply)
         → CanTake (concat (lines_of lines.items)) before.left (R.consumable_len input.old.inner)
-        → HasShown (concat (lines_of lines.items)) before
-        (⟦<OfRead<R> as Source>⟧.supply input.old)
-        → HasTurned S.Store name.now result alone.old alone.new
+        → HasShown (concat (lines_of lines.items)) before (⟦<OfRead<R> as Source>⟧.supply input.old)
+        → HasTurned S.Store desk.old.name.now result alone.old alone.new
         before (⟦<OfRead<R> as Source>⟧.supply input.new)
-        (depot_and_output S.Store depot.old (H.state host.old) (⟦<OfWrite<W> as Sink>⟧.output out.old))
-        (depot_and_output S.Store depot.new (H.state host.new) (⟦<OfWrite<W> as Sink>⟧.output out.new))
-        (E.output err.old) (E.output err.new) }
+        (on S.Store H.state W.contents desk.old) (on S.Store H.state W.contents desk.new) }
 {
     let mut lines = lines;
-    match serve_together(alloc, &mut lines, depot, host, out) {
+    match serve_together(desk, &mut lines) {
         Ok(Tried::Done) => {
             take_lines(input, &lines);
-            None
+            Ok(None)
         }
         Ok(Tried::Withdrawn) => {
             *alone = lines.len();
-            None
+            Ok(None)
         }
         Err(DeviceFailed) => {
             take_lines(input, &lines);
-            Some(tell(err, &Refusal::Write))
+            Err(Refusal::Write)
         }
     }
 }
 
-// Does the command of the next line. Returns the status of a batch that ends with it.
-fn take_alone<S: Alter, H: Host, R: BufRead + Drop, W: Write + Drop, E: Sink>(
-    alloc: Global,
-    name: &str,
-    depot: &mut Depot<S>,
-    host: &mut H,
+// Does the command of the next line, or answers the rest of an input that has no line break. Returns the status of a
+// batch that ends with it.
+//
+// # Errors
+//
+// The refusal with which the batch ends: `Read`, `Write` or `Memory`.
+fn take_alone<S: Alter, H: Host, R: BufRead + Drop, W: Write + Drop>(
+    desk: &mut Desk<'_, '_, '_, '_, S, H, W>,
     input: &mut OfRead<R>,
-    out: &mut OfWrite<W>,
-    err: &mut E,
-) -> Option<u8>
-    ensures { (alone later : ℕ) → alone ≤ later + 1
-        → HasTurned S.Store name.now result alone later
+) -> Result<Option<u8>, Refusal>
+    ensures same { places_of desk.new ≡ places_of desk.old }
+    ensures turned { (alone later : ℕ) → alone ≤ later + 1
+        → HasTurned S.Store desk.old.name.now result alone later
         (⟦<OfRead<R> as Source>⟧.supply input.old) (⟦<OfRead<R> as Source>⟧.supply input.new)
-        (depot_and_output S.Store depot.old (H.state host.old) (⟦<OfWrite<W> as Sink>⟧.output out.old))
-        (depot_and_output S.Store depot.new (H.state host.new) (⟦<OfWrite<W> as Sink>⟧.output out.new))
-        (E.output err.old) (E.output err.new) }
+        (on S.Store H.state W.contents desk.old) (on S.Store H.state W.contents desk.new) }
 {
-    let mut line = Vec::new(alloc);
+    let mut line = Vec::new(desk.alloc);
     match next_line(input, &mut line) {
-        Ok(Taken::Line) => match serve(alloc, name, &line, depot, host, out) {
-            Ok(outcome) => {
-                if is_shut_by(&outcome) {
-                    return Some(REFUSED);
-                }
-                None
-            }
-            Err(DeviceFailed) => Some(tell(err, &Refusal::Write)),
+        Ok(Taken::Line) => match serve(desk, &line) {
+            Ok(outcome) => Ok(status_after(&outcome)),
+            Err(DeviceFailed) => Err(Refusal::Write),
         },
-        Ok(Taken::Unfinished) => Some(serve_last(alloc, name, &line, depot, host, out, err)),
-        Ok(Taken::Nothing) => Some(SUCCESS),
-        Err(refusal) => Some(tell(err, &refusal)),
+        Ok(Taken::Unfinished) => match serve(desk, &line) {
+            Ok(_) => Ok(Some(SUCCESS)),
+            Err(DeviceFailed) => Err(Refusal::Write),
+        },
+        Ok(Taken::Nothing) => Ok(Some(SUCCESS)),
+        Err(refusal) => Err(refusal),
     }
 }
 
-// Answers the rest of the input, which has no line break, and returns the status.
-fn serve_last<S: Alter, H: Host, W: Write + Drop, E: Sink>(
-    alloc: Global,
-    name: &str,
-    octets: &[u8],
-    depot: &mut Depot<S>,
-    host: &mut H,
-    out: &mut OfWrite<W>,
-    err: &mut E,
-) -> u8
-    ensures { HasServedLast S.Store name.now result octets.now
-        (depot_and_output S.Store depot.old (H.state host.old) (⟦<OfWrite<W> as Sink>⟧.output out.old))
-        (depot_and_output S.Store depot.new (H.state host.new) (⟦<OfWrite<W> as Sink>⟧.output out.new))
-        (E.output err.old) (E.output err.new) }
-{
-    match serve(alloc, name, octets, depot, host, out) {
-        Ok(_) => SUCCESS,
-        Err(DeviceFailed) => tell(err, &Refusal::Write),
-    }
-}
-
-// Whether the depot can be shut after this outcome of a line.
-fn is_shut_by(outcome: &Outcome) -> bool
-    ensures shut { result ≡ true → outcome.now ≡ Refused Database }
-    ensures goes_on { result ≡ false → outcome.now ≡ Refused Database → ⊥ }
+// The status of a batch that ends after this outcome of a line, because the depot can be shut.
+fn status_after(outcome: &Outcome) -> Option<u8>
+    ensures ends { IfSome result (λ status. (status ≡ 1) × (outcome.now ≡ Refused Database)) }
+    ensures goes_on { IfNone result (outcome.now ≡ Refused Database → ⊥) }
 {
     match outcome {
-        Outcome::Refused(Refusal::Database) => true,
-        Outcome::Done | Outcome::Refused(_) | Outcome::Wrong => false,
+        Outcome::Refused(Refusal::Database) => Some(REFUSED),
+        Outcome::Done | Outcome::Refused(_) | Outcome::Wrong => None,
     }
 }

@@ -15,10 +15,11 @@ ghost use Rattle.devices.specs.Device.{HasBroken, HasTaken};
 ghost use Rattle.devices.specs.Pages.{Wrote};
 ghost use Rattle.depot_actions.specs.Deliveries.{DoesAll, MayLeaveAll, command_of as asked_of};
 ghost use Rattle.depot_actions.specs.DepotState.{Listed};
-ghost use Rattle.depot_batch.specs.Batch.{AreAnsweredBy, filed_text, most_together, depot_and_output};
-ghost use Rattle.depot_batch.specs.Private.{HasTried, command_of, filed_by, lines_of};
+ghost use Rattle.depot_batch.specs.Batch.{AreAnsweredBy, filed_text, most_together};
+ghost use Rattle.depot_batch.specs.Private.{HasTried, command_of, filed_by, lines_of, on, places_of};
 
 use crate::answering::Answer;
+use crate::desk::Desk;
 use crate::line::flush;
 use crate::mails::{Mail, read_mails};
 use crate::report::{Report, print_report};
@@ -52,30 +53,26 @@ pub enum Tried {
 ///
 /// `DeviceFailed` if the writer fails. What the commands did remains done.
 pub fn serve_together<S: Alter, H: Host, W: Write + Drop>(
-    alloc: Global,
+    desk: &mut Desk<'_, '_, '_, '_, S, H, W>,
     lines: &mut Vec<Vec<u8>>,
-    depot: &mut Depot<S>,
-    host: &mut H,
-    out: &mut OfWrite<W>,
 ) -> Result<Tried, DeviceFailed>
     requires some { 0 < length (lines_of lines.old.items) }
     requires few { length (lines_of lines.old.items) ≤ most_together }
+    ensures same { places_of desk.new ≡ places_of desk.old }
     ensures first { (later : List (Vec ℕ Global)) × (lines.old.items ≡ lines.new.items ++ later) }
     ensures some { 0 < length (lines_of lines.new.items) }
     ensures tried { IfOk result (λ tried. HasTried S.Store tried (lines_of lines.new.items)
-        (depot_and_output S.Store depot.old (H.state host.old) (⟦<OfWrite<W> as Sink>⟧.output out.old))
-        (depot_and_output S.Store depot.new (H.state host.new) (⟦<OfWrite<W> as Sink>⟧.output out.new))) }
+        (on S.Store H.state W.contents desk.old) (on S.Store H.state W.contents desk.new)) }
     ensures broken { OnErr result (AreAnsweredBy S.Store HasBroken (lines_of lines.new.items)
-        (depot_and_output S.Store depot.old (H.state host.old) (⟦<OfWrite<W> as Sink>⟧.output out.old))
-        (depot_and_output S.Store depot.new (H.state host.new) (⟦<OfWrite<W> as Sink>⟧.output out.new))) }
+        (on S.Store H.state W.contents desk.old) (on S.Store H.state W.contents desk.new)) }
 {
-    let Some(mails) = read_mails(alloc, lines, host) else {
+    let Some(mails) = read_mails(desk.alloc, lines, desk.host) else {
         return Ok(Tried::Withdrawn);
     };
     lines.truncate(mails.len());
-    match deliver_mails(alloc, &mails, depot) {
+    match deliver_mails(desk.alloc, &mails, desk.depot) {
         Some(replies) => {
-            put_filed(out, replies)?;
+            put_filed(desk.out, replies)?;
             Ok(Tried::Done)
         }
         None => Ok(Tried::Withdrawn),
