@@ -1,14 +1,19 @@
 -- What comes of words, from what comes of their parts.
-use Rattle.std.proofs.Common.{◌≡◌, ◌≢◌, ◌⊎◌, ℕ, Bool, true, false, List, inl, inr, refl}
+use Rattle.std.proofs.Common.{◌≡◌, ◌≢◌, ◌⊎◌, ℕ, Bool, true, false, List, inl, inr, refl, subst}
 use Rattle.clap.specs.Words.{App, Text, takes}
 use Rattle.clap.specs.declared.error.kind.ErrorKind.{ErrorKind}
 use Rattle.clap.specs.declared.error.kind.ErrorKind.TheVariants.{OutOfMemory}
 use Rattle.depot_jobs.specs.Jobs.{Answer, HasOutcome, HasTold, HostAndOutputs, IsGiven, finds, says, traces, writes}
-use Rattle.depot_jobs.specs.Requests.{Job}
+use Rattle.depot_jobs.specs.Requests.{Job, Work}
 use Rattle.depot_jobs.specs.Statuses.{refused, usage}
+use Rattle.depot_jobs.specs.Working.{IsJobOf}
 use Rattle.depot_jobs.specs.Usage.{HasNoLine, HasToldUsage, IsNoLine, KeepsOthers}
 use Rattle.depot_words.specs.Commands.{IsDepot}
 use Rattle.refusals.specs.declared.refusal.Refusal.TheVariants.{Memory}
+
+-- the job is that of the same octets elsewhere
+pub with_octets : {xs xs2 ys ys2 : List ℕ} (work : Work) (job : Job) → xs ≡ xs2 → ys ≡ ys2 → IsJobOf work xs ys job → IsJobOf work xs2 ys2 job
+with_octets {xs} {xs2} {ys} {ys2} work job first second is = subst (λ zs. IsJobOf work xs2 zs job) second (subst (λ zs. IsJobOf work zs ys job) first is)
 
 module _ {U U2 Q Q2 : Type 0} (unwritten : U → U2) (quiet : Q → Q2) where
   given : (answer : Answer) (status : ℕ) (old new : HostAndOutputs) → IsGiven U Q answer status old new → IsGiven U2 Q2 answer status old new
@@ -19,12 +24,12 @@ module _ {U U2 Q Q2 : Type 0} (unwritten : U → U2) (quiet : Q → Q2) where
   given (finds text refusal) status old new is = is
   given (writes name source octets) status old new (inl (made, inl whole)) = inl (made, inl (whole.0, whole.1, quiet whole.2))
   given (writes name source octets) status old new (inl (made, inr broken)) = inl (made, inr broken)
-  given (writes name source octets) status old new (inr (refusal, unmade, no)) = inr (refusal, unmade, (no.0, no.1, unwritten no.2))
+  given (writes name source octets) status old new (inr (refusal, unmade, told)) = inr (refusal, unmade, (told.0, told.1, unwritten told.2))
 
   -- what is known of outputs that nothing was written to is known of what they took
   pub outcome : (job : Job) (status : ℕ) (old new : HostAndOutputs) → HasOutcome U Q job status old new → HasOutcome U2 Q2 job status old new
   outcome job status old new (inl (answer, is, gave)) = inl (answer, is, given answer status old new gave)
-  outcome job status old new (inr (refusal, is, host, no)) = inr (refusal, is, host, (no.0, no.1, unwritten no.2))
+  outcome job status old new (inr (refusal, is, host, told)) = inr (refusal, is, host, (told.0, told.1, unwritten told.2))
 
 not_taken : (b : Bool) (kind : ErrorKind) → (b ≡ true → kind ≡ OutOfMemory) → (kind ≡ OutOfMemory → ⊥) → b ≡ false
 not_taken true kind taken other = absurd (other (taken refl))

@@ -1,13 +1,14 @@
--- What is read of files and of standard input, and what requests read.
+-- What is read: by work and by requests, of files and of standard input.
 use Rattle.std.specs.Prelude.{◌≡◌, ◌⊎◌, ℕ, ◌+◌, ◌<◌, ◌≤◌, List, [], Option, None, Some, length, IfSome}
 use Rattle.clap.specs.Words.{Text}
 use Rattle.devices.specs.Device.{counted}
 use Rattle.refusals.specs.declared.refusal.Refusal.{Refusal}
 use Rattle.refusals.specs.declared.refusal.Refusal.TheVariants.{Memory, MessageTooLarge, Read}
-use Rattle.depot_jobs.specs.Host.{HostState, Origin, file, opens, with_call, with_faults}
+use Rattle.depot_jobs.specs.Host.{HostState, Origin, file as of_file, opens, origin_of, with_call, with_faults}
 use Rattle.depot_jobs.specs.Limits.{max_input}
-use Rattle.depot_jobs.specs.Requests.{Request}
+use Rattle.depot_jobs.specs.Requests.{Request, Work}
 use Rattle.depot_jobs.specs.declared.request.OnDepot.TheVariants.{Script, Code, Deliver, List as ListEntries, Export, Remove, Migrate}
+use Rattle.depot_jobs.specs.declared.work.WithoutDepot.TheVariants.{OnFile, OnMessage}
 
 -- the file that a request reads
 abbrev pub file_of : Request → Option (List ℕ)
@@ -40,21 +41,25 @@ HasNotRead Read origin old new = (given : ℕ) × (given ≤ max_input)
     × (new ≡ with_faults 1 (after_reading origin given old))
 HasNotRead _ origin old new = ⊥
 
--- the octets of two were read, one after the other
-abbrev pub HaveRead : Origin → Origin → List ℕ → List ℕ → HostState → HostState → Type 0
-HaveRead first second xs ys old new = (mid : HostState) × HasRead first xs old mid × HasRead second ys mid new
+-- what work reads was read, in the order of its words
+abbrev pub HaveRead : Work → List ℕ → List ℕ → HostState → HostState → Type 0
+HaveRead (OnFile tool file) xs ys old new = HasRead (origin_of file) xs old new
+HaveRead (OnMessage runner file message) xs ys old new =
+    (mid : HostState) × HasRead (origin_of file) xs old mid × HasRead (origin_of message) ys mid new
 
--- those of the first were not read, and the second wasn't asked for; or the first was read, and the second was not
-abbrev pub HaveNotRead : Refusal → Origin → Origin → HostState → HostState → Type 0
-HaveNotRead refusal first second old new = HasNotRead refusal first old new
-    ⊎ ((octets : List ℕ) × (mid : HostState) × HasRead first octets old mid × HasNotRead refusal second mid new)
+-- what it reads was not read; where the first was not, the second wasn't asked for
+abbrev pub HaveNotRead : Refusal → Work → HostState → HostState → Type 0
+HaveNotRead refusal (OnFile tool file) old new = HasNotRead refusal (origin_of file) old new
+HaveNotRead refusal (OnMessage runner file message) old new = HasNotRead refusal (origin_of file) old new
+    ⊎ ((octets : List ℕ) × (mid : HostState) × HasRead (origin_of file) octets old mid
+    × HasNotRead refusal (origin_of message) mid new)
 
 -- the file was read, if there is one
 abbrev pub HasReadFile : Option Text → List ℕ → HostState → HostState → Type 0
 HasReadFile None octets old new = (octets ≡ []) × (new ≡ old)
-HasReadFile (Some name) octets old new = HasRead (file name) octets old new
+HasReadFile (Some name) octets old new = HasRead (of_file name) octets old new
 
 -- it was not read
 abbrev pub HasNotReadFile : Refusal → Option Text → HostState → HostState → Type 0
 HasNotReadFile refusal None old new = ⊥
-HasNotReadFile refusal (Some name) old new = HasNotRead refusal (file name) old new
+HasNotReadFile refusal (Some name) old new = HasNotRead refusal (of_file name) old new

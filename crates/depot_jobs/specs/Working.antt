@@ -2,8 +2,8 @@
 use Rattle.std.specs.Prelude.{◌≡◌, ℕ, List, []}
 use Rattle.clap.specs.Words.{Text}
 use Rattle.refusals.specs.declared.refusal.Refusal.{Refusal}
-use Rattle.depot_jobs.specs.Host.{HostState, origin_of}
-use Rattle.depot_jobs.specs.Inputs.{HasNotRead, HasRead, HaveNotRead, HaveRead}
+use Rattle.depot_jobs.specs.Host.{HostState}
+use Rattle.depot_jobs.specs.Inputs.{HaveNotRead, HaveRead}
 use Rattle.depot_jobs.specs.Jobs.{HasOutcome, HasTold, HostAndOutputs, host_and_outputs}
 use Rattle.depot_jobs.specs.Requests.{Job, Work}
 use Rattle.depot_jobs.specs.Statuses.{refused}
@@ -21,31 +21,26 @@ name_of (File name) = name.now
 abbrev pub IsRead : Input → List ℕ → ReadFile → Type 0
 IsRead input octets file = (file.name.now ≡ name_of input) × (file.octets.now ≡ octets)
 
--- what work reads was read, in the order of its words, which makes it this job
-abbrev pub IsReadAs : Work → Job → HostState → HostState → Type 0
-IsReadAs (OnFile tool input) job old new =
-    (file : ReadFile) × (octets : List ℕ) × (job ≡ OnFile tool file) × IsRead input octets file
-    × HasRead (origin_of input) octets old new
-IsReadAs (OnMessage runner input other) job old new =
-    (file message : ReadFile) × (xs ys : List ℕ) × (job ≡ OnMessage runner file message) × IsRead input xs file
-    × IsRead other ys message × HaveRead (origin_of input) (origin_of other) xs ys old new
-
--- what it reads was not read
-abbrev pub IsUnread : Refusal → Work → HostState → HostState → Type 0
-IsUnread refusal (OnFile tool input) old new = HasNotRead refusal (origin_of input) old new
-IsUnread refusal (OnMessage runner input other) old new = HaveNotRead refusal (origin_of input) (origin_of other) old new
+-- the job that work is, with the octets that were read
+abbrev pub IsJobOf : Work → List ℕ → List ℕ → Job → Type 0
+IsJobOf (OnFile tool input) xs ys job = (file : ReadFile) × IsRead input xs file × (job ≡ OnFile tool file)
+IsJobOf (OnMessage runner input other) xs ys job =
+    (file message : ReadFile) × IsRead input xs file × IsRead other ys message × (job ≡ OnMessage runner file message)
 
 -- what work reads was read, and its job had this outcome
 pub record HasWorked (work : Work) (status : ℕ) (old new : HostAndOutputs) : Type 0 where
-  pub job : Job
+  pub first : List ℕ
+  pub second : List ℕ
   pub mid : HostState
-  pub read : IsReadAs work job old.host mid
+  pub read : HaveRead work first second old.host mid
+  pub job : Job
+  pub is_job : IsJobOf work first second job
   pub outcome : HasOutcome (new.out ≡ old.out) (new.err ≡ old.err) job status (host_and_outputs mid old.out old.err) new
 
 -- what it reads was not read, and the refusal was told
 pub record HasNotWorked (work : Work) (status : ℕ) (old new : HostAndOutputs) : Type 0 where
   pub refusal : Refusal
-  pub unread : IsUnread refusal work old.host new.host
+  pub unread : HaveNotRead refusal work old.host new.host
   pub told : HasTold refusal old.err new.err
   pub out : new.out ≡ old.out
   pub is_refused : status ≡ refused

@@ -9,29 +9,34 @@ ghost use Rattle.depot_jobs.specs.Inputs.{HasNotRead, HasNotReadFile, HasRead, H
 use crate::host::{Host, Input};
 use crate::reading::read_limited;
 use crate::request::Request;
+use crate::work::Work;
 use mime_decode::MAX_MESSAGE;
 use refusals::Refusal;
 use std::alloc::Global;
 
-/// Reads two files, one after the other.
+/// Reads what work reads, in the order of its words. If it reads one file, the second bytes are empty.
 ///
 /// # Errors
 ///
 /// Those of [`read_input`], for the first that can't be read. Nothing after it is opened.
-pub fn read_two<H: Host>(
+pub fn read_inputs<H: Host>(
     alloc: Global,
-    first: Input<'_>,
-    second: Input<'_>,
+    work: Work<'_>,
     host: &mut H,
 ) -> Result<(Vec<u8>, Vec<u8>), Refusal>
-    ensures read { IfOk result (λ octets. HaveRead (origin_of first.entry) (origin_of second.entry)
-        octets.0.items octets.1.items (H.state host.old) (H.state host.new)) }
-    ensures refused { IfErr result (λ e. HaveNotRead e (origin_of first.entry)
-        (origin_of second.entry) (H.state host.old) (H.state host.new)) }
+    ensures read { IfOk result (λ octets. HaveRead work.entry octets.0.items octets.1.items
+        (H.state host.old) (H.state host.new)) }
+    ensures refused { IfErr result (λ e. HaveNotRead e work.entry (H.state host.old)
+        (H.state host.new)) }
 {
-    let first = read_input(alloc, first, host)?;
-    let second = read_input(alloc, second, host)?;
-    Ok((first, second))
+    match work {
+        Work::OnFile(_, file) => Ok((read_input(alloc, file, host)?, Vec::new(alloc))),
+        Work::OnMessage(_, file, message) => {
+            let first = read_input(alloc, file, host)?;
+            let second = read_input(alloc, message, host)?;
+            Ok((first, second))
+        }
+    }
 }
 
 /// Reads a file or standard input: at most 67,108,864 bytes.

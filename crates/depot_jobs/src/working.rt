@@ -4,10 +4,10 @@
 // of the verifier is the last one, a comment.
 ghost use Rattle.std.specs.Prelude.{◌⊎◌};
 ghost use Rattle.depot_jobs.specs.Jobs.{host_and_outputs};
-ghost use Rattle.depot_jobs.specs.Working.{HasNotWorked, HasWorked, IsRead};
+ghost use Rattle.depot_jobs.specs.Working.{HasNotWorked, HasWorked, IsJobOf, IsRead};
 
 use crate::host::{Host, Input};
-use crate::inputs::{read_input, read_two};
+use crate::inputs::read_inputs;
 use crate::job::{answer, tell};
 use crate::work::{File, Job, Work};
 use devices::Sink;
@@ -30,21 +30,24 @@ pub fn carry_out<H: Host, O: Sink, E: Sink>(
         (host_and_outputs (H.state host.old) (O.output out.old) (E.output err.old))
         (host_and_outputs (H.state host.new) (O.output out.new) (E.output err.new)) }
 {
+    match read_inputs(alloc, work, host) {
+        Ok((first, second)) => {
+            let job = job_of(work, &first, &second);
+            answer(alloc, job, host, out, err)
+        }
+        Err(refusal) => tell(err, &refusal),
+    }
+}
+
+// The job of this work, with the bytes that were read.
+fn job_of<'a>(work: Work<'a>, first: &'a [u8], second: &'a [u8]) -> Job<'a>
+    ensures { IsJobOf work.entry first.entry.now second.entry.now result }
+{
     match work {
-        Work::OnFile(tool, input) => match read_input(alloc, input, host) {
-            Ok(octets) => {
-                let job = Job::OnFile(tool, file_read(input, &octets));
-                answer(alloc, job, host, out, err)
-            }
-            Err(refusal) => tell(err, &refusal),
-        },
-        Work::OnMessage(runner, file, message) => match read_two(alloc, file, message, host) {
-            Ok((octets, mail)) => {
-                let (file, message) = (file_read(file, &octets), file_read(message, &mail));
-                answer(alloc, Job::OnMessage(runner, file, message), host, out, err)
-            }
-            Err(refusal) => tell(err, &refusal),
-        },
+        Work::OnFile(tool, file) => Job::OnFile(tool, file_read(file, first)),
+        Work::OnMessage(runner, file, message) => {
+            Job::OnMessage(runner, file_read(file, first), file_read(message, second))
+        }
     }
 }
 
