@@ -45,8 +45,8 @@ returns-clause-done g c =
       text,
       taken,
       subst (λ h. Always g.S.Store h new (Does command (Text text))) c.self.view_is
-      (exported g.S.Store c.self.inside.store new c.bytes_of.result c.map_err.result c.map_err.ensures.cases c.in_ok-octets.octets c.in_ok-octets.was c.args.user.now c.args.number c.args.encoding c.deref.result.now named
-      c.deref.ensures.value c.bytes_of.ensures.answer c.bytes_of.ensures.reads),
+          (exported g.S.Store c.self.inside.store new c.bytes_of.result c.map_err.result c.map_err.ensures.cases c.in_ok-octets.octets c.in_ok-octets.was c.args.user.now c.args.number c.args.encoding c.deref.result.now named
+          c.deref.ensures.value c.bytes_of.ensures.answer c.bytes_of.ensures.reads),
     )) c.put_text.ensures.ok
 
 pub returns-clause-stopped : goal.returns-clause-stopped
@@ -59,6 +59,6 @@ returns-clause-stopped g c =
       text,
       subst (λ w. HasStopped w text (g.W.Sink.output c.args.writer.now) (g.W.Sink.output c.put_text.new.writer)) is stopped,
       subst (λ h. Always g.S.Store h new (Does command (Text text))) c.self.view_is
-      (exported g.S.Store c.self.inside.store new c.bytes_of.result c.map_err.result c.map_err.ensures.cases c.in_ok-octets.octets c.in_ok-octets.was c.args.user.now c.args.number c.args.encoding c.deref.result.now named
-      c.deref.ensures.value c.bytes_of.ensures.answer c.bytes_of.ensures.reads),
+          (exported g.S.Store c.self.inside.store new c.bytes_of.result c.map_err.result c.map_err.ensures.cases c.in_ok-octets.octets c.in_ok-octets.was c.args.user.now c.args.number c.args.encoding c.deref.result.now named
+          c.deref.ensures.value c.bytes_of.ensures.answer c.bytes_of.ensures.reads),
     )) c.put_text.ensures.err
