@@ -1,6 +1,5 @@
-use Rattle.std.proofs.Common.{ap, inl, subst}
+use Rattle.std.proofs.Common.{ap, inl}
 use Rattle.depot_jobs.specs.Jobs.{host_and_outputs}
-use Rattle.depot_jobs.specs.Working.{IsJobOf}
 use Rattle.depot_jobs.proofs.WorkingLemmas.{outcome, with_octets}
 use Rattle.depot_jobs.proofs.working.carry_out.Goals as goal
 
