@@ -2,37 +2,18 @@
 use Rattle.std.proofs.Common.{◌≡◌, ◌∙◌, ◌<◌, ◌≤◌, ◌+◌, ◌-◌, ℕ, suc, Bool, true, false, List, length, take, get_or, ap, sym, arith, inl, inr}
 use Rattle.std.proofs.lemmas.Bool.{cases_Bool}
 use Rattle.std.proofs.lemmas.List.Sums.{count_by_more_no, count_by_more_yes}
-use Rattle.std.specs.Prelude.{◌||◌, ◌==◌, if◌then◌else◌, None, Some}
-use Rattle.std.specs.List.{count_by, find, list_any, range_with_len}
+use Rattle.std.specs.Prelude.{◌==◌, if◌then◌else◌, Some}
+use Rattle.std.specs.List.{count_by, find, range_with_len}
 
 -- the place that comes first, and the others
 range_step : (a n : ℕ) → a < n → range_with_len a (n - a) ≡ range_with_len a (suc (n - (a + 1)))
 range_step a n within = let e : n - a ≡ suc (n - (a + 1)) = omega (arith, within) in ap (range_with_len a) e
 
-range_none : (a n : ℕ) → n ≤ a → range_with_len a (n - a) ≡ range_with_len a 0
-range_none a n beyond = let e : n - a ≡ 0 = omega (arith, beyond) in ap (range_with_len a) e
-
-pub any_step : (p : ℕ → Bool) (a n : ℕ) → a < n
-    → list_any p (range_with_len a (n - a)) ≡ (p a || list_any p (range_with_len (a + 1) (n - (a + 1))))
-any_step p a n within = ap (list_any p) (range_step a n within)
-
-pub any_none : (p : ℕ → Bool) (a n : ℕ) → n ≤ a → list_any p (range_with_len a (n - a)) ≡ false
-any_none p a n beyond = ap (list_any p) (range_none a n beyond)
-
-pub find_step : (p : ℕ → Bool) (a n : ℕ) → a < n
+find_step : (p : ℕ → Bool) (a n : ℕ) → a < n
     → find p (range_with_len a (n - a)) ≡ (if p a then Some a else find p (range_with_len (a + 1) (n - (a + 1))))
 find_step p a n within = ap (find p) (range_step a n within)
 
-pub find_none : (p : ℕ → Bool) (a n : ℕ) → n ≤ a → find p (range_with_len a (n - a)) ≡ None
-find_none p a n beyond = ap (find p) (range_none a n beyond)
-
 -- what is looked for is at this place; or it isn't, and is looked for at the others
-pub found_here : (p : ℕ → Bool) (a n : ℕ) → a < n → p a ≡ true → true ≡ list_any p (range_with_len a (n - a))
-found_here p a n within is = sym (any_step p a n within ∙ ap (λ (b : Bool). b || list_any p (range_with_len (a + 1) (n - (a + 1)))) is)
-
-pub not_here : (p : ℕ → Bool) (a n : ℕ) → a < n → p a ≡ false → list_any p (range_with_len (a + 1) (n - (a + 1))) ≡ list_any p (range_with_len a (n - a))
-not_here p a n within is_not = sym (any_step p a n within ∙ ap (λ (b : Bool). b || list_any p (range_with_len (a + 1) (n - (a + 1)))) is_not)
-
 pub first_here : (p : ℕ → Bool) (a n : ℕ) → a < n → p a ≡ true → Some a ≡ find p (range_with_len a (n - a))
 first_here p a n within is = sym (find_step p a n within ∙ ap (λ (b : Bool). if b then Some a else find p (range_with_len (a + 1) (n - (a + 1)))) is)
 

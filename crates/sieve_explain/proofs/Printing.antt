@@ -1,9 +1,9 @@
 -- What is told can be printed anywhere, since it is escaped when it is written.
-use Rattle.std.proofs.Common.{◌≡◌, ◌∙◌, ℕ, zero, suc, ◌+◌, ◌/◌, ◌%◌, ◌<◌, ◌≤◌, Bool, true, false, cond, Option, Some, None, List, [], ◌∷◌, ◌++◌, length, ap, sym, subst, refl, arith, lt-ltb, le-ltb, append-nil}
+use Rattle.std.proofs.Common.{◌≡◌, ◌∙◌, ℕ, zero, suc, ◌+◌, ◌/◌, ◌%◌, ◌<◌, ◌≤◌, Bool, true, false, cond, Option, Some, None, List, [], ◌∷◌, ◌++◌, ap, sym, subst, refl, arith, lt-ltb, le-ltb, append-nil}
 use Rattle.std.specs.List.{list_all}
 use Rattle.std.specs.Char.{encode_utf8}
 use Rattle.std.specs.Str.{all_scalars}
-use Rattle.std.specs.Prelude.{nat_le, nat_lt, not, ◌&&◌, ◌||◌, ◌==◌, if◌then◌else◌, flat_map, drop, take, encode_utf8_all}
+use Rattle.std.specs.Prelude.{nat_lt, ◌&&◌, ◌||◌, ◌==◌, if◌then◌else◌, flat_map, drop, encode_utf8_all}
 use Rattle.std.specs.Fmt.{digit_glyph}
 use Rattle.std.proofs.Math.Utf8.{low_scalar, scalar}
 use Rattle.std.proofs.lemmas.Str.{encode_ascii, encodes-append}
@@ -16,7 +16,7 @@ use Rattle.octets.specs.Limits.{max_script}
 use Rattle.refusals.specs.declared.refusal.Refusal.{Refusal}
 use Rattle.refusals.specs.declared.refusal.Refusal.TheVariants as refused
 use Rattle.sieve_explain.specs.Characters.{first_piece, is_graphic, is_sign, is_visible, more_octets, pieces, pieces_after}
-use Rattle.sieve_explain.specs.Explaining.{Explains, TellsFault, TellsReasons, depth_told, listing_told, look_told, printed, printed_one, reasons_told, syntax_told, told}
+use Rattle.sieve_explain.specs.Explaining.{Explains, TellsFault, depth_told, listing_told, look_told, printed, printed_one, reasons_told, syntax_told, told}
 use Rattle.sieve_explain.specs.Faults.{lexical_blanks, listing_blanks, look_text, too_long_blanks}
 use Rattle.sieve_explain.specs.Printable.{IsAsciiOrVisible, IsReadable, have_no_controls, is_ascii_or_visible, is_no_control, is_readable}
 use Rattle.sieve_explain.specs.Shown.{escaped, is_name_octet, name_octet, shown, shown_character, shown_name, shown_octets, shown_piece}

@@ -1,5 +1,5 @@
 -- The notes on a script without faults: tests and commands that can't mean what they say. Each test and each command has at most one.
-use Rattle.std.specs.Prelude.{ℕ, zero, suc, ◌+◌, ◌-◌, Bool, true, false, not, ◌&&◌, ◌||◌, ◌==◌, if◌then◌else◌, List, [], ◌∷◌, length, drop, max, take, take_while, nat_le, nat_lt, Option, Some, None, option_map, bytes_eq, codes}
+use Rattle.std.specs.Prelude.{ℕ, zero, suc, ◌+◌, ◌-◌, Bool, true, false, not, ◌&&◌, ◌||◌, ◌==◌, if◌then◌else◌, List, [], ◌∷◌, length, drop, max, take, take_while, nat_le, nat_lt, Option, Some, None, is_some, option_map, bytes_eq, codes}
 use Rattle.std.specs.Char.{is_ascii_hexdigit, is_ascii_uppercase}
 use Rattle.std.specs.List.{cons_option, count_by, filter, find, list_all, list_any, range_with_len, slice_get}
 use Rattle.std.specs.Option.{option_and_then, option_or}
@@ -422,7 +422,7 @@ is_literal_at script word other tokens place = is_member tokens place && begins_
 
 -- a test of the group whose tokens these are is that word, or `not` and the other one
 abbrev pub has_literal : List ℕ → List ℕ → List ℕ → List Token → Bool
-has_literal script word other tokens = list_any (is_literal_at script word other tokens) (range_with_len 0 (length tokens))
+has_literal script word other tokens = is_some (find (is_literal_at script word other tokens) (range_with_len 0 (length tokens)))
 
 -- the test before the block of an `if` is that word, or `not` and the other one, or a group with such a test
 unfoldable pub is_constant : List ℕ → List ℕ → List ℕ → List ℕ → List Token → Bool
@@ -463,16 +463,20 @@ closes_block token = is_block_closing token.kind
 abbrev pub is_own : List Token → ℕ → Bool
 is_own block place = count_by opens_block (take place block) == count_by closes_block (take place block) + 1
 
--- after this command no other of its block runs
-abbrev pub is_ending : List ℕ → Option Token → Bool
-is_ending script token = is_word_at script (codes "stop") token || is_word_at script (codes "break") token
+-- the token is one of these words; the first of the block that is one and at the block's own level
+abbrev pub is_one_at : List ℕ → List (List ℕ) → Option Token → Bool
+is_one_at script words None = false
+is_one_at script words (Some token) = list_any (is_word (text_of script token)) words
 
--- there is such a command at that place, at the block's own level; at any place
-abbrev pub ends_at : List ℕ → List Token → ℕ → Bool
-ends_at script block place = is_own block place && is_ending script (slice_get block place)
+abbrev pub is_own_word : List ℕ → List (List ℕ) → List Token → ℕ → Bool
+is_own_word script words block place = is_own block place && is_one_at script words (slice_get block place)
 
-abbrev pub ends : List ℕ → List Token → Bool
-ends script block = list_any (ends_at script block) (range_with_len 0 (length block))
+abbrev pub own_word : List ℕ → List (List ℕ) → List Token → Option Token
+own_word script words block = option_and_then (slice_get block) (find (is_own_word script words block) (range_with_len 0 (length block)))
+
+-- after one of its commands no other runs
+unfoldable pub ends : List ℕ → List Token → Bool
+ends script block = is_some (own_word script (codes "stop" ∷ codes "break" ∷ []) block)
 
 -- ---- an `if` whose branches all end
 
@@ -509,15 +513,9 @@ chain_note script only tokens =
 
 -- ---- a `store` for each part
 
--- a `store` at that place of a loop's block, at the block's own level
-abbrev pub stores_at : List ℕ → List Token → ℕ → Bool
-stores_at script block place = is_own block place && is_word_at script (codes "store") (slice_get block place)
-
--- the first of them, noted so
-abbrev pub loop_note : List ℕ → List Token → Option Noted
-loop_note script block =
-    option_and_then (λ place. command_at StoresAll (slice_get block place))
-    (find (stores_at script block) (range_with_len 0 (length block)))
+-- the first `store` at the own level of a loop's block
+unfoldable pub loop_note : List ℕ → List Token → Option Noted
+loop_note script block = command_at StoresAll (own_word script (codes "store" ∷ []) block)
 
 -- ---- two entries for one message
 

@@ -1,5 +1,5 @@
 // What is said about a script that isn't parsed.
-ghost use Rattle.std.specs.Prelude.{◌≡◌, ◌≤◌, Some, bytes_eq, length, map, take, take_while};
+ghost use Rattle.std.specs.Prelude.{◌≡◌, ◌≤◌, bytes_eq, length, map, take, take_while};
 ghost use Rattle.sieve_explain.specs.Faults.{beginnings, begins_as_mail, dark_at, is_dark, is_field_octet, is_symbol, lexical_blanks, listing_blanks, listing_text, look_text, misplaced_text, more_blanks, misplaced_token, other_text, symbol_at, text_at, token_blanks, too_deep_blanks, too_long_blanks, unclosed_blanks, word_blanks};
 ghost use Rattle.sieve_explain.specs.Explaining.{misplaced_blanks};
 ghost use Rattle.sieve_explain.specs.Private.{beginning_of, blanks_of};

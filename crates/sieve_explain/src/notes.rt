@@ -13,9 +13,9 @@ ghost use Rattle.std.specs.List.{cons_option, filter, find, list_all, list_any, 
 ghost use Rattle.sieve_explain.specs.declared.notes.NoteKind.TheVariants.{AfterIf};
 ghost use Rattle.sieve_lexer.specs.Classes.{continues_identifier};
 ghost use Rattle.sieve_lexer.specs.Values.{inner};
-ghost use Rattle.sieve_explain.specs.Notes.{arguments_of, before_last, begins_branch, begins_capture, begins_inbox, begins_last, begins_literal, begins_with_star, behind_block, block_length, block_of, blocks_of, branch_note, capital_note, capture_kind, capture_note, chain_note, closes_block, closes_group, command_at, command_note, compares_octets, earlier_of, ends, ends_with_colon, ends_with_star, expands_references, fields_note, first_named, given_by, given_in, given_of, gives_value, has_capture, has_empty, has_inbox, has_literal, has_no_value, has_tag, has_wildcard, header_note, if_note, inbox_note, inside_behind, is_always_false, is_always_true, is_backslash, is_bare, is_beyond, is_blank, is_capital, is_constant, is_digest, is_digit, is_else, is_ending, is_first, is_inbox, is_inside, is_large, is_literal, is_long, is_named, is_named_by, is_no_opening, is_noted, is_noted_text, is_number_above, is_octet_at, is_other_field, is_other_source, is_part_field, is_raised, is_read, is_reference, is_root_field, is_slash, is_slash_or_dollar, is_star, is_star_or_mark, is_tagged, is_text, is_unclear, is_unread, is_variables, is_wildcard, is_word_at, kept_note, keys_note, lacks_value, last_of, long_note, loop_note, lower_note, lowers, may_name, may_refer, more_notes_blanks, most_captures, most_in, most_of, named_by, names_loop, names_note, next_note, next_of, note_at, note_blanks, note_in, note_number, note_text, noted_as, notes_from, notes_of, onto, open_behind, opens_block, opens_group, opens_list, part_note, patterns_note, precedes_test, reads, referred, refers_to, refers_to_none, requires_variables, root_note, scope_note, size_note, string_note, takes_part, takes_piece, takes_types, test_note, type_note, unread_note, value_note, wildcards_of, word_note};
+ghost use Rattle.sieve_explain.specs.Notes.{arguments_of, before_last, begins_branch, begins_capture, begins_inbox, begins_last, begins_literal, begins_with_star, behind_block, block_length, block_of, blocks_of, branch_note, capital_note, capture_kind, capture_note, chain_note, closes_block, closes_group, command_at, command_note, compares_octets, earlier_of, ends, ends_with_colon, ends_with_star, expands_references, fields_note, first_named, given_by, given_in, given_of, gives_value, has_capture, has_empty, has_inbox, has_literal, has_no_value, has_tag, has_wildcard, header_note, if_note, inbox_note, inside_behind, is_always_false, is_always_true, is_backslash, is_bare, is_beyond, is_blank, is_capital, is_constant, is_digest, is_digit, is_else, is_first, is_inbox, is_inside, is_large, is_literal, is_long, is_named, is_named_by, is_no_opening, is_noted, is_noted_text, is_number_above, is_octet_at, is_one_at, is_other_field, is_other_source, is_part_field, is_raised, is_read, is_reference, is_root_field, is_slash, is_slash_or_dollar, is_star, is_star_or_mark, is_tagged, is_text, is_unclear, is_unread, is_variables, is_wildcard, is_word_at, kept_note, keys_note, lacks_value, last_of, long_note, loop_note, lower_note, lowers, may_name, may_refer, more_notes_blanks, most_captures, most_in, most_of, named_by, names_loop, names_note, next_note, next_of, note_at, note_blanks, note_in, note_number, note_text, noted_as, notes_from, notes_of, onto, open_behind, opens_block, opens_group, opens_list, own_word, part_note, patterns_note, precedes_test, reads, referred, refers_to, refers_to_none, requires_variables, root_note, scope_note, size_note, string_note, takes_part, takes_piece, takes_types, test_note, type_note, unread_note, value_note, wildcards_of, word_note};
 ghost use Rattle.sieve_explain.specs.Marks.{is_amount, is_name};
-ghost use Rattle.sieve_explain.specs.Private.{NameAlike, blanks_of, known_view, max_noted};
+ghost use Rattle.sieve_explain.specs.Private.{NameAlike, blanks_of, known_view, max_noted, texts_of};
 
 use crate::marks::{
     arguments_length, first_of, is_name, is_separator, is_string, text_of, token_at, tokens_from,
@@ -1031,34 +1031,46 @@ fn closes_block(token: &Token) -> bool
     matches!(token.kind, TokenKind::ClosingBrace)
 }
 
-// Whether the token is a command after which no other of its block runs.
-fn is_ending(script: &[u8], token: Option<Token>) -> bool
-    ensures { result ≡ is_ending script.now token }
+// Whether the token is one of these words.
+fn is_one_at(script: &[u8], words: &[&str], token: Option<Token>) -> bool
+    ensures { result ≡ is_one_at script.now (texts_of words.now) token }
 {
-    is_word_at(script, b"stop", token) || is_word_at(script, b"break", token)
+    match token {
+        Some(token) => is_any(text_of(script, &token), words),
+        None => false,
+    }
 }
 
-// Whether the token is such a command; `own` says whether it is at the level of its block.
-fn ends_here(script: &[u8], own: bool, token: Option<Token>) -> bool
-    ensures { result ≡ (own && is_ending script.now token) }
+// The same at a place of a block; `own` says whether it is at the block's own level.
+fn is_own_word(script: &[u8], words: &[&str], own: bool, token: Option<Token>) -> bool
+    ensures { result ≡ (own && is_one_at script.now (texts_of words.now) token) }
 {
-    own && is_ending(script, token)
+    own && is_one_at(script, words, token)
 }
 
-// Whether the block has such a command at its own level.
-fn ends(script: &[u8], block: &[Token]) -> bool
-    ensures { result ≡ ends script.now block.now }
+// The first of these words at the own level of the block.
+fn own_word(script: &[u8], words: &[&str], block: &[Token]) -> Option<Token>
+    ensures { result ≡ own_word script.now (texts_of words.now) block.now }
 {
     let mut opened = 0;
     let mut closed = 0;
     for place in 0..block.len() {
-        if ends_here(script, is_level(opened, closed), token_at(block, place)) {
-            return true;
+        let token = token_at(block, place);
+        if is_own_word(script, words, is_level(opened, closed), token) {
+            return token;
         }
         opened = counted(opened, opens_block(&block[place]));
         closed = counted(closed, closes_block(&block[place]));
     }
-    false
+    None
+}
+
+// Whether a command at the own level of the block is one after which no other runs.
+#[tactic(auto, unfolding(crate::specs::Notes::ends))]
+fn ends(script: &[u8], block: &[Token]) -> bool
+    ensures { result ≡ ends script.now block.now }
+{
+    own_word(script, &["stop", "break"], block).is_some()
 }
 
 // Whether the branch is that of `else`.
@@ -1109,28 +1121,12 @@ fn chain_note(script: &[u8], only: bool, tokens: &[Token]) -> Option<Noted>
     None
 }
 
-// Whether the token is a `store`; `own` says whether it is at the level of its block.
-fn stores_here(script: &[u8], own: bool, token: Option<Token>) -> bool
-    ensures { result ≡ (own && is_word_at script.now (codes "store") token) }
-{
-    own && is_word_at(script, b"store", token)
-}
-
 // The note on the first `store` at the own level of a loop's block.
+#[tactic(auto, unfolding(crate::specs::Notes::loop_note))]
 fn loop_note(script: &[u8], block: &[Token]) -> Option<Noted>
     ensures { result ≡ loop_note script.now block.now }
 {
-    let mut opened = 0;
-    let mut closed = 0;
-    for place in 0..block.len() {
-        let token = token_at(block, place);
-        if stores_here(script, is_level(opened, closed), token) {
-            return command_at(NoteKind::StoresAll, token);
-        }
-        opened = counted(opened, opens_block(&block[place]));
-        closed = counted(closed, closes_block(&block[place]));
-    }
-    None
+    command_at(NoteKind::StoresAll, own_word(script, &["store"], block))
 }
 
 // The tokens from the command on that follows one that ends with a semicolon.
