@@ -18,7 +18,6 @@ use Rattle.depot_batch.specs.declared.ahead.Ahead.{Ahead}
 use Rattle.depot_batch.specs.declared.ahead.Ahead.TheVariants.{Deliveries, Other, End}
 use Rattle.depot_batch.specs.declared.desk.Desk.{Desk}
 use Rattle.depot_batch.specs.declared.mails.Mail.{Mail}
-use Rattle.depot_batch.specs.declared.outcome.Outcome.{Outcome}
 use Rattle.depot_batch.specs.declared.reading.Taken.{Taken}
 use Rattle.depot_batch.specs.declared.reading.Taken.TheVariants.{Line, Unfinished, Nothing}
 use Rattle.depot_batch.specs.declared.together.Tried.{Tried}
@@ -149,11 +148,11 @@ pub record Places : Type 0 where
   pub host : GName
   pub out : GName
 
-module _ {S H W : Type 0} where
-  abbrev pub places_of : Desk S H W → Places
+module _ {S H W Reader Writer : Type 0} where
+  abbrev pub places_of : Desk S H W Reader Writer → Places
   places_of desk = record { name = desk.name.now; depot = desk.depot.ghost_name; host = desk.host.ghost_name; out = desk.out.ghost_name }
 
   -- what lines are answered with there
-  abbrev pub on : Ghosts S → (H → HostState) → (W → Option (List ℕ)) → Desk S H W → DepotAndOutput S
+  abbrev pub on : Ghosts S → (H → HostState) → (W → Option (List ℕ)) → Desk S H W Reader Writer → DepotAndOutput S
   on g state contents desk =
       depot_and_output g desk.depot.now (state desk.host.now) (record { written = contents desk.out.now.inner; faults = desk.out.now.faults })
