@@ -16,3 +16,33 @@ pub returns-in-Err-migrate-clause-refused : goal.returns-in-Err-migrate-clause-r
 returns-in-Err-migrate-clause-refused g c =
     let all = c.in-Err-migrate.ensures in
     rw c.in-Migrate.is (all.which, λ clean. (all.refused clean, all.cause clean, all.unchanged clean))
+
+pub returns-in-Ok-clause-survives : goal.returns-in-Ok-clause-survives
+returns-in-Ok-clause-survives g c = rw (c.in-Script.is, sym c.deref.ensures.value) c.in-Ok.ensures.survives
+
+pub returns-in-Err-clause-survives : goal.returns-in-Err-clause-survives
+returns-in-Err-clause-survives g c = rw (c.in-Script.is, sym c.deref.ensures.value) c.in-Err.ensures.survives
+
+pub returns-in-Ok-set_code-clause-survives : goal.returns-in-Ok-set_code-clause-survives
+returns-in-Ok-set_code-clause-survives g c = rw (c.in-Code.is, sym c.deref-in-Code.ensures.value) c.in-Ok-set_code.ensures.survives
+
+pub returns-in-Err-set_code-clause-survives : goal.returns-in-Err-set_code-clause-survives
+returns-in-Err-set_code-clause-survives g c = rw (c.in-Code.is, sym c.deref-in-Code.ensures.value) c.in-Err-set_code.ensures.survives
+
+pub returns-in-Ok-deliver-clause-survives : goal.returns-in-Ok-deliver-clause-survives
+returns-in-Ok-deliver-clause-survives g c = rw (c.in-Deliver.is, sym c.deref-in-Deliver.ensures.value) c.in-Ok-deliver.ensures.survives
+
+pub returns-in-Err-deliver-clause-survives : goal.returns-in-Err-deliver-clause-survives
+returns-in-Err-deliver-clause-survives g c = rw (c.in-Deliver.is, sym c.deref-in-Deliver.ensures.value) c.in-Err-deliver.ensures.survives
+
+pub returns-in-Ok-remove-clause-survives : goal.returns-in-Ok-remove-clause-survives
+returns-in-Ok-remove-clause-survives g c = rw c.in-Remove.is c.in-Ok-remove.ensures.survives
+
+pub returns-in-Err-remove-clause-survives : goal.returns-in-Err-remove-clause-survives
+returns-in-Err-remove-clause-survives g c = rw c.in-Remove.is c.in-Err-remove.ensures.survives
+
+pub returns-in-Ok-migrate-clause-survives : goal.returns-in-Ok-migrate-clause-survives
+returns-in-Ok-migrate-clause-survives g c = rw c.in-Migrate.is c.in-Ok-migrate.ensures.survives
+
+pub returns-in-Err-migrate-clause-survives : goal.returns-in-Err-migrate-clause-survives
+returns-in-Err-migrate-clause-survives g c = rw c.in-Migrate.is c.in-Err-migrate.ensures.survives
