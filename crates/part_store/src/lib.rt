@@ -136,6 +136,7 @@ mod filing;
 pub mod laws;
 mod listing;
 mod looking;
+mod opening;
 mod scrubbing;
 mod shared;
 mod store;
