@@ -13,9 +13,9 @@
 //! command that only reads can be answered, and the store be shut after it. After a writer that was refused and shut
 //! the store, the file holds the state before or after.
 //!
-//! Of the crates within `sqlite`, code names three: `sqlite_value` (values), `sqlite_schema` (the schema) and
-//! `sqlite_disk` (the trait `Disk`, in contracts about stores over two files; only tests use its disks `Memory`, `Fuse`
-//! and `Crash`).
+//! Of the crates within `sqlite`, code names four: `sqlite_value` (values), `sqlite_schema` (the schema),
+//! `sqlite_std_file` (the two files at a path) and `sqlite_disk` (the trait `Disk`, in contracts about stores over two
+//! files; only tests use its disks `Memory`, `Fuse` and `Crash`).
 //!
 //! # Promises
 //!
@@ -136,6 +136,7 @@ mod filing;
 pub mod laws;
 mod listing;
 mod looking;
+mod opening;
 mod scrubbing;
 mod shared;
 mod store;

@@ -1,8 +1,8 @@
 //! The store and its calls.
 //!
 //! `adopt` hands a connection with an open transaction back; this isn't a condition on the caller. No call leaves a
-//! transaction open, so none has to ask. The cache of 2,000 pages and the syncs of an open are the database's own: its
-//! call that opens a path has no option for either. A batch pays for them once. What the files held is a parameter of
+//! transaction open, so none has to ask. The syncs of an open are the database's own: it has no option for them. A batch
+//! pays for them once. What the files held is a parameter of
 //! opening: `open_from` is generic in a `Start`, the toolchain's word for what a file and its log held, and promises to
 //! find that. `open` is `open_from` at `Unknown`, about which no clause says anything, because no contract can say what
 //! a file of the system holds; no clause ties the `Start` to the path either. A file that an interrupted first open
@@ -45,6 +45,7 @@ use crate::entry::{EntryRow, NewEntry};
 use crate::error::StoreError;
 use crate::listing::list_all;
 use crate::looking::{Unopened, has_tables};
+use crate::opening::open_database;
 use crate::scrubbing::{Scrubbed, scrub_all};
 use crate::shared::Shared;
 use crate::stored_programs::{list_programs, put_program, read_program, replace_all};
@@ -716,7 +717,7 @@ fn connect<B: Start>(
     ensures unlimited { IfOk result (λ c. (file_state c).step_limit ≡ None) }
     ensures found { OpensOrTells (image_at B.Start) result }
 {
-    match Connection::open_from(rt, path, false, start) {
+    match open_database(rt, path, start) {
         Ok(conn) => Ok(conn),
         Err((error, _)) => Err(error),
     }
