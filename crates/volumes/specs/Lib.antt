@@ -1,0 +1,4 @@
+pub mod Volumes
+pub mod Places
+pub mod OnVolumes
+pub mod Folders
