@@ -1,4 +1,5 @@
 pub mod Whole
+pub mod Unfinished
 pub mod Halving
 pub mod Stepping
 pub mod Lifting

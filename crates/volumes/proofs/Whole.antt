@@ -8,12 +8,12 @@ use Rattle.std.proofs.lemmas.List.Elements.{filter-append}
 use Rattle.std.proofs.lemmas.Slice.Eq.{bytes_eq-Decides}
 use Rattle.octets.specs.Limits.{max_entry_number}
 use Rattle.sqlite_rules.specs.Lists.{Has}
-use Rattle.sqlite_rules.proofs.ListLemmas.{all_from, all_has, has_either, has_left, has_right}
+use Rattle.sqlite_rules.proofs.ListLemmas.{all_from, all_has, has_either, has_filtered, has_left, has_right}
 use Rattle.sqlite_trees.specs.Tree.{IsAscending}
 use Rattle.sqlite_trees.proofs.ListLemmas.{filter_all, filter_none}
 use Rattle.part_store.specs.Entries.{Entries, Entry, entries_of, listing_of, no_entries}
 use Rattle.part_store.specs.Standing.{HasNone, IsNumbered}
-use Rattle.volumes.specs.Volumes.{AreVolumes, ComeAfter, ComesAfter, begun, current, newest_after, whole, without_up_to}
+use Rattle.volumes.specs.Volumes.{AreVolumes, ComeAfter, ComesAfter, begun, current, newest_after, since, whole, without_up_to}
 
 pub same_bytes : (m n : List ℕ) → bytes_eq m n ≡ true → m ≡ n
 same_bytes m n h = (bytes_eq-Decides m n).0 h
@@ -200,3 +200,29 @@ not_later user number v vs come enough x there named numbered = omega (arith, ab
 pub none_beyond : (user : List ℕ) (number : ℕ) (vs : List Entries) → AreVolumes vs → (whole vs).lasts user < number → HasNone (whole vs) user number
 none_beyond user number vs are small x at =
     omega (arith, within_newest no_entries vs are x at.0, ap (current vs).lasts at.1, at.2, small)
+
+-- ---- entries above a number
+
+-- volumes whose last numbers aren't above it have none
+none_since : (user : List ℕ) (number : ℕ) (v : Entries) (vs : List Entries) → ComeAfter v vs → AllByRecursion (λ w. w.lasts user ≤ number) vs → flat_map (since user number) vs ≡ []
+none_since user number v [] come small = refl
+none_since user number v (w ∷ vs) come small =
+    ap (λ xs. xs ++ flat_map (since user number) vs)
+    (filter_none (λ (x : Entry). nat_lt number x.number) (entries_of user w) (all_from _ (entries_of user w) (λ x there.
+    let his = has_filtered (λ (x : Entry). bytes_eq x.user user) w.entries x there in
+    le-ltb number x.number (omega (arith, (all_has _ w.entries x come.0.numbers his.0).1, ap w.lasts (same_bytes x.user user his.1), small.0)))))
+    ∙ none_since user number w vs come.1 small.1
+
+each_since : (user : List ℕ) (number : ℕ) (vs : List Entries) → filter (λ (x : Entry). nat_lt number x.number) (flat_map (entries_of user) vs) ≡ flat_map (since user number) vs
+each_since user number [] = refl
+each_since user number (v ∷ vs) =
+    filter-append (λ (x : Entry). nat_lt number x.number) (entries_of user v) (flat_map (entries_of user) vs)
+    ∙ ap (λ xs. since user number v ++ xs) (each_since user number vs)
+
+pub since_later : (user : List ℕ) (number : ℕ) (earlier later : List Entries) → AreVolumes (earlier ++ later) → AllByRecursion (λ w. w.lasts user ≤ number) earlier
+    → since user number (whole (earlier ++ later)) ≡ flat_map (since user number) later
+since_later user number earlier later are small =
+    ap (filter (λ (x : Entry). nat_lt number x.number)) (user_entries user (earlier ++ later))
+    ∙ each_since user number (earlier ++ later)
+    ∙ flat_map-append (since user number) earlier later
+    ∙ ap (λ xs. xs ++ flat_map (since user number) later) (none_since user number no_entries earlier (split_after no_entries earlier later are).0 small)
