@@ -1,5 +1,5 @@
 -- The place of a number, by halving; and the volume at that place.
-use Rattle.std.proofs.Common.{◌≡◌, ℕ, zero, suc, ◌+◌, ◌-◌, ◌*◌, ◌/◌, ◌^◌, ◌<◌, ◌≤◌, List, [], ◌∷◌, ◌++◌, length, map, slice_index, refl, sym, ap, subst, ◌∙◌, arith}
+use Rattle.std.proofs.Common.{◌≡◌, ℕ, zero, suc, ◌+◌, ◌-◌, ◌*◌, ◌^◌, ◌<◌, ◌≤◌, List, [], ◌∷◌, ◌++◌, length, map, slice_index, refl, sym, ap, subst, ◌∙◌, arith}
 use Rattle.std.specs.List.{AllByRecursion}
 use Rattle.std.proofs.Math.Nat.{mul-le-mul, mul_assoc, pow-suc}
 use Rattle.part_store.specs.Entries.{Entries, no_entries}
@@ -25,30 +25,24 @@ between_all number numbers = record {
   enough = λ i ge lt. absurd (omega (arith, ge, lt));
 }
 
-middle_within : (low high : ℕ) → low < high → (low ≤ low + (high - low) / 2) × (low + (high - low) / 2 < high)
-middle_within low high lt = (omega arith, omega (arith, lt))
-
-module _ (number : ℕ) (numbers : List ℕ) (ordered : NeverFall numbers) (low high : ℕ) (between : IsBetween number numbers low high) (lt : low < high) where
-  abbrev middle : ℕ
-  middle = low + (high - low) / 2
-
-  pub middle_there : middle < length numbers
-  middle_there = omega (arith, (middle_within low high lt).1, between.within)
+module _ (number : ℕ) (numbers : List ℕ) (ordered : NeverFall numbers) (low middle high : ℕ) (between : IsBetween number numbers low high) (above : low ≤ middle) (below : middle < high) where
+  middle_there : middle < length numbers
+  middle_there = omega (arith, below, between.within)
 
   pub later_half : slice_index numbers middle < number → IsBetween number numbers (middle + 1) high
   later_half less = record {
-    order = omega (arith, (middle_within low high lt).1);
+    order = omega (arith, below);
     within = between.within;
-    smaller = λ i below. omega (arith, ordered i middle (omega (arith, below)) middle_there, less);
+    smaller = λ i before. omega (arith, ordered i middle (omega (arith, before)) middle_there, less);
     enough = between.enough;
   }
 
   pub earlier_half : number ≤ slice_index numbers middle → IsBetween number numbers low middle
   earlier_half more = record {
-    order = (middle_within low high lt).0;
+    order = above;
     within = omega (arith, middle_there);
     smaller = between.smaller;
-    enough = λ i ge below. omega (arith, ordered middle i ge below, more);
+    enough = λ i from there. omega (arith, ordered middle i from there, more);
   }
 
 pub place_found : (number : ℕ) (numbers : List ℕ) (low high : ℕ) → IsBetween number numbers low high → high ≤ low → IsPlaceOf number numbers low
@@ -84,13 +78,6 @@ half_asked count width half old mid new halved wide le one =
       short = omega (arith, twice, shorter, halved.short);
       few = omega (arith, double, wider, halved.short);
     }
-
--- either half is at most half as long
-pub later_short : (low high : ℕ) → low < high → 2 * (high - (low + (high - low) / 2 + 1)) ≤ high - low
-later_short low high lt = omega (arith, lt)
-
-pub earlier_short : (low high : ℕ) → low < high → 2 * (low + (high - low) / 2 - low) ≤ high - low
-earlier_short low high lt = omega (arith, lt)
 
 pub few_asked : (count width old new : ℕ) → HasHalved count width old new → AsksFew count old new
 few_asked count width old new halved = (halved.questions, halved.asked, halved.few)

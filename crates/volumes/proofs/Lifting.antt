@@ -8,7 +8,7 @@ use Rattle.part_store.specs.Opening.{HoldsState}
 use Rattle.depot_actions.specs.DepotState.{Accepts, Command, Deliver, Export, ListAll, Migrate, ProgramOf, Remove, Reply, SetCode, SetScript}
 use Rattle.depot_actions.specs.History.{IsStep}
 use Rattle.depot_actions.specs.Runs.{HoldsAfter, IsRunStep, IsSessionStep, Leads, NotOpened, Ran, Session}
-use Rattle.volumes.specs.Folders.{AreLed, HasBegun, HoldAfter, HoldFold, HoldVolumes, IsOver, IsOverOne, Led, Past}
+use Rattle.volumes.specs.Folders.{AreChanges, HasBegun, HoldAfter, HoldAfterAll, HoldVolumes, IsOver, IsOverOne, IsChange, Change}
 use Rattle.volumes.specs.OnVolumes.{AcceptOnVolumes, AcceptsOnOne, IsDoneOn}
 use Rattle.volumes.specs.Volumes.{AreVolumes, begun, current, whole}
 use Rattle.volumes.proofs.Stepping.{accepts_whole, volumes_after}
@@ -85,10 +85,10 @@ parted (i ∷ earlier) was later (v ∷ vs) holds =
 -- one of the files is changed
 held_joined : (earlier : List Image) (es : List Entries) (image : Image) (v : Entries) (later : List Image) (ls : List Entries)
     → AllZip HoldsState earlier es → HoldsState image v → AllZip HoldsState later ls → AllZip HoldsState (earlier ++ image ∷ later) (es ++ v ∷ ls)
-held_joined [] [] image v later ls before holds after = (holds, after)
-held_joined [] (e ∷ es) image v later ls before holds after = absurd before
-held_joined (i ∷ earlier) [] image v later ls before holds after = absurd before
-held_joined (i ∷ earlier) (e ∷ es) image v later ls before holds after = (before.0, held_joined earlier es image v later ls before.1 holds after)
+held_joined [] [] image v later ls front holds back = (holds, back)
+held_joined [] (e ∷ es) image v later ls front holds back = absurd front
+held_joined (i ∷ earlier) [] image v later ls front holds back = absurd front
+held_joined (i ∷ earlier) (e ∷ es) image v later ls front holds back = (front.0, held_joined earlier es image v later ls front.1 holds back)
 
 session_lifts : (session : Session) (old new : List Image) → IsOverOne session old new → (vs : List Entries) → HoldVolumes old vs → ∥ HoldAfter (Some session) vs new ∥₁
 session_lifts session old new one vs holds =
@@ -124,14 +124,14 @@ begun_lifts old new begins vs holds =
       ),
     ) in r)
 
-pub led_steps : (session : Option Session) (old new : List Image) → Led session old new → (vs : List Entries) → HoldVolumes old vs → ∥ HoldAfter session vs new ∥₁
+pub led_steps : (session : Option Session) (old new : List Image) → IsChange session old new → (vs : List Entries) → HoldVolumes old vs → ∥ HoldAfter session vs new ∥₁
 led_steps None old new led vs holds = begun_lifts old new led vs holds
 led_steps (Some session) old new led vs holds = session_lifts session old new led vs holds
 
-pub past_folds : (past : List Past) (images : List Image) (vs : List Entries) → HoldVolumes images vs → AreLed images past → ∥ HoldFold images past vs ∥₁
+pub past_folds : (past : List Change) (images : List Image) (vs : List Entries) → HoldVolumes images vs → AreChanges images past → ∥ HoldAfterAll images past vs ∥₁
 past_folds [] images vs holds led = ∣ (vs, refl, holds) ∣₁
 past_folds (one ∷ others) images vs holds (led, more) = ∥∥₁_elim (led_steps one.session images one.left led vs holds) squash₁ (λ made.
-    ∥∥₁_map (past_folds others one.left made.0 made.2 more) (λ fold. let r : HoldFold images (one ∷ others) vs = (fold.0, (whole made.0, made.1, fold.1), fold.2) in r))
+    ∥∥₁_map (past_folds others one.left made.0 made.2 more) (λ fold. let r : HoldAfterAll images (one ∷ others) vs = (fold.0, (whole made.0, made.1, fold.1), fold.2) in r))
 
 -- a list leaves each volume as it is
 list_leaves : (v new : Entries) (user : List ℕ) (reply : Option Reply) (is_open : Bool) → IsRunStep (ListAll user) reply is_open v new → new ≡ v

@@ -10,7 +10,7 @@ use Rattle.sqlite_trees.specs.Tree.{Trees}
 use Rattle.sqlite_trees.proofs.ListLemmas.{filter_all}
 use Rattle.part_store.specs.Entries.{Draft, Entries, Entry, is_at, no_entries, numbered, with_entries, without_entry}
 use Rattle.part_store.specs.Standing.{HasNone, IsEntryAt}
-use Rattle.depot_actions.specs.Causes.{IsColliding, IsFull, NamesNone}
+use Rattle.depot_actions.specs.Causes.{IsColliding, IsFull, IsHindered, NamesNone}
 use Rattle.depot_actions.specs.DepotState.{Accepts, Command, Deliver, Export, ListAll, Listed, Migrate, ProgramOf, Remove, Reply, SetCode, SetScript, filed}
 use Rattle.depot_actions.specs.History.{AreSteps, Call, IsStep}
 use Rattle.volumes.specs.OnVolumes.{AcceptOnVolumes, AcceptsOnOne, Began, Called, Event, IsAnswered, IsDoneOn, MakeAll, calls_in}
@@ -283,6 +283,17 @@ whole_full earlier v later _ on full = full
 pub whole_collides : (trees : Trees) (earlier : List Entries) (v : Entries) (later : List Entries) (command : Command) → IsDoneOn command earlier v later → IsColliding trees v command → IsColliding trees (whole (earlier ++ v ∷ later)) command
 whole_collides trees earlier v later (Deliver user message) on full = subst (λ e. IsColliding trees e (Deliver user message)) (newest_whole earlier v later on) full
 whole_collides trees earlier v later _ on full = full
+
+pub whole_hindered : (trees : Trees) (earlier : List Entries) (v : Entries) (later : List Entries) (command : Command) → IsDoneOn command earlier v later → IsHindered command v trees → IsHindered command (whole (earlier ++ v ∷ later)) trees
+whole_hindered trees earlier v later (SetScript user script) on hindered = subst (λ e. IsHindered (SetScript user script) e trees) (newest_whole earlier v later on) hindered
+whole_hindered trees earlier v later (SetCode user program) on hindered = subst (λ e. IsHindered (SetCode user program) e trees) (newest_whole earlier v later on) hindered
+whole_hindered trees earlier v later (Deliver user message) on hindered = subst (λ e. IsHindered (Deliver user message) e trees) (newest_whole earlier v later on) hindered
+whole_hindered trees earlier v later Migrate on hindered = subst (λ e. IsHindered Migrate e trees) (newest_whole earlier v later on) (older hindered)
+  where
+    older : IsHindered Migrate v trees → IsHindered Migrate (older_and earlier v) trees
+    older (inl spoilt) = inl spoilt
+    older (inr (stored, renewed, are, renewals, full)) = inr (stored, renewed, record { each = are.each; all = are.all; rising = are.rising }, renewals, full)
+whole_hindered trees earlier v later _ on hindered = hindered
 
 -- ---- one after another
 

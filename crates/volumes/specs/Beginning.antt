@@ -8,10 +8,11 @@ use Rattle.volumes.specs.Volumes.{begun, current}
 abbrev pub HasUsers : Entries → Type 0
 HasUsers e = (user : List ℕ) × ((0 < e.lasts user) ⊎ (e.programs user ≢ None))
 
--- The newest of these volumes isn't begun: it holds nothing, though there are users in the one before it.
+-- the newest of these volumes isn't begun: it holds nothing, though there are users in those before it
 abbrev pub HasUnbegun : List Entries → List Entries → Type 0
 HasUnbegun vs earlier = (vs ≡ earlier ++ no_entries ∷ []) × HasUsers (current earlier)
 
+-- no newest one is like that
 abbrev pub AreBegun : List Entries → Type 0
 AreBegun vs = (earlier : List Entries) → ¬ HasUnbegun vs earlier
 

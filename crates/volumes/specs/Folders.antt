@@ -35,42 +35,43 @@ pub record HasBegun (old new : List Image) : Type 0 where
   pub are : new ≡ old ++ next ∷ []
   pub begins : (vs : List Entries) → HoldVolumes old vs → ∥ HoldsState next (begun (current vs)) ∥₁
 
--- a session over one volume, or none where the next volume was begun, and what the files held after it
-pub record Past : Type 0 where
+-- A change of the files of volumes: a session over one of them, or none where the next volume was begun; and what the files held
+-- after it.
+pub record Change : Type 0 where
   pub session : Option Session
   pub left : List Image
 
--- the files after it are as it says
-abbrev pub Led : Option Session → List Image → List Image → Type 0
-Led None old new = HasBegun old new
-Led (Some session) old new = IsOverOne session old new
+-- the files of volumes are changed so: by that session, or by the next volume
+abbrev pub IsChange : Option Session → List Image → List Image → Type 0
+IsChange None old new = HasBegun old new
+IsChange (Some session) old new = IsOverOne session old new
 
--- one after another, each over the files that the one before left
-abbrev pub AreLed : List Image → List Past → Type 0
-AreLed images [] = ⊤
-AreLed images (one ∷ others) = Led one.session images one.left × AreLed one.left others
+-- changes one after another, each of the files that the one before left
+abbrev pub AreChanges : List Image → List Change → Type 0
+AreChanges images [] = ⊤
+AreChanges images (one ∷ others) = IsChange one.session images one.left × AreChanges one.left others
 
 -- what the files hold after them
-abbrev pub left_by : List Image → List Past → List Image
-left_by images [] = images
-left_by images (one ∷ others) = left_by one.left others
+abbrev pub left_after : List Image → List Change → List Image
+left_after images [] = images
+left_after images (one ∷ others) = left_after one.left others
 
 -- what a session, or the beginning of a volume, makes of what all hold together
-abbrev pub IsPastStep : Option Session → Entries → Entries → Type 0
-IsPastStep None before after = after ≡ before
-IsPastStep (Some session) before after = IsSessionStep session before after
+abbrev pub IsStepOf : Option Session → Entries → Entries → Type 0
+IsStepOf None before after = after ≡ before
+IsStepOf (Some session) before after = IsSessionStep session before after
 
-abbrev pub ArePastSteps : List Past → Entries → Entries → Type 0
-ArePastSteps [] before after = after ≡ before
-ArePastSteps (one ∷ others) before after =
-    (mid : Entries) × IsPastStep one.session before mid × ArePastSteps others mid after
+abbrev pub AreStepsOf : List Change → Entries → Entries → Type 0
+AreStepsOf [] before after = after ≡ before
+AreStepsOf (one ∷ others) before after =
+    (mid : Entries) × IsStepOf one.session before mid × AreStepsOf others mid after
 
 -- files hold volumes that are together what a session, or the beginning of a volume, makes of what others were together
 abbrev pub HoldAfter : Option Session → List Entries → List Image → Type 0
 HoldAfter session before images =
-    (after : List Entries) × IsPastStep session (whole before) (whole after) × HoldVolumes images after
+    (after : List Entries) × IsStepOf session (whole before) (whole after) × HoldVolumes images after
 
 -- the files hold volumes that are together what all of it makes of what others were together, one after another
-abbrev pub HoldFold : List Image → List Past → List Entries → Type 0
-HoldFold images past before =
-    (after : List Entries) × ArePastSteps past (whole before) (whole after) × HoldVolumes (left_by images past) after
+abbrev pub HoldAfterAll : List Image → List Change → List Entries → Type 0
+HoldAfterAll images past before =
+    (after : List Entries) × AreStepsOf past (whole before) (whole after) × HoldVolumes (left_after images past) after

@@ -2,7 +2,7 @@
 use Rattle.std.specs.Prelude.{◌≡◌, List, [], ◌∷◌, ◌++◌, map, Option, None, Some}
 use Rattle.std.specs.List.{flat_map}
 use Rattle.part_store.specs.Entries.{Entries, entries_of, listing_of}
-use Rattle.depot_actions.specs.DepotState.{Accepts, Command, Export, IsNamed, ListAll, Listed, Remove, Reply}
+use Rattle.depot_actions.specs.DepotState.{Accepts, Command, Deliver, Export, IsNamed, ListAll, Listed, Migrate, ProgramOf, Remove, Reply, SetCode, SetScript}
 use Rattle.depot_actions.specs.History.{Call}
 use Rattle.volumes.specs.Places.{IsFirstUpTo}
 use Rattle.volumes.specs.Volumes.{begun, current}
@@ -13,7 +13,11 @@ abbrev pub IsDoneOn : Command → List Entries → Entries → List Entries → 
 IsDoneOn (Export user number encoding) earlier v later = IsFirstUpTo user number earlier v
 IsDoneOn (Remove user number) earlier v later = IsFirstUpTo user number earlier v
 IsDoneOn (ListAll user) earlier v later = ⊥
-IsDoneOn command earlier v later = later ≡ []
+IsDoneOn (SetScript user script) earlier v later = later ≡ []
+IsDoneOn (SetCode user program) earlier v later = later ≡ []
+IsDoneOn (Deliver user message) earlier v later = later ≡ []
+IsDoneOn (ProgramOf user) earlier v later = later ≡ []
+IsDoneOn Migrate earlier v later = later ≡ []
 
 -- one volume accepts the command, and the others stay
 pub record AcceptsOnOne (before : List Entries) (command : Command) (reply : Reply) (after : List Entries) : Type 0 where

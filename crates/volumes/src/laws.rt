@@ -5,12 +5,12 @@ ghost use Rattle.sqlite.specs.Recovery.{Image};
 ghost use Rattle.sqlite_trees.specs.Tree.{Trees};
 ghost use Rattle.part_store.specs.Entries.{Entries, Entry, entries_of, listing_of};
 ghost use Rattle.part_store.specs.Standing.{HasNone, IsEntryAt, IsNumbered};
-ghost use Rattle.depot_actions.specs.Causes.{IsColliding, IsFull, NamesNone};
+ghost use Rattle.depot_actions.specs.Causes.{IsColliding, IsFull, IsHindered, NamesNone};
 ghost use Rattle.depot_actions.specs.DepotState.{Accepts, Command, ListAll, Reply};
 ghost use Rattle.depot_actions.specs.History.{AreSteps};
 ghost use Rattle.depot_actions.specs.Runs.{Leads, NotOpened, Ran, Session};
 ghost use Rattle.volumes.specs.Beginning.{AreBegun, Count, MayBeBeginning};
-ghost use Rattle.volumes.specs.Folders.{AreLed, HoldAfter, HoldFold, HoldVolumes, Led, Past};
+ghost use Rattle.volumes.specs.Folders.{AreChanges, HoldAfter, HoldAfterAll, HoldVolumes, IsChange, Change};
 ghost use Rattle.volumes.specs.OnVolumes.{AcceptOnVolumes, Event, IsDoneOn, MakeAll, calls_in};
 ghost use Rattle.volumes.specs.Places.{IsFirstAt, IsFirstUpTo, IsPlaceOf, NeverFall, lasts_of};
 ghost use Rattle.volumes.specs.Volumes.{AreVolumes, begun, current, since, whole, without_up_to};
@@ -49,7 +49,7 @@ pub fn volumes_are_listed_in_order()
 
 /// A command that is done on its volume is, with its reply, a step of all volumes as one depot, and they are volumes of
 /// one depot afterwards, too. If that volume has a cause to refuse the command (no entry of that number, not enough
-/// numbers, other bytes under a digest), all volumes as one depot have it.
+/// numbers, other bytes under a digest, no room, a spoilt program, altered bytes), all volumes as one depot have it.
 pub fn commands_on_volumes_are_steps()
     ensures accepted { (before after : List Entries) (command : Command) (reply : Reply) → AreVolumes before
         → AcceptOnVolumes before command reply after → Accepts (whole before) command reply (whole after) }
@@ -63,6 +63,9 @@ pub fn commands_on_volumes_are_steps()
     ensures colliding { (trees : Trees) (earlier : List Entries) (v : Entries) (later : List Entries)
         (command : Command) → IsDoneOn command earlier v later → IsColliding trees v command
         → IsColliding trees (whole (earlier ++ v ∷ later)) command }
+    ensures hindered { (trees : Trees) (earlier : List Entries) (v : Entries) (later : List Entries)
+        (command : Command) → IsDoneOn command earlier v later → IsHindered command v trees
+        → IsHindered command (whole (earlier ++ v ∷ later)) trees }
 {}
 
 /// Whatever commands are called on volumes, whichever are refused, and whenever the next volume begins: together the
@@ -94,7 +97,7 @@ pub fn numbers_lead_to_their_volume()
 /// what they were. The beginning of a volume, once its files hold it, changes nothing of that. A session that lists,
 /// over any volume, leaves that volume as it was.
 pub fn sessions_on_volumes_are_steps()
-    ensures led { (session : Option Session) (old new : List Image) → Led session old new
+    ensures led { (session : Option Session) (old new : List Image) → IsChange session old new
         → (before : List Entries) → HoldVolumes old before → ∥ HoldAfter session before new ∥₁ }
     ensures lists { (was is : Image) (user : List ℕ) (reply : Option Reply) (is_open : Bool)
         → Leads (Ran (ListAll user) reply is_open) was is → Leads NotOpened was is }
@@ -103,6 +106,6 @@ pub fn sessions_on_volumes_are_steps()
 /// What one session left is what the next one finds. Sessions over the files of volumes, one after another, and volumes
 /// that begin between them, leave files that hold volumes which are together what the commands make, one after another.
 pub fn runs_on_volumes_are_a_fold()
-    ensures { (past : List Past) (images : List Image) (before : List Entries) → HoldVolumes images before
-        → AreLed images past → ∥ HoldFold images past before ∥₁ }
+    ensures { (past : List Change) (images : List Image) (before : List Entries) → HoldVolumes images before
+        → AreChanges images past → ∥ HoldAfterAll images past before ∥₁ }
 {}

@@ -15,7 +15,7 @@
 //! ### What volumes hold together
 //!
 //! Together, volumes hold all their entries, and the programs and last numbers of the newest. A volume that begins
-//! changes nothing of that. If the oldest are removed and one is left, the entries are gone whose numbers had been given
+//! changes nothing of that. If the oldest are removed and others are left, the entries are gone whose numbers had been given
 //! up to the last removed one, and nothing else. A user's list is the lists of the volumes, one after the other, and
 //! numbers rise through all of them.
 //!
@@ -26,10 +26,10 @@
 //!
 //! A command on volumes is done on one of them: an export and a removal on the first in which the user's last number is
 //! at least the entry's, and any other on the newest; a list goes through all. With its reply it is a step of all
-//! volumes as one depot, and they stay volumes of one depot. If that volume has no entry of the number, not enough
-//! numbers, or other bytes under a digest, all volumes together have this cause to refuse the command. Whatever is
-//! called, and whenever a volume begins, together they hold what the accepted commands make, one after another. The same
-//! holds for sessions over the files of volumes, each over the files of one, also if crashes end them.
+//! volumes as one depot, and they stay volumes of one depot. If that volume has a cause to refuse the command (see "When
+//! a command is refused"), all volumes together have it. Whatever is called, and whenever a volume begins, together they
+//! hold what the accepted commands make, one after another. The same holds for sessions over the files of volumes, each
+//! over the files of one, also if crashes end them.
 //!
 //! ### The volume of a number
 //!

@@ -1,5 +1,5 @@
 // Finding the volume that has a number, by halving.
-ghost use Rattle.std.specs.Prelude.{◌≡◌, ◌<◌, ◌≤◌, ◌+◌, ℕ, IfErr, IfOk, List, Option, Some, length, slice_index};
+ghost use Rattle.std.specs.Prelude.{◌≡◌, ◌<◌, ◌≤◌, ◌+◌, ◌-◌, ◌*◌, ℕ, IfErr, IfOk, List, Option, Some, length, slice_index};
 ghost use Rattle.refusals.specs.declared.refusal.Refusal.{Refusal};
 ghost use Rattle.volumes.specs.Places.{AsksFew, IsPlaceOf, NeverFall};
 
@@ -60,7 +60,7 @@ pub fn place_of<L: LastNumbers>(
     let mut low = 0;
     let mut high = count;
     'halves: while low < high {
-        let middle = low + (high - low) / 2;
+        let middle = middle_of(low, high);
         if volumes.last_at(middle)? < number {
             low = middle + 1;
         } else {
@@ -68,4 +68,13 @@ pub fn place_of<L: LastNumbers>(
         }
     }
     Ok(low)
+}
+
+// A place in the middle of a stretch: what is before it, and what is after it, is at most half as long.
+fn middle_of(low: usize, high: usize) -> usize
+    requires { low < high }
+    ensures within { (low ≤ result) × (result < high) }
+    ensures halves { (2 * (result - low) ≤ high - low) × (2 * (high - (result + 1)) ≤ high - low) }
+{
+    low + (high - low) / 2
 }

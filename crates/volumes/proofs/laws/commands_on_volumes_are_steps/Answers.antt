@@ -1,4 +1,4 @@
-use Rattle.volumes.proofs.Stepping.{accepts_whole, none_named, volumes_after, whole_collides, whole_full}
+use Rattle.volumes.proofs.Stepping.{accepts_whole, none_named, volumes_after, whole_collides, whole_full, whole_hindered}
 use Rattle.volumes.proofs.laws.commands_on_volumes_are_steps.Goals as goal
 
 pub returns-clause-accepted : goal.returns-clause-accepted
@@ -15,3 +15,6 @@ returns-clause-full c = whole_full
 
 pub returns-clause-colliding : goal.returns-clause-colliding
 returns-clause-colliding c = whole_collides
+
+pub returns-clause-hindered : goal.returns-clause-hindered
+returns-clause-hindered c = whole_hindered
