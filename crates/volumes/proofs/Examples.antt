@@ -1,5 +1,5 @@
 -- The definitions of volumes at small depots: none, one and two volumes, and the older one of two removed.
-use Rattle.std.proofs.Common.{◌≡◌, ℕ, ◌<◌, List, [], ◌∷◌, Option, None, Some, append-nil, refl, sym, arith}
+use Rattle.std.proofs.Common.{◌≡◌, ℕ, List, [], ◌∷◌, None, Some, append-nil, refl, arith}
 use Rattle.part_store.specs.Entries.{Entries, Entry, no_entries}
 use Rattle.part_store.specs.declared.entry.Kind.TheVariants.{Message}
 use Rattle.volumes.specs.Places.{IsFirstAt, IsPlaceOf, lasts_of}

@@ -1,21 +1,20 @@
 -- A command that is done on its volume is a step of all volumes as one depot.
 use Rattle.std.proofs.Common.{◌≡◌, ℕ, ◌+◌, ◌<◌, ◌≤◌, Bool, true, false, not, cond, ◌&&◌, ◌==◌, List, [], ◌∷◌, ◌++◌, filter, flat_map, length, Option, Some, None, bytes_eq, append_assoc, refl, sym, ap, ap₂, subst, subst₂, ◌∙◌, inl, inr, arith, eqb-true}
 use Rattle.std.specs.List.{AllByRecursion}
-use Rattle.std.proofs.lemmas.Bool.{cases_Bool}
 use Rattle.std.proofs.lemmas.Grind.{flat_map-append}
 use Rattle.std.proofs.lemmas.List.Elements.{filter-append}
 use Rattle.sqlite_rules.specs.Lists.{Has}
 use Rattle.sqlite_rules.proofs.ListLemmas.{all_from, all_has, has_either, has_filtered, has_left, has_right}
 use Rattle.sqlite_trees.specs.Tree.{Trees}
 use Rattle.sqlite_trees.proofs.ListLemmas.{filter_all}
-use Rattle.part_store.specs.Entries.{Draft, Entries, Entry, is_at, no_entries, numbered, with_entries, without_entry}
+use Rattle.part_store.specs.Entries.{Draft, Entries, Entry, is_at, no_entries, numbered, without_entry}
 use Rattle.part_store.specs.Standing.{HasNone, IsEntryAt}
 use Rattle.depot_actions.specs.Causes.{IsColliding, IsFull, IsHindered, NamesNone}
 use Rattle.depot_actions.specs.DepotState.{Accepts, Command, Deliver, Export, ListAll, Listed, Migrate, ProgramOf, Remove, Reply, SetCode, SetScript, filed}
-use Rattle.depot_actions.specs.History.{AreSteps, Call, IsStep}
+use Rattle.depot_actions.specs.History.{AreSteps, IsStep}
 use Rattle.volumes.specs.OnVolumes.{AcceptOnVolumes, AcceptsOnOne, Began, Called, Event, IsAnswered, IsDoneOn, MakeAll, calls_in}
 use Rattle.volumes.specs.Places.{IsFirstUpTo}
-use Rattle.volumes.specs.Volumes.{AreVolumes, ComeAfter, ComesAfter, begun, current, newest_after, whole}
+use Rattle.volumes.specs.Volumes.{AreVolumes, ComeAfter, ComesAfter, current, newest_after, whole}
 use Rattle.volumes.proofs.Whole.{begins_after, begins_whole, bytes_same, join_after, newest_join, not_earlier, not_later, older_and, same_bytes, split_after, user_listings, whole_at}
 
 abbrev entries_in : List Entries → List Entry

@@ -1,7 +1,7 @@
 -- A volume that is being begun changes nothing of what those that count hold.
-use Rattle.std.proofs.Common.{◌≡◌, ◌≢◌, inl, inr, ℕ, zero, suc, ◌<◌, List, [], ◌∷◌, ◌++◌, Option, None, Some, append-nil, refl, sym, ap, subst, ◌∙◌, arith}
+use Rattle.std.proofs.Common.{◌≡◌, inl, inr, ℕ, zero, suc, List, [], ◌∷◌, ◌++◌, Option, None, Some, append-nil, refl, sym, subst, ◌∙◌, arith}
 use Rattle.part_store.specs.Entries.{Entries, no_entries}
-use Rattle.volumes.specs.Beginning.{AreBegun, Count, HasUnbegun, HasUsers, MayBeBeginning}
+use Rattle.volumes.specs.Beginning.{AreBegun, Count, HasUsers, MayBeBeginning}
 use Rattle.volumes.specs.Volumes.{AreVolumes, ComesAfter, begun, current, whole}
 use Rattle.volumes.proofs.Whole.{begins_after, begins_whole, join_after, whole_at}
 
