@@ -1,0 +1,5 @@
+pub mod Volumes
+pub mod Beginning
+pub mod Places
+pub mod OnVolumes
+pub mod Folders

@@ -1,0 +1,50 @@
+//! A depot in volumes: what it is, its laws, and the search for the volume of a number.
+//!
+//! Volumes are depots that follow one another and answer as one. Each begins with the programs and last numbers of the
+//! one before it. From then on only the newest is changed, except by removals. `specs/Volumes` defines when depots are
+//! volumes of one depot, and what they hold together; `specs/OnVolumes` which volume a command is done on;
+//! `specs/Beginning` which files count while a volume begins; `specs/Folders` sessions over files. The calls that open
+//! volumes are not here: [`place_of`] asks them through a trait.
+//!
+//! # Promises
+//!
+//! ## Depots in volumes
+//!
+//! No command of `depot` makes or opens volumes: these are laws about the definitions, and one search.
+//!
+//! ### What volumes hold together
+//!
+//! Together, volumes hold all their entries, and the programs and last numbers of the newest. A volume that begins
+//! changes nothing of that. If the oldest are removed and others are left, the entries are gone whose numbers had been given
+//! up to the last removed one, and nothing else. A user's list is the lists of the volumes, one after the other, and
+//! numbers rise through all of them.
+//!
+//! If a volume was being begun, as when a crash came, its file can be missing, or hold nothing although the volume before
+//! it has users. Such a file doesn't count; what counts holds what the volumes held before.
+//!
+//! ### Commands on volumes
+//!
+//! A command on volumes is done on one of them: an export and a removal on the first in which the user's last number is
+//! at least the entry's, and any other on the newest; a list goes through all. With its reply it is a step of all
+//! volumes as one depot, and they stay volumes of one depot. If that volume has a cause to refuse the command (see "When
+//! a command is refused"), all volumes together have it. Whatever is called, and whenever a volume begins, together they
+//! hold what the accepted commands make, one after another. The same holds for sessions over the files of volumes, each
+//! over the files of one, also if crashes end them.
+//!
+//! ### The volume of a number
+//!
+//! Only the first volume in which a user's last number is at least a number can have his entry of that number.
+//! `place_of` finds the place of that volume, or that there is none. Of n volumes it asks at most as many as the
+//! logarithm of n to base 2, rounded down, and 1. It is refused only if a question is, with its refusal. Volumes in which
+//! the user's last number isn't above a number have none of his entries above it.
+//!
+//! By `place_of`; laws `begun_volumes_change_nothing`, `unfinished_volumes_change_nothing`,
+//! `removed_volumes_take_their_entries_alone`, `volumes_are_listed_in_order`, `commands_on_volumes_are_steps`,
+//! `commands_on_volumes_are_a_fold`, `sessions_on_volumes_are_steps`, `runs_on_volumes_are_a_fold`,
+//! `numbers_lead_to_their_volume`.
+#![tactic(auto)]
+
+pub mod laws;
+mod searching;
+
+pub use searching::{LastNumbers, place_of};
