@@ -47,7 +47,7 @@ Only if: command -v nm # there is no nm
 
 ## refusals of memory, and the reasons of each
     $ "$TOP/cases/memory_refusals"
-    69 places, each with its reason
+    70 places, each with its reason
 
 ## deliver, behind a mail server
 Only if: command -v flock # there is no flock
