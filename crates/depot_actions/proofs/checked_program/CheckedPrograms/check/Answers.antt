@@ -1,0 +1,17 @@
+use Rattle.std.proofs.Common.{◌≡◌, ◌∙◌, ℕ, List, [], Some, bytes_eq, get_or, slice_get, ap, sym}
+use Rattle.std.proofs.lemmas.List.Quantifiers.{position-Some}
+use Rattle.std.proofs.lemmas.Option.{slice_get-get_or}
+use Rattle.std.proofs.lemmas.Slice.Eq.{bytes_eq-Decides}
+use Rattle.depot_actions.specs.KeptPrograms.{place_of}
+use Rattle.depot_actions.proofs.checked_program.CheckedPrograms.check.Goals as goal
+
+-- at the place that was found stand the octets that were looked for
+found : (program : List ℕ) (kept : List (List ℕ)) (place : ℕ) → place_of program kept ≡ Some place → slice_get kept place ≡ Some program
+found program kept place is =
+    let at = position-Some (λ one. bytes_eq one program) kept place [] is in
+    slice_get-get_or kept place [] at.0 ∙ ap Some ((bytes_eq-Decides (get_or kept place []) program).0 at.1)
+
+pub returns-in-Some-clause-same : goal.returns-in-Some-clause-same
+returns-in-Some-clause-same c =
+    found c.args.octets.items c.args.self.now c.in-Some.place
+    (sym (ap (λ octets. place_of octets c.args.self.now) c.deref.ensures.value) ∙ sym c.place_of.ensures ∙ c.in-Some.is)
