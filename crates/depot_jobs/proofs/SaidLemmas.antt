@@ -1,7 +1,7 @@
 -- The number and the encoding of a command are those that its words have.
 use Rattle.std.proofs.Common.{◌≡◌, ◌<◌, ◌^◌, ◌∙◌, refl, sym, ap, subst, arith, codes, ℕ, List, Option, Some, [], inl, inr, unwrap_or}
 use Rattle.std.specs.Prelude.{IfSome}
-use Rattle.octets.specs.Limits.{max_message, max_parts}
+use Rattle.octets.specs.Limits.{max_entry_number, max_message, max_parts}
 use Rattle.clap.specs.Words.{Row, Text, first_of, subcommand_of}
 use Rattle.encodings.specs.Names.{name_of}
 use Rattle.encodings.specs.declared.encoding.Encoding.{Encoding}
@@ -10,7 +10,7 @@ use Rattle.depot_words.specs.Ranges.{AreComplete, HasArgument, IsOneOf}
 use Rattle.depot_jobs.specs.Words.{AreSaid, IsLine, IsNumber, WritesFrom, WritesNumber, argument, encoding_named}
 use Rattle.depot_jobs.specs.declared.line.CommandLine.{CommandLine}
 use Rattle.depot_jobs.specs.declared.line.CommandLine.TheVariants.{Alone, OnDepot}
-use Rattle.depot_jobs.specs.declared.request.OnDepot.TheVariants.{Export, Remove}
+use Rattle.depot_jobs.specs.declared.request.OnDepot.TheVariants.{Since, Export, Remove}
 use Rattle.depot_jobs.specs.declared.work.Tool.TheVariants.{Limit, Encode, Decode}
 use Rattle.depot_jobs.specs.declared.work.WithoutDepot.TheVariants.{OnFile}
 
@@ -68,11 +68,17 @@ said words (Alone (OnFile (Limit octets parts) program)) is =
       back _ (codes "limit", rows) _ is.says.1 (from_said rows (codes "OCTETS") 0 max_message octets (omega arith) has.1.0 is.says.3),
       back _ (codes "limit", rows) _ is.says.1 (from_said rows (codes "PARTS") 1 max_parts parts (omega arith) has.1.1.0 is.says.4),
     )
+said words (OnDepot depot (Since user number)) is =
+    let rows = is.says.0 in
+    let request = is.says.1 in
+    let all = at _ (codes "since", rows) (λ m. AreComplete commands m.0 m.1) request.0 is.complete in
+    let has = all.1.1.1.1.1.1.1.1.1.1.1.1.1.1.1.1.1.1.0 refl in
+    back _ (codes "since", rows) _ request.0 (from_said rows (codes "NUMBER") 0 max_entry_number number (omega arith) has.1.1.0 request.2)
 said words (OnDepot depot (Export user number encoding)) is =
     let rows = is.says.0 in
     let request = is.says.1 in
     let all = at _ (codes "export", rows) (λ m. AreComplete commands m.0 m.1) request.0 is.complete in
-    let has = all.1.1.1.1.1.1.1.1.1.1.1.1.1.1.1.1.1.1.0 refl in (
+    let has = all.1.1.1.1.1.1.1.1.1.1.1.1.1.1.1.1.1.1.1.0 refl in (
       back _ (codes "export", rows) _ request.0 (number_said rows number has.1.1.0 request.2),
       back _ (codes "export", rows) (λ m. first_of (codes "ENCODING") m.1 ≡ Some (name_of encoding)) request.0 (encoding_said rows encoding has.1.1.1.0 request.3),
     )
@@ -80,6 +86,6 @@ said words (OnDepot depot (Remove user number)) is =
     let rows = is.says.0 in
     let request = is.says.1 in
     let all = at _ (codes "remove", rows) (λ m. AreComplete commands m.0 m.1) request.0 is.complete in
-    let has = all.1.1.1.1.1.1.1.1.1.1.1.1.1.1.1.1.1.1.1.0 refl in
+    let has = all.1.1.1.1.1.1.1.1.1.1.1.1.1.1.1.1.1.1.1.1.0 refl in
     back _ (codes "remove", rows) _ request.0 (number_said rows number has.1.1.0 request.2)
 said words line is = tt

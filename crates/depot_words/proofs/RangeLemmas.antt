@@ -160,6 +160,7 @@ each names are name rows e =
     ▸ asked names name rows e (codes "program") _ refl refl (λ has. any rows _ has (codes "DB") _ refl refl ▸ any rows _ has (codes "USER") _ refl refl ▸ any rows _ has (codes "OUT") _ refl refl ▸ tt)
     ▸ asked names name rows e (codes "deliver") _ refl refl (λ has. any rows _ has (codes "DB") _ refl refl ▸ any rows _ has (codes "USER") _ refl refl ▸ any rows _ has (codes "MESSAGE") _ refl refl ▸ tt)
     ▸ asked names name rows e (codes "list") _ refl refl (λ has. any rows _ has (codes "DB") _ refl refl ▸ any rows _ has (codes "USER") _ refl refl ▸ tt)
+    ▸ asked names name rows e (codes "since") _ refl refl (λ has. any rows _ has (codes "DB") _ refl refl ▸ any rows _ has (codes "USER") _ refl refl ▸ between rows _ has 0 max_entry_number (codes "NUMBER") _ refl refl refl ▸ tt)
     ▸ asked names name rows e (codes "export") _ refl refl (λ has. any rows _ has (codes "DB") _ refl refl ▸ any rows _ has (codes "USER") _ refl refl ▸ number rows _ has (codes "NUMBER") _ refl refl refl ▸ encoding rows _ has names are (codes "ENCODING") _ refl refl refl refl ▸ tt)
     ▸ asked names name rows e (codes "remove") _ refl refl (λ has. any rows _ has (codes "DB") _ refl refl ▸ any rows _ has (codes "USER") _ refl refl ▸ number rows _ has (codes "NUMBER") _ refl refl refl ▸ tt)
     ▸ asked names name rows e (codes "migrate") _ refl refl (λ has. any rows _ has (codes "DB") _ refl refl ▸ tt)
