@@ -4,18 +4,23 @@
 // name at the end. If that fails, the old file stays. A device or a pipe can't be replaced, so it is written directly.
 // The program's bytes are made before the file is, so a refused script never makes a file. The script's own file is
 // never overwritten, also under another name or by a link; nor is a listing by `assemble`, nor a depot by `program`.
-ghost use Rattle.std.specs.Prelude.{◌≡◌, false, IfOk, IfSome, OnOk};
+//
+// A database has files next to its own, with its name and an ending. With words that name a depot, the names of that
+// depot are refused, whatever is there. Other words name no depot, so a name with such an ending is refused only if a
+// database is there.
+ghost use Rattle.std.specs.Prelude.{◌≡◌, false, IfOk, IfSome, OnOk, true};
 ghost use Rattle.std.specs.Path.{path_buf_bytes, path_with_file_name};
 ghost use Rattle.depot_jobs.specs.Files.{IsReached};
 ghost use Rattle.depot_jobs.specs.Private.{new_name};
-ghost use Rattle.depot_jobs.specs.Host.{is_beside};
+ghost use Rattle.depot_jobs.specs.Host.{IsApart, is_beside};
 
 use crate::beside::is_beside;
+use crate::host::MadeFrom;
 use devices::{DeviceFailed, OfWrite, Sink};
 use std::alloc::{AllocError, Global};
-use std::fs::{File, Files, Metadata, OpenFile, OpenOptions};
+use std::fs::{self, File, Files, Metadata, OpenFile, OpenOptions};
 use std::io;
-use std::io::{Error, ErrorKind, Write};
+use std::io::{Error, ErrorKind, Read, Write};
 use std::os::fd::AsFd;
 use std::os::unix::fs::{MetadataExt, OpenOptionsExt, PermissionsExt, fchown};
 use std::path::PathBuf;
@@ -28,6 +33,9 @@ const MAX_NAMES: u32 = 100;
 
 /// The permissions of a file that replaces no other, as far as the process grants them.
 const NEW_FILE: u32 = 0o666;
+
+/// How a database begins.
+const DATABASE_HEAD: &[u8; 16] = b"SQLite format 3\0";
 
 /// A file that is being made. [`begin`] makes it; [`persist`] gives it its name, and [`discard`] removes it.
 pub struct NewFile<F: Write + Drop> {
@@ -61,30 +69,30 @@ impl<F: Write + Drop> Sink for NewFile<F> {
 /// # Errors
 ///
 /// - A fault of the system if the file can't be made, or the one with that name can't be written.
-/// - A fault if the name leads to the script's own file, or to a file that a database with the script's name has next
-///   to its own.
+/// - A fault if the name leads to the file that the new one is made from, or to a file that a database has next to its
+///   own: that of the depot that it is made from, or, if it is made from no depot, one that is there.
 pub fn begin<R: Files>(
     rt: &R,
     alloc: Global,
     number: u32,
     name: &str,
-    script: &str,
+    from: MadeFrom<'_>,
 ) -> io::Result<NewFile<R::File>>
 where
     R::File: AsFd,
-    ensures apart { OnOk result (is_beside script.now name.now ≡ false) }
+    ensures apart { OnOk result (IsApart from.entry name.now) }
     ensures faults { IfOk result (λ file. file.sink.faults ≡ 0) }
     ensures stands { IfOk result (λ file. IfSome file.paths
         (λ paths. IsReached name.now (path_buf_bytes paths.kept))) }
 {
-    if is_beside(script, name) {
+    if is_named_beside(from, name) {
         return Err(Error::from(ErrorKind::InvalidInput));
     }
     match File::options().write(true).open(rt, name) {
         Ok(file) => {
             let old = file.metadata()?;
             if old.is_file() {
-                begin_in_place_of(rt, alloc, number, name, script, &old)
+                begin_in_place_of(rt, alloc, number, name, from, &old)
             } else {
                 Ok(NewFile {
                     sink: OfWrite::new(file),
@@ -94,7 +102,7 @@ where
         }
         Err(fault) if fault.kind() == ErrorKind::NotFound => {
             let kept = without_links(rt, alloc, name)?;
-            stay_apart(rt, alloc, script, &kept)?;
+            stay_apart(rt, alloc, from, &kept)?;
             begin_beside(rt, alloc, number, kept, NEW_FILE)
         }
         Err(fault) => Err(fault),
@@ -107,7 +115,7 @@ fn begin_in_place_of<R: Files>(
     alloc: Global,
     number: u32,
     name: &str,
-    script: &str,
+    from: MadeFrom<'_>,
     old: &Metadata,
 ) -> io::Result<NewFile<R::File>>
 where
@@ -117,10 +125,10 @@ where
         (λ paths. IsReached name.now (path_buf_bytes paths.kept))) }
 {
     let kept = without_links(rt, alloc, name)?;
-    if is_same_file(rt, script, old) || !is_same_file(rt, kept.as_str(), old) {
+    if is_same_file(rt, from.name(), old) || !is_same_file(rt, kept.as_str(), old) {
         return Err(Error::from(ErrorKind::InvalidInput));
     }
-    stay_apart(rt, alloc, script, &kept)?;
+    stay_apart(rt, alloc, from, &kept)?;
     let file = begin_beside(rt, alloc, number, kept, old.permissions().mode())?;
     match take_after(&file.sink.inner, old) {
         Ok(()) => Ok(file),
@@ -138,18 +146,87 @@ fn take_after<F: OpenFile + AsFd>(file: &F, old: &Metadata) -> io::Result<()> {
     file.set_permissions(old.permissions())
 }
 
-// Refuses a path that leads, by whatever names and links, to a file that the database with a name has next to its own.
-fn stay_apart<R: Files>(rt: &R, alloc: Global, script: &str, kept: &PathBuf) -> io::Result<()> {
-    let real = match rt.canonicalize(alloc, script) {
-        Ok(real) => real,
-        Err(fault) if fault.kind() == ErrorKind::OutOfMemory => return Err(fault),
-        // something without a path, such as a pipe, is no database
-        Err(_) => return Ok(()),
+// Whether a name is that of a file that a database with the depot's name has next to its own, if it is made from one.
+fn is_named_beside(from: MadeFrom<'_>, name: &str) -> bool
+    ensures { result ≡ false → IsApart from.entry name.now }
+{
+    match from {
+        MadeFrom::Source(_) => false,
+        MadeFrom::Depot(depot) => is_beside(depot, name),
+    }
+}
+
+// Refuses a path that leads to a file that a database has next to its own.
+fn stay_apart<R: Files>(
+    rt: &R,
+    alloc: Global,
+    from: MadeFrom<'_>,
+    kept: &PathBuf,
+) -> io::Result<()> {
+    let refused = match from {
+        MadeFrom::Source(_) => is_beside_any(rt, alloc, kept)?,
+        MadeFrom::Depot(depot) => is_beside_depot(rt, alloc, depot, kept)?,
     };
-    if are_beside(rt, &real, kept) {
+    if refused {
         return Err(Error::from(ErrorKind::InvalidInput));
     }
     Ok(())
+}
+
+// Whether a path leads, by whatever names and links, to a file that the depot with a name has next to its own.
+fn is_beside_depot<R: Files>(
+    rt: &R,
+    alloc: Global,
+    depot: &str,
+    kept: &PathBuf,
+) -> io::Result<bool> {
+    match rt.canonicalize(alloc, depot) {
+        Ok(real) => Ok(are_beside(rt, &real, kept)),
+        Err(fault) if fault.kind() == ErrorKind::OutOfMemory => Err(fault),
+        // something without a path, such as a pipe, is no database
+        Err(_) => Ok(false),
+    }
+}
+
+// Whether a path leads to a file that a database in the same folder has next to its own.
+fn is_beside_any<R: Files>(rt: &R, alloc: Global, kept: &PathBuf) -> io::Result<bool> {
+    let Some(name) = kept.file_name() else {
+        return Ok(false);
+    };
+    let Some(database) = database_beside(name) else {
+        return Ok(false);
+    };
+    let path = kept.with_file_name(alloc, database)?;
+    begins_as_database(rt, path.as_str())
+}
+
+// The name of the database that has a file of this name next to its own, if one can have it.
+fn database_beside(name: &str) -> Option<&str>
+    ensures { IfSome result (λ database. is_beside database.now name.now ≡ true) }
+{
+    let (database, _) = name.rsplit_once('-')?;
+    if is_beside(database, name) {
+        Some(database)
+    } else {
+        None
+    }
+}
+
+// Whether there is a regular file at a path, and it begins as every database does.
+fn begins_as_database<R: Files>(rt: &R, path: &str) -> io::Result<bool> {
+    match rt.metadata(path) {
+        Ok(found) if found.is_file() => {}
+        Ok(_) => return Ok(false),
+        Err(fault) if fault.kind() == ErrorKind::NotFound => return Ok(false),
+        Err(fault) => return Err(fault),
+    }
+    let mut file = fs::open(rt, path)?;
+    let mut head = [0; 16];
+    match file.read_exact(&mut head) {
+        Ok(()) => Ok(head == *DATABASE_HEAD),
+        Err(fault) if fault.kind() == ErrorKind::UnexpectedEof => Ok(false),
+        Err(fault) => Err(fault),
+    }
 }
 
 // Whether a path leads to a file that the database at another path has next to its own.
