@@ -161,7 +161,7 @@ module _ (names : Texts) (are : AreEncodings names) (name : Text) (rows : List R
       complete_one same =
           let at = ap (λ n. named n (built (depot_app names)).subs) (sym same) ∙ e.is_named in
           let found : found_in e.shape command.1 ≡ wanted_of names command.1 =
-              ap (λ o. unwrap_or o (wanted_of names command.1)) (sym (ap (option_map (λ s. found_in s command.1)) at) ∙ ap (first None) is) in
+          ap (λ o. unwrap_or o (wanted_of names command.1)) (sym (ap (option_map (λ s. found_in s command.1)) at) ∙ ap (first None) is) in
           each_of e.shape (e.has (ap (λ (f : Bool × List (Option Facts)). f.0) found)) command.1 (ap (λ (f : Bool × List (Option Facts)). f.1) found)
 
 if_some : {X : Type 0} (o : Option X) (P Q : X → Type 0) → ((x : X) → P x → Q x) → IfSome o P → IfSome o Q

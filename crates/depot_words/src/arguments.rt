@@ -76,7 +76,7 @@ impl Argument {
             Argument::LastSeen => required(
                 alloc,
                 "NUMBER",
-                "The highest number that you have seen; 0 if none: 0 to 4294967295",
+                "Only entries above this number are listed: 0 to 4294967295",
             )
             .value_parser(value_parser!(u64).range(0..=4_294_967_295)),
             Argument::Encoding => required(alloc, "ENCODING", "The encoding").value_parser(

@@ -135,7 +135,7 @@ const COMMANDS: &[Row] = &[
     Row {
         word: "since",
         arguments: &[Argument::Depot, Argument::User, Argument::LastSeen],
-        about: "List the entries of a user that have a number above NUMBER",
+        about: "List the entries of a user with numbers above NUMBER",
         ending: help::SINCE,
     },
     Row {

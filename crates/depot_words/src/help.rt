@@ -217,8 +217,9 @@ pub const LIST: &str = user_ending!(
 
 /// The end of the help of `since`.
 pub const SINCE: &str = user_ending!(
-    "Prints a line for each entry with a number above NUMBER, as `list` does, or `none`. 0 lists all\n\
-     entries. A program that fetches new mail keeps the highest number that it has seen.",
+    "Prints a line for each entry whose number is above NUMBER, as `list` does, or `none`; 0 lists all.\n\
+     New entries get higher numbers, so a program that fetches new mail keeps the highest number that it\n\
+     has seen.",
     "depot since mail.depot ann 41",
     "1, 43 to 45"
 );
