@@ -8,19 +8,19 @@
 // A database has files next to its own, with its name and an ending. With words that name a depot, the names of that
 // depot are refused, whatever is there. Other words name no depot, so a name with such an ending is refused only if a
 // database is there.
-ghost use Rattle.std.specs.Prelude.{◌≡◌, false, IfOk, IfSome, OnOk, true};
+ghost use Rattle.std.specs.Prelude.{◌≡◌, false, IfOk, IfSome, OnOk};
 ghost use Rattle.std.specs.Path.{path_buf_bytes, path_with_file_name};
 ghost use Rattle.depot_jobs.specs.Files.{IsReached};
 ghost use Rattle.depot_jobs.specs.Private.{new_name};
 ghost use Rattle.depot_jobs.specs.Host.{IsApart, is_beside};
 
-use crate::beside::is_beside;
+use crate::beside::{is_beside, is_beside_database};
 use crate::host::MadeFrom;
 use devices::{DeviceFailed, OfWrite, Sink};
 use std::alloc::{AllocError, Global};
-use std::fs::{self, File, Files, Metadata, OpenFile, OpenOptions};
+use std::fs::{File, Files, Metadata, OpenFile, OpenOptions};
 use std::io;
-use std::io::{Error, ErrorKind, Read, Write};
+use std::io::{Error, ErrorKind, Write};
 use std::os::fd::AsFd;
 use std::os::unix::fs::{MetadataExt, OpenOptionsExt, PermissionsExt, fchown};
 use std::path::PathBuf;
@@ -33,9 +33,6 @@ const MAX_NAMES: u32 = 100;
 
 /// The permissions of a file that replaces no other, as far as the process grants them.
 const NEW_FILE: u32 = 0o666;
-
-/// How a database begins.
-const DATABASE_HEAD: &[u8; 16] = b"SQLite format 3\0";
 
 /// A file that is being made. [`begin`] makes it; [`persist`] gives it its name, and [`discard`] removes it.
 pub struct NewFile<F: Write + Drop> {
@@ -164,7 +161,7 @@ fn stay_apart<R: Files>(
     kept: &PathBuf,
 ) -> io::Result<()> {
     let refused = match from {
-        MadeFrom::Source(_) => is_beside_any(rt, alloc, kept)?,
+        MadeFrom::Source(_) => is_beside_database(rt, alloc, kept)?,
         MadeFrom::Depot(depot) => is_beside_depot(rt, alloc, depot, kept)?,
     };
     if refused {
@@ -185,47 +182,6 @@ fn is_beside_depot<R: Files>(
         Err(fault) if fault.kind() == ErrorKind::OutOfMemory => Err(fault),
         // something without a path, such as a pipe, is no database
         Err(_) => Ok(false),
-    }
-}
-
-// Whether a path leads to a file that a database in the same folder has next to its own.
-fn is_beside_any<R: Files>(rt: &R, alloc: Global, kept: &PathBuf) -> io::Result<bool> {
-    let Some(name) = kept.file_name() else {
-        return Ok(false);
-    };
-    let Some(database) = database_beside(name) else {
-        return Ok(false);
-    };
-    let path = kept.with_file_name(alloc, database)?;
-    begins_as_database(rt, path.as_str())
-}
-
-// The name of the database that has a file of this name next to its own, if one can have it.
-fn database_beside(name: &str) -> Option<&str>
-    ensures { IfSome result (λ database. is_beside database.now name.now ≡ true) }
-{
-    let (database, _) = name.rsplit_once('-')?;
-    if is_beside(database, name) {
-        Some(database)
-    } else {
-        None
-    }
-}
-
-// Whether there is a regular file at a path, and it begins as every database does.
-fn begins_as_database<R: Files>(rt: &R, path: &str) -> io::Result<bool> {
-    match rt.metadata(path) {
-        Ok(found) if found.is_file() => {}
-        Ok(_) => return Ok(false),
-        Err(fault) if fault.kind() == ErrorKind::NotFound => return Ok(false),
-        Err(fault) => return Err(fault),
-    }
-    let mut file = fs::open(rt, path)?;
-    let mut head = [0; 16];
-    match file.read_exact(&mut head) {
-        Ok(()) => Ok(head == *DATABASE_HEAD),
-        Err(fault) if fault.kind() == ErrorKind::UnexpectedEof => Ok(false),
-        Err(fault) => Err(fault),
     }
 }
 

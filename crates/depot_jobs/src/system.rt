@@ -18,10 +18,10 @@ use std::{fs, io};
 
 /// The files and the standard input of a real system; `main` makes one. A contract knows nothing about what they hold.
 ///
-/// No file is made next to a database under a name that belongs to it. If a file is made from a depot, those are the
-/// names of that depot, by whatever links it is reached; its own name is refused by the contract. If a file is made from
-/// a script or a listing, they are those of any database in the same folder: a file whose name ends in `-wal`, `-shm` or
-/// `-journal` is refused if a file has the name without this ending, and begins as a database does, or can't be read.
+/// No file is made next to a database under a name that belongs to the database: its own name with `-wal`, `-shm` or
+/// `-journal` appended. If a file is made from a depot, those are the names of that depot, by whatever links it is
+/// reached. If a file is made from a script or a listing, they are those of each database in the same folder: a file
+/// that begins as a database does, or can't be read, or an empty one next to the log of a database.
 #[derive(Drop)]
 pub struct System<'a, R: Files + io::Input> {
     rt: &'a R,
