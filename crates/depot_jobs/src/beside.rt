@@ -15,6 +15,7 @@ const DATABASE_HEAD: &[u8] = b"SQLite format 3\0";
 const LOG_HEAD: &[u8] = &[0x37, 0x7f, 0x06];
 
 /// What a file is, by its first 16 bytes.
+#[derive(Clone, Copy)]
 enum Head {
     /// A regular file that begins as a database does.
     Database,
