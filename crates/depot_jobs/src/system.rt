@@ -18,10 +18,10 @@ use std::{fs, io};
 
 /// The files and the standard input of a real system; `main` makes one. A contract knows nothing about what they hold.
 ///
-/// No file is made next to a database under a name that belongs to the database: its own name with `-wal`, `-shm` or
-/// `-journal` appended. If a file is made from a depot, those are the names of that depot, by whatever links it is
-/// reached. If a file is made from a script or a listing, they are those of each database in the same folder: a file
-/// that begins as a database does, or can't be read, or an empty one next to the log of a database.
+/// No file is made under a name that a database has for its log, the log's index or its journal: its own name with
+/// `-wal`, `-shm` or `-journal` appended. A database in the same folder is a file that begins as one does, or can't be
+/// read, or is empty next to the log of one. If a file is made from a depot, the names of that depot are refused, too,
+/// by whatever links it is reached.
 #[derive(Drop)]
 pub struct System<'a, R: Files + io::Input> {
     rt: &'a R,
