@@ -67,8 +67,8 @@
 //!
 //! The file of a program that was compiled or assembled is made whole or not at all, at the place where the given name
 //! leads. A file that is made from a depot is never made under the name of the depot with `-wal`, `-shm` or `-journal`
-//! appended, because a database has files of these names. It is tested, not proved, that a program that was compiled or
-//! assembled is made under no such name of a database that is there.
+//! appended, because a database has files of these names. It is tested, not proved, that no file is made under such
+//! a name of any database that is there.
 //!
 //! By `answer`, `Host`, `System`, `make_file`; within the crate `NewFile`.
 #![tactic(auto)]

@@ -5,9 +5,8 @@
 // The program's bytes are made before the file is, so a refused script never makes a file. The script's own file is
 // never overwritten, also under another name or by a link; nor is a listing by `assemble`, nor a depot by `program`.
 //
-// A database has files next to its own, with its name and an ending. With words that name a depot, the names of that
-// depot are refused. Other words name no depot, so the names of every database that is there are refused. That opens the
-// database's file, which is never done while a depot is open: a process that closes a file gives up its locks on it.
+// A database has files next to its own, with its name and an ending. These names of a database that is there are
+// refused, and those of a depot that the words name, whatever is there.
 ghost use Rattle.std.specs.Prelude.{◌≡◌, false, IfOk, IfSome, OnOk};
 ghost use Rattle.std.specs.Path.{path_buf_bytes, path_with_file_name};
 ghost use Rattle.depot_jobs.specs.Files.{IsReached};
@@ -67,7 +66,7 @@ impl<F: Write + Drop> Sink for NewFile<F> {
 ///
 /// - A fault of the system if the file can't be made, or the one with that name can't be written.
 /// - A fault if the name leads to the file that the new one is made from, or to a file that a database has next to its
-///   own: the depot that the new file is made from, or, if it is made from none, a database that is there.
+///   own: the depot that the new file is made from, or any that is there.
 pub fn begin<R: Files>(
     rt: &R,
     alloc: Global,
@@ -160,23 +159,23 @@ fn stay_apart<R: Files>(
     from: MadeFrom<'_>,
     kept: &PathBuf,
 ) -> io::Result<()> {
-    let refused = match from {
-        MadeFrom::Source(_) => is_beside_database(rt, alloc, kept)?,
-        MadeFrom::Depot(depot) => is_beside_depot(rt, alloc, depot, kept)?,
-    };
-    if refused {
+    if is_beside_depot(rt, alloc, from, kept)? || is_beside_database(rt, alloc, kept)? {
         return Err(Error::from(ErrorKind::InvalidInput));
     }
     Ok(())
 }
 
-// Whether a path leads, by whatever names and links, to a file that the depot with a name has next to its own.
+// Whether a path leads, by whatever names and links, to a file that the depot from which the new file is made has next
+// to its own.
 fn is_beside_depot<R: Files>(
     rt: &R,
     alloc: Global,
-    depot: &str,
+    from: MadeFrom<'_>,
     kept: &PathBuf,
 ) -> io::Result<bool> {
+    let MadeFrom::Depot(depot) = from else {
+        return Ok(false);
+    };
     match rt.canonicalize(alloc, depot) {
         Ok(real) => Ok(are_beside(rt, &real, kept)),
         Err(fault) if fault.kind() == ErrorKind::OutOfMemory => Err(fault),

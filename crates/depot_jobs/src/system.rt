@@ -19,9 +19,9 @@ use std::{fs, io};
 /// The files and the standard input of a real system; `main` makes one. A contract knows nothing about what they hold.
 ///
 /// No file is made under a name that a database has for its log, the log's index or its journal: its own name with
-/// `-wal`, `-shm` or `-journal` appended. If a file is made from a depot, these names of that depot are refused, by
-/// whatever links it is reached. If a file is made from a script or a listing, those of each database in the same folder
-/// are: of a file that begins as one does, or can't be read, or is empty next to the log of one.
+/// `-wal`, `-shm` or `-journal` appended. Those are refused of each database in the same folder: of a file that begins
+/// as one does, or can't be read, or is empty next to the log of one. If a file is made from a depot, they are refused of
+/// that depot, whatever is there, and by whatever links it is reached.
 #[derive(Drop)]
 pub struct System<'a, R: Files + io::Input> {
     rt: &'a R,
