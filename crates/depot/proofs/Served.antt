@@ -1,5 +1,5 @@
 -- A batch from the open of its files to their close.
-use Rattle.std.proofs.Common.{◌≡◌, ◌⊎◌, ◌<◌, ap, inl, inr, IsTrue, ℕ, suc, List, [], ◌∷◌, length, Option, Some, None, Result, Ok, Err, refl, sym, subst, arith}
+use Rattle.std.proofs.Common.{◌≡◌, ◌⊎◌, ◌<◌, inl, inr, IsTrue, List, length, Option, Some, None, Result, Ok, Err, refl, sym, subst, arith}
 use Rattle.sqlite_disk.specs.declared.Disk.{Ghosts}
 use Rattle.sqlite_disk.specs.declared.Files.{Files}
 use Rattle.sqlite_trees.specs.Tree.{Trees}
@@ -13,32 +13,25 @@ use Rattle.part_store.specs.Opening.{HoldsState, IsAt}
 use Rattle.part_store.specs.Standing.{IsStored}
 use Rattle.refusals.specs.declared.refusal.Refusal.{Refusal}
 use Rattle.depot_actions.specs.Deliveries.{MayLeaveAll}
-use Rattle.depot_actions.specs.DepotState.{Command}
 use Rattle.depot_jobs.specs.Host.{HostState}
 use Rattle.depot_cli.specs.Requests.{request_command}
 use Rattle.depot_batch.specs.Asked.{Text}
 use Rattle.depot_batch.specs.Batch.{HasServed, MayLeaveIn}
 use Rattle.depot_batch.specs.Batch as batch
-use Rattle.depot_batch.specs.Effects.{AreDeliveries, DepotAndOutput, HasHappened, MayMakeAll, depot_and_output}
-use Rattle.depot_batch.specs.Turns.{Alone, Broken, HasServedBy, Together, Turn, Whole, Withdrawn, Writing}
+use Rattle.depot_batch.specs.Effects.{DepotAndOutput, HasHappened, MayMakeAll, depot_and_output}
+use Rattle.depot_batch.specs.Turns.{Alone, Broken, Together, Turn, Whole, Withdrawn, Writing}
 use Rattle.depot_batch.specs.declared.asked.Asked.TheVariants.{Reply as ToReply, Export as IntoFile}
-use Rattle.depot.specs.Batches.{Batch, Happens, HasEnded, IsKept, IsServed, LastIs, MakeAll, MakesIn, MakesOf, OneIs}
+use Rattle.depot_batch.proofs.Grouping.{as_many}
+use Rattle.depot.specs.Batches.{Batch, Happens, HasEnded, IsKept, IsServed, MakeAll, MakesIn, MakesOf}
 use Rattle.depot.specs.Ending.{HasCounted, IsToldAs}
 use Rattle.depot.specs.Private.{IsFound, IsLeftOf, IsShut}
-use Rattle.depot.proofs.Chained.{Beside, Follows, both, sound_first}
+use Rattle.depot.proofs.Chained.{Follows, both, sound_first}
 use Rattle.depot.proofs.Ended.{Came, at_state, ends, fewer, left_by, left_open}
 use Rattle.depot.proofs.Turned.{Shown, Shows, Works, effect_leads, still_works, turn_leads}
 
 -- what a turn makes of a state, by what it is had with
 abbrev MakesBeside : Entries × Entries → Turn → DepotAndOutput Entries → DepotAndOutput Entries → Type 0
 MakesBeside v = MakesOf v.0 v.1
-
--- lines ask for as many deliveries
-as_many : (lines : List (List ℕ)) (commands : List Command) (host host2 : HostState) → AreDeliveries lines commands host host2 → length commands ≡ length lines
-as_many [] [] host host2 are = refl
-as_many (line ∷ lines) (command ∷ commands) host host2 are = ap suc (as_many lines commands are.0 host2 are.2)
-as_many [] (command ∷ commands) host host2 are = absurd are
-as_many (line ∷ lines) [] host host2 are = absurd are
 
 module _ {D : Type 0} (g : Ghosts D) where
   -- ---- what a crash leaves

@@ -138,17 +138,20 @@ module _ {D : Type 0} (g : Ghosts D) where
         let all = refused.1 clean in
         record {
           after = before;
-          is = (record {
-            may = refused.0;
-            depot = old;
-            shows = works.shows;
-            closed_by_failure = works.closed_by_failure;
-            unlimited = works.unlimited;
-            cause = all.0;
-            after = new;
-            fault = all.1;
-            counts = counts;
-            counted = counted;
-          }, refl);
+          is = (
+            record {
+              may = refused.0;
+              depot = old;
+              shows = works.shows;
+              closed_by_failure = works.closed_by_failure;
+              unlimited = works.unlimited;
+              cause = all.0;
+              after = new;
+              fault = all.1;
+              counts = counts;
+              counted = counted;
+            },
+            refl,
+          );
           fits = record { shows = still_at g old new before works.shows all.2; closes = inr refl };
         }

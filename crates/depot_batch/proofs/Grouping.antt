@@ -64,7 +64,7 @@ passed_over lines i d commands host mid host2 within are passed = record {
 }
 
 -- as many are asked for as there are lines
-as_many : (lines : List (List ℕ)) (commands : List Command) (host host2 : HostState) → AreDeliveries lines commands host host2 → length commands ≡ length lines
+pub as_many : (lines : List (List ℕ)) (commands : List Command) (host host2 : HostState) → AreDeliveries lines commands host host2 → length commands ≡ length lines
 as_many [] [] host host2 are = refl
 as_many (line ∷ lines) (command ∷ commands) host host2 are = ap suc (as_many lines commands are.0 host2 are.2)
 as_many [] (command ∷ commands) host host2 are = absurd are

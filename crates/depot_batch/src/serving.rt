@@ -1,10 +1,12 @@
 // The lines of a batch.
 //
-// The lines of a batch are defined for any way to answer them (`HasServedBy`): over an open depot, as `batch` sees it,
-// and over the state that the files represent, as `serve_from` does. How a line is answered is written for each of the
-// two. An answer, or the answers to a group, are printed on one page: standard output isn't buffered, so each piece of a
-// line would be a system call. The page is flushed after the line with the status, and so is the writer, before the
-// next line is read; a caller that waits for the answer has all of it. An answer of more than 65,536 bytes is several
+// What lines do is defined by its effects on a depot (`specs/Effects`), and the turns of a batch for anything that can
+// happen in them (`HasServedBy`). Both are used twice: over an open depot, as `batch` sees it, and over the state that
+// the files represent, as `serve_from` does. Only what an effect is, is written for each of the two.
+//
+// An answer, or the answers to a group, are printed on one page: standard output isn't buffered, so each piece of a line
+// would be a system call. The page is flushed after the line with the status, and so is the writer, before the next
+// line is read; a caller that waits for the answer has all of it. An answer of more than 65,536 bytes is several
 // writes.
 ghost use Rattle.std.specs.Prelude.{◌≡◌, ◌<◌, ◌≤◌, ◌+◌, ◌^◌, ℕ, IfNone, IfSome, length};
 ghost use Rattle.std.specs.List.{All, concat};
