@@ -39,15 +39,15 @@ so : {A : Type 0} {Fits Is More : A → Type 0} → ((after : A) → Is after �
 so more one = record { after = one.after; is = more one.after one.is; fits = one.fits }
 
 -- If each effect leads to another, so does what comes of a line.
-module _ {A : Type 0} {Did : Effect → Type 0} {Other : A → Effect → Type 0} {Fits : A → Type 0}
-    (leads : (effect : Effect) → Did effect → Fitting Fits (λ after. Other after effect)) (name : Text) (host host2 : HostState) where
-  done_leads : (asked : Asked) (text : List ℕ) → IsDone Did name asked text host host2 → Fitting Fits (λ after. IsDone (Other after) name asked text host host2)
+module _ {A : Type 0} {One : Effect → Type 0} {Other : A → Effect → Type 0} {Fits : A → Type 0}
+    (leads : (effect : Effect) → One effect → Fitting Fits (λ after. Other after effect)) (name : Text) (host host2 : HostState) where
+  done_leads : (asked : Asked) (text : List ℕ) → IsDone One name asked text host host2 → Fitting Fits (λ after. IsDone (Other after) name asked text host host2)
   done_leads (ToReply request) text done =
       let answered = done.2 in
       so (λ after is. (done.0, done.1, (answered.0, is, answered.2))) (leads (Accepted (request_command request done.0) answered.0) answered.1)
   done_leads (IntoFile export) text done = let made = done.1 in so (λ after is. (done.0, (made.0, made.1, is))) (leads _ made.2)
 
-  refused_leads : (asked : Asked) (refusal : Refusal) → IsRefused Did name asked refusal host host2 → Fitting Fits (λ after. IsRefused (Other after) name asked refusal host host2)
+  refused_leads : (asked : Asked) (refusal : Refusal) → IsRefused One name asked refusal host host2 → Fitting Fits (λ after. IsRefused (Other after) name asked refusal host host2)
   refused_leads (ToReply request) refusal refused = elim refused [
     | inl unread ↦ so (λ after is. inl (unread.0, is)) (leads NotAsked unread.1)
     | inr asked ↦ so (λ after is. inr (asked.0, asked.1, is)) (leads (Declined (request_command request asked.0) refusal) asked.2)
@@ -57,7 +57,7 @@ module _ {A : Type 0} {Did : Effect → Type 0} {Other : A → Effect → Type 0
     | inr asked ↦ so (λ after is. inr (asked.0, asked.1, is)) (leads (Declined (Exports export.user.now export.number export.encoding) refusal) asked.2)
   ]
 
-  come_leads : (line : Text) (outcome : Outcome) (text : List ℕ) → HasCome Did name line outcome text host host2 → Fitting Fits (λ after. HasCome (Other after) name line outcome text host host2)
+  come_leads : (line : Text) (outcome : Outcome) (text : List ℕ) → HasCome One name line outcome text host host2 → Fitting Fits (λ after. HasCome (Other after) name line outcome text host host2)
   come_leads line Done text come = so (λ after is. (come.0, come.1, is)) (done_leads come.0 text come.2)
   come_leads line (Refused refusal) text come = elim come.1 [
     | inl idle ↦ let still = idle.1 in so (λ after is. (come.0, inl (idle.0, (is, still.1)))) (leads NotAsked still.0)
@@ -66,9 +66,9 @@ module _ {A : Type 0} {Did : Effect → Type 0} {Other : A → Effect → Type 0
   come_leads line Wrong text come = let still = come.3 in so (λ after is. (come.0, come.1, come.2, (is, still.1))) (leads NotAsked still.0)
 
 -- so does what happens in a turn
-pub turn_leads : {A B : Type 0} {Did : B → B → Effect → Type 0} {Other : A → A → Effect → Type 0} {Fits : A → Type 0} (old new : DepotAndOutput B) (before : A)
-    → ((effect : Effect) → Did old.depot new.depot effect → Fitting Fits (λ after. Other before after effect)) → (name : Text) (turn : Turn) (writing : Writing)
-    → HasHappened Did name turn writing old new
+pub turn_leads : {A B : Type 0} {One : B → B → Effect → Type 0} {Other : A → A → Effect → Type 0} {Fits : A → Type 0} (old new : DepotAndOutput B) (before : A)
+    → ((effect : Effect) → One old.depot new.depot effect → Fitting Fits (λ after. Other before after effect)) → (name : Text) (turn : Turn) (writing : Writing)
+    → HasHappened One name turn writing old new
     → Fitting Fits (λ after. HasHappened Other name turn writing (depot_and_output before old.host old.out) (depot_and_output after new.host new.out))
 turn_leads old new before leads name (Alone line outcome) writing it =
     so (λ after is. record { text = it.text; come = is; written = it.written }) (come_leads leads name old.host new.host line outcome it.text it.come)

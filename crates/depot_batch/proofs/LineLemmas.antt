@@ -73,8 +73,8 @@ broken_after text s0 s1 s2 taken failed = record {
   faults = failed.faults ∙ ap (counted 1) taken.faults;
 }
 
-come_of : {Did : Effect → Type 0} (name octets : List ℕ) (asked : Asked) (report : Report) (host host2 : HostState) → IsAsked octets asked → HasComeOf Did name asked report host host2
-    → HasCome Did name octets (outcome_of report) (report_text report) host host2
+come_of : {Had : Effect → Type 0} (name octets : List ℕ) (asked : Asked) (report : Report) (host host2 : HostState) → IsAsked octets asked → HasComeOf Had name asked report host host2
+    → HasCome Had name octets (outcome_of report) (report_text report) host host2
 come_of name octets asked (Done answer) host host2 is come = (asked, is, come)
 come_of name octets asked (Refused refusal) host host2 is come = (refl, inr (asked, is, come))
 come_of name octets asked (Wrong fault) host host2 is come = absurd come

@@ -71,9 +71,9 @@ unasked_report NoMemory = reports.Refused Memory
 
 -- what came of what is asked, by what was done with a depot
 abbrev pub HasComeOf : (Effect → Type 0) → List ℕ → Asked → Report → HostState → HostState → Type 0
-HasComeOf Did name asked (reports.Done answer) host host2 = IsDone Did name asked (text_in answer) host host2
-HasComeOf Did name asked (reports.Refused refusal) host host2 = IsRefused Did name asked refusal host host2
-HasComeOf Did name asked (reports.Wrong fault) host host2 = ⊥
+HasComeOf Had name asked (reports.Done answer) host host2 = IsDone Had name asked (text_in answer) host host2
+HasComeOf Had name asked (reports.Refused refusal) host host2 = IsRefused Had name asked refusal host host2
+HasComeOf Had name asked (reports.Wrong fault) host host2 = ⊥
 
 module _ {S : Type 0} (g : Ghosts S) where
   -- what came of a line, and what a crash may leave of it

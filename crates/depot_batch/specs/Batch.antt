@@ -41,7 +41,7 @@ module _ {S : Type 0} (g : Ghosts S) where
   -- What happens in a turn: this comes of it, and a crash may leave of the depot what it could have left before, or
   -- what the turn makes of it.
   pub record Happens (name : Text) (turn : Turn) (writing : Writing) (old new : DepotAndOutput (Held S)) : Type 0 where
-    pub come : HasHappened (Did g) name turn writing old new
+    pub come : HasHappened Did name turn writing old new
     pub outlasts : Survives (state g old.depot) (state g new.depot) (MayLeaveIn turn (state g old.depot) old.host new.host)
 
   -- turns of a batch, one after another; in none was a line refused `Database`
