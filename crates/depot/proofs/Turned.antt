@@ -12,7 +12,7 @@ use Rattle.part_store.specs.Opening.{IsAt}
 use Rattle.part_store.specs.Standing.{Stands}
 use Rattle.refusals.specs.declared.refusal.Refusal.{Refusal}
 use Rattle.depot_actions.specs.Deliveries.{AcceptsAll}
-use Rattle.depot_actions.specs.DepotState.{Accepts, Export as Exports, Leaves, Listed}
+use Rattle.depot_actions.specs.DepotState.{Accepts, Export as Exports, Leaves, Listed, Text as Written}
 use Rattle.depot_jobs.specs.Host.{HostState}
 use Rattle.depot_cli.specs.Requests.{request_command}
 use Rattle.depot_batch.specs.Asked.{Text}
@@ -35,8 +35,8 @@ pub record Fitting {A : Type 0} (Fits Is : A → Type 0) : Type 0 where
   pub is : Is after
   pub fits : Fits after
 
-so : {A : Type 0} {Fits Is More : A → Type 0} → ((after : A) → Is after → More after) → Fitting Fits Is → Fitting Fits More
-so more one = record { after = one.after; is = more one.after one.is; fits = one.fits }
+so : {A : Type 0} {Fits Is More : A → Type 0} → Fitting Fits Is → ((after : A) → Is after → More after) → Fitting Fits More
+so one more = record { after = one.after; is = more one.after one.is; fits = one.fits }
 
 -- If each effect leads to another, so does what comes of a line.
 module _ {A : Type 0} {One : Effect → Type 0} {Other : A → Effect → Type 0} {Fits : A → Type 0}
@@ -44,26 +44,28 @@ module _ {A : Type 0} {One : Effect → Type 0} {Other : A → Effect → Type 0
   done_leads : (asked : Asked) (text : List ℕ) → IsDone One name asked text host host2 → Fitting Fits (λ after. IsDone (Other after) name asked text host host2)
   done_leads (ToReply request) text done =
       let answered = done.2 in
-      so (λ after is. (done.0, done.1, (answered.0, is, answered.2))) (leads (Accepted (request_command request done.0) answered.0) answered.1)
-  done_leads (IntoFile export) text done = let made = done.1 in so (λ after is. (done.0, (made.0, made.1, is))) (leads _ made.2)
+      so (leads (Accepted (request_command request done.0) answered.0) answered.1) (λ after is. (done.0, done.1, (answered.0, is, answered.2)))
+  done_leads (IntoFile export) text done =
+      let made = done.1 in
+      so (leads (Accepted (Exports export.user.now export.number export.encoding) (Written made.0)) made.2) (λ after is. (done.0, (made.0, made.1, is)))
 
   refused_leads : (asked : Asked) (refusal : Refusal) → IsRefused One name asked refusal host host2 → Fitting Fits (λ after. IsRefused (Other after) name asked refusal host host2)
   refused_leads (ToReply request) refusal refused = elim refused [
-    | inl unread ↦ so (λ after is. inl (unread.0, is)) (leads NotAsked unread.1)
-    | inr asked ↦ so (λ after is. inr (asked.0, asked.1, is)) (leads (Declined (request_command request asked.0) refusal) asked.2)
+    | inl unread ↦ so (leads NotAsked unread.1) (λ after is. inl (unread.0, is))
+    | inr asked ↦ so (leads (Declined (request_command request asked.0) refusal) asked.2) (λ after is. inr (asked.0, asked.1, is))
   ]
   refused_leads (IntoFile export) refusal refused = elim refused [
-    | inl unmade ↦ so (λ after is. inl (unmade.0, is)) (leads Unchanged unmade.1)
-    | inr asked ↦ so (λ after is. inr (asked.0, asked.1, is)) (leads (Declined (Exports export.user.now export.number export.encoding) refusal) asked.2)
+    | inl unmade ↦ so (leads Unchanged unmade.1) (λ after is. inl (unmade.0, is))
+    | inr asked ↦ so (leads (Declined (Exports export.user.now export.number export.encoding) refusal) asked.2) (λ after is. inr (asked.0, asked.1, is))
   ]
 
   come_leads : (line : Text) (outcome : Outcome) (text : List ℕ) → HasCome One name line outcome text host host2 → Fitting Fits (λ after. HasCome (Other after) name line outcome text host host2)
-  come_leads line Done text come = so (λ after is. (come.0, come.1, is)) (done_leads come.0 text come.2)
+  come_leads line Done text come = so (done_leads come.0 text come.2) (λ after is. (come.0, come.1, is))
   come_leads line (Refused refusal) text come = elim come.1 [
-    | inl idle ↦ let still = idle.1 in so (λ after is. (come.0, inl (idle.0, (is, still.1)))) (leads NotAsked still.0)
-    | inr asked ↦ so (λ after is. (come.0, inr (asked.0, asked.1, is))) (refused_leads asked.0 refusal asked.2)
+    | inl idle ↦ let still = idle.1 in so (leads NotAsked still.0) (λ after is. (come.0, inl (idle.0, (is, still.1))))
+    | inr asked ↦ so (refused_leads asked.0 refusal asked.2) (λ after is. (come.0, inr (asked.0, asked.1, is)))
   ]
-  come_leads line Wrong text come = let still = come.3 in so (λ after is. (come.0, come.1, come.2, (is, still.1))) (leads NotAsked still.0)
+  come_leads line Wrong text come = let still = come.3 in so (leads NotAsked still.0) (λ after is. (come.0, come.1, come.2, (is, still.1)))
 
 -- so does what happens in a turn
 pub turn_leads : {A B : Type 0} {One : B → B → Effect → Type 0} {Other : A → A → Effect → Type 0} {Fits : A → Type 0} (old new : DepotAndOutput B) (before : A)
@@ -71,12 +73,12 @@ pub turn_leads : {A B : Type 0} {One : B → B → Effect → Type 0} {Other : A
     → HasHappened One name turn writing old new
     → Fitting Fits (λ after. HasHappened Other name turn writing (depot_and_output before old.host old.out) (depot_and_output after new.host new.out))
 turn_leads old new before leads name (Alone line outcome) writing it =
-    so (λ after is. record { text = it.text; come = is; written = it.written }) (come_leads leads name old.host new.host line outcome it.text it.come)
+    so (come_leads leads name old.host new.host line outcome it.text it.come) (λ after is. record { text = it.text; come = is; written = it.written })
 turn_leads old new before leads name (Together lines) writing it =
-    so (λ after is. record { few = it.few; commands = it.commands; files = it.files; filed = it.filed; done = is; written = it.written })
-    (leads (AcceptedAll it.commands (map Listed it.filed)) it.done)
+    so (leads (AcceptedAll it.commands (map Listed it.filed)) it.done)
+    (λ after is. record { few = it.few; commands = it.commands; files = it.files; filed = it.filed; done = is; written = it.written })
 turn_leads old new before leads name (Withdrawn lines) Whole it =
-    so (λ after is. record { some = it.some; few = it.few; files = it.files; unchanged = is; out = it.out }) (leads Unchanged it.unchanged)
+    so (leads Unchanged it.unchanged) (λ after is. record { some = it.some; few = it.few; files = it.files; unchanged = is; out = it.out })
 turn_leads old new before leads name (Withdrawn lines) Broken it = absurd it
 
 -- ---- from the store to the state
