@@ -1,162 +1,146 @@
--- Turns that one thing is taken through are turns of another that goes beside it.
-use Rattle.std.proofs.Common.{◌≡◌, ◌⊎◌, inl, inr, ℕ, List, [], ◌∷◌, length, refl, sym, subst}
+-- Turns that a depot is taken through are turns of something else that goes beside it.
+use Rattle.std.proofs.Common.{◌≡◌, ◌⊎◌, ap, inl, inr, ℕ, List, [], ◌∷◌, length, refl, sym, subst}
 use Rattle.devices.specs.Device.{Output}
 use Rattle.devices.specs.Supply.{Supply}
-use Rattle.depot_batch.specs.Turns.{AreTakenBy, EndsBy, HasServedBy, HasServedLastBy, Turn}
+use Rattle.depot_batch.specs.Effects.{DepotAndOutput, depot_and_output}
+use Rattle.depot_batch.specs.Turns.{AreTakenBy, EndsBy, HasServedBy, HasServedLastBy, Turn, Writing}
 use Rattle.depot.specs.Batches.{LastIs, OneIs}
 
--- How turns go on one thing, and on the other; when the first is sound; what a turn makes, by what the
--- other is before it and after it; and when the second goes beside the first, where so much was made.
-module _ {T U V : Type 0} (Happens Breaks : Turn → T → T → Type 0) (Others OthersBreak : Turn → U → U → Type 0)
-    (Sound : T → Type 0) (Makes : V → Turn → U → U → Type 0) (Fits : (V → Type 0) → T → U → Type 0) where
-  -- the other thing had this, too, and goes beside the first after it, with what was made until then
-  pub record Beside (Other : U → U → Type 0) (Made : U → V → Type 0) (new : T) (old : U) : Type 0 where
-    pub after : U
-    pub other : Other old after
-    pub fits : Fits (Made after) new after
+-- How turns go on a depot, and on what goes beside it, with the same host and output; when the depot is sound; what a
+-- turn makes, by what goes beside it before and after; and when that fits the depot, where so much was made.
+module _ {D E V : Type 0} (Happens : Turn → Writing → DepotAndOutput D → DepotAndOutput D → Type 0)
+    (Others : Turn → Writing → DepotAndOutput E → DepotAndOutput E → Type 0)
+    (Sound : D → Type 0) (Makes : V → Turn → DepotAndOutput E → DepotAndOutput E → Type 0) (Fits : (V → Type 0) → D → E → Type 0) where
+  abbrev beside : E → DepotAndOutput D → DepotAndOutput E
+  beside e at = depot_and_output e at.host at.out
 
-  -- What is known of a turn: what is sound after it was sound before, and the other thing has it, too.
+  -- what goes beside the depot had this, too, and fits it after that, with what was made until then
+  pub record Beside (Other : DepotAndOutput E → Type 0) (Made : DepotAndOutput E → V → Type 0) (new : DepotAndOutput D) : Type 0 where
+    pub after : E
+    pub other : Other (beside after new)
+    pub fits : Fits (Made (beside after new)) new.depot after
+
+  -- What is known of a turn: what is sound after it was sound before, and what goes beside the depot has it, too.
   pub record Follows : Type 1 where
-    pub sound : (turn : Turn) (old new : T) → Happens turn old new → Sound new → Sound old
-    pub sound_broken : (turn : Turn) (old new : T) → Breaks turn old new → Sound new → Sound old
-    pub widen : (Made More : V → Type 0) (t : T) (u : U) → ((v : V) → Made v → More v) → Fits Made t u → Fits More t u
-    pub step : (Made : V → Type 0) (turn : Turn) (old new : T) (u : U) → Fits Made old u → Sound new → Happens turn old new
-        → Beside (Others turn) (λ after v. Made v ⊎ Makes v turn u after) new u
-    pub broken : (Made : V → Type 0) (turn : Turn) (old new : T) (u : U) → Fits Made old u → Sound new → Breaks turn old new
-        → Beside (OthersBreak turn) (λ after v. Made v ⊎ Makes v turn u after) new u
+    pub sound : (turn : Turn) (writing : Writing) (old new : DepotAndOutput D) → Happens turn writing old new → Sound new.depot → Sound old.depot
+    pub widen : (Made More : V → Type 0) (d : D) (e : E) → ((v : V) → Made v → More v) → Fits Made d e → Fits More d e
+    pub step : (Made : V → Type 0) (turn : Turn) (writing : Writing) (old new : DepotAndOutput D) (e : E) → Fits Made old.depot e → Sound new.depot → Happens turn writing old new
+        → Beside (Others turn writing (beside e old)) (λ after v. Made v ⊎ Makes v turn (beside e old) after) new
 
   module _ (follows : Follows) where
+    -- nothing came to a depot: what fits it fits it still, with what may be made besides
+    still : (Made More : V → Type 0) (old new : DepotAndOutput D) (e : E) → ((v : V) → Made v → More v) → new ≡ old → Fits Made old.depot e → Fits More new.depot e
+    still Made More old new e more same fits = subst (λ (t : DepotAndOutput D). Fits More t.depot e) (sym same) (follows.widen Made More old.depot e more fits)
+
     -- ---- turns
 
-    sound_all : (turns : List Turn) (input rest : Supply) (old new : T) → AreTakenBy Happens turns input rest old new → Sound new → Sound old
-    sound_all [] input rest old new are sound = subst Sound are.1 sound
-    sound_all (turn ∷ turns) input rest old new are sound = follows.sound turn old are.1 are.3 (sound_all turns are.0 rest are.1 new are.5 sound)
+    sound_all : (turns : List Turn) (input rest : Supply) (old new : DepotAndOutput D) → AreTakenBy Happens turns input rest old new → Sound new.depot → Sound old.depot
+    sound_all [] input rest old new are sound = subst (λ (t : DepotAndOutput D). Sound t.depot) are.1 sound
+    sound_all (turn ∷ turns) input rest old new are sound = follows.sound turn _ old are.1 are.3 (sound_all turns are.0 rest are.1 new are.5 sound)
 
-    -- the other thing was taken through the turns, too, with what they made
-    record Along (Made : V → Type 0) (turns : List Turn) (input rest : Supply) (new : T) (old : U) : Type 0 where
-      after : U
-      taken : AreTakenBy Others turns input rest old after
-      fits : Fits (λ v. Made v ⊎ OneIs (Makes v) Others turns input rest old after taken) new after
+    -- what goes beside the depot was taken through the turns, too, with what they made
+    record Along (Made : V → Type 0) (turns : List Turn) (input rest : Supply) (old : DepotAndOutput E) (new : DepotAndOutput D) : Type 0 where
+      after : E
+      taken : AreTakenBy Others turns input rest old (beside after new)
+      fits : Fits (λ v. Made v ⊎ OneIs (Makes v) Others turns input rest old (beside after new) taken) new.depot after
 
     regrouped : {A B C : Type 0} → (A ⊎ B) ⊎ C → A ⊎ (B ⊎ C)
     regrouped (inl (inl a)) = inl a
     regrouped (inl (inr b)) = inr (inl b)
     regrouped (inr c) = inr (inr c)
 
-    along : (Made : V → Type 0) (turns : List Turn) (input rest : Supply) (old new : T) (u : U) → Fits Made old u → AreTakenBy Happens turns input rest old new → Sound new
-        → Along Made turns input rest new u
-    along Made [] input rest old new u fits are sound = record {
-      after = u;
-      taken = (are.0, refl);
-      fits = subst (λ (t : T). Fits (λ v. Made v ⊎ ⊥) t u) (sym are.1) (follows.widen Made (λ v. Made v ⊎ ⊥) old u (λ v made. inl made) fits);
+    along : (Made : V → Type 0) (turns : List Turn) (input rest : Supply) (old new : DepotAndOutput D) (e : E) → Fits Made old.depot e → AreTakenBy Happens turns input rest old new → Sound new.depot
+        → Along Made turns input rest (beside e old) new
+    along Made [] input rest old new e fits are sound = record {
+      after = e;
+      taken = (are.0, ap (beside e) are.1);
+      fits = still Made (λ v. Made v ⊎ ⊥) old new e (λ v made. inl made) are.1 fits;
     }
-    along Made (turn ∷ turns) input rest old new u fits are sound =
-        let one = follows.step Made turn old are.1 u fits (sound_all turns are.0 rest are.1 new are.5 sound) are.3 in
-        let later = along (λ v. Made v ⊎ Makes v turn u one.after) turns are.0 rest are.1 new one.after one.fits are.5 sound in
+    along Made (turn ∷ turns) input rest old new e fits are sound =
+        let one = follows.step Made turn _ old are.1 e fits (sound_all turns are.0 rest are.1 new are.5 sound) are.3 in
+        let mid = beside one.after are.1 in
+        let later = along (λ v. Made v ⊎ Makes v turn (beside e old) mid) turns are.0 rest are.1 new one.after one.fits are.5 sound in
         record {
           after = later.after;
-          taken = (are.0, one.after, are.2, one.other, are.4, later.taken);
-          fits = follows.widen (λ v. (Made v ⊎ Makes v turn u one.after) ⊎ OneIs (Makes v) Others turns are.0 rest one.after later.after later.taken)
-              (λ v. Made v ⊎ (Makes v turn u one.after ⊎ OneIs (Makes v) Others turns are.0 rest one.after later.after later.taken)) new later.after (λ v made. regrouped made) later.fits;
+          taken = (are.0, mid, are.2, one.other, are.4, later.taken);
+          fits = follows.widen (λ v. (Made v ⊎ Makes v turn (beside e old) mid) ⊎ OneIs (Makes v) Others turns are.0 rest mid (beside later.after new) later.taken)
+              (λ v. Made v ⊎ (Makes v turn (beside e old) mid ⊎ OneIs (Makes v) Others turns are.0 rest mid (beside later.after new) later.taken)) new.depot later.after (λ v made. regrouped made) later.fits;
         }
 
     -- ---- the end
 
     module _ (status count : ℕ) (rest left : Supply) (err err2 : Output) where
-      abbrev Ends : List Turn → T → T → Type 0
-      Ends last old new = EndsBy Happens Breaks status count last rest left old new err err2
+      sound_end : (last : List Turn) (old new : DepotAndOutput D) → EndsBy Happens status count last rest left old new err err2 → Sound new.depot → Sound old.depot
+      sound_end last old new (inl all) sound = subst (λ (t : DepotAndOutput D). Sound t.depot) all.3 sound
+      sound_end last old new (inr (inl all)) sound = elim all.5 [ inl served ↦ follows.sound _ _ old new served.1 sound | inr broken ↦ follows.sound _ _ old new broken.1 sound ]
+      sound_end last old new (inr (inr (inl all))) sound = follows.sound _ _ old new all.5 sound
+      sound_end last old new (inr (inr (inr (inl all)))) sound = follows.sound all.1 _ old new all.4 sound
+      sound_end last old new (inr (inr (inr (inr all)))) sound = subst (λ (t : DepotAndOutput D). Sound t.depot) all.6 sound
 
-      abbrev OthersEnd : List Turn → U → U → Type 0
-      OthersEnd last old new = EndsBy Others OthersBreak status count last rest left old new err err2
-
-      sound_last : (turn : Turn) (old new : T) → HasServedLastBy Happens Breaks status turn old new err err2 → Sound new → Sound old
-      sound_last turn old new (inl served) sound = follows.sound turn old new served.1 sound
-      sound_last turn old new (inr broken) sound = follows.sound_broken turn old new broken.1 sound
-
-      sound_end : (last : List Turn) (old new : T) → Ends last old new → Sound new → Sound old
-      sound_end last old new (inl all) sound = subst Sound all.3 sound
-      sound_end last old new (inr (inl all)) sound = sound_last _ old new all.5 sound
-      sound_end last old new (inr (inr (inl all))) sound = follows.sound _ old new all.5 sound
-      sound_end last old new (inr (inr (inr (inl all)))) sound = follows.sound_broken all.1 old new all.4 sound
-      sound_end last old new (inr (inr (inr (inr all)))) sound = subst Sound all.6 sound
-
-      module _ (Made : V → Type 0) where
-        -- what was made before, or is made in the last turn
-        abbrev Then : List Turn → U → U → V → Type 0
-        Then last u after v = Made v ⊎ LastIs (Makes v) last u after
+      module _ (Made : V → Type 0) (old new : DepotAndOutput D) (e : E) (fits : Fits Made old.depot e) (sound : Sound new.depot) where
+        -- this is had, and it was made before, or is made in the last turn
+        abbrev Last : List Turn → (DepotAndOutput E → Type 0) → Type 0
+        Last last Other = Beside Other (λ after v. Made v ⊎ LastIs (Makes v) last (beside e old) after) new
 
         -- nothing came of an end without a turn
-        idle : (last : List Turn) (old new : T) (u : U) → Fits Made old u → new ≡ old → Fits (Then last u u) new u
-        idle last old new u fits same =
-            subst (λ (t : T). Fits (Then last u u) t u) (sym same) (follows.widen Made (Then last u u) old u (λ v made. inl made) fits)
-
-        -- the last turn is the one that is there
-        as_last : (last : List Turn) (turn : Turn) (new : T) (u after : U) → last ≡ turn ∷ [] → Fits (λ v. Made v ⊎ Makes v turn u after) new after → Fits (Then last u after) new after
-        as_last last turn new u after is fits = subst (λ (turns : List Turn). Fits (Then turns u after) new after) (sym is) fits
-
-        served_last : (turn : Turn) (old new : T) (u : U) → Fits Made old u → Sound new → HasServedLastBy Happens Breaks status turn old new err err2
-            → Beside (λ before after. HasServedLastBy Others OthersBreak status turn before after err err2) (λ after v. Made v ⊎ Makes v turn u after) new u
-        served_last turn old new u fits sound (inl served) =
-            let one = follows.step Made turn old new u fits sound served.1 in
-            record { after = one.after; other = inl (served.0, one.other, served.2); fits = one.fits }
-        served_last turn old new u fits sound (inr broken) =
-            let one = follows.broken Made turn old new u fits sound broken.1 in
-            record { after = one.after; other = inr (broken.0, one.other, broken.2); fits = one.fits }
-
-        ends : (last : List Turn) (old new : T) (u : U) → Fits Made old u → Sound new → Ends last old new → Beside (OthersEnd last) (Then last u) new u
-        ends last old new u fits sound (inl all) = record { after = u; other = inl (all.0, all.1, all.2, refl, all.4); fits = idle last old new u fits all.3 }
-        ends last old new u fits sound (inr (inl all)) =
-            let one = served_last _ old new u fits sound all.5 in
-            record { after = one.after; other = inr (inl (all.0, all.1, all.2, all.3, all.4, one.other)); fits = as_last last _ new u one.after all.2 one.fits }
-        ends last old new u fits sound (inr (inr (inl all))) =
-            let one = follows.step Made _ old new u fits sound all.5 in
-            record {
-              after = one.after;
-              other = inr (inr (inl (all.0, all.1, all.2, all.3, all.4, one.other, all.6)));
-              fits = as_last last _ new u one.after all.2 one.fits;
-            }
-        ends last old new u fits sound (inr (inr (inr (inl all)))) =
-            let one = follows.broken Made all.1 old new u fits sound all.4 in
-            record {
-              after = one.after;
-              other = inr (inr (inr (inl (all.0, all.1, all.2, all.3, one.other, all.5))));
-              fits = as_last last all.1 new u one.after all.2 one.fits;
-            }
-        ends last old new u fits sound (inr (inr (inr (inr all)))) = record {
-          after = u;
-          other = inr (inr (inr (inr (all.0, all.1, all.2, all.3, all.4, all.5, refl))));
-          fits = idle last old new u fits all.6;
+        idle : (last : List Turn) (Other : DepotAndOutput E → Type 0) → new ≡ old → Other (beside e new) → Last last Other
+        idle last Other same other = record {
+          after = e;
+          other = other;
+          fits = still Made (λ v. Made v ⊎ LastIs (Makes v) last (beside e old) (beside e new)) old new e (λ v made. inl made) same fits;
         }
+
+        -- there was one
+        final : (last : List Turn) (turn : Turn) (writing : Writing) (Other : DepotAndOutput E → Type 0) → last ≡ turn ∷ [] → Happens turn writing old new
+            → ((after : E) → Others turn writing (beside e old) (beside after new) → Other (beside after new)) → Last last Other
+        final last turn writing Other is happens so =
+            let one = follows.step Made turn writing old new e fits sound happens in
+            record {
+              after = one.after;
+              other = so one.after one.other;
+              fits = subst (λ (turns : List Turn). Fits (λ v. Made v ⊎ LastIs (Makes v) turns (beside e old) (beside one.after new)) new.depot one.after) (sym is) one.fits;
+            }
+
+        ends : (last : List Turn) → EndsBy Happens status count last rest left old new err err2
+            → Last last (λ after. EndsBy Others status count last rest left (beside e old) after err err2)
+        ends last (inl all) = idle last _ all.3 (inl (all.0, all.1, all.2, ap (beside e) all.3, all.4))
+        ends last (inr (inl all)) = elim all.5 [
+          | inl served ↦ final last _ _ _ all.2 served.1 (λ after other. inr (inl (all.0, all.1, all.2, all.3, all.4, inl (served.0, other, served.2))))
+          | inr broken ↦ final last _ _ _ all.2 broken.1 (λ after other. inr (inl (all.0, all.1, all.2, all.3, all.4, inr (broken.0, other, broken.2))))
+        ]
+        ends last (inr (inr (inl all))) = final last _ _ _ all.2 all.5 (λ after other. inr (inr (inl (all.0, all.1, all.2, all.3, all.4, other, all.6))))
+        ends last (inr (inr (inr (inl all)))) = final last all.1 _ _ all.2 all.4 (λ after other. inr (inr (inr (inl (all.0, all.1, all.2, all.3, other, all.5)))))
+        ends last (inr (inr (inr (inr all)))) = idle last _ all.6 (inr (inr (inr (inr (all.0, all.1, all.2, all.3, all.4, all.5, ap (beside e) all.6)))))
 
     -- ---- the whole
 
-    module _ (status : ℕ) (input input2 : Supply) (old new : T) (err err2 : Output) (was : HasServedBy Happens Breaks status input input2 old new err err2) (sound : Sound new) where
-      sound_mid : Sound was.mid
+    module _ (status : ℕ) (input input2 : Supply) (old new : DepotAndOutput D) (err err2 : Output) (was : HasServedBy Happens status input input2 old new err err2) (sound : Sound new.depot) where
+      sound_mid : Sound was.mid.depot
       sound_mid = sound_end status (length was.turns) was.rest input2 err err2 was.last was.mid new was.ended sound
 
-      pub sound_first : Sound old
+      pub sound_first : Sound old.depot
       sound_first = sound_all was.turns input was.rest old was.mid was.taken sound_mid
 
-      -- the other thing was served the same, and goes beside the first after all turns, with what one of
-      -- them made
-      pub record Both (u : U) : Type 0 where
-        pub after : U
-        pub served : HasServedBy Others OthersBreak status input input2 u after err err2
-        pub fits : Fits (λ v. OneIs (Makes v) Others served.turns input served.rest u served.mid served.taken ⊎ LastIs (Makes v) served.last served.mid after) new after
+      -- what goes beside the depot was served the same, and fits it after all turns, with what one of them made
+      pub record Both (e : E) : Type 0 where
+        pub after : E
+        pub served : HasServedBy Others status input input2 (beside e old) (beside after new) err err2
+        pub fits : Fits (λ v. OneIs (Makes v) Others served.turns input served.rest (beside e old) served.mid served.taken ⊎ LastIs (Makes v) served.last served.mid (beside after new)) new.depot after
 
       some : {A B : Type 0} → (⊥ ⊎ A) ⊎ B → A ⊎ B
       some (inl (inl none)) = absurd none
       some (inl (inr a)) = inl a
       some (inr b) = inr b
 
-      pub both : (u : U) → Fits (λ v. ⊥) old u → Both u
-      both u fits =
-          let turns = along (λ v. ⊥) was.turns input was.rest old was.mid u fits was.taken sound_mid in
-          let Made = λ (v : V). ⊥ ⊎ OneIs (Makes v) Others was.turns input was.rest u turns.after turns.taken in
-          let end = ends status (length was.turns) was.rest input2 err err2 Made was.last was.mid new turns.after turns.fits sound was.ended in
+      pub both : (e : E) → Fits (λ v. ⊥) old.depot e → Both e
+      both e fits =
+          let turns = along (λ v. ⊥) was.turns input was.rest old was.mid e fits was.taken sound_mid in
+          let mid = beside turns.after was.mid in
+          let Made = λ (v : V). ⊥ ⊎ OneIs (Makes v) Others was.turns input was.rest (beside e old) mid turns.taken in
+          let end = ends status (length was.turns) was.rest input2 err err2 Made was.mid new turns.after turns.fits sound was.last was.ended in
           record {
             after = end.after;
-            served = record { turns = was.turns; rest = was.rest; mid = turns.after; taken = turns.taken; last = was.last; ended = end.other; progress = was.progress };
-            fits = follows.widen (λ v. Made v ⊎ LastIs (Makes v) was.last turns.after end.after)
-                (λ v. OneIs (Makes v) Others was.turns input was.rest u turns.after turns.taken ⊎ LastIs (Makes v) was.last turns.after end.after) new end.after (λ v made. some made) end.fits;
+            served = record { turns = was.turns; rest = was.rest; mid = mid; taken = turns.taken; last = was.last; ended = end.other; progress = was.progress };
+            fits = follows.widen (λ v. Made v ⊎ LastIs (Makes v) was.last mid (beside end.after new))
+                (λ v. OneIs (Makes v) Others was.turns input was.rest (beside e old) mid turns.taken ⊎ LastIs (Makes v) was.last mid (beside end.after new)) new.depot end.after (λ v made. some made) end.fits;
           }

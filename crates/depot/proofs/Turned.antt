@@ -1,5 +1,5 @@
 -- What a turn of a batch does to a depot, by the state that the depot stands for.
-use Rattle.std.proofs.Common.{◌≡◌, ◌⊎◌, ◌<◌, ◌≤◌, inl, inr, IsTrue, ℕ, List, map, None, Result, refl, sym, subst, ◌∙◌, arith}
+use Rattle.std.proofs.Common.{◌≡◌, ◌⊎◌, ◌<◌, ◌≤◌, inl, inr, IsTrue, List, ℕ, map, None, Result, refl, sym, subst, ◌∙◌, arith}
 use Rattle.sqlite_disk.specs.declared.Disk.{Ghosts}
 use Rattle.sqlite_disk.specs.declared.Files.{Files}
 use Rattle.sqlite_trees.specs.Tree.{Trees}
@@ -11,21 +11,77 @@ use Rattle.part_store.specs.Entries.{Entries}
 use Rattle.part_store.specs.Opening.{IsAt}
 use Rattle.part_store.specs.Standing.{Stands}
 use Rattle.refusals.specs.declared.refusal.Refusal.{Refusal}
-use Rattle.devices.specs.Device.{Output}
 use Rattle.depot_actions.specs.Deliveries.{AcceptsAll}
-use Rattle.depot_actions.specs.DepotState.{Accepts, Command, Export as Exports, Leaves, Listed, Text as Written}
+use Rattle.depot_actions.specs.DepotState.{Accepts, Export as Exports, Leaves, Listed, Text as Written}
+use Rattle.depot_jobs.specs.Host.{HostState}
 use Rattle.depot_cli.specs.Requests.{request_command}
-use Rattle.depot_cli.specs.Tasks.{HasRefused}
 use Rattle.depot_batch.specs.Asked.{Text}
-use Rattle.depot_batch.specs.Batch.{IsAsked, DepotAndOutput}
 use Rattle.depot_batch.specs.Batch as batch
+use Rattle.depot_batch.specs.Effects.{Accepted, AcceptedAll, Declined, DepotAndOutput, Effect, HasCome, HasHappened, IsDone, IsRefused, NotAsked, Unchanged, depot_and_output}
+use Rattle.depot_batch.specs.Turns.{Alone, Broken, Together, Turn, Whole, Withdrawn, Writing}
 use Rattle.depot_batch.specs.declared.asked.Asked.{Asked}
 use Rattle.depot_batch.specs.declared.asked.Asked.TheVariants.{Reply as ToReply, Export as IntoFile}
 use Rattle.depot_batch.specs.declared.outcome.Outcome.{Outcome}
 use Rattle.depot_batch.specs.declared.outcome.Outcome.TheVariants.{Done, Refused, Wrong}
-use Rattle.depot.specs.Batches.{AreAnsweredBy, AreWithdrawn, HasCome, IsAnsweredBy, IsDeclined, Ledger, ledger}
-use Rattle.depot.specs.Ending.{HasCounted, IsRefusal}
+use Rattle.depot.specs.Batches.{Did}
+use Rattle.depot.specs.Ending.{HasCounted}
 use Rattle.depot.proofs.Ended.{still_at}
+
+-- ---- from one kind of effects to another
+
+-- there is one of these that fits
+pub record Fitting {A : Type 0} (Fits Is : A → Type 0) : Type 0 where
+  pub after : A
+  pub is : Is after
+  pub fits : Fits after
+
+so : {A : Type 0} {Fits Is More : A → Type 0} → Fitting Fits Is → ((after : A) → Is after → More after) → Fitting Fits More
+so one more = record { after = one.after; is = more one.after one.is; fits = one.fits }
+
+-- If each effect leads to another, so does what comes of a line.
+module _ {A : Type 0} {One : Effect → Type 0} {Other : A → Effect → Type 0} {Fits : A → Type 0}
+    (leads : (effect : Effect) → One effect → Fitting Fits (λ after. Other after effect)) (name : Text) (host host2 : HostState) where
+  done_leads : (asked : Asked) (text : List ℕ) → IsDone One name asked text host host2 → Fitting Fits (λ after. IsDone (Other after) name asked text host host2)
+  done_leads (ToReply request) text done =
+      let answered = done.2 in
+      so (leads (Accepted (request_command request done.0) answered.0) answered.1) (λ after is. (done.0, done.1, (answered.0, is, answered.2)))
+  done_leads (IntoFile export) text done =
+      let made = done.1 in
+      so (leads (Accepted (Exports export.user.now export.number export.encoding) (Written made.0)) made.2) (λ after is. (done.0, (made.0, made.1, is)))
+
+  refused_leads : (asked : Asked) (refusal : Refusal) → IsRefused One name asked refusal host host2 → Fitting Fits (λ after. IsRefused (Other after) name asked refusal host host2)
+  refused_leads (ToReply request) refusal refused = elim refused [
+    | inl unread ↦ so (leads NotAsked unread.1) (λ after is. inl (unread.0, is))
+    | inr asked ↦ so (leads (Declined (request_command request asked.0) refusal) asked.2) (λ after is. inr (asked.0, asked.1, is))
+  ]
+  refused_leads (IntoFile export) refusal refused = elim refused [
+    | inl unmade ↦ so (leads Unchanged unmade.1) (λ after is. inl (unmade.0, is))
+    | inr asked ↦ so (leads (Declined (Exports export.user.now export.number export.encoding) refusal) asked.2) (λ after is. inr (asked.0, asked.1, is))
+  ]
+
+  come_leads : (line : Text) (outcome : Outcome) (text : List ℕ) → HasCome One name line outcome text host host2 → Fitting Fits (λ after. HasCome (Other after) name line outcome text host host2)
+  come_leads line Done text come = so (done_leads come.0 text come.2) (λ after is. (come.0, come.1, is))
+  come_leads line (Refused refusal) text come = elim come.1 [
+    | inl idle ↦ let still = idle.1 in so (leads NotAsked still.0) (λ after is. (come.0, inl (idle.0, (is, still.1))))
+    | inr asked ↦ so (refused_leads asked.0 refusal asked.2) (λ after is. (come.0, inr (asked.0, asked.1, is)))
+  ]
+  come_leads line Wrong text come = let still = come.3 in so (leads NotAsked still.0) (λ after is. (come.0, come.1, come.2, (is, still.1)))
+
+-- so does what happens in a turn
+pub turn_leads : {A B : Type 0} {One : B → B → Effect → Type 0} {Other : A → A → Effect → Type 0} {Fits : A → Type 0} (old new : DepotAndOutput B) (before : A)
+    → ((effect : Effect) → One old.depot new.depot effect → Fitting Fits (λ after. Other before after effect)) → (name : Text) (turn : Turn) (writing : Writing)
+    → HasHappened One name turn writing old new
+    → Fitting Fits (λ after. HasHappened Other name turn writing (depot_and_output before old.host old.out) (depot_and_output after new.host new.out))
+turn_leads old new before leads name (Alone line outcome) writing it =
+    so (come_leads leads name old.host new.host line outcome it.text it.come) (λ after is. record { text = it.text; come = is; written = it.written })
+turn_leads old new before leads name (Together lines) writing it =
+    so (leads (AcceptedAll it.commands (map Listed it.filed)) it.done)
+    (λ after is. record { few = it.few; commands = it.commands; files = it.files; filed = it.filed; done = is; written = it.written })
+turn_leads old new before leads name (Withdrawn lines) Whole it =
+    so (leads Unchanged it.unchanged) (λ after is. record { some = it.some; few = it.few; files = it.files; unchanged = is; out = it.out })
+turn_leads old new before leads name (Withdrawn lines) Broken it = absurd it
+
+-- ---- from the store to the state
 
 module _ {D : Type 0} (g : Ghosts D) where
   -- a depot shows this state, as long as it is open
@@ -51,139 +107,53 @@ module _ {D : Type 0} (g : Ghosts D) where
     unlimited = survives.limit ∙ works.unlimited;
   }
 
-  -- ---- what a line does
+  -- the state that a depot shows after one was shown, which a depot that isn't open still has
+  pub record Shown (before : Entries) (new : Held (FileStore D g)) (after : Entries) : Type 0 where
+    pub shows : Shows after new
+    pub closes : IsTrue (file_state new).is_open ⊎ (after ≡ before)
 
-  -- a depot did what was asked of it, and is at what that leaves
-  record Did (Accepted : Entries → Type 0) (before : Entries) (new : Held (FileStore D g)) : Type 0 where
-    after : Entries
-    accepted : Accepted after
-    shows : Shows after new
-    closes : IsTrue (file_state new).is_open ⊎ (after ≡ before)
+  module _ (left : Result (Files D) (FileStore D g)) (old new : Held (FileStore D g)) (before : Entries) (works : Works before old) (clean : HasCleanDisk (file_state new))
+      (counts : (file_state old).faults ≤ (file_state new).faults) (counted : HasCounted (file_state new).faults left) where
+    stays : {Is : Entries → Type 0} → Is before → Shows before new → Fitting (Shown before new) Is
+    stays is shows = record { after = before; is = is; fits = record { shows = shows; closes = inr refl } }
 
-  did : (Accepted : Entries → Entries → Type 0) (old new : Held (FileStore D g)) (before : Entries) → Shows before old
-      → IsTrue (file_state old).is_open × ((state : Entries) → Stands (file_state old).now state → (after : Entries) × Accepted state after × Leaves state after (file_state old) (file_state new))
-      → Did (Accepted before) before new
-  did Accepted old new before shows does =
-      let one = does.1 before (shows does.0).0 in
-      record {
-        after = one.0;
-        accepted = one.1;
-        shows = λ is_open. let both = one.2.stands is_open in (both.0, both.1, is_open);
-        closes = elim one.2.closes [ inl is_open ↦ inl is_open | inr same ↦ inr same.0 ];
-      }
-
-  refusal_of : (left : Result (Files D) (FileStore D g)) (old new : Held (FileStore D g)) (command : Command) (refusal : Refusal) (before : Entries) → Works before old → HasCleanDisk (file_state new)
-      → (file_state old).faults ≤ (file_state new).faults → HasCounted (file_state new).faults left
-      → HasRefused command refusal (file_state old) (file_state new) → IsRefusal left command before refusal
-  refusal_of left old new command refusal before works clean counts counted refused =
-      let all = refused.1 clean in
-      record {
-        may = refused.0;
-        depot = old;
-        shows = works.shows;
-        closed_by_failure = works.closed_by_failure;
-        unlimited = works.unlimited;
-        cause = all.0;
-        after = new;
-        fault = all.1;
-        counts = counts;
-        counted = counted;
-      }
-
-  -- what came of a line, and the depot at the state after it
-  record Step (left : Result (Files D) (FileStore D g)) (name line : Text) (outcome : Outcome) (text : List ℕ) (before : Entries) (old new : DepotAndOutput (FileStore D g)) : Type 0 where
-    after : Entries
-    come : HasCome left name line outcome text (ledger before old.host old.out) (ledger after new.host new.out)
-    shows : Shows after new.depot
-    closes : IsTrue (file_state new.depot).is_open ⊎ (after ≡ before)
-
-  -- the state stays, as the depot does
-  stays_at : (old new : Held (FileStore D g)) (before : Entries) → Shows before old → new ≡ old → Shows before new
-  stays_at old new before shows same = subst (λ (d : Held (FileStore D g)). Shows before d) (sym same) shows
-
-  module _ (left : Result (Files D) (FileStore D g)) (name line : Text) (text : List ℕ) (before : Entries) (old new : DepotAndOutput (FileStore D g)) (works : Works before old.depot) (clean : HasCleanDisk (file_state new.depot))
-      (counts : (file_state old.depot).faults ≤ (file_state new.depot).faults) (counted : HasCounted (file_state new.depot).faults left) where
-    shows : Shows before old.depot
-    shows = works.shows
-
-    step_done : (asked : Asked) → IsAsked line asked → batch.IsDone over_files name asked text old.depot new.depot old.host new.host → Step left name line Done text before old new
-    step_done (ToReply request) is done =
-        let answered = done.2 in
-        let one = did (λ state after. Accepts state (request_command request done.0) answered.0 after) old.depot new.depot before shows (answered.1 clean) in
-        record { after = one.after; come = (ToReply request, is, (done.0, done.1, answered.0, one.accepted, answered.2)); shows = one.shows; closes = one.closes }
-    step_done (IntoFile export) is done =
-        let made = done.1 in
-        let one = did (λ state after. Accepts state (Exports export.user.now export.number export.encoding) (Written made.0) after) old.depot new.depot before shows (made.2 clean) in
-        record { after = one.after; come = (IntoFile export, is, (made.0, made.1, one.accepted, done.0)); shows = one.shows; closes = one.closes }
-
-    -- what is asked was refused
-    record Declined (asked : Asked) (refusal : Refusal) : Type 0 where
-      why : IsDeclined left name asked refusal (ledger before old.host old.out) (ledger before new.host new.out)
-      shows_still : Shows before new.depot
-
-    declined : (asked : Asked) (refusal : Refusal) → batch.IsRefused over_files name asked refusal old.depot new.depot old.host new.host → Declined asked refusal
-    declined (ToReply request) refusal refused = elim refused [
-      | inl unread ↦ record { why = inl unread.0; shows_still = stays_at old.depot new.depot before shows unread.1 }
-      | inr asked ↦
-          let all = asked.2.1 clean in
-          record {
-            why = inr (asked.0, asked.1, refusal_of left old.depot new.depot (request_command request asked.0) refusal before works clean counts counted asked.2);
-            shows_still = still_at g old.depot new.depot before shows all.2;
-          }
-    ]
-    declined (IntoFile export) refusal refused = elim refused.0 [
-      | inl unmade ↦ record { why = inl unmade; shows_still = still_at g old.depot new.depot before shows (refused.1 clean) }
-      | inr asked ↦ record {
-        why = inr (asked.0, asked.1, refusal_of left old.depot new.depot (Exports export.user.now export.number export.encoding) refusal before works clean counts counted asked.2);
-        shows_still = still_at g old.depot new.depot before shows (refused.1 clean);
-      }
-    ]
-
-    step : (outcome : Outcome) → batch.HasCome over_files name line outcome text old new → Step left name line outcome text before old new
-    step Done come = step_done come.0 come.1 come.2
-    step (Refused refusal) come = elim come.1 [
-      | inl idle ↦
-          let still = idle.1 in
-          record { after = before; come = (come.0, refl, inl (idle.0, still.1)); shows = stays_at old.depot new.depot before shows still.0; closes = inr refl }
-      | inr asked ↦
-          let it = declined asked.0 refusal asked.2 in
-          record { after = before; come = (come.0, refl, inr (asked.0, asked.1, it.why)); shows = it.shows_still; closes = inr refl }
-    ]
-    step Wrong come =
-        let still = come.3 in
-        record { after = before; come = (come.0, come.1, come.2, refl, still.1); shows = stays_at old.depot new.depot before shows still.0; closes = inr refl }
-
-  -- ---- what a turn does
-
-  -- what happened in a turn, and the depot at the state after it
-  pub record Turned (Other : Ledger → Ledger → Type 0) (before : Entries) (old new : DepotAndOutput (FileStore D g)) : Type 0 where
-    pub after : Entries
-    pub happens : Other (ledger before old.host old.out) (ledger after new.host new.out)
-    pub shows : Shows after new.depot
-    pub closes : IsTrue (file_state new.depot).is_open ⊎ (after ≡ before)
-
-  module _ (WrittenAs : List ℕ → Output → Output → Type 0) (before : Entries) (old new : DepotAndOutput (FileStore D g)) (works : Works before old.depot) (clean : HasCleanDisk (file_state new.depot)) where
-    pub alone : (left : Result (Files D) (FileStore D g)) → HasCounted (file_state new.depot).faults left → (name line : Text) (outcome : Outcome)
-        → batch.IsAnsweredBy over_files WrittenAs name line outcome old new → Turned (IsAnsweredBy WrittenAs left name line outcome) before old new
-    alone left counted name line outcome it =
-        let one = step left name line it.text before old new works clean it.outlasts.counts counted outcome it.come in
-        record { after = one.after; happens = (it.text, one.come, it.written); shows = one.shows; closes = one.closes }
-
-    pub together : (lines : List (List ℕ)) → batch.AreAnsweredBy over_files WrittenAs lines old new → Turned (AreAnsweredBy WrittenAs lines) before old new
-    together lines it =
-        let one = did (λ state after. AcceptsAll state it.commands (map Listed it.filed) after) old.depot new.depot before works.shows (it.done clean) in
+    accepts : (Is : Entries → Entries → Type 0)
+        → IsTrue (file_state old).is_open × ((state : Entries) → Stands (file_state old).now state → (after : Entries) × Is state after × Leaves state after (file_state old) (file_state new))
+        → Fitting (Shown before new) (Is before)
+    accepts Is does =
+        let one = does.1 before (works.shows does.0).0 in
         record {
-          after = one.after;
-          happens = record { few = it.few; commands = it.commands; files = it.files; filed = it.filed; accepted = one.accepted; written = it.written };
-          shows = one.shows;
-          closes = one.closes;
+          after = one.0;
+          is = one.1;
+          fits = record {
+            shows = λ is_open. let both = one.2.stands is_open in (both.0, both.1, is_open);
+            closes = elim one.2.closes [ inl is_open ↦ inl is_open | inr same ↦ inr same.0 ];
+          };
         }
 
-  pub withdrawn : (before : Entries) (old new : DepotAndOutput (FileStore D g)) → Works before old.depot → HasCleanDisk (file_state new.depot) → (lines : List (List ℕ))
-      → batch.AreWithdrawn over_files lines old new → Turned (AreWithdrawn lines) before old new
-  withdrawn before old new works clean lines it = record {
-    after = before;
-    happens = record { some = it.some; few = it.few; files = it.files; held = refl; out = it.out };
-    shows = still_at g old.depot new.depot before works.shows (it.unchanged clean);
-    closes = inr refl;
-  }
+    pub effect_leads : (effect : Effect) → batch.Did over_files old new effect → Fitting (Shown before new) (λ after. Did left before after effect)
+    effect_leads NotAsked same = stays refl (subst (λ (d : Held (FileStore D g)). Shows before d) (sym same) works.shows)
+    effect_leads Unchanged spares = stays refl (still_at g old new before works.shows (spares clean))
+    effect_leads (Accepted command reply) done = accepts (λ state after. Accepts state command reply after) (done clean)
+    effect_leads (AcceptedAll commands replies) done = accepts (λ state after. AcceptsAll state commands replies after) (done clean)
+    effect_leads (Declined command refusal) refused =
+        let all = refused.1 clean in
+        record {
+          after = before;
+          is = (
+            record {
+              may = refused.0;
+              depot = old;
+              shows = works.shows;
+              closed_by_failure = works.closed_by_failure;
+              unlimited = works.unlimited;
+              cause = all.0;
+              after = new;
+              fault = all.1;
+              counts = counts;
+              counted = counted;
+            },
+            refl,
+          );
+          fits = record { shows = still_at g old new before works.shows all.2; closes = inr refl };
+        }

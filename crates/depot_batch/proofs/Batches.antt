@@ -3,15 +3,17 @@ use Rattle.std.proofs.Common.{◌≡◌, ◌≤◌, ◌+◌, ◌-◌, ◌^◌, �
 use Rattle.std.specs.Io.KnownBytes.{Keeps}
 use Rattle.std.proofs.KnownBytes.{Consumes-kept, Consumes-nil, Consumes-trans, Keeps-trans}
 use Rattle.sqlite_trees.specs.declared.store.Store.{Ghosts}
-use Rattle.devices.specs.Device.{HasBroken, HasTaken, Output, counted}
+use Rattle.sqlite.specs.Held.{Held}
+use Rattle.devices.specs.Device.{Output, counted}
 use Rattle.devices.specs.Supply.{HasGiven, HasStoppedGiving, Supply}
 use Rattle.refusals.specs.declared.refusal.Refusal.{Refusal}
 use Rattle.refusals.specs.declared.refusal.Refusal.TheVariants.{Database, Memory, Read, Write}
 use Rattle.depot_jobs.specs.Jobs.{HasTold}
-use Rattle.depot_batch.specs.Batch.{AreTaken, Breaks, Happens, HasServed, IsAnsweredBy, DepotAndOutput}
+use Rattle.depot_batch.specs.Batch.{AreTaken, Happens, HasServed}
+use Rattle.depot_batch.specs.Effects.{DepotAndOutput}
 use Rattle.depot_batch.specs.Lines.{HasNotTaken, HasShown, HasTakenAll, IsLine, IsUnfinished}
 use Rattle.depot_batch.specs.Private.{ComesNext, HasTakenNext, HasTried, HasTurned, IsAhead}
-use Rattle.depot_batch.specs.Turns.{Alone, EndsBy, GoesOn, MakeProgress, Takes, Together, Turn, Withdrawn}
+use Rattle.depot_batch.specs.Turns.{Alone, Broken, EndsBy, GoesOn, MakeProgress, Takes, Together, Turn, Whole, Withdrawn, Writing}
 use Rattle.depot_batch.specs.declared.ahead.Ahead.{Ahead}
 use Rattle.depot_batch.specs.declared.outcome.Outcome.{Outcome}
 use Rattle.depot_batch.specs.declared.outcome.Outcome.TheVariants.{Refused}
@@ -83,7 +85,7 @@ module _ (s0 s1 s2 : Supply) (first : HasShown [] s0 s1) where
 -- ---- turns
 
 -- where a batch stands after so many turns, when so many lines are to be done alone
-pub record StandsAfter {S : Type 0} (g : Ghosts S) (name : List ℕ) (count alone : ℕ) (input rest : Supply) (old new : DepotAndOutput S) : Type 0 where
+pub record StandsAfter {S : Type 0} (g : Ghosts S) (name : List ℕ) (count alone : ℕ) (input rest : Supply) (old new : DepotAndOutput (Held S)) : Type 0 where
   pub turns : List Turn
   pub taken : AreTaken g name turns input rest old new
   pub counted : length turns ≡ count
@@ -91,23 +93,24 @@ pub record StandsAfter {S : Type 0} (g : Ghosts S) (name : List ℕ) (count alon
   pub owed : Owe alone turns
 
 -- the same turn, by an equal name and an equal result
-pub turned_as : {S : Type 0} (g : Ghosts S) {n m : List ℕ} {x y : Result (Option ℕ) Refusal} {alone later : ℕ} {s0 s1 : Supply} {old new : DepotAndOutput S} → n ≡ m → x ≡ y
+pub turned_as : {S : Type 0} (g : Ghosts S) {n m : List ℕ} {x y : Result (Option ℕ) Refusal} {alone later : ℕ} {s0 s1 : Supply} {old new : DepotAndOutput (Held S)} → n ≡ m → x ≡ y
     → HasTurned g n x alone later s0 s1 old new → HasTurned g m y alone later s0 s1 old new
 turned_as {S} g {n} {m} {x} {y} {alone} {later} {s0} {s1} {old} {new} same is turned =
     subst (λ (name : List ℕ). HasTurned g name y alone later s0 s1 old new) same (subst (λ (came : Result (Option ℕ) Refusal). HasTurned g n came alone later s0 s1 old new) is turned)
 
 -- the same answer, to an equal line
-pub answered_as : {S : Type 0} (g : Ghosts S) {Written : List ℕ → Output → Output → Type 0} {name a b : List ℕ} {outcome : Outcome} {old new : DepotAndOutput S} → a ≡ b
-    → IsAnsweredBy g Written name a outcome old new → IsAnsweredBy g Written name b outcome old new
-answered_as {S} g {Written} {name} {a} {b} {outcome} {old} {new} same answered = subst (λ (line : List ℕ). IsAnsweredBy g Written name line outcome old new) same answered
+pub answered_as : {S : Type 0} (g : Ghosts S) {writing : Writing} {name a b : List ℕ} {outcome : Outcome} {old new : DepotAndOutput (Held S)} → a ≡ b
+    → Happens g name (Alone a outcome) writing old new → Happens g name (Alone b outcome) writing old new
+answered_as {S} g {writing} {name} {a} {b} {outcome} {old} {new} same answered = subst (λ (line : List ℕ). Happens g name (Alone line outcome) writing old new) same answered
 
 -- what is ready, known by its name
 pub ahead_as : {a b : Ahead} (s0 s1 : Supply) → a ≡ b → IsAhead a s0 s1 → IsAhead b s0 s1
 ahead_as s0 s1 is ahead = subst (λ (a : Ahead). IsAhead a s0 s1) is ahead
 
 -- what came of lines that were to be done together, known by its name
-pub tried_as : {S : Type 0} (g : Ghosts S) {t u : Tried} (lines : List (List ℕ)) (old new : DepotAndOutput S) → t ≡ u → HasTried g t lines old new → HasTried g u lines old new
-tried_as g lines old new is tried = subst (λ (t : Tried). HasTried g t lines old new) is tried
+pub tried_as : {S : Type 0} (g : Ghosts S) (name : List ℕ) {t u : Tried} (lines : List (List ℕ)) (old new : DepotAndOutput (Held S)) → t ≡ u → HasTried g name t lines old new
+    → HasTried g name u lines old new
+tried_as g name lines old new is tried = subst (λ (t : Tried). HasTried g name t lines old new) is tried
 
 -- what was taken, known by its name
 pub taken_as : {t u : Taken} (octets : List ℕ) (s0 s1 : Supply) → t ≡ u → HasTakenNext t octets s0 s1 → HasTakenNext u octets s0 s1
@@ -115,27 +118,27 @@ taken_as octets s0 s1 is taken = subst (λ (t : Taken). HasTakenNext t octets s0
 
 module _ {S : Type 0} (g : Ghosts S) (name : List ℕ) where
   -- why a batch ends, whatever number of turns it had
-  abbrev Ends : ℕ → ℕ → List Turn → Supply → Supply → DepotAndOutput S → DepotAndOutput S → Output → Output → Type 0
-  Ends status count last rest left old new err err2 = EndsBy (Happens g name) (Breaks g name) status count last rest left old new err err2
+  abbrev Ends : ℕ → ℕ → List Turn → Supply → Supply → DepotAndOutput (Held S) → DepotAndOutput (Held S) → Output → Output → Type 0
+  Ends status count last rest left old new err err2 = EndsBy (Happens g name) status count last rest left old new err err2
 
   -- one turn more was taken
-  taken_more : (turns : List Turn) (turn : Turn) (input rest left : Supply) (old mid new : DepotAndOutput S) → AreTaken g name turns input rest old mid
-      → Takes turn rest left → Happens g name turn mid new → GoesOn turn → AreTaken g name (turns ++ turn ∷ []) input left old new
+  taken_more : (turns : List Turn) (turn : Turn) (input rest left : Supply) (old mid new : DepotAndOutput (Held S)) → AreTaken g name turns input rest old mid
+      → Takes turn rest left → Happens g name turn Whole mid new → GoesOn turn → AreTaken g name (turns ++ turn ∷ []) input left old new
   taken_more [] turn input rest left old mid new before takes happens on =
-      (left, new, subst (λ (s : Supply). Takes turn s left) before.0 takes, subst (λ (o : DepotAndOutput S). Happens g name turn o new) before.1 happens, on, (refl, refl))
+      (left, new, subst (λ (s : Supply). Takes turn s left) before.0 takes, subst (λ (o : DepotAndOutput (Held S)). Happens g name turn Whole o new) before.1 happens, on, (refl, refl))
   taken_more (first ∷ turns) turn input rest left old mid new before takes happens on =
       (before.0, before.1, before.2, before.3, before.4, taken_more turns turn before.0 rest left before.1 mid new before.5 takes happens on)
 
-  pub stands_first : {input : Supply} {old : DepotAndOutput S} → StandsAfter g name 0 0 input input old old
+  pub stands_first : {input : Supply} {old : DepotAndOutput (Held S)} → StandsAfter g name 0 0 input input old old
   stands_first = record { turns = []; taken = (refl, refl); counted = refl; progress = tt; owed = tt }
 
   -- the reasons don't hang on the number of turns, but for that of counting
-  ends_at : (status count : ℕ) (last : List Turn) (rest left : Supply) (old new : DepotAndOutput S) (err err2 : Output) → Ends status 0 last rest left old new err err2
+  ends_at : (status count : ℕ) (last : List Turn) (rest left : Supply) (old new : DepotAndOutput (Held S)) (err err2 : Output) → Ends status 0 last rest left old new err err2
       → Ends status count last rest left old new err err2
   ends_at status count last rest left old new err err2 (inl all) = inl (all.0, all.1, elim all.2 [ inl end ↦ inl end | inr counted ↦ absurd (omega (arith, counted.0)) ], all.3, all.4)
   ends_at status count last rest left old new err err2 (inr others) = inr others
 
-  module _ {count alone later : ℕ} {input rest left : Supply} {old mid new : DepotAndOutput S} (before : StandsAfter g name count alone input rest old mid) where
+  module _ {count alone later : ℕ} {input rest left : Supply} {old mid new : DepotAndOutput (Held S)} (before : StandsAfter g name count alone input rest old mid) where
     pub stands_on : HasTurned g name (Ok None) alone later rest left mid new → StandsAfter g name (count + 1) later input left old new
     stands_on turned =
         let come = turned.come in
@@ -178,7 +181,7 @@ module _ {S : Type 0} (g : Ghosts S) (name : List ℕ) where
         }
 
   -- the end of counting
-  pub ends_counting : {count alone : ℕ} {input rest : Supply} {old new : DepotAndOutput S} {err err2 : Output} → StandsAfter g name count alone input rest old new
+  pub ends_counting : {count alone : ℕ} {input rest : Supply} {old new : DepotAndOutput (Held S)} {err err2 : Output} → StandsAfter g name count alone input rest old new
       → err2 ≡ err → count ≡ 2 ^ 64 - 1 → HasServed g name 0 input rest old new err err2
   ends_counting {count} {alone} {input} {rest} {old} {new} before silent all = record {
     turns = before.turns;
@@ -193,7 +196,7 @@ module _ {S : Type 0} (g : Ghosts S) (name : List ℕ) where
   -- ---- one turn
 
   -- the input was only looked at before a turn
-  ends_after : (status : ℕ) (last : List Turn) (s0 s1 s2 : Supply) (old new : DepotAndOutput S) (err err2 : Output) → HasShown [] s0 s1 → Ends status 0 last s1 s2 old new err err2
+  ends_after : (status : ℕ) (last : List Turn) (s0 s1 s2 : Supply) (old new : DepotAndOutput (Held S)) (err err2 : Output) → HasShown [] s0 s1 → Ends status 0 last s1 s2 old new err err2
       → Ends status 0 last s0 s2 old new err err2
   ends_after status last s0 s1 s2 old new err err2 first (inl all) =
       inl (all.0, all.1, inl (elim all.2 [ inl end ↦ all_after s0 s1 s2 first [] end | inr counted ↦ absurd (omega (arith, counted.0)) ]), all.3, all.4)
@@ -204,7 +207,7 @@ module _ {S : Type 0} (g : Ghosts S) (name : List ℕ) where
   ends_after status last s0 s1 s2 old new err err2 first (inr (inr (inr (inr all)))) =
       inr (inr (inr (inr (all.0, all.1, all.2, all.3, unread_after s0 s1 s2 first all.2 all.3 all.4, all.5, all.6))))
 
-  pub turned_after : (came : Result (Option ℕ) Refusal) {alone later : ℕ} {s0 s1 s2 : Supply} {old new : DepotAndOutput S} → HasShown [] s0 s1
+  pub turned_after : (came : Result (Option ℕ) Refusal) {alone later : ℕ} {s0 s1 s2 : Supply} {old new : DepotAndOutput (Held S)} → HasShown [] s0 s1
       → HasTurned g name came alone later s1 s2 old new → HasTurned g name came alone later s0 s2 old new
   turned_after (Ok None) {alone} {later} {s0} {s1} {s2} first turned =
       let come = turned.come in
@@ -216,7 +219,7 @@ module _ {S : Type 0} (g : Ghosts S) (name : List ℕ) where
       let come = turned.come in
       record { come = (come.0, (λ err err2 told. ends_after 1 come.0 s0 s1 s2 old new err err2 first (come.1 err err2 told)), come.2) }
 
-  module _ {alone later : ℕ} {s0 s1 : Supply} {old : DepotAndOutput S} where
+  module _ {alone later : ℕ} {s0 s1 : Supply} {old : DepotAndOutput (Held S)} where
     -- the end of the input
     pub turned_end : HasTakenAll [] s0 s1 → HasTurned g name (Ok (Some 0)) alone later s0 s1 old old
     turned_end end = record { come = ([], (λ err. inl (refl, refl, inl end, refl, refl)), tt) }
@@ -225,28 +228,28 @@ module _ {S : Type 0} (g : Ghosts S) (name : List ℕ) where
     pub turned_unread : {refusal : Refusal} (octets : List ℕ) → HasNotTaken refusal octets s0 s1 → HasTurned g name (Err refusal) alone later s0 s1 old old
     turned_unread {refusal} octets unread = record { come = ([], (λ err err2 told. inr (inr (inr (inr (refl, refl, refusal, octets, unread, told, refl))))), tt) }
 
-  module _ {alone later : ℕ} {s0 s1 : Supply} {old new : DepotAndOutput S} where
+  module _ {alone later : ℕ} {s0 s1 : Supply} {old new : DepotAndOutput (Held S)} where
     -- answers broke off
-    pub turned_broken : (turn : Turn) → ComesNext alone turn later → Takes turn s0 s1 → Breaks g name turn old new → HasTurned g name (Err Write) alone later s0 s1 old new
+    pub turned_broken : (turn : Turn) → ComesNext alone turn later → Takes turn s0 s1 → Happens g name turn Broken old new → HasTurned g name (Err Write) alone later s0 s1 old new
     turned_broken turn next takes breaks = record { come = (turn ∷ [], (λ err err2 told. inr (inr (inr (inl (refl, turn, refl, takes, breaks, told))))), next) }
 
     module _ (octets : List ℕ) (outcome : Outcome) (one : alone ≤ later + 1) where
       -- a line was answered: the batch goes on, or ends since it was refused `Database`
-      pub turned_line : (came : Option ℕ) → IsLine octets × HasGiven octets s0 s1 → IsAnsweredBy g HasTaken name octets outcome old new
+      pub turned_line : (came : Option ℕ) → IsLine octets × HasGiven octets s0 s1 → Happens g name (Alone octets outcome) Whole old new
           → IfSome came (λ status. (status ≡ 1) × (outcome ≡ Refused Database)) → IfNone came (outcome ≡ Refused Database → ⊥) → HasTurned g name (Ok came) alone later s0 s1 old new
       turned_line None taken answered shut on = record { come = (Alone octets outcome, taken, answered, on, one) }
       turned_line (Some status) taken answered shut on =
-          let refused = subst (λ (o : Outcome). IsAnsweredBy g HasTaken name octets o old new) shut.1 answered in
+          let refused = subst (λ (o : Outcome). Happens g name (Alone octets o) Whole old new) shut.1 answered in
           record { come = (Alone octets (Refused Database) ∷ [], (λ err. inr (inr (inl (shut.0, octets, refl, taken.0, taken.1, refused, refl)))), one) }
 
       -- the end of the input within a line, whose answer was written, or broke off
       module _ (taken : IsUnfinished octets × HasTakenAll octets s0 s1) where
-        pub turned_within : IsAnsweredBy g HasTaken name octets outcome old new → HasTurned g name (Ok (Some 0)) alone later s0 s1 old new
+        pub turned_within : Happens g name (Alone octets outcome) Whole old new → HasTurned g name (Ok (Some 0)) alone later s0 s1 old new
         turned_within answered = record {
           come = (Alone octets outcome ∷ [], (λ err. inr (inl (octets, outcome, refl, taken.0, taken.1, inl (refl, answered, refl)))), one);
         }
 
-        pub broken_within : IsAnsweredBy g HasBroken name octets outcome old new → HasTurned g name (Err Write) alone later s0 s1 old new
+        pub broken_within : Happens g name (Alone octets outcome) Broken old new → HasTurned g name (Err Write) alone later s0 s1 old new
         broken_within broken = record {
           come = (Alone octets outcome ∷ [], (λ err err2 told. inr (inl (octets, outcome, refl, taken.0, taken.1, inr (refl, broken, told)))), one);
         }

@@ -4,7 +4,7 @@ use Rattle.std.specs.Prelude.{filter, bytes_eq}
 use Rattle.std.specs.List.{list_all}
 use Rattle.std.specs.Fmt.{decimal}
 use Rattle.sqlite_trees.specs.declared.store.Store.{Ghosts}
-use Rattle.sqlite.specs.Held.{state}
+use Rattle.sqlite.specs.Held.{Held, state}
 use Rattle.sqlite.specs.State.{HasCleanDisk, State}
 use Rattle.part_store.specs.Entries.{Entries, Entry, Listing, entries_of, listing_of}
 use Rattle.part_store.specs.Standing.{Stands}
@@ -23,7 +23,8 @@ use Rattle.depot_cli.specs.Printed.{entries_text, entry_text, kind_text, reply_t
 use Rattle.depot_cli.specs.Requests.{request_command}
 use Rattle.depot_cli.specs.Tasks.{HasDone}
 use Rattle.depot_cli.specs.declared.entries.Detail.TheVariants.{Brief, Full}
-use Rattle.depot_batch.specs.Batch.{HasCome, IsDone, DepotAndOutput}
+use Rattle.depot_batch.specs.Batch.{Did}
+use Rattle.depot_batch.specs.Effects.{DepotAndOutput, HasCome, IsDone}
 use Rattle.depot_batch.specs.Asked.{Asks, Text}
 use Rattle.depot_batch.specs.Closings.{has_closing}
 use Rattle.depot_batch.specs.Sentences.{wrong_line}
@@ -177,8 +178,8 @@ wrong_closes_none faults.Encoding = refl
 -- ---- answers
 
 module _ {S : Type 0} (g : Ghosts S) where
-  done_closes_none : (name : List ℕ) (asked : Asked) (words : List Text) (text : List ℕ) (old new : DepotAndOutput S) (before : Entries) → Asks words asked
-      → IsDone g name asked text old.depot new.depot old.host new.host → HasCleanDisk (state g new.depot) → Stands (state g old.depot).now before
+  done_closes_none : (name : List ℕ) (asked : Asked) (words : List Text) (text : List ℕ) (old new : DepotAndOutput (Held S)) (before : Entries) → Asks words asked
+      → IsDone (Did g old.depot new.depot) name asked text old.host new.host → HasCleanDisk (state g new.depot) → Stands (state g old.depot).now before
       → HavePlainMedia before → has_closing true text ≡ false
   done_closes_none name (Reply request) words text old new before asks done clean stands plain =
       let answered = done.2 in
@@ -187,7 +188,7 @@ module _ {S : Type 0} (g : Ghosts S) where
   done_closes_none name (IntoFile export) words text old new before asks done clean stands plain =
       ap (has_closing true) done.0 ∙ numbered_safe (codes "exported ") export.number (refl, refl)
 
-  pub closes_none : (name octets : List ℕ) (outcome : Outcome) (text : List ℕ) (old new : DepotAndOutput S) → HasCome g name octets outcome text old new
+  pub closes_none : (name octets : List ℕ) (outcome : Outcome) (text : List ℕ) (old new : DepotAndOutput (Held S)) → HasCome (Did g old.depot new.depot) name octets outcome text old.host new.host
       → HasCleanDisk (state g new.depot) → (before : Entries) → Stands (state g old.depot).now before → HavePlainMedia before → has_closing true text ≡ false
   closes_none name octets Done text old new come clean before stands plain =
       done_closes_none name come.0 come.1.0 text old new before come.1.2 come.2 clean stands plain

@@ -11,7 +11,8 @@ use Rattle.depot_cli.specs.Tasks.{HasRefused}
 use Rattle.refusals.specs.declared.refusal.Refusal.{Refusal}
 use Rattle.refusals.specs.declared.refusal.Refusal.TheVariants.{Memory, Write}
 use Rattle.depot_batch.specs.Asked.{Text}
-use Rattle.depot_batch.specs.Batch.{HasNotExported}
+use Rattle.depot_batch.specs.Batch.{Did}
+use Rattle.depot_batch.specs.Effects.{HasNotExported}
 use Rattle.depot_batch.specs.declared.asked.Export.{Export}
 
 -- whether a refusal is one that may come after some of a file was written
@@ -36,14 +37,14 @@ module _ {S : Type 0} (g : Ghosts S) where
       → (e ≢ Write → e ≢ Memory → faults ≡ fresh.faults)
       → HasRefused (Exports export.user.now export.number export.encoding) e (state g old) (state g new)
       → (HasCleanDisk (state g new) → LeavesUnchanged (state g old) (state g new))
-      → HasNotExported g name export e old new host host2
+      → HasNotExported (Did g old new) name export e host host2
   given_up e name export old new host mid host2 fresh faults made begun gone failed stopped unwritten refused unchanged =
       let asked = with_call (makes export.file.now name) host in
       let after : host2 ≡ with_faults faults asked = subst (λ h. host2 ≡ with_faults faults h) made gone in
       elim (comes_late e) [
         | inl is ↦
             let broke = one_fault asked host2 faults (failed is ∙ ap (counted 1) begun.faults) after in
-            (inl (subst (λ r. HasNotMade r export.file.now name host host2) (sym is) broke), unchanged)
-        | inr (inl is) ↦ (inr ((λ write. cc (is, write)), no_fault asked host2 faults (stopped is ∙ begun.faults) after, refused), unchanged)
-        | inr (inr other) ↦ (inr (other.0, no_fault asked host2 faults (unwritten other.0 other.1 ∙ begun.faults) after, refused), unchanged)
+            inl (subst (λ r. HasNotMade r export.file.now name host host2) (sym is) broke, unchanged)
+        | inr (inl is) ↦ inr ((λ write. cc (is, write)), no_fault asked host2 faults (stopped is ∙ begun.faults) after, refused)
+        | inr (inr other) ↦ inr (other.0, no_fault asked host2 faults (unwritten other.0 other.1 ∙ begun.faults) after, refused)
       ]

@@ -4,17 +4,18 @@ use Rattle.std.specs.List.{flat_map}
 use Rattle.std.proofs.Math.ListN.{get_or}
 use Rattle.std.proofs.lemmas.List.{drop_more, length-map, map-append, take-append-drop, take-map, take_more}
 use Rattle.sqlite_trees.specs.declared.store.Store.{Ghosts}
-use Rattle.sqlite.specs.Held.{state}
+use Rattle.sqlite.specs.Held.{Held, state}
 use Rattle.sqlite.specs.State.{HasCleanDisk, State, Survives}
 use Rattle.part_store.specs.Entries.{Listing}
 use Rattle.part_store.specs.Standing.{LeavesUnchanged}
 use Rattle.part_store.specs.declared.entry.EntryRow.{EntryRow}
-use Rattle.devices.specs.Device.{Output}
 use Rattle.depot_actions.specs.Deliveries.{DoesAll, MayLeaveAll, reply_of}
 use Rattle.depot_actions.specs.DepotState.{Command, Listed}
 use Rattle.depot_jobs.specs.Host.{HostState}
-use Rattle.depot_batch.specs.Batch.{AreAnsweredBy, AreDeliveries, AreLookedUp, AreWithdrawn, IsDelivery, MayMakeAll, DepotAndOutput, filed_text, most_together}
+use Rattle.depot_batch.specs.Batch.{Happens, MayLeaveIn}
+use Rattle.depot_batch.specs.Effects.{AreDeliveries, AreLookedUp, DepotAndOutput, HasWritten, IsDelivery, filed_text, most_together}
 use Rattle.depot_batch.specs.Private.{IsPassedOver, command_of, filed_by, lines_of}
+use Rattle.depot_batch.specs.Turns.{Together, Whole, Withdrawn, Writing}
 use Rattle.depot_batch.specs.declared.mails.Mail.{Mail}
 use Rattle.depot_batch.proofs.LineLemmas.{more_left}
 use Rattle.depot_batch.proofs.Readying.{first_few}
@@ -63,7 +64,7 @@ passed_over lines i d commands host mid host2 within are passed = record {
 }
 
 -- as many are asked for as there are lines
-as_many : (lines : List (List ℕ)) (commands : List Command) (host host2 : HostState) → AreDeliveries lines commands host host2 → length commands ≡ length lines
+pub as_many : (lines : List (List ℕ)) (commands : List Command) (host host2 : HostState) → AreDeliveries lines commands host host2 → length commands ≡ length lines
 as_many [] [] host host2 are = refl
 as_many (line ∷ lines) (command ∷ commands) host host2 are = ap suc (as_many lines commands are.0 host2 are.2)
 as_many [] (command ∷ commands) host host2 are = absurd are
@@ -90,7 +91,7 @@ cut_some lines cut n k is count some all =
 -- ---- on a depot
 
 -- The lines were cut to as many as there are mails, all of whose files were read, and the depot was asked for them.
-module _ {S : Type 0} (g : Ghosts S) {lines shown cut : List (Vec ℕ Global)} {n : ℕ} {mails mails2 : List Mail} (old new : DepotAndOutput S)
+module _ {S : Type 0} (g : Ghosts S) {lines shown cut : List (Vec ℕ Global)} {n : ℕ} {mails mails2 : List Mail} (name : List ℕ) (old new : DepotAndOutput (Held S))
     (is : cut ≡ take n lines) (count : n ≡ length mails) (same : shown ≡ lines) (same2 : mails2 ≡ mails) (few : length (lines_of lines) ≤ most_together)
     (files : AreDeliveries (take (length mails) (lines_of shown)) (map command_of mails) old.host new.host)
     (survives : Survives (state g old.depot) (state g new.depot) (MayLeaveAll (map command_of mails2) (state g old.depot))) where
@@ -100,33 +101,37 @@ module _ {S : Type 0} (g : Ghosts S) {lines shown cut : List (Vec ℕ Global)} {
   cut_few : length (lines_of cut) ≤ most_together
   cut_few = first_few lines cut (drop n lines) (cut_rest lines cut n is) most_together few
 
-  lasts : Survives (state g old.depot) (state g new.depot) (MayMakeAll (lines_of cut) (state g old.depot) old.host new.host)
+  lasts : Survives (state g old.depot) (state g new.depot) (MayLeaveIn (Together (lines_of cut)) (state g old.depot) old.host new.host)
   lasts =
       more_left (state g old.depot) (state g new.depot) (λ db made. (map command_of mails, cut_files, made))
       (subst (λ (ms : List Mail). Survives (state g old.depot) (state g new.depot) (MayLeaveAll (map command_of ms) (state g old.depot))) same2 survives)
 
   -- they were withdrawn since it refused them
-  pub withdrawn_late : 0 < length mails → (HasCleanDisk (state g new.depot) → LeavesUnchanged (state g old.depot) (state g new.depot)) → new.out ≡ old.out → AreWithdrawn g (lines_of cut) old new
+  pub withdrawn_late : 0 < length mails → (HasCleanDisk (state g new.depot) → LeavesUnchanged (state g old.depot) (state g new.depot)) → new.out ≡ old.out → Happens g name (Withdrawn (lines_of cut)) Whole old new
   withdrawn_late some unchanged out = record {
-    some = omega (arith, some, length-map mails command_of, as_many (lines_of cut) (map command_of mails) old.host new.host cut_files);
-    few = cut_few;
-    files = record { read = lines_of cut; later = []; are = sym (append-nil (lines_of cut)); commands = map command_of mails; mid = new.host; files = cut_files; stops = inl refl };
-    unchanged = unchanged;
-    out = out;
+    come = record {
+      some = omega (arith, some, length-map mails command_of, as_many (lines_of cut) (map command_of mails) old.host new.host cut_files);
+      few = cut_few;
+      files = record { read = lines_of cut; later = []; are = sym (append-nil (lines_of cut)); commands = map command_of mails; mid = new.host; files = cut_files; stops = inl refl };
+      unchanged = unchanged;
+      out = out;
+    };
     outlasts = lasts;
   }
 
   -- they were done
-  pub answered_together : (Written : List ℕ → Output → Output → Type 0) (filed : List (List Listing))
+  pub answered_together : (writing : Writing) (filed : List (List Listing))
       → (HasCleanDisk (state g new.depot) → DoesAll (map command_of mails2) (map Listed filed) (state g old.depot) (state g new.depot))
-      → Written (flat_map filed_text filed) old.out new.out → AreAnsweredBy g Written (lines_of cut) old new
-  answered_together Written filed done written = record {
-    few = cut_few;
-    commands = map command_of mails;
-    files = cut_files;
-    filed = filed;
-    done = subst (λ (ms : List Mail). HasCleanDisk (state g new.depot) → DoesAll (map command_of ms) (map Listed filed) (state g old.depot) (state g new.depot)) same2 done;
-    written = written;
+      → HasWritten writing (flat_map filed_text filed) old.out new.out → Happens g name (Together (lines_of cut)) writing old new
+  answered_together writing filed done written = record {
+    come = record {
+      few = cut_few;
+      commands = map command_of mails;
+      files = cut_files;
+      filed = filed;
+      done = subst (λ (ms : List Mail). HasCleanDisk (state g new.depot) → DoesAll (map command_of ms) (map Listed filed) (state g old.depot) (state g new.depot)) same2 done;
+      written = written;
+    };
     outlasts = lasts;
   }
 

@@ -7,7 +7,7 @@ mod LineReading
 mod Progress
 mod Batches
 mod Readying
-mod Grouping
+pub mod Grouping
 mod Closing
 mod Refusing
 mod Rest

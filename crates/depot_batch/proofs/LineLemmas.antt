@@ -7,10 +7,13 @@ use Rattle.sqlite_trees.specs.Tree.{Trees}
 use Rattle.sqlite.specs.Held.{Held, state}
 use Rattle.sqlite.specs.State.{State, Survives}
 use Rattle.devices.specs.Device.{HasBroken, HasFailed, HasTaken, Output, counted}
+use Rattle.depot_actions.specs.Applying.{MayAdd}
 use Rattle.depot_jobs.specs.Host.{HostState}
 use Rattle.depot_batch.specs.Answers.{AreNoTexts, HasComeOf, IsReportOn, IsUnasked, answer_text, outcome_of, report_text, unasked_report}
 use Rattle.depot_batch.specs.Asked.{AskNothing}
-use Rattle.depot_batch.specs.Batch.{HasCome, HasWords, IsAnsweredBy, IsAsked, IsWrong, MayMake, depot_and_output}
+use Rattle.depot_batch.specs.Batch.{Did, Happens}
+use Rattle.depot_batch.specs.Effects.{Effect, HasCome, HasWords, HasWritten, IsAsked, IsWrong, MayMake, depot_and_output}
+use Rattle.depot_batch.specs.Turns.{Alone, Broken, Whole, Writing}
 use Rattle.depot_batch.specs.declared.asked.Asked.{Asked}
 use Rattle.depot_batch.specs.declared.fault.LineFault.{LineFault}
 use Rattle.depot_batch.specs.declared.fault.LineFault.TheVariants as faults
@@ -70,38 +73,38 @@ broken_after text s0 s1 s2 taken failed = record {
   faults = failed.faults ∙ ap (counted 1) taken.faults;
 }
 
-module _ {S : Type 0} (g : Ghosts S) (name octets : List ℕ) where
-  come_of : (asked : Asked) (report : Report) (old new : Held S) (host host2 : HostState) (out out2 : Output) → IsAsked octets asked → HasComeOf g name asked report old new host host2
-      → HasCome g name octets (outcome_of report) (report_text report) (depot_and_output g old host out) (depot_and_output g new host2 out2)
-  come_of asked (Done answer) old new host host2 out out2 is come = (asked, is, come)
-  come_of asked (Refused refusal) old new host host2 out out2 is come = (refl, inr (asked, is, come))
-  come_of asked (Wrong fault) old new host host2 out out2 is come = absurd come
+come_of : {Had : Effect → Type 0} (name octets : List ℕ) (asked : Asked) (report : Report) (host host2 : HostState) → IsAsked octets asked → HasComeOf Had name asked report host host2
+    → HasCome Had name octets (outcome_of report) (report_text report) host host2
+come_of name octets asked (Done answer) host host2 is come = (asked, is, come)
+come_of name octets asked (Refused refusal) host host2 is come = (refl, inr (asked, is, come))
+come_of name octets asked (Wrong fault) host host2 is come = absurd come
 
+module _ {S : Type 0} (g : Ghosts S) (name octets : List ℕ) where
   -- what is asked was done, or refused
-  pub asked_reported : (asked : Asked) (report : Report) (old new : Held S) (host host2 : HostState) → IsAsked octets asked → HasComeOf g name asked report old new host host2
-      → Survives (state g old) (state g new) (MayMake asked (state g old) host host2) → IsReportOn g name octets report old new host host2
+  pub asked_reported : (asked : Asked) (report : Report) (old new : Held S) (host host2 : HostState) → IsAsked octets asked → HasComeOf (Did g old new) name asked report host host2
+      → Survives (state g old) (state g new) (MayMake (λ command. MayAdd command (state g old)) asked host host2) → IsReportOn g name octets report old new host host2
   asked_reported asked report old new host host2 is come survives = record {
-    come = λ out out2. come_of asked report old new host host2 out out2 is come;
+    come = come_of name octets asked report host host2 is come;
     outlasts = more_left (state g old) (state g new) (λ db made. (asked, is, made)) survives;
   }
 
   -- nothing was asked
   pub unasked_reported : (why : Unasked) (old : Held S) (host : HostState) → IsUnasked octets why → IsReportOn g name octets (unasked_report why) old old host host
-  unasked_reported (unasked.Wrong fault) old host wrong = record { come = λ out out2. (fault, wrong, refl, (refl, refl)); outlasts = still (state g old) }
-  unasked_reported unasked.NoMemory old host wrong = record { come = λ out out2. (refl, inl (refl, (refl, refl))); outlasts = still (state g old) }
+  unasked_reported (unasked.Wrong fault) old host wrong = record { come = (fault, wrong, refl, (refl, refl)); outlasts = still (state g old) }
+  unasked_reported unasked.NoMemory old host wrong = record { come = (refl, inl (refl, (refl, refl))); outlasts = still (state g old) }
 
   module _ (report : Report) (old new : Held S) (host host2 : HostState) (out out2 : Output) (is : IsReportOn g name octets report old new host host2) where
-    answered_so : (Written : List ℕ → Output → Output → Type 0) → Written (answer_text report) out out2
-        → IsAnsweredBy g Written name octets (outcome_of report) (depot_and_output g old host out) (depot_and_output g new host2 out2)
-    answered_so Written written = record { text = report_text report; come = is.come out out2; written = written; outlasts = is.outlasts }
+    answered_so : (writing : Writing) → HasWritten writing (answer_text report) out out2
+        → Happens g name (Alone octets (outcome_of report)) writing (depot_and_output old host out) (depot_and_output new host2 out2)
+    answered_so writing written = record { come = record { text = report_text report; come = is.come; written = written }; outlasts = is.outlasts }
 
     -- the report was written, or broke off
     pub answered : {E : Type 0} (r : Result Outcome E) → IfOk r (λ outcome. outcome ≡ outcome_of report) → OnOk r (HasTaken (answer_text report) out out2)
-        → IfOk r (λ outcome. IsAnsweredBy g HasTaken name octets outcome (depot_and_output g old host out) (depot_and_output g new host2 out2))
+        → IfOk r (λ outcome. Happens g name (Alone octets outcome) Whole (depot_and_output old host out) (depot_and_output new host2 out2))
     answered (Ok outcome) same written =
-        subst (λ o. IsAnsweredBy g HasTaken name octets o (depot_and_output g old host out) (depot_and_output g new host2 out2)) (sym same) (answered_so HasTaken written)
+        subst (λ o. Happens g name (Alone octets o) Whole (depot_and_output old host out) (depot_and_output new host2 out2)) (sym same) (answered_so Whole written)
     answered (Err e) same written = tt
 
     pub broken_off : {E : Type 0} (r : Result Outcome E) → OnErr r (HasBroken (answer_text report) out out2)
-        → OnErr r ((outcome : Outcome) × IsAnsweredBy g HasBroken name octets outcome (depot_and_output g old host out) (depot_and_output g new host2 out2))
-    broken_off r broken = on_err_weaker r (λ written. (outcome_of report, answered_so HasBroken written)) broken
+        → OnErr r ((outcome : Outcome) × Happens g name (Alone octets outcome) Broken (depot_and_output old host out) (depot_and_output new host2 out2))
+    broken_off r broken = on_err_weaker r (λ written. (outcome_of report, answered_so Broken written)) broken

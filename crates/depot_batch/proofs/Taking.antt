@@ -4,9 +4,11 @@ use Rattle.std.specs.List.{concat}
 use Rattle.std.proofs.KnownBytes.{Consumes-kept, Consumes-nil, Consumes-trans}
 use Rattle.std.proofs.lemmas.List.Folds.{concat-append}
 use Rattle.sqlite_trees.specs.declared.store.Store.{Ghosts}
+use Rattle.sqlite.specs.Held.{Held}
 use Rattle.devices.specs.Device.{counted}
 use Rattle.devices.specs.Supply.{HasGiven, Supply}
-use Rattle.depot_batch.specs.Batch.{AreTaken, DepotAndOutput}
+use Rattle.depot_batch.specs.Batch.{AreTaken}
+use Rattle.depot_batch.specs.Effects.{DepotAndOutput}
 use Rattle.depot_batch.specs.Lines.{HasShown}
 use Rattle.depot_batch.specs.Turns.{Alone, Takes, Together, Turn, Withdrawn, answered_in, lines_answered}
 use Rattle.depot_batch.proofs.Batches.{counted_both}
@@ -34,7 +36,7 @@ given_in (Alone line outcome) s0 s1 takes = subst (λ octets. HasGiven octets s0
 given_in (Together lines) s0 s1 takes = takes.1
 given_in (Withdrawn lines) s0 s1 takes = given_nothing (concat lines) s0 s1 takes.1
 
-pub all_taken : {S : Type 0} (g : Ghosts S) (name : List ℕ) (turns : List Turn) (input rest : Supply) (old new : DepotAndOutput S) → AreTaken g name turns input rest old new
+pub all_taken : {S : Type 0} (g : Ghosts S) (name : List ℕ) (turns : List Turn) (input rest : Supply) (old new : DepotAndOutput (Held S)) → AreTaken g name turns input rest old new
     → HasGiven (concat (lines_answered turns)) input rest
 all_taken g name [] input rest old new are = subst (λ (s : Supply). HasGiven [] input s) (sym are.0) (given_none input)
 all_taken g name (turn ∷ turns) input rest old new are =

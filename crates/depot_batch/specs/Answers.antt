@@ -5,13 +5,14 @@ use Rattle.std.specs.Str.{IsUtf8}
 use Rattle.sqlite_trees.specs.declared.store.Store.{Ghosts}
 use Rattle.sqlite.specs.Held.{Held, state}
 use Rattle.sqlite.specs.State.{Survives}
-use Rattle.devices.specs.Device.{Output}
 use Rattle.printing.specs.Printed.{refusal_line}
 use Rattle.depot_jobs.specs.Host.{HostState}
 use Rattle.depot_cli.specs.Tasks.{text_in as reply_text}
 use Rattle.refusals.specs.declared.refusal.Refusal.TheVariants.{Memory}
-use Rattle.depot_batch.specs.Batch.{HasCome, IsDone, IsRefused, IsWrong, MayMakeOne, closing, depot_and_output, exported_text}
+use Rattle.depot_batch.specs.Batch.{Did, MayLeaveIn}
+use Rattle.depot_batch.specs.Effects.{Effect, HasCome, IsDone, IsRefused, IsWrong, closing, exported_text}
 use Rattle.depot_batch.specs.Sentences.{wrong_line}
+use Rattle.depot_batch.specs.Turns.{Alone}
 use Rattle.depot_batch.specs.Words.{words_of}
 use Rattle.depot_batch.specs.declared.answering.Answer.{Answer}
 use Rattle.depot_batch.specs.declared.answering.Answer.TheVariants.{Replied, Exported}
@@ -68,15 +69,14 @@ abbrev pub unasked_report : Unasked → Report
 unasked_report (Wrong fault) = reports.Wrong fault
 unasked_report NoMemory = reports.Refused Memory
 
-module _ {S : Type 0} (g : Ghosts S) where
-  -- what came of what is asked
-  abbrev pub HasComeOf : List ℕ → Asked → Report → Held S → Held S → HostState → HostState → Type 0
-  HasComeOf name asked (reports.Done answer) old new host host2 = IsDone g name asked (text_in answer) old new host host2
-  HasComeOf name asked (reports.Refused refusal) old new host host2 = IsRefused g name asked refusal old new host host2
-  HasComeOf name asked (reports.Wrong fault) old new host host2 = ⊥
+-- what came of what is asked, by what was done with a depot
+abbrev pub HasComeOf : (Effect → Type 0) → List ℕ → Asked → Report → HostState → HostState → Type 0
+HasComeOf Had name asked (reports.Done answer) host host2 = IsDone Had name asked (text_in answer) host host2
+HasComeOf Had name asked (reports.Refused refusal) host host2 = IsRefused Had name asked refusal host host2
+HasComeOf Had name asked (reports.Wrong fault) host host2 = ⊥
 
-  -- what came of a line, whatever was written, and what a crash may leave of it
+module _ {S : Type 0} (g : Ghosts S) where
+  -- what came of a line, and what a crash may leave of it
   pub record IsReportOn (name line : List ℕ) (report : Report) (old new : Held S) (host host2 : HostState) : Type 0 where
-    pub come : (out out2 : Output) → HasCome g name line (outcome_of report) (report_text report)
-        (depot_and_output g old host out) (depot_and_output g new host2 out2)
-    pub outlasts : Survives (state g old) (state g new) (MayMakeOne line (state g old) host host2)
+    pub come : HasCome (Did g old new) name line (outcome_of report) (report_text report) host host2
+    pub outlasts : Survives (state g old) (state g new) (MayLeaveIn (Alone line (outcome_of report)) (state g old) host host2)

@@ -3,6 +3,7 @@ pub mod Asked
 pub mod Lines
 pub mod Sentences
 pub mod Turns
+pub mod Effects
 pub mod Batch
 pub mod Closings
 -- private: how the code goes; no public contract names these

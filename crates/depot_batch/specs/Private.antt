@@ -5,10 +5,11 @@ use Rattle.std.specs.Io.{StartsWith}
 use Rattle.std.specs.List.{All, concat}
 use Rattle.std.specs.declared.alloc.Global.{Global}
 use Rattle.sqlite_trees.specs.declared.store.Store.{Ghosts}
+use Rattle.sqlite.specs.Held.{Held}
 use Rattle.part_store.specs.Entries.{Listing}
 use Rattle.part_store.specs.Standing.{listed}
 use Rattle.part_store.specs.declared.entry.EntryRow.{EntryRow}
-use Rattle.devices.specs.Device.{HasTaken, Output}
+use Rattle.devices.specs.Device.{Output}
 use Rattle.devices.specs.Supply.{HasGiven, Supply}
 use Rattle.depot_actions.specs.DepotState.{Command, Deliver}
 use Rattle.depot_jobs.specs.Host.{HostState}
@@ -23,9 +24,10 @@ use Rattle.depot_batch.specs.declared.reading.Taken.TheVariants.{Line, Unfinishe
 use Rattle.depot_batch.specs.declared.together.Tried.{Tried}
 use Rattle.depot_batch.specs.declared.together.Tried.TheVariants as tried
 use Rattle.depot_batch.specs.Asked.{Text}
-use Rattle.depot_batch.specs.Batch.{AreAnsweredBy, AreWithdrawn, Breaks, Happens, IsUnread, DepotAndOutput, depot_and_output, most_together}
+use Rattle.depot_batch.specs.Batch.{Happens}
+use Rattle.depot_batch.specs.Effects.{DepotAndOutput, IsUnread, depot_and_output, most_together}
 use Rattle.depot_batch.specs.Lines.{HasShown, HasTakenAll, IsLine, IsUnfinished}
-use Rattle.depot_batch.specs.Turns.{Alone, EndsBy, GoesOn, Takes, Together, Turn, Withdrawn}
+use Rattle.depot_batch.specs.Turns.{Alone, EndsBy, GoesOn, Takes, Together, Turn, Whole, Withdrawn}
 use Rattle.depot_batch.specs.Words.{texts_of}
 
 -- what was taken of an input next: a line; what it ends with; or nothing, at its end
@@ -120,23 +122,23 @@ ComesLast alone (turn ∷ next ∷ turns) later = ⊥
 
 module _ {S : Type 0} (g : Ghosts S) where
   -- what came of lines that were to be done together
-  abbrev pub HasTried : Tried → List (List ℕ) → DepotAndOutput S → DepotAndOutput S → Type 0
-  HasTried tried.Done lines old new = AreAnsweredBy g HasTaken lines old new
-  HasTried tried.Withdrawn lines old new = AreWithdrawn g lines old new
+  abbrev pub HasTried : Text → Tried → List (List ℕ) → DepotAndOutput (Held S) → DepotAndOutput (Held S) → Type 0
+  HasTried name tried.Done lines old new = Happens g name (Together lines) Whole old new
+  HasTried name tried.Withdrawn lines old new = Happens g name (Withdrawn lines) Whole old new
 
   -- a turn was taken, and the batch goes on; it ended, with this status; or it ended with a refusal, once that is told
-  abbrev pub TurnsOut : Text → Result (Option ℕ) Refusal → ℕ → ℕ → Supply → Supply → DepotAndOutput S → DepotAndOutput S → Type 0
+  abbrev pub TurnsOut : Text → Result (Option ℕ) Refusal → ℕ → ℕ → Supply → Supply → DepotAndOutput (Held S) → DepotAndOutput (Held S) → Type 0
   TurnsOut name (Ok None) alone later input rest old new =
-      (turn : Turn) × Takes turn input rest × Happens g name turn old new × GoesOn turn × ComesNext alone turn later
+      (turn : Turn) × Takes turn input rest × Happens g name turn Whole old new × GoesOn turn × ComesNext alone turn later
   TurnsOut name (Ok (Some status)) alone later input rest old new =
-      (last : List Turn) × ((err : Output) → EndsBy (Happens g name) (Breaks g name) status 0 last input rest old new err err) × ComesLast alone last later
+      (last : List Turn) × ((err : Output) → EndsBy (Happens g name) status 0 last input rest old new err err) × ComesLast alone last later
   TurnsOut name (Err refusal) alone later input rest old new =
       (last : List Turn)
-      × ((err err2 : Output) → HasTold refusal err err2 → EndsBy (Happens g name) (Breaks g name) 1 0 last input rest old new err err2)
+      × ((err err2 : Output) → HasTold refusal err err2 → EndsBy (Happens g name) 1 0 last input rest old new err err2)
       × ComesLast alone last later
 
   -- this came of a turn
-  pub record HasTurned (name : Text) (came : Result (Option ℕ) Refusal) (alone later : ℕ) (input rest : Supply) (old new : DepotAndOutput S) : Type 0 where
+  pub record HasTurned (name : Text) (came : Result (Option ℕ) Refusal) (alone later : ℕ) (input rest : Supply) (old new : DepotAndOutput (Held S)) : Type 0 where
     pub come : TurnsOut name came alone later input rest old new
 
 -- ---- the desk
@@ -153,6 +155,6 @@ module _ {S H W Reader Writer : Type 0} where
   places_of desk = record { name = desk.name.now; depot = desk.depot.ghost_name; host = desk.host.ghost_name; out = desk.out.ghost_name }
 
   -- what lines are answered with there
-  abbrev pub on : Ghosts S → (H → HostState) → (W → Option (List ℕ)) → Desk S H W Reader Writer → DepotAndOutput S
-  on g state contents desk =
-      depot_and_output g desk.depot.now (state desk.host.now) (record { written = contents desk.out.now.inner; faults = desk.out.now.faults })
+  abbrev pub on : (H → HostState) → (W → Option (List ℕ)) → Desk S H W Reader Writer → DepotAndOutput (Held S)
+  on state contents desk =
+      depot_and_output desk.depot.now (state desk.host.now) (record { written = contents desk.out.now.inner; faults = desk.out.now.faults })

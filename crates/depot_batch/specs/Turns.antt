@@ -63,21 +63,26 @@ MakeProgress (Alone line outcome ∷ turns) = MakeProgress turns
 MakeProgress (Together lines ∷ turns) = (0 < length lines) × MakeProgress turns
 MakeProgress (Withdrawn lines ∷ turns) = (0 < length lines) × All IsAlone (take (length lines) turns) × MakeProgress turns
 
--- Turns come one after another, by what the input has, and by what turns are taken with, before each
--- and after it. What happens in a turn is said elsewhere.
-abbrev pub AreTakenBy : {T : Type 0} → (Turn → T → T → Type 0) → List Turn → Supply → Supply → T → T → Type 0
-AreTakenBy Happens [] input rest old new = (rest ≡ input) × (new ≡ old)
-AreTakenBy {T} Happens (turn ∷ turns) input rest old new =
-    (here : Supply) × (mid : T) × Takes turn input here × Happens turn old mid × GoesOn turn
-    × AreTakenBy Happens turns here rest mid new
+-- How the answers of a turn were written: whole, or up to where standard output broke.
+pub data Writing : Type 0 where
+  Whole : Writing
+  Broken : Writing
 
--- What it is that the answers of a turn broke off is said elsewhere, too.
-module _ {T : Type 0} (Happens Breaks : Turn → T → T → Type 0) where
+-- What happens in a turn whose answers were written so is said elsewhere.
+module _ {T : Type 0} (Happens : Turn → Writing → T → T → Type 0) where
+  -- Turns come one after another, by what the input has, and by what turns are taken with, before each
+  -- and after it.
+  abbrev pub AreTakenBy : List Turn → Supply → Supply → T → T → Type 0
+  AreTakenBy [] input rest old new = (rest ≡ input) × (new ≡ old)
+  AreTakenBy (turn ∷ turns) input rest old new =
+      (here : Supply) × (mid : T) × Takes turn input here × Happens turn Whole old mid × GoesOn turn
+      × AreTakenBy turns here rest mid new
+
   -- the last turn came to its end; or its answers broke off, which is told on standard error
   abbrev pub HasServedLastBy : ℕ → Turn → T → T → Output → Output → Type 0
   HasServedLastBy status turn old new err err2 =
-      ((status ≡ 0) × Happens turn old new × (err2 ≡ err))
-      ⊎ ((status ≡ 1) × Breaks turn old new × HasTold Write err err2)
+      ((status ≡ 0) × Happens turn Whole old new × (err2 ≡ err))
+      ⊎ ((status ≡ 1) × Happens turn Broken old new × HasTold Write err err2)
 
   -- Why a batch ends, with this status, after so many turns, and perhaps a last one, of an input that
   -- had so much left and has this left now: at the end of the input, or of counting; at the end of
@@ -93,21 +98,20 @@ module _ {T : Type 0} (Happens Breaks : Turn → T → T → Type 0) where
       × HasServedLastBy status (Alone octets outcome) old new err err2)
       ⊎ ((status ≡ 1) × (line : List ℕ) × (last ≡ Alone line (Refused Database) ∷ []) × IsLine line
       × HasGiven line rest left
-      × Happens (Alone line (Refused Database)) old new
+      × Happens (Alone line (Refused Database)) Whole old new
       × (err2 ≡ err))
-      ⊎ ((status ≡ 1) × (turn : Turn) × (last ≡ turn ∷ []) × Takes turn rest left × Breaks turn old new
+      ⊎ ((status ≡ 1) × (turn : Turn) × (last ≡ turn ∷ []) × Takes turn rest left × Happens turn Broken old new
       × HasTold Write err err2)
       ⊎ ((status ≡ 1) × (last ≡ []) × (refusal : Refusal) × (octets : List ℕ) × HasNotTaken refusal octets rest left
       × HasTold refusal err err2
       × (new ≡ old))
 
--- a batch was served, with this status: turns were taken one after another, and made progress, until it ended
-pub record HasServedBy {T : Type 0} (Happens Breaks : Turn → T → T → Type 0) (status : ℕ) (input input2 : Supply) (old new : T)
-    (err err2 : Output) : Type 0 where
-  pub turns : List Turn
-  pub rest : Supply
-  pub mid : T
-  pub taken : AreTakenBy Happens turns input rest old mid
-  pub last : List Turn
-  pub ended : EndsBy Happens Breaks status (length turns) last rest input2 mid new err err2
-  pub progress : MakeProgress (turns ++ last)
+  -- a batch was served, with this status: turns were taken one after another, and made progress, until it ended
+  pub record HasServedBy (status : ℕ) (input input2 : Supply) (old new : T) (err err2 : Output) : Type 0 where
+    pub turns : List Turn
+    pub rest : Supply
+    pub mid : T
+    pub taken : AreTakenBy turns input rest old mid
+    pub last : List Turn
+    pub ended : EndsBy status (length turns) last rest input2 mid new err err2
+    pub progress : MakeProgress (turns ++ last)

@@ -3,11 +3,13 @@ ghost use Rattle.std.specs.Prelude.{◌≡◌, List, IfErr, IfOk, OnOk};
 ghost use Rattle.sqlite.specs.Held.{state};
 ghost use Rattle.sqlite.specs.State.{Survives};
 ghost use Rattle.depot_jobs.specs.Host.{with_faults};
+ghost use Rattle.depot_actions.specs.Applying.{MayAdd};
 ghost use Rattle.depot_cli.specs.Requests.{command_of, request_command};
 ghost use Rattle.depot_cli.specs.Tasks.{text_in as reply_text};
 ghost use Rattle.depot_batch.specs.Answers.{text_in};
 ghost use Rattle.depot_batch.specs.Asked.{Asks, Text};
-ghost use Rattle.depot_batch.specs.Batch.{HasExported, HasNotExported, HasNotReplied, HasReplied, IsDone, IsRefused, MayMake};
+ghost use Rattle.depot_batch.specs.Batch.{Did};
+ghost use Rattle.depot_batch.specs.Effects.{HasExported, HasNotExported, HasNotReplied, HasReplied, IsDone, IsRefused, MayMake};
 
 use crate::asked::{Asked, Export};
 use depot_actions::Depot;
@@ -51,12 +53,13 @@ pub fn answer_to<S: Alter, H: Host>(
     host: &mut H,
 ) -> Result<Answer, Refusal>
     requires { (words : List Text) × Asks words asked }
-    ensures done { IfOk result (λ answer. IsDone S.Store name.now asked.entry (text_in answer)
-        depot.old depot.new (H.state host.old) (H.state host.new)) }
-    ensures refused { IfErr result (λ e. IsRefused S.Store name.now asked.entry e
-        depot.old depot.new (H.state host.old) (H.state host.new)) }
+    ensures done { IfOk result (λ answer. IsDone (Did S.Store depot.old depot.new) name.now asked.entry
+        (text_in answer) (H.state host.old) (H.state host.new)) }
+    ensures refused { IfErr result (λ e. IsRefused (Did S.Store depot.old depot.new) name.now
+        asked.entry e (H.state host.old) (H.state host.new)) }
     ensures survives { Survives (state S.Store depot.old) (state S.Store depot.new)
-        (MayMake asked.entry (state S.Store depot.old) (H.state host.old) (H.state host.new)) }
+        (MayMake (λ command. MayAdd command (state S.Store depot.old)) asked.entry
+        (H.state host.old) (H.state host.new)) }
 {
     match asked {
         Asked::Reply(request) => match reply(alloc, request, depot, host) {
@@ -81,13 +84,13 @@ fn reply<S: Alter, H: Host>(
     host: &mut H,
 ) -> Result<Reply, Refusal>
     requires { (words : List Text) × Asks words (Asked.Reply request) }
-    ensures done { IfOk result (λ reply. HasReplied S.Store request.entry (reply_text reply)
-        depot.old depot.new (H.state host.old) (H.state host.new)) }
-    ensures refused { IfErr result (λ e. HasNotReplied S.Store request.entry e
-        depot.old depot.new (H.state host.old) (H.state host.new)) }
+    ensures done { IfOk result (λ reply. HasReplied (Did S.Store depot.old depot.new) request.entry
+        (reply_text reply) (H.state host.old) (H.state host.new)) }
+    ensures refused { IfErr result (λ e. HasNotReplied (Did S.Store depot.old depot.new) request.entry
+        e (H.state host.old) (H.state host.new)) }
     ensures survives { Survives (state S.Store depot.old) (state S.Store depot.new)
-        (MayMake (Asked.Reply request.entry) (state S.Store depot.old) (H.state host.old)
-        (H.state host.new)) }
+        (MayMake (λ command. MayAdd command (state S.Store depot.old))
+        (Asked.Reply request.entry) (H.state host.old) (H.state host.new)) }
 {
     match read_file_of(alloc, request, host) {
         Ok(octets) => {
@@ -113,10 +116,10 @@ fn export<S: Alter, H: Host>(
     depot: &mut Depot<S>,
     host: &mut H,
 ) -> Result<(), Refusal>
-    ensures done { OnOk result (HasExported S.Store name.now wanted.entry
-        depot.old depot.new (H.state host.old) (H.state host.new)) }
-    ensures refused { IfErr result (λ e. HasNotExported S.Store name.now wanted.entry e
-        depot.old depot.new (H.state host.old) (H.state host.new)) }
+    ensures done { OnOk result (HasExported (Did S.Store depot.old depot.new) name.now wanted.entry
+        (H.state host.old) (H.state host.new)) }
+    ensures refused { IfErr result (λ e. HasNotExported (Did S.Store depot.old depot.new) name.now
+        wanted.entry e (H.state host.old) (H.state host.new)) }
     ensures survives { Survives (state S.Store depot.old) (state S.Store depot.new) (λ _. ⊥) }
 {
     let mut file = host.create(alloc, wanted.file, name)?;

@@ -1,7 +1,7 @@
 //! Laws about the definitions: no call is made.
 ghost use Rattle.std.specs.Prelude.{◌≡◌, ◌<◌, ◌≤◌, ◌+◌, ◌*◌, ◌⊎◌, ◌∷◌, IsTrue, List, Some, false, length, map, true, ℕ};
 ghost use Rattle.std.specs.List.{All, concat};
-ghost use Rattle.sqlite.specs.Held.{state};
+ghost use Rattle.sqlite.specs.Held.{Held, state};
 ghost use Rattle.sqlite.specs.State.{HasCleanDisk};
 ghost use Rattle.sqlite_trees.specs.Tree.{Trees};
 ghost use Rattle.devices.specs.Supply.{HasGiven, Supply};
@@ -11,8 +11,9 @@ ghost use Rattle.depot_actions.specs.History.{AreSteps, Call};
 ghost use Rattle.depot_actions.specs.PlainMedia.{HavePlainMedia};
 ghost use Rattle.depot_cli.specs.Printed.{entries_text};
 ghost use Rattle.depot_cli.specs.declared.entries.Detail.TheVariants.{Brief};
-ghost use Rattle.depot_batch.specs.Batch.{AreCallsIn, AreTaken, HasCome, IsMadeAtOne, DepotAndOutput};
+ghost use Rattle.depot_batch.specs.Batch.{AreCallsIn, AreTaken, Did, IsMadeAtOne};
 ghost use Rattle.depot_batch.specs.Closings.{has_closing};
+ghost use Rattle.depot_batch.specs.Effects.{DepotAndOutput, HasCome};
 ghost use Rattle.depot_batch.specs.Turns.{MakeProgress, Turn, lines_answered};
 ghost use Rattle.depot_batch.specs.Words.{Writes, spaced, words_of};
 ghost use Rattle.depot_batch.specs.declared.outcome.Outcome.{Outcome};
@@ -32,7 +33,7 @@ pub fn lines_say_their_words()
 /// what it held before, one after another, in the order of the lines, whether they were done alone or together; each
 /// command has the bytes that were read of its file in its turn. Other lines change nothing.
 pub fn batches_are_a_fold<S: Alter>()
-    ensures { (name : List ℕ) (turns : List Turn) (input rest : Supply) (old new : DepotAndOutput S)
+    ensures { (name : List ℕ) (turns : List Turn) (input rest : Supply) (old new : DepotAndOutput (Held S))
         (before : Entries) (taken : AreTaken S.Store name turns input rest old new)
         → HasCleanDisk (state S.Store new.depot)
         → (IsTrue (state S.Store old.depot).is_open → Stands (state S.Store old.depot).now before)
@@ -46,7 +47,7 @@ pub fn batches_are_a_fold<S: Alter>()
 /// what the turns before it left. A turn is the command of a line that is done alone, or all commands of lines that are
 /// done together.
 pub fn crashes_leave_one_turn_whole<S: Alter>()
-    ensures { (name : List ℕ) (turns : List Turn) (input rest : Supply) (old new : DepotAndOutput S)
+    ensures { (name : List ℕ) (turns : List Turn) (input rest : Supply) (old new : DepotAndOutput (Held S))
         → AreTaken S.Store name turns input rest old new → HasCleanDisk (state S.Store new.depot)
         → (trees : Trees) → (state S.Store new.depot).may_leave trees
         → (state S.Store old.depot).may_leave trees
@@ -55,7 +56,7 @@ pub fn crashes_leave_one_turn_whole<S: Alter>()
 
 /// Exactly the lines that are answered in turns are taken from the input, in their order.
 pub fn lines_are_taken_as_answered<S: Alter>()
-    ensures { (name : List ℕ) (turns : List Turn) (input rest : Supply) (old new : DepotAndOutput S)
+    ensures { (name : List ℕ) (turns : List Turn) (input rest : Supply) (old new : DepotAndOutput (Held S))
         → AreTaken S.Store name turns input rest old new
         → HasGiven (concat (lines_answered turns)) input rest }
 {}
@@ -71,15 +72,15 @@ pub fn turns_are_at_most_twice_the_lines()
 /// output can distinguish the line that ends an answer from the answer's own lines, whatever was filed. In every depot
 /// that commands made from an empty one no media type has a line break.
 pub fn no_answer_closes_itself<S: Alter>()
-    ensures alone { (name octets : List ℕ) (outcome : Outcome) (text : List ℕ) (old new : DepotAndOutput S)
-        → HasCome S.Store name octets outcome text old new
+    ensures alone { (name octets : List ℕ) (outcome : Outcome) (text : List ℕ) (old new : DepotAndOutput (Held S))
+        → HasCome (Did S.Store old.depot new.depot) name octets outcome text old.host new.host
         → HasCleanDisk (state S.Store new.depot) → (before : Entries)
         → Stands (state S.Store old.depot).now before → HavePlainMedia before
         → has_closing true text ≡ false }
     ensures together { (entries : List Listing)
         → has_closing true (entries_text Brief entries) ≡ false }
-    ensures begun { (name octets : List ℕ) (outcome : Outcome) (text : List ℕ) (old new : DepotAndOutput S)
-        → HasCome S.Store name octets outcome text old new
+    ensures begun { (name octets : List ℕ) (outcome : Outcome) (text : List ℕ) (old new : DepotAndOutput (Held S))
+        → HasCome (Did S.Store old.depot new.depot) name octets outcome text old.host new.host
         → HasCleanDisk (state S.Store new.depot) → (before : Entries)
         → Stands (state S.Store old.depot).now before
         → (calls : List Call) → AreSteps calls no_entries before

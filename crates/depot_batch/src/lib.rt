@@ -1,7 +1,7 @@
 //! Many commands over one open depot: `depot batch DB`.
 //!
 //! [`batch`] reads lines, each of which is a command on the depot in words ([`words_of`], `specs/Words`; [`asked_by`],
-//! `specs/Asked`). It does each command, and writes its answer, which ends in a line with its status (`specs/Batch`).
+//! `specs/Asked`). It does each command, and writes its answer, which ends in a line with its status (`specs/Effects`).
 //! Deliveries whose lines are there together are done in one transaction (`specs/Turns`), and are answered when it is
 //! committed. So a reader of the answers sees the result of a command when it has happened.
 //!

@@ -7,10 +7,13 @@ ghost use Rattle.std.specs.Prelude.{◌≡◌, List, [], IfErr, IfOk, OnErr, OnO
 ghost use Rattle.sqlite.specs.Held.{state};
 ghost use Rattle.sqlite.specs.State.{Survives};
 ghost use Rattle.devices.specs.Device.{HasBroken, HasFailed, HasTaken};
+ghost use Rattle.depot_actions.specs.Applying.{MayAdd};
 ghost use Rattle.depot_batch.specs.Answers.{AreNoTexts, HasComeOf, HasLineWords, IsReportOn, IsUnasked, answer_text, outcome_of, unasked_report};
 ghost use Rattle.depot_batch.specs.Asked.{Asks, Text};
-ghost use Rattle.depot_batch.specs.Batch.{IsAnsweredBy, MayMake};
+ghost use Rattle.depot_batch.specs.Batch.{Did, Happens};
+ghost use Rattle.depot_batch.specs.Effects.{MayMake};
 ghost use Rattle.depot_batch.specs.Private.{on, places_of};
+ghost use Rattle.depot_batch.specs.Turns.{Alone, Broken, Whole};
 ghost use Rattle.depot_batch.specs.declared.outcome.Outcome.{Outcome};
 
 use crate::answering::answer_to;
@@ -61,11 +64,11 @@ pub fn serve<S: Alter, H: Host, W: Write + Drop>(
 ) -> Result<Outcome, DeviceFailed>
     ensures same { places_of desk.new ≡ places_of desk.old }
     ensures answered { IfOk result (λ outcome.
-        IsAnsweredBy S.Store HasTaken desk.old.name.now line.now outcome
-        (on S.Store H.state W.contents desk.old) (on S.Store H.state W.contents desk.new)) }
+        Happens S.Store desk.old.name.now (Alone line.now outcome) Whole
+        (on H.state W.contents desk.old) (on H.state W.contents desk.new)) }
     ensures broken { OnErr result ((outcome : Outcome)
-        × IsAnsweredBy S.Store HasBroken desk.old.name.now line.now outcome
-        (on S.Store H.state W.contents desk.old) (on S.Store H.state W.contents desk.new)) }
+        × Happens S.Store desk.old.name.now (Alone line.now outcome) Broken
+        (on H.state W.contents desk.old) (on H.state W.contents desk.new)) }
 {
     let report = report_on(desk.alloc, desk.name, line, desk.depot, desk.host);
     give(desk.out, report)
@@ -151,10 +154,11 @@ fn report_of<S: Alter, H: Host>(
     host: &mut H,
 ) -> Report
     requires { (words : List Text) × Asks words asked }
-    ensures come { HasComeOf S.Store name.now asked.entry result depot.old depot.new
+    ensures come { HasComeOf (Did S.Store depot.old depot.new) name.now asked.entry result
         (H.state host.old) (H.state host.new) }
     ensures survives { Survives (state S.Store depot.old) (state S.Store depot.new)
-        (MayMake asked.entry (state S.Store depot.old) (H.state host.old) (H.state host.new)) }
+        (MayMake (λ command. MayAdd command (state S.Store depot.old)) asked.entry
+        (H.state host.old) (H.state host.new)) }
 {
     match answer_to(alloc, name, asked, depot, host) {
         Ok(answer) => Report::Done(answer),

@@ -2,7 +2,7 @@
 ghost use Rattle.std.specs.Prelude.{◌<◌, ◌≡◌, ◌≤◌, ◌⊎◌, IfSome, IfNone, Some, length, map, string_bytes, take};
 ghost use Rattle.depot_jobs.specs.Inputs.{HasNotReadFile, HasReadFile};
 ghost use Rattle.refusals.specs.declared.refusal.Refusal.{Refusal};
-ghost use Rattle.depot_batch.specs.Batch.{AreDeliveries, AreLookedUp, IsDelivery};
+ghost use Rattle.depot_batch.specs.Effects.{AreDeliveries, AreLookedUp, IsDelivery};
 ghost use Rattle.depot_batch.specs.Private.{IsPassedOver, command_of, lines_of};
 
 use crate::asked::{Asked, asked_by};

@@ -1,16 +1,19 @@
 // The lines of a batch.
 //
-// The lines of a batch are defined for any way to answer them (`HasServedBy`): over an open depot, as `batch` sees it,
-// and over the state that the files represent, as `serve_from` does. How a line is answered is written for each of the
-// two. An answer, or the answers to a group, are printed on one page: standard output isn't buffered, so each piece of a
-// line would be a system call. The page is flushed after the line with the status, and so is the writer, before the
-// next line is read; a caller that waits for the answer has all of it. An answer of more than 65,536 bytes is several
+// What lines do is defined by its effects on a depot (`specs/Effects`), and the turns of a batch for anything that can
+// happen in them (`HasServedBy`). Both are used twice: over an open depot, as `batch` sees it, and over the state that
+// the files represent, as `serve_from` does. Only what an effect is, is written for each of the two.
+//
+// An answer, or the answers to a group, are printed on one page: standard output isn't buffered, so each piece of a line
+// would be a system call. The page is flushed after the line with the status, and so is the writer, before the next
+// line is read; a caller that waits for the answer has all of it. An answer of more than 65,536 bytes is several
 // writes.
 ghost use Rattle.std.specs.Prelude.{◌≡◌, ◌<◌, ◌≤◌, ◌+◌, ◌^◌, ℕ, IfNone, IfSome, length};
 ghost use Rattle.std.specs.List.{All, concat};
 ghost use Rattle.refusals.specs.declared.refusal.Refusal.TheVariants.{Database};
 ghost use Rattle.devices.specs.Supply.{Supply};
-ghost use Rattle.depot_batch.specs.Batch.{HasServed, IsServed, most_together};
+ghost use Rattle.depot_batch.specs.Batch.{HasServed, IsServed};
+ghost use Rattle.depot_batch.specs.Effects.{most_together};
 ghost use Rattle.depot_batch.specs.Lines.{HasShown, IsLine};
 ghost use Rattle.depot_batch.specs.Private.{CanTake, HasTurned, lines_of, on, places_of};
 ghost use Rattle.depot_batch.specs.declared.outcome.Outcome.TheVariants.{Refused};
@@ -88,7 +91,7 @@ fn serve_lines<S: Alter, H: Host, R: BufRead + Drop, W: Write + Drop, E: Sink>(
     ensures same { places_of desk.new ≡ places_of desk.old }
     ensures served { HasServed S.Store desk.old.name.now result
         (⟦<OfRead<R> as Source>⟧.supply input.old) (⟦<OfRead<R> as Source>⟧.supply input.new)
-        (on S.Store H.state W.contents desk.old) (on S.Store H.state W.contents desk.new)
+        (on H.state W.contents desk.old) (on H.state W.contents desk.new)
         (E.output err.old) (E.output err.new) }
 {
     let mut alone = 0;
@@ -116,7 +119,7 @@ fn take_turn<S: Alter, H: Host, R: BufRead + Drop, W: Write + Drop>(
     ensures same { places_of desk.new ≡ places_of desk.old }
     ensures turned { HasTurned S.Store desk.old.name.now result alone.old alone.new
         (⟦<OfRead<R> as Source>⟧.supply input.old) (⟦<OfRead<R> as Source>⟧.supply input.new)
-        (on S.Store H.state W.contents desk.old) (on S.Store H.state W.contents desk.new) }
+        (on H.state W.contents desk.old) (on H.state W.contents desk.new) }
 {
     if *alone > 0 {
         *alone -= 1;
@@ -158,7 +161,7 @@ fn take_together<S: Alter, H: Host, R: BufRead + Drop, W: Write + Drop>(
         → HasShown (concat (lines_of lines.items)) before (⟦<OfRead<R> as Source>⟧.supply input.old)
         → HasTurned S.Store desk.old.name.now result alone.old alone.new
         before (⟦<OfRead<R> as Source>⟧.supply input.new)
-        (on S.Store H.state W.contents desk.old) (on S.Store H.state W.contents desk.new) }
+        (on H.state W.contents desk.old) (on H.state W.contents desk.new) }
 {
     let mut lines = lines;
     match serve_together(desk, &mut lines) {
@@ -191,7 +194,7 @@ fn take_alone<S: Alter, H: Host, R: BufRead + Drop, W: Write + Drop>(
     ensures turned { (alone later : ℕ) → alone ≤ later + 1
         → HasTurned S.Store desk.old.name.now result alone later
         (⟦<OfRead<R> as Source>⟧.supply input.old) (⟦<OfRead<R> as Source>⟧.supply input.new)
-        (on S.Store H.state W.contents desk.old) (on S.Store H.state W.contents desk.new) }
+        (on H.state W.contents desk.old) (on H.state W.contents desk.new) }
 {
     let mut line = Vec::new(desk.alloc);
     match next_line(input, &mut line) {

@@ -15,8 +15,10 @@ ghost use Rattle.devices.specs.Device.{HasBroken, HasTaken};
 ghost use Rattle.devices.specs.Pages.{Wrote};
 ghost use Rattle.depot_actions.specs.Deliveries.{DoesAll, MayLeaveAll, command_of as asked_of};
 ghost use Rattle.depot_actions.specs.DepotState.{Listed};
-ghost use Rattle.depot_batch.specs.Batch.{AreAnsweredBy, filed_text, most_together};
+ghost use Rattle.depot_batch.specs.Batch.{Happens};
+ghost use Rattle.depot_batch.specs.Effects.{filed_text, most_together};
 ghost use Rattle.depot_batch.specs.Private.{HasTried, command_of, filed_by, lines_of, on, places_of};
+ghost use Rattle.depot_batch.specs.Turns.{Broken, Together};
 
 use crate::answering::Answer;
 use crate::desk::Desk;
@@ -61,10 +63,11 @@ pub fn serve_together<S: Alter, H: Host, W: Write + Drop>(
     ensures same { places_of desk.new ≡ places_of desk.old }
     ensures first { (later : List (Vec ℕ Global)) × (lines.old.items ≡ lines.new.items ++ later) }
     ensures some { 0 < length (lines_of lines.new.items) }
-    ensures tried { IfOk result (λ tried. HasTried S.Store tried (lines_of lines.new.items)
-        (on S.Store H.state W.contents desk.old) (on S.Store H.state W.contents desk.new)) }
-    ensures broken { OnErr result (AreAnsweredBy S.Store HasBroken (lines_of lines.new.items)
-        (on S.Store H.state W.contents desk.old) (on S.Store H.state W.contents desk.new)) }
+    ensures tried { IfOk result (λ tried. HasTried S.Store desk.old.name.now tried
+        (lines_of lines.new.items) (on H.state W.contents desk.old) (on H.state W.contents desk.new)) }
+    ensures broken { OnErr result (Happens S.Store desk.old.name.now
+        (Together (lines_of lines.new.items)) Broken
+        (on H.state W.contents desk.old) (on H.state W.contents desk.new)) }
 {
     let Some(mails) = read_mails(desk.alloc, lines, desk.host) else {
         return Ok(Tried::Withdrawn);

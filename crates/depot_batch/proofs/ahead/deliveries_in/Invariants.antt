@@ -1,6 +1,6 @@
 use Rattle.std.proofs.Common.{◌≡◌, ◌≤◌, ◌-◌, ◌++◌, vec_len}
 use Rattle.std.specs.List.{All, concat}
-use Rattle.depot_batch.specs.Batch.{most_together}
+use Rattle.depot_batch.specs.Effects.{most_together}
 use Rattle.depot_batch.specs.Lines.{IsLine}
 use Rattle.depot_batch.specs.Private.{lines_of}
 use Rattle.depot_batch.proofs.ahead.deliveries_in.Given as goal

@@ -1,7 +1,7 @@
 use Rattle.std.proofs.Common.{◌≡◌, ◌∙◌, ◌+◌, ◌<◌, ◌++◌, arith, ap, length-append, refl, subst, sym, length, ℕ, [], ◌∷◌, Vec, Global, map}
 use Rattle.std.proofs.Math.ListN.{get_or}
 use Rattle.std.proofs.lemmas.List.{get_or-map, length-map}
-use Rattle.depot_batch.specs.Batch.{IsDelivery}
+use Rattle.depot_batch.specs.Effects.{IsDelivery}
 use Rattle.depot_batch.specs.Private.{IsPassedOver, command_of, lines_of}
 use Rattle.depot_batch.proofs.Grouping.{looked_up, on_none, passed_over, read_more}
 use Rattle.depot_batch.proofs.mails.read_mails.Goals as goal

@@ -1,5 +1,5 @@
 use Rattle.std.proofs.Common.{◌≡◌, length, map, take}
-use Rattle.depot_batch.specs.Batch.{AreDeliveries}
+use Rattle.depot_batch.specs.Effects.{AreDeliveries}
 use Rattle.depot_batch.specs.Private.{command_of, lines_of}
 use Rattle.depot_batch.proofs.mails.read_mails.Given as goal
 

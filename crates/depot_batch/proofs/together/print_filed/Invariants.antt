@@ -1,7 +1,7 @@
 use Rattle.std.proofs.Common.{map}
 use Rattle.std.specs.List.{flat_map}
 use Rattle.devices.specs.Pages.{Wrote}
-use Rattle.depot_batch.specs.Batch.{filed_text}
+use Rattle.depot_batch.specs.Effects.{filed_text}
 use Rattle.depot_batch.specs.Private.{filed_by}
 use Rattle.depot_batch.proofs.together.print_filed.Given as goal
 

@@ -1,7 +1,7 @@
 use Rattle.std.proofs.Common.{◌≡◌, drop, length, map, refl, rules}
-use Rattle.devices.specs.Device.{HasBroken, HasTaken}
 use Rattle.devices.proofs.Outputs.{on_err}
 use Rattle.depot_batch.specs.Private.{filed_by}
+use Rattle.depot_batch.specs.Turns.{Broken, Whole}
 use Rattle.depot_batch.proofs.Grouping.{answered_together, cut_rest, cut_some, withdrawn_late}
 use Rattle.depot_batch.proofs.together.serve_together.Goals as goal
 
@@ -39,17 +39,17 @@ pub returns-in_err-put_filed-in-Some-deliver_mails-clause-broken :
 returns-in_err-put_filed-in-Some-deliver_mails-clause-broken g c =
     let count : c.len.result ≡ length c.in-Some.mails.items = search rules in
     on_err c.from_residual.result
-    (answered_together g.S.Store _ _ c.truncate.ensures.items count c.deref.ensures.value c.deref-2.ensures.value c.requires.few c.in-Some.ensures.read c.deliver_mails.ensures.survives HasBroken
+    (answered_together g.S.Store _ _ _ c.truncate.ensures.items count c.deref.ensures.value c.deref-2.ensures.value c.requires.few c.in-Some.ensures.read c.deliver_mails.ensures.survives Broken
     (map filed_by c.in-Some-deliver_mails.replies.items) c.in-Some-deliver_mails.ensures.done c.in_err-put_filed-in-Some-deliver_mails.ensures.err)
 
 pub returns-in-Some-deliver_mails-clause-tried : goal.returns-in-Some-deliver_mails-clause-tried
 returns-in-Some-deliver_mails-clause-tried g c =
     let count : c.len.result ≡ length c.in-Some.mails.items = search rules in
-    answered_together g.S.Store _ _ c.truncate.ensures.items count c.deref.ensures.value c.deref-2.ensures.value c.requires.few c.in-Some.ensures.read c.deliver_mails.ensures.survives HasTaken
+    answered_together g.S.Store _ _ _ c.truncate.ensures.items count c.deref.ensures.value c.deref-2.ensures.value c.requires.few c.in-Some.ensures.read c.deliver_mails.ensures.survives Whole
     (map filed_by c.in-Some-deliver_mails.replies.items) c.in-Some-deliver_mails.ensures.done c.in_ok-put_filed-in-Some-deliver_mails.ensures.ok
 
 pub returns-clause-tried : goal.returns-clause-tried
 returns-clause-tried g c =
     let count : c.len.result ≡ length c.in-Some.mails.items = search rules in
-    withdrawn_late g.S.Store _ _ c.truncate.ensures.items count c.deref.ensures.value c.deref-2.ensures.value c.requires.few c.in-Some.ensures.read c.deliver_mails.ensures.survives c.in-Some.ensures.some
+    withdrawn_late g.S.Store _ _ _ c.truncate.ensures.items count c.deref.ensures.value c.deref-2.ensures.value c.requires.few c.in-Some.ensures.read c.deliver_mails.ensures.survives c.in-Some.ensures.some
     c.in-None.ensures.unchanged refl
