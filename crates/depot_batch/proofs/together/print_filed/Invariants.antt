@@ -1,9 +1,0 @@
-use Rattle.std.proofs.Common.{map}
-use Rattle.std.specs.List.{flat_map}
-use Rattle.devices.specs.Pages.{Wrote}
-use Rattle.depot_batch.specs.Batch.{filed_text}
-use Rattle.depot_batch.specs.Private.{filed_by}
-use Rattle.depot_batch.proofs.together.print_filed.Given as goal
-
-abbrev pub invariant-replies : goal.invariant-replies
-invariant-replies g l = Wrote (flat_map filed_text (map filed_by l.yielded)) l.initial.page l.page
