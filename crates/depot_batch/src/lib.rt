@@ -64,7 +64,7 @@
 //! what one of the turns makes of what those before it left, with the bytes that were read of its files, whole
 //! (`crashes_leave_one_turn_whole`). So of lines that are done together it leaves all or none.
 //!
-//! By `batch`, `words_of`, `asked_by`; `reply_to`, `print_reply` of depot_cli; `Request::file`, `Request::with_octets`,
+//! By `batch`, `words_of`, `asked_by`; `reply_to` of depot_cli; `Request::file`, `Request::with_octets`,
 //! `read_file_of` of depot_jobs; `Depot::deliver_all` of depot_actions; laws `lines_say_their_words`,
 //! `lines_are_taken_as_answered`, `turns_are_at_most_twice_the_lines`, `batches_are_a_fold`,
 //! `crashes_leave_one_turn_whole`, `no_answer_closes_itself`.

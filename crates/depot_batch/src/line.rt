@@ -8,6 +8,7 @@ ghost use Rattle.sqlite.specs.Held.{state};
 ghost use Rattle.sqlite.specs.State.{Survives};
 ghost use Rattle.devices.specs.Device.{HasBroken, HasFailed, HasTaken};
 ghost use Rattle.depot_actions.specs.Applying.{MayAdd};
+ghost use Rattle.printing.specs.Writing.{HasPut};
 ghost use Rattle.depot_batch.specs.Answers.{AreNoTexts, HasComeOf, HasLineWords, IsReportOn, IsUnasked, answer_text, outcome_of, unasked_report};
 ghost use Rattle.depot_batch.specs.Asked.{Asks, Text};
 ghost use Rattle.depot_batch.specs.Batch.{Did, Happens};
@@ -21,11 +22,12 @@ use crate::asked::{Asked, asked_by};
 use crate::desk::Desk;
 use crate::fault::LineFault;
 use crate::outcome::Outcome;
-use crate::report::{Report, put_report};
+use crate::report::Report;
 use crate::words::words_of;
 use depot_actions::Depot;
 use depot_jobs::Host;
 use devices::{DeviceFailed, OfWrite, Sink};
+use printing::{Printable, put_printed};
 use refusals::Refusal;
 use sqlite::Alter;
 use std::alloc::{AllocError, Global};
@@ -169,23 +171,26 @@ fn report_of<S: Alter, H: Host>(
 // Writes a report and the line that ends the answer, and returns the outcome of the line.
 fn give<W: Write + Drop>(out: &mut OfWrite<W>, report: Report) -> Result<Outcome, DeviceFailed>
     ensures outcome { IfOk result (λ outcome. outcome ≡ outcome_of report) }
-    ensures ok { OnOk result (HasTaken (answer_text report)
-        (⟦<OfWrite<W> as Sink>⟧.output out.old) (⟦<OfWrite<W> as Sink>⟧.output out.new)) }
-    ensures err { OnErr result (HasBroken (answer_text report)
-        (⟦<OfWrite<W> as Sink>⟧.output out.old) (⟦<OfWrite<W> as Sink>⟧.output out.new)) }
+    ensures put { HasPut result (answer_text report)
+        (⟦<OfWrite<W> as Sink>⟧.output out.old) (⟦<OfWrite<W> as Sink>⟧.output out.new) }
 {
     put_whole(out, &report)?;
     Ok(report.outcome())
 }
 
-// Writes a report and the line that ends the answer, and makes sure that all of it is written.
-fn put_whole<W: Write + Drop>(out: &mut OfWrite<W>, report: &Report) -> Result<(), DeviceFailed>
-    ensures ok { OnOk result (HasTaken (answer_text report.now)
-        (⟦<OfWrite<W> as Sink>⟧.output out.old) (⟦<OfWrite<W> as Sink>⟧.output out.new)) }
-    ensures err { OnErr result (HasBroken (answer_text report.now)
-        (⟦<OfWrite<W> as Sink>⟧.output out.old) (⟦<OfWrite<W> as Sink>⟧.output out.new)) }
+/// Writes the text of a value, and makes sure that all of it is written.
+///
+/// # Errors
+///
+/// `DeviceFailed` if the writer fails; the beginning of the text was written.
+pub fn put_whole<P: Printable, W: Write + Drop>(
+    out: &mut OfWrite<W>,
+    value: &P,
+) -> Result<(), DeviceFailed>
+    ensures { HasPut result (P.text value.now)
+        (⟦<OfWrite<W> as Sink>⟧.output out.old) (⟦<OfWrite<W> as Sink>⟧.output out.new) }
 {
-    put_report(out, report)?;
+    put_printed(out, value)?;
     flush(out)
 }
 

@@ -2,8 +2,7 @@
 //
 // A line's refusal goes to standard output, instead of the answer: with two streams nobody could match the lines of one
 // with those of the other. Standard error is for what ends the batch.
-ghost use Rattle.std.specs.Prelude.{◌≡◌, OnErr, OnOk};
-ghost use Rattle.devices.specs.Device.{HasBroken, HasTaken};
+ghost use Rattle.std.specs.Prelude.{◌≡◌};
 ghost use Rattle.devices.specs.Pages.{Wrote};
 ghost use Rattle.printing.specs.Printed.{line as line_of};
 ghost use Rattle.depot_batch.specs.Answers.{answer_text, outcome_of, report_text, text_in};
@@ -13,9 +12,8 @@ ghost use Rattle.depot_batch.specs.Sentences.{wrong_line};
 use crate::answering::Answer;
 use crate::fault::LineFault;
 use crate::outcome::Outcome;
-use depot_cli::print_reply;
-use devices::{DeviceFailed, Page, Sink};
-use printing::{Piece, print, print_line, print_refusal};
+use devices::{Page, Sink};
+use printing::{Piece, Printable, print, print_line, print_refusal};
 use refusals::Refusal;
 
 /// What a line is answered with, before the line with its status.
@@ -42,28 +40,14 @@ impl Report {
     }
 }
 
-/// Writes a report, and the line that ends the answer.
-///
-/// # Errors
-///
-/// `DeviceFailed` if a call of `out` fails; the beginning of the answer was written.
-pub fn put_report<O: Sink>(out: &mut O, report: &Report) -> Result<(), DeviceFailed>
-    ensures ok { OnOk result (HasTaken (answer_text report.now) (O.output out.old)
-        (O.output out.new)) }
-    ensures err { OnErr result (HasBroken (answer_text report.now) (O.output out.old)
-        (O.output out.new)) }
-{
-    let mut page = Page::new(out);
-    print_report(&mut page, report);
-    page.flush()
-}
+/// A report is printed with the line that ends the answer.
+impl Printable for Report {
+    ghost text = { answer_text };
 
-/// Prints a report, and the line that ends the answer.
-pub fn print_report<O: Sink>(page: &mut Page<'_, O>, report: &Report)
-    ensures { Wrote (answer_text report.now) page.old page.new }
-{
-    print_body(page, report);
-    print_line(page, status_of(report));
+    fn print_on<O: Sink>(&self, page: &mut Page<'_, O>) {
+        print_body(page, self);
+        print_line(page, status_of(self));
+    }
 }
 
 // Prints a report.
@@ -82,7 +66,7 @@ fn print_answer<O: Sink>(page: &mut Page<'_, O>, answer: &Answer)
     ensures { Wrote (text_in answer.now) page.old page.new }
 {
     match answer {
-        Answer::Replied(reply) => print_reply(page, reply),
+        Answer::Replied(reply) => reply.print_on(page),
         Answer::Exported(number) => print_exported(page, *number),
     }
 }

@@ -10,7 +10,7 @@ ghost use Rattle.std.specs.declared.alloc.Global.{Global};
 ghost use Rattle.sqlite.specs.Held.{state};
 ghost use Rattle.sqlite.specs.State.{HasCleanDisk};
 ghost use Rattle.part_store.specs.Calls.{MayCommit};
-ghost use Rattle.part_store.specs.Standing.{LeavesUnchanged};
+ghost use Rattle.part_store.specs.Standing.{LeavesUnchanged, listed};
 ghost use Rattle.devices.specs.Device.{HasBroken, HasTaken};
 ghost use Rattle.devices.specs.Pages.{Wrote};
 ghost use Rattle.depot_actions.specs.Deliveries.{DoesAll, MayLeaveAll, command_of as asked_of};
@@ -20,16 +20,15 @@ ghost use Rattle.depot_batch.specs.Effects.{filed_text, most_together};
 ghost use Rattle.depot_batch.specs.Private.{HasTried, command_of, filed_by, lines_of, on, places_of};
 ghost use Rattle.depot_batch.specs.Turns.{Broken, Together};
 
-use crate::answering::Answer;
 use crate::desk::Desk;
-use crate::line::flush;
+use crate::line::put_whole;
 use crate::mails::{Mail, read_mails};
-use crate::report::{Report, print_report};
 use depot_actions::{Delivery, Depot};
-use depot_cli::Reply;
+use depot_cli::{Detail, print_entries};
 use depot_jobs::Host;
-use devices::{DeviceFailed, OfWrite, Page, Sink};
+use devices::{DeviceFailed, Page, Sink};
 use part_store::EntryRow;
+use printing::{Printable, print_line};
 use sqlite::Alter;
 use std::alloc::{AllocError, Global};
 use std::io::Write;
@@ -75,7 +74,7 @@ pub fn serve_together<S: Alter, H: Host, W: Write + Drop>(
     lines.truncate(mails.len());
     match deliver_mails(desk.alloc, &mails, desk.depot) {
         Some(replies) => {
-            put_filed(desk.out, replies)?;
+            put_whole(desk.out, &Filed { replies })?;
             Ok(Tried::Done)
         }
         None => Ok(Tried::Withdrawn),
@@ -120,36 +119,22 @@ fn deliveries_of<'a>(alloc: Global, mails: &'a [Mail]) -> Result<Vec<Delivery<'a
     Ok(deliveries)
 }
 
-// Writes the answers to deliveries: the new entries of each, and the line that ends an answer. Then makes sure that all
-// of them are written.
-fn put_filed<W: Write + Drop>(
-    out: &mut OfWrite<W>,
+// The new entries of deliveries, which are answered one after the other.
+struct Filed {
     replies: Vec<Vec<EntryRow>>,
-) -> Result<(), DeviceFailed>
-    ensures ok { OnOk result (HasTaken (flat_map filed_text (map filed_by replies.items))
-        (⟦<OfWrite<W> as Sink>⟧.output out.old) (⟦<OfWrite<W> as Sink>⟧.output out.new)) }
-    ensures err { OnErr result (HasBroken (flat_map filed_text (map filed_by replies.items))
-        (⟦<OfWrite<W> as Sink>⟧.output out.old) (⟦<OfWrite<W> as Sink>⟧.output out.new)) }
-{
-    put_all(out, replies)?;
-    flush(out)
 }
 
-// Writes the answers to deliveries.
-fn put_all<O: Sink>(out: &mut O, replies: Vec<Vec<EntryRow>>) -> Result<(), DeviceFailed>
-    ensures ok { OnOk result (HasTaken (flat_map filed_text (map filed_by replies.items))
-        (O.output out.old) (O.output out.new)) }
-    ensures err { OnErr result (HasBroken (flat_map filed_text (map filed_by replies.items))
-        (O.output out.old) (O.output out.new)) }
-{
-    let mut page = Page::new(out);
-    print_filed(&mut page, replies);
-    page.flush()
+impl Printable for Filed {
+    ghost text = { λ filed. flat_map filed_text (map filed_by filed.replies.items) };
+
+    fn print_on<O: Sink>(&self, page: &mut Page<'_, O>) {
+        print_filed(page, &self.replies);
+    }
 }
 
 // Prints the answers to deliveries.
-fn print_filed<O: Sink>(page: &mut Page<'_, O>, replies: Vec<Vec<EntryRow>>)
-    ensures { Wrote (flat_map filed_text (map filed_by replies.items)) page.old page.new }
+fn print_filed<O: Sink>(page: &mut Page<'_, O>, replies: &[Vec<EntryRow>])
+    ensures { Wrote (flat_map filed_text (map filed_by replies.now)) page.old page.new }
 {
     'replies: for rows in replies {
         print_one(page, rows);
@@ -157,9 +142,9 @@ fn print_filed<O: Sink>(page: &mut Page<'_, O>, replies: Vec<Vec<EntryRow>>)
 }
 
 // Prints the answer to a delivery.
-fn print_one<O: Sink>(page: &mut Page<'_, O>, rows: Vec<EntryRow>)
-    ensures { Wrote (filed_text (filed_by rows)) page.old page.new }
+fn print_one<O: Sink>(page: &mut Page<'_, O>, rows: &[EntryRow])
+    ensures { Wrote (filed_text (map listed rows.now)) page.old page.new }
 {
-    let report = Report::Done(Answer::Replied(Reply::Filed(rows)));
-    print_report(page, &report);
+    print_entries(page, Detail::Brief, rows);
+    print_line(page, "= 0");
 }

@@ -90,9 +90,10 @@ mod scrubbing;
 mod task;
 
 pub use carrying::{carry, look_opened};
+pub use entries::{Detail, print_entries};
 pub use looks::{Look, Seen, look_over};
 pub use no_depot::{NoDepot, tell_no_depot};
 pub use pending_task::PendingTask;
 pub use running::{Next, run};
 pub use saving::{Saving, save};
-pub use task::{Reply, perform, print_reply, reply_to};
+pub use task::{Reply, perform, reply_to};

@@ -1,9 +1,7 @@
 // Looks at a depot: what it holds, and whether its contents are damaged.
-ghost use Rattle.std.specs.Prelude.{◌≡◌, IfErr, IfOk, MatchOption, OnErr, OnOk};
+ghost use Rattle.std.specs.Prelude.{◌≡◌, IfErr, IfOk, MatchOption};
 ghost use Rattle.sqlite.specs.Held.{state};
 ghost use Rattle.sqlite.specs.State.{Survives};
-ghost use Rattle.devices.specs.Device.{HasBroken, HasTaken};
-ghost use Rattle.devices.specs.Pages.{Wrote};
 ghost use Rattle.depot_jobs.specs.Jobs.{HasTold};
 ghost use Rattle.depot_cli.specs.Looking.{HasLooked, HasNotSeen, HasSeen, IsShown, refusal_with};
 ghost use Rattle.depot_cli.specs.Printed.{seen_text};
@@ -15,6 +13,7 @@ use depot_actions::{Depot, Overview};
 use depot_jobs::{SUCCESS, tell};
 use devices::{DeviceFailed, Page, Sink};
 use part_store::Scrubbed;
+use printing::{Printable, put_printed};
 use refusals::Refusal;
 use sqlite::Alter;
 use std::alloc::Global;
@@ -91,7 +90,7 @@ fn show<O: Sink, E: Sink>(out: &mut O, err: &mut E, seen: &Seen) -> u8
     ensures { IsShown seen.now result (O.output out.old) (E.output err.old) (O.output out.new)
         (E.output err.new) }
 {
-    match put_seen(out, seen) {
+    match put_printed(out, seen) {
         Ok(()) => tell_damage(err, seen),
         Err(DeviceFailed) => tell(err, &Refusal::Write),
     }
@@ -115,23 +114,13 @@ fn tell_damage<E: Sink>(err: &mut E, seen: &Seen) -> u8
     }
 }
 
-// Writes the lines of what was seen. If a call of `out` fails, the beginning of the lines was written.
-fn put_seen<O: Sink>(out: &mut O, seen: &Seen) -> Result<(), DeviceFailed>
-    ensures ok { OnOk result (HasTaken (seen_text seen.now) (O.output out.old) (O.output out.new)) }
-    ensures err { OnErr result (HasBroken (seen_text seen.now) (O.output out.old)
-        (O.output out.new)) }
-{
-    let mut page = Page::new(out);
-    print_seen(&mut page, seen);
-    page.flush()
-}
+impl Printable for Seen {
+    ghost text = { seen_text };
 
-// Prints the lines of what was seen.
-fn print_seen<O: Sink>(page: &mut Page<'_, O>, seen: &Seen)
-    ensures { Wrote (seen_text seen.now) page.old page.new }
-{
-    match seen {
-        Seen::Overview { log, overview } => print_overview(page, *log, overview),
-        Seen::Scrubbed(scrubbed) => print_scrubbed(page, scrubbed),
+    fn print_on<O: Sink>(&self, page: &mut Page<'_, O>) {
+        match self {
+            Seen::Overview { log, overview } => print_overview(page, *log, overview),
+            Seen::Scrubbed(scrubbed) => print_scrubbed(page, scrubbed),
+        }
     }
 }

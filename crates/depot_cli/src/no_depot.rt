@@ -6,12 +6,12 @@
 ghost use Rattle.std.specs.Prelude.{◌≡◌};
 ghost use Rattle.depot_cli.specs.Looking.{HasSaidWhy};
 ghost use Rattle.depot_cli.specs.NoDepots.{no_depot_of};
-ghost use Rattle.depot_cli.specs.Printed.{why_text};
+ghost use Rattle.depot_cli.specs.Printed.{no_depot_text, why_text};
 
 use depot_jobs::{REFUSED, tell};
-use devices::{DeviceFailed, Sink};
+use devices::{DeviceFailed, Page, Sink};
 use part_store::Unopened;
-use printing::{Piece, put_pieces};
+use printing::{Piece, Printable, print, put_printed};
 use refusals::Refusal;
 
 /// Why a file is no depot: an answer of `depot inspect`. The program finds out what it can before it opens anything;
@@ -69,16 +69,24 @@ pub fn tell_no_depot<O: Sink, E: Sink>(out: &mut O, err: &mut E, why: NoDepot) -
     ensures said { HasSaidWhy why (O.output out.old) (E.output err.old) (O.output out.new)
         (E.output err.new) }
 {
-    match put_pieces(
-        out,
-        &[
-            Piece::Text("no depot: "),
-            Piece::Text(words(why)),
-            Piece::Text("\n"),
-        ],
-    ) {
+    match put_printed(out, &why) {
         Ok(()) => REFUSED,
         Err(DeviceFailed) => tell(err, &Refusal::Write),
+    }
+}
+
+impl Printable for NoDepot {
+    ghost text = { no_depot_text };
+
+    fn print_on<O: Sink>(&self, page: &mut Page<'_, O>) {
+        print(
+            page,
+            &[
+                Piece::Text("no depot: "),
+                Piece::Text(words(*self)),
+                Piece::Text("\n"),
+            ],
+        );
     }
 }
 

@@ -2,19 +2,17 @@
 //
 // `program` is no task on a depot: it makes a file, as `compile` does, so it needs the host; a task only gets standard
 // output.
-ghost use Rattle.std.specs.Prelude.{◌≡◌, IfErr, IfOk, List, length, ℕ, OnErr, OnOk};
+ghost use Rattle.std.specs.Prelude.{◌≡◌, IfErr, IfOk, List, length, ℕ};
 ghost use Rattle.sqlite.specs.Held.{state};
 ghost use Rattle.sqlite.specs.State.{Survives};
-ghost use Rattle.devices.specs.Device.{HasBroken, HasTaken};
-ghost use Rattle.printing.specs.Printed.{line as line_of, wrote_text};
 ghost use Rattle.depot_jobs.specs.Jobs.{host_and_outputs};
 ghost use Rattle.depot_cli.specs.Saving.{HasNotSaved, HasSaved, HasSavedFile, HasServed, IsUnsaved, OutlastsSaving};
 
 use crate::task::finish;
 use depot_actions::Depot;
 use depot_jobs::{Host, MadeFrom, make_file, tell};
-use devices::{DeviceFailed, Page, Sink};
-use printing::print_wrote;
+use devices::Sink;
+use printing::{WroteFile, put_printed};
 use refusals::Refusal;
 use sqlite::Alter;
 use std::alloc::Global;
@@ -52,23 +50,11 @@ pub fn save<S: Alter, H: Host, O: Sink, E: Sink>(
 {
     match opened {
         Ok(depot) => match save_program(alloc, saving, depot, host) {
-            Ok(octets) => finish(err, put_wrote(out, octets)),
+            Ok(octets) => finish(err, put_printed(out, &WroteFile { octets })),
             Err(refusal) => tell(err, &refusal),
         },
         Err(refusal) => tell(err, refusal),
     }
-}
-
-// Writes the line about the bytes of the file. If a call of `out` fails, the beginning of the line was written.
-fn put_wrote<O: Sink>(out: &mut O, octets: usize) -> Result<(), DeviceFailed>
-    ensures ok { OnOk result (HasTaken (line_of (wrote_text octets)) (O.output out.old)
-        (O.output out.new)) }
-    ensures err { OnErr result (HasBroken (line_of (wrote_text octets)) (O.output out.old)
-        (O.output out.new)) }
-{
-    let mut page = Page::new(out);
-    print_wrote(&mut page, octets);
-    page.flush()
 }
 
 // Saves the user's program as a file, and returns how many bytes it has.

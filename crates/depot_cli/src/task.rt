@@ -7,7 +7,6 @@ ghost use Rattle.sqlite.specs.Held.{state};
 ghost use Rattle.sqlite.specs.State.{Survives};
 ghost use Rattle.depot_actions.specs.Applying.{MayAdd};
 ghost use Rattle.depot_actions.specs.Causes.{IsExport};
-ghost use Rattle.devices.specs.Device.{HasBroken, HasTaken};
 ghost use Rattle.devices.specs.Pages.{Wrote};
 ghost use Rattle.refusals.specs.declared.refusal.Refusal.TheVariants.{Write};
 ghost use Rattle.depot_jobs.specs.Jobs.{HasTold};
@@ -20,12 +19,12 @@ use depot_actions::Depot;
 use depot_jobs::{SUCCESS, Task, tell};
 use devices::{DeviceFailed, Page, Sink};
 use part_store::EntryRow;
-use printing::{Piece, print, print_line};
+use printing::{Piece, Printable, print, print_line, put_printed};
 use refusals::Refusal;
 use sqlite::Alter;
 use std::alloc::Global;
 
-/// What a depot replies to a task that it has done. [`reply_to`] makes it, and [`print_reply`] prints it. An export has
+/// What a depot replies to a task that it has done. [`reply_to`] makes it. An export has
 /// no such reply: its reply is the text that it writes.
 #[derive(Drop)]
 pub enum Reply {
@@ -74,13 +73,13 @@ pub fn perform<S: Alter, O: Sink, E: Sink>(
             Err(refusal) => tell(err, &refusal),
         },
         _ => match reply_to(alloc, task, depot) {
-            Ok(reply) => finish(err, put_reply(out, &reply)),
+            Ok(reply) => finish(err, put_printed(out, &reply)),
             Err(refusal) => tell(err, &refusal),
         },
     }
 }
 
-/// Has the depot do a task other than an export, and returns its reply. The caller prints it with [`print_reply`].
+/// Has the depot do a task other than an export, and returns its reply. The caller prints it.
 ///
 /// A crash at any moment leaves what it could have left before, or what the command makes of it, and never a part of
 /// that.
@@ -138,27 +137,18 @@ pub fn reply_to<S: Alter>(
     }
 }
 
-// Writes the lines of a reply. If a call of `out` fails, the beginning of the lines was written.
-fn put_reply<O: Sink>(out: &mut O, reply: &Reply) -> Result<(), DeviceFailed>
-    ensures ok { OnOk result (HasTaken (text_in reply.now) (O.output out.old) (O.output out.new)) }
-    ensures err { OnErr result (HasBroken (text_in reply.now) (O.output out.old)
-        (O.output out.new)) }
-{
-    let mut page = Page::new(out);
-    print_reply(&mut page, reply);
-    page.flush()
-}
+/// A reply is printed as its lines: for example `stored` for a filter, and `removed 1` for entry 1.
+impl Printable for Reply {
+    ghost text = { text_in };
 
-/// Prints the lines of a reply. For example, `stored` for a filter, and `removed 1` for entry 1.
-pub fn print_reply<O: Sink>(page: &mut Page<'_, O>, reply: &Reply)
-    ensures { Wrote (text_in reply.now) page.old page.new }
-{
-    match reply {
-        Reply::Stored => print_line(page, "stored"),
-        Reply::Filed(rows) => print_entries(page, Detail::Brief, rows),
-        Reply::Listed(rows) => print_entries(page, Detail::Full, rows),
-        Reply::Removed(number) => print_removed(page, *number),
-        Reply::Migrated(count) => print_migrated(page, *count),
+    fn print_on<O: Sink>(&self, page: &mut Page<'_, O>) {
+        match self {
+            Reply::Stored => print_line(page, "stored"),
+            Reply::Filed(rows) => print_entries(page, Detail::Brief, rows),
+            Reply::Listed(rows) => print_entries(page, Detail::Full, rows),
+            Reply::Removed(number) => print_removed(page, *number),
+            Reply::Migrated(count) => print_migrated(page, *count),
+        }
     }
 }
 

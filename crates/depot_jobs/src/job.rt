@@ -30,7 +30,7 @@ use bytecode_listing::{ListingError, assemble, disassemble_accepted, disassemble
 use bytecode_verifier::{Refusal as BrokenRule, Verified, verify};
 use devices::{DeviceFailed, Page, Sink, put};
 use encodings::{decode, encode};
-use printing::{print_line, print_refusal, print_run, print_wrote, put_refusal};
+use printing::{Printable, print_line, print_refusal, print_run, print_wrote, put_printed};
 use refusals::Refusal;
 use sieve_check::laws::faultless_scripts_have_a_form;
 use sieve_engine::{Report, check_program, check_script, code_octets, evaluate, execute};
@@ -179,9 +179,7 @@ fn put_lines<O: Sink, E: Sink>(out: &mut O, err: &mut E, lines: &Lines) -> u8
         ⊎ ((result ≡ 1) × HasBroken (lines_text lines.now) (O.output out.old) (O.output out.new)
         × HasTold Write (E.output err.old) (E.output err.new)) }
 {
-    let mut page = Page::new(out);
-    print_lines(&mut page, lines);
-    match page.flush() {
+    match put_printed(out, lines) {
         Ok(()) => SUCCESS,
         Err(DeviceFailed) => tell(err, &Refusal::Write),
     }
@@ -192,7 +190,7 @@ pub fn tell<E: Sink>(err: &mut E, refusal: &Refusal) -> u8
     ensures status { result ≡ 1 }
     ensures told { HasTold refusal.now (E.output err.old) (E.output err.new) }
 {
-    let _ = put_refusal(err, refusal);
+    let _ = put_printed(err, refusal);
     REFUSED
 }
 
@@ -397,21 +395,22 @@ fn assemble_program<'a>(
     }
 }
 
-// Prints the lines.
-fn print_lines<O: Sink>(page: &mut Page<'_, O>, lines: &Lines)
-    ensures { Wrote (lines_text lines.now) page.old page.new }
-{
-    match lines {
-        Lines::NoFault => print_line(page, "ok"),
-        Lines::Remarks(text) => print_remarks(page, text),
-        Lines::Wrote(octets) => print_wrote(page, *octets),
-        Lines::Budget(text) => print_line(page, text.as_str()),
-        Lines::Listing(listing, verdict) => print_listing(page, listing, verdict),
-        Lines::Report(report) => {
-            let outcome = &report.outcome;
-            print_run(page, &outcome.actions, outcome.charged, report.limit);
+impl Printable for Lines {
+    ghost text = { lines_text };
+
+    fn print_on<O: Sink>(&self, page: &mut Page<'_, O>) {
+        match self {
+            Lines::NoFault => print_line(page, "ok"),
+            Lines::Remarks(text) => print_remarks(page, text),
+            Lines::Wrote(octets) => print_wrote(page, *octets),
+            Lines::Budget(text) => print_line(page, text.as_str()),
+            Lines::Listing(listing, verdict) => print_listing(page, listing, verdict),
+            Lines::Report(report) => {
+                let outcome = &report.outcome;
+                print_run(page, &outcome.actions, outcome.charged, report.limit);
+            }
+            Lines::Octets(octets) => page.write(octets),
         }
-        Lines::Octets(octets) => page.write(octets),
     }
 }
 

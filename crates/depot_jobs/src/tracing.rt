@@ -1,8 +1,9 @@
 // Traces of scripts and of programs.
-ghost use Rattle.std.specs.Prelude.{◌≡◌, ◌<◌, true, false, List, IfErr, IfOk, IsErrAnd, OnErr, OnOk, length};
+ghost use Rattle.std.specs.Prelude.{◌≡◌, ◌<◌, true, false, List, IfErr, IfOk, IsErrAnd, OnOk, length};
 ghost use Rattle.octets.specs.Limits.{max_program, max_script};
-ghost use Rattle.devices.specs.Device.{HasBroken, HasStopped, HasTaken};
+ghost use Rattle.devices.specs.Device.{HasStopped, HasTaken};
 ghost use Rattle.printing.specs.Printed.{report_text};
+ghost use Rattle.printing.specs.Writing.{HasPut};
 ghost use Rattle.refusals.specs.Scripts.{IsScriptRefusal};
 ghost use Rattle.refusals.specs.declared.refusal.Refusal.TheVariants.{ScriptTooLong, Spelling};
 ghost use Rattle.sieve_engine.specs.Evaluation.{IsEvaluationRefusal};
@@ -215,12 +216,9 @@ fn put_program<O: Sink>(
 
 // Writes the lines of a run in one piece.
 fn put_report<O: Sink>(out: &mut O, report: &Report) -> Result<(), DeviceFailed>
-    ensures ok { OnOk result (HasTaken
+    ensures { HasPut result
         (report_text report.now.outcome.actions.items report.now.outcome.charged report.now.limit)
-        (O.output out.old) (O.output out.new)) }
-    ensures err { OnErr result (HasBroken
-        (report_text report.now.outcome.actions.items report.now.outcome.charged report.now.limit)
-        (O.output out.old) (O.output out.new)) }
+        (O.output out.old) (O.output out.new) }
 {
     let outcome = &report.outcome;
     let mut page = Page::new(out);

@@ -2,7 +2,7 @@
 //!
 //! A printer adds exactly its text (`specs/Printed`, `specs/Pieces`) to a [`Page`](devices::Page). It returns nothing
 //! and takes no memory: the page remembers whether a call of its sink has failed, and the caller that made the page
-//! looks for that once, when it flushes the page. [`put_pieces`] and [`put_refusal`] make a page for one short text.
+//! looks for that once, when it flushes the page. [`put_printed`] does this for a value that is printed as one text.
 //!
 //! Decimal digits are written by `itoa`, which has a buffer of its own.
 //!
@@ -15,8 +15,9 @@
 //! line `none`; and then one with its charge and its limit. A refusal is one line: its number, its name, and its place
 //! if it has one.
 //!
-//! By `print`, `print_line`, `print_text`, `print_run`, `print_wrote`, `print_refusal`; and over a sink by
-//! `put_pieces`, `put_refusal`.
+//! Over a sink, such a text is written whole, or its beginning if a call of the sink fails.
+//!
+//! By `print`, `print_line`, `print_text`, `print_run`, `print_wrote`, `print_refusal`; over a sink by `put_printed`.
 #![tactic(auto)]
 
 mod piece;
@@ -25,4 +26,4 @@ mod writing;
 
 pub use piece::{Piece, Setting};
 pub use printing::{print, print_line, print_refusal, print_run, print_text, print_wrote};
-pub use writing::{put_pieces, put_refusal};
+pub use writing::{Printable, WroteFile, put_printed};

@@ -1,42 +1,53 @@
-// Short texts for a sink, each on a page of its own.
-ghost use Rattle.std.specs.Prelude.{◌≡◌, OnErr, OnOk};
-ghost use Rattle.devices.specs.Device.{HasBroken, HasTaken};
-ghost use Rattle.printing.specs.Pieces.{pieces_text};
-ghost use Rattle.printing.specs.Printed.{refusal_line};
+// Values that are printed as one text, and writing such a text to a sink.
+ghost use Rattle.std.specs.Prelude.{List, ℕ};
+ghost use Rattle.devices.specs.Pages.{Wrote};
+ghost use Rattle.printing.specs.Printed.{line, refusal_line, wrote_text};
+ghost use Rattle.printing.specs.Writing.{HasPut};
 
-use crate::piece::Piece;
-use crate::printing::{print, print_refusal};
+use crate::printing::{print_refusal, print_wrote};
 use devices::{DeviceFailed, Page, Sink};
 use refusals::Refusal;
 
-/// Writes the pieces, one after another. To write many lines, make one [`Page`] for all of them.
+/// A value that is printed as one text. [`put_printed`] writes it to a sink.
+pub trait Printable {
+    ghost text: { Self → List ℕ };
+
+    /// Prints the text of the value.
+    fn print_on<O: Sink>(&self, page: &mut Page<'_, O>)
+        ensures { Wrote (text self.now) page.old page.new };
+}
+
+impl Printable for Refusal {
+    ghost text = { refusal_line };
+
+    fn print_on<O: Sink>(&self, page: &mut Page<'_, O>) {
+        print_refusal(page, self);
+    }
+}
+
+/// A file that was written, of which its length is printed: for example `wrote 31 octets`.
+pub struct WroteFile {
+    /// How many bytes it has.
+    pub octets: usize,
+}
+
+impl Printable for WroteFile {
+    ghost text = { λ file. line (wrote_text file.octets) };
+
+    fn print_on<O: Sink>(&self, page: &mut Page<'_, O>) {
+        print_wrote(page, self.octets);
+    }
+}
+
+/// Writes the text of a value, on a page of its own: up to 65,536 bytes are one write.
 ///
 /// # Errors
 ///
 /// `DeviceFailed` if a call of `out` fails; the beginning of the text was written.
-pub fn put_pieces<O: Sink>(out: &mut O, pieces: &[Piece<'_>]) -> Result<(), DeviceFailed>
-    ensures ok { OnOk result (HasTaken (pieces_text pieces.now) (O.output out.old)
-        (O.output out.new)) }
-    ensures err { OnErr result (HasBroken (pieces_text pieces.now) (O.output out.old)
-        (O.output out.new)) }
+pub fn put_printed<P: Printable, O: Sink>(out: &mut O, value: &P) -> Result<(), DeviceFailed>
+    ensures { HasPut result (P.text value.now) (O.output out.old) (O.output out.new) }
 {
     let mut page = Page::new(out);
-    print(&mut page, pieces);
-    page.flush()
-}
-
-/// Writes the line of a refusal.
-///
-/// # Errors
-///
-/// `DeviceFailed` if a call of `out` fails; the beginning of the line was written.
-pub fn put_refusal<O: Sink>(out: &mut O, refusal: &Refusal) -> Result<(), DeviceFailed>
-    ensures ok { OnOk result (HasTaken (refusal_line refusal.now) (O.output out.old)
-        (O.output out.new)) }
-    ensures err { OnErr result (HasBroken (refusal_line refusal.now) (O.output out.old)
-        (O.output out.new)) }
-{
-    let mut page = Page::new(out);
-    print_refusal(&mut page, refusal);
+    value.print_on(&mut page);
     page.flush()
 }
