@@ -53,6 +53,13 @@
     > deliver ann examples/invoice.eml more
     > List ann
     > list ann bob
+    > since ann
+    > since ann 1 2
+    > since ann 4294967296
+    > since ann 18446744073709551616
+    > since ann one
+    > since ann -1
+    > since ann ""
     > export ann 1 base16
     > export ann 1 base17 file
     > export ann 0 raw file
@@ -76,9 +83,23 @@
     = 2
     ? deliver USER MESSAGE
     = 2
-    ? the commands are script, code, deliver, list, export, remove and migrate
+    ? the commands are script, code, deliver, list, since, export, remove and migrate
     = 2
     ? list USER
+    = 2
+    ? since USER NUMBER
+    = 2
+    ? since USER NUMBER
+    = 2
+    ? NUMBER is 0 to 4294967295
+    = 2
+    ? NUMBER is 0 to 4294967295
+    = 2
+    ? NUMBER is 0 to 4294967295
+    = 2
+    ? NUMBER is 0 to 4294967295
+    = 2
+    ? NUMBER is 0 to 4294967295
     = 2
     ? export USER NUMBER ENCODING FILE
     = 2
@@ -92,9 +113,9 @@
     = 2
     ? migrate
     = 2
-    ? the commands are script, code, deliver, list, export, remove and migrate
+    ? the commands are script, code, deliver, list, since, export, remove and migrate
     = 2
-    ? the commands are script, code, deliver, list, export, remove and migrate
+    ? the commands are script, code, deliver, list, since, export, remove and migrate
     = 2
     ? words have one space between them, and others stand in quotes
     = 2
@@ -119,6 +140,62 @@
     examples
     lines
     mail.depot
+
+## what is listed after a number, between other commands
+    $ cat > lines <<'END'
+    > since ann 0
+    > deliver ann examples/invoice.eml
+    > deliver ann examples/newsletter.eml
+    > deliver ann examples/ticket.eml
+    > since ann 0
+    > since ann 1
+    > since "ann" "+02"
+    > since ann 3
+    > since ann 4294967295
+    > since bob 0
+    > since Ann 0
+    > remove ann 3
+    > since ann 2
+    > since ann 1
+    > deliver ann examples/forwarded.eml
+    > since ann 2
+    > END
+    $ depot batch mail.depot < lines
+    none
+    = 0
+    1 message "INBOX"
+    = 0
+    2 message "INBOX"
+    = 0
+    3 message "INBOX"
+    = 0
+    1 message "INBOX" "" message/rfc822 19165
+    2 message "INBOX" "" message/rfc822 66866
+    3 message "INBOX" "" message/rfc822 3678
+    = 0
+    2 message "INBOX" "" message/rfc822 66866
+    3 message "INBOX" "" message/rfc822 3678
+    = 0
+    3 message "INBOX" "" message/rfc822 3678
+    = 0
+    none
+    = 0
+    none
+    = 0
+    none
+    = 0
+    refused 44 UserName
+    = 1
+    removed 3
+    = 0
+    none
+    = 0
+    2 message "INBOX" "" message/rfc822 66866
+    = 0
+    4 message "INBOX"
+    = 0
+    4 message "INBOX" "" message/rfc822 2640
+    = 0
 
 ## a word in quotes
     $ cp examples/invoice.eml 'a mail "of" Jörg'
@@ -146,7 +223,7 @@
 
 ## a long line
     $ { head -c 67108864 /dev/zero | tr '\0' 'a'; printf '\nlist ann\n'; } | depot batch mail.depot
-    ? the commands are script, code, deliver, list, export, remove and migrate
+    ? the commands are script, code, deliver, list, since, export, remove and migrate
     = 2
     none
     = 0
