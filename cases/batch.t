@@ -47,6 +47,12 @@
     depot
     contents 0 octets 0
 
+## a depot that can't be opened
+    $ printf '%65536s' '' > spaces
+    $ printf 'deliver ann examples/invoice.eml\nlist ann\n' | depot batch spaces
+    2> refused 43 Database
+    [1]
+
 ## what is no command is told, and nothing happens
     $ cat > lines <<'END'
     > deliver ann
@@ -309,6 +315,34 @@
     = 0
     3 message "INBOX"
     = 0
+
+## deliveries that are ready together leave in the tables what they leave one by one
+Only if: python3 -c 'import sqlite3' # there is no sqlite3 for python3
+    $ echo 'require ["foreverypart", "vnd.depot"]; foreverypart { if partbody :contains "foobar" { store "att"; } } discard;' > filter
+    $ printf 'Content-Type: multipart/mixed; boundary=b\n\n--b\nContent-Disposition: attachment; filename="a.txt"\n' > mail.0
+    $ printf 'Content-Transfer-Encoding: base64\n\nZm9vYmFy\n--b--\n' >> mail.0; printf 'Subject: a\n\nb\n' > mail.1; : > mail.2; printf 'Subject: c\n\nd\n' > mail.3
+    $ for count in 0 1 3 64; do rm -f alone* together*; for depot in alone together; do depot script $depot ann filter; done
+    >     for place in $(seq 0 $((count - 1))); do set -- ann bob cat; shift $((place % 3)); echo "deliver $1 mail.$((place % 4))"; done > lines
+    >     while read -r command user mail; do depot $command alone $user $mail; done < lines > answers
+    >     depot batch together < lines | grep -v '^= 0$' | cmp - answers; wc -l < answers
+    >     "$TOP/cases/laid" alone > tables; "$TOP/cases/laid" together | cmp - tables; grep -c 'INTO "entries"' tables
+    > done
+    stored
+    stored
+    0
+    0
+    stored
+    stored
+    1
+    1
+    stored
+    stored
+    3
+    3
+    stored
+    stored
+    64
+    48
 
 ## files that can't be read, and messages that are refused
     $ printf 'deliver ann nothing\nscript ann examples/invoice.eml\ndeliver Ann examples/invoice.eml\n' > lines

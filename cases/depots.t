@@ -335,6 +335,25 @@ Entries by their numbers.
     foobar
     [no line break]
 
+## exports of lengths around those of pieces, in every encoding
+    $ printf "$(awk 'BEGIN { for (n = 0; n < 9200; n++) printf "\\%03o", n * 7 % 251 }')" > mixed; wc -c < mixed
+    9200
+    $ number=0; for length in 0 1 4559 4560 4561 9119 9120 9121 9200; do
+    >     number=$((number + 1)); head -c $length mixed > mail; depot deliver mail.depot ann mail
+    >     for encoding in raw base64 base64-mime base32 base32hex base16 qp; do
+    >         depot encode $encoding < mail > text; depot export mail.depot ann $number $encoding | cmp - text
+    >     done
+    > done
+    1 message "INBOX"
+    2 message "INBOX"
+    3 message "INBOX"
+    4 message "INBOX"
+    5 message "INBOX"
+    6 message "INBOX"
+    7 message "INBOX"
+    8 message "INBOX"
+    9 message "INBOX"
+
 ## a number that is spelt otherwise
     $ printf foobar > message
     $ depot deliver mail.depot ann message
