@@ -375,12 +375,16 @@ Only if: python3 -c 'import sqlite3' # there is no sqlite3 for python3
     before
     $ depot export mail.depot ann 1 raw | cmp - examples/ticket.eml
 
-## nor the files beside it
+## nor the files beside it, or beside another depot
     $ printf 'deliver ann examples/ticket.eml\nexport ann 1 raw mail.depot-wal\n' > lines
     $ printf 'export ann 1 raw ./mail.depot-shm\nexport ann 1 raw mail.depot-journal\nlist ann\n' >> lines
+    $ depot list other.depot ann && sed -i 's/^list/export ann 1 raw other.depot-wal\n&/' lines
+    none
     $ depot batch mail.depot < lines
     1 message "INBOX"
     = 0
+    refused 45 Write
+    = 1
     refused 45 Write
     = 1
     refused 45 Write
