@@ -207,6 +207,7 @@ Many entries, and a large one.
     00009999
     removed 5001
     00005000
+    $ rm mail.0 mail.4095 mail.8190
     $ depot inspect mail.depot | grep -v '^log'
     depot
     user "ann" last 12285 entries 12284 octets 98272 program accepted version 2
