@@ -1,6 +1,6 @@
 # Contents whose bytes were changed in the file, as a disk changes them, and what scrub reports of them
 
-Changed in the file itself, not by SQL. `alter FILE OLD NEW` puts other bytes in the place of some that the file has once.
+Changed in the file itself, or by SQL. `alter FILE OLD NEW` puts other bytes in the place of some that the file has once.
 
 ## one byte of a content that two users share, and one on the last of many pages
 Only if: command -v python3 # there is no python3
@@ -63,6 +63,35 @@ Only if: command -v python3 # there is no python3
     $ for user in ann bob; do depot deliver mail.depot $user shared; done && depot scrub mail.depot | tail -n 1
     3 message "INBOX"
     4 message "INBOX"
+    damaged 0
+
+## each byte of a content that two users have, changed and changed back
+Only if: python3 -c 'import sqlite3' # there is no sqlite3 for python3
+    $ printf foobar > one; printf other > two
+    $ depot deliver mail.depot ann one && depot deliver mail.depot ann two && depot deliver mail.depot bob one
+    1 message "INBOX"
+    2 message "INBOX"
+    1 message "INBOX"
+    $ for altered in 676f6f626172 666e6f626172 666f6e626172 666f6f636172 666f6f626072 666f6f626173; do
+    >     "$TOP/cases/laid" mail.depot "UPDATE contents SET octets = x'$altered' WHERE octets = x'666f6f626172'"; "$TOP/cases/laid" mail.depot > before
+    >     { for user in ann bob; do depot export mail.depot $user 1 raw; echo "$?"; done; depot export mail.depot ann 2 raw | cmp - two
+    >     depot scrub mail.depot; echo "$?"; "$TOP/cases/laid" mail.depot | cmp - before
+    >     "$TOP/cases/laid" mail.depot "UPDATE contents SET octets = x'666f6f626172' WHERE octets = x'$altered'"
+    >     for user in ann bob; do depot export mail.depot $user 1 raw | cmp - one; done; depot scrub mail.depot; } > said.$altered 2>&1
+    > done; cat said.676f6f626172; for said in said.*; do cmp said.676f6f626172 $said; done; rm said.*
+    refused 43 Database
+    1
+    refused 43 Database
+    1
+    contents 2
+    octets 11
+    damaged 1
+    1 "ann" "INBOX"
+    1 "bob" "INBOX"
+    refused 43 Database
+    1
+    contents 2
+    octets 11
     damaged 0
 
 ## a part that was stored by itself, and a folder that needs quoting

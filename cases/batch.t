@@ -47,12 +47,25 @@
     depot
     contents 0 octets 0
 
+## a depot that can't be opened
+    $ printf '%65536s' '' > spaces
+    $ printf 'deliver ann examples/invoice.eml\nlist ann\n' | depot batch spaces
+    2> refused 43 Database
+    [1]
+
 ## what is no command is told, and nothing happens
     $ cat > lines <<'END'
     > deliver ann
     > deliver ann examples/invoice.eml more
     > List ann
     > list ann bob
+    > since ann
+    > since ann 1 2
+    > since ann 4294967296
+    > since ann 18446744073709551616
+    > since ann one
+    > since ann -1
+    > since ann ""
     > export ann 1 base16
     > export ann 1 base17 file
     > export ann 0 raw file
@@ -76,9 +89,23 @@
     = 2
     ? deliver USER MESSAGE
     = 2
-    ? the commands are script, code, deliver, list, export, remove and migrate
+    ? the commands are script, code, deliver, list, since, export, remove and migrate
     = 2
     ? list USER
+    = 2
+    ? since USER NUMBER
+    = 2
+    ? since USER NUMBER
+    = 2
+    ? NUMBER is 0 to 4294967295
+    = 2
+    ? NUMBER is 0 to 4294967295
+    = 2
+    ? NUMBER is 0 to 4294967295
+    = 2
+    ? NUMBER is 0 to 4294967295
+    = 2
+    ? NUMBER is 0 to 4294967295
     = 2
     ? export USER NUMBER ENCODING FILE
     = 2
@@ -92,9 +119,9 @@
     = 2
     ? migrate
     = 2
-    ? the commands are script, code, deliver, list, export, remove and migrate
+    ? the commands are script, code, deliver, list, since, export, remove and migrate
     = 2
-    ? the commands are script, code, deliver, list, export, remove and migrate
+    ? the commands are script, code, deliver, list, since, export, remove and migrate
     = 2
     ? words have one space between them, and others stand in quotes
     = 2
@@ -119,6 +146,62 @@
     examples
     lines
     mail.depot
+
+## what is listed after a number, between other commands
+    $ cat > lines <<'END'
+    > since ann 0
+    > deliver ann examples/invoice.eml
+    > deliver ann examples/newsletter.eml
+    > deliver ann examples/ticket.eml
+    > since ann 0
+    > since ann 1
+    > since "ann" "+02"
+    > since ann 3
+    > since ann 4294967295
+    > since bob 0
+    > since Ann 0
+    > remove ann 3
+    > since ann 2
+    > since ann 1
+    > deliver ann examples/forwarded.eml
+    > since ann 2
+    > END
+    $ depot batch mail.depot < lines
+    none
+    = 0
+    1 message "INBOX"
+    = 0
+    2 message "INBOX"
+    = 0
+    3 message "INBOX"
+    = 0
+    1 message "INBOX" "" message/rfc822 19165
+    2 message "INBOX" "" message/rfc822 66866
+    3 message "INBOX" "" message/rfc822 3678
+    = 0
+    2 message "INBOX" "" message/rfc822 66866
+    3 message "INBOX" "" message/rfc822 3678
+    = 0
+    3 message "INBOX" "" message/rfc822 3678
+    = 0
+    none
+    = 0
+    none
+    = 0
+    none
+    = 0
+    refused 44 UserName
+    = 1
+    removed 3
+    = 0
+    none
+    = 0
+    2 message "INBOX" "" message/rfc822 66866
+    = 0
+    4 message "INBOX"
+    = 0
+    4 message "INBOX" "" message/rfc822 2640
+    = 0
 
 ## a word in quotes
     $ cp examples/invoice.eml 'a mail "of" Jörg'
@@ -146,7 +229,7 @@
 
 ## a long line
     $ { head -c 67108864 /dev/zero | tr '\0' 'a'; printf '\nlist ann\n'; } | depot batch mail.depot
-    ? the commands are script, code, deliver, list, export, remove and migrate
+    ? the commands are script, code, deliver, list, since, export, remove and migrate
     = 2
     none
     = 0
@@ -233,6 +316,34 @@
     3 message "INBOX"
     = 0
 
+## deliveries that are ready together leave in the tables what they leave one by one
+Only if: python3 -c 'import sqlite3' # there is no sqlite3 for python3
+    $ echo 'require ["foreverypart", "vnd.depot"]; foreverypart { if partbody :contains "foobar" { store "att"; } } discard;' > filter
+    $ printf 'Content-Type: multipart/mixed; boundary=b\n\n--b\nContent-Disposition: attachment; filename="a.txt"\n' > mail.0
+    $ printf 'Content-Transfer-Encoding: base64\n\nZm9vYmFy\n--b--\n' >> mail.0; printf 'Subject: a\n\nb\n' > mail.1; : > mail.2; printf 'Subject: c\n\nd\n' > mail.3
+    $ for count in 0 1 3 64; do rm -f alone* together*; for depot in alone together; do depot script $depot ann filter; done
+    >     for place in $(seq 0 $((count - 1))); do set -- ann bob cat; shift $((place % 3)); echo "deliver $1 mail.$((place % 4))"; done > lines
+    >     while read -r command user mail; do depot $command alone $user $mail; done < lines > answers
+    >     depot batch together < lines | grep -v '^= 0$' | cmp - answers; wc -l < answers
+    >     "$TOP/cases/laid" alone > tables; "$TOP/cases/laid" together | cmp - tables; grep -c 'INTO "entries"' tables
+    > done
+    stored
+    stored
+    0
+    0
+    stored
+    stored
+    1
+    1
+    stored
+    stored
+    3
+    3
+    stored
+    stored
+    64
+    48
+
 ## files that can't be read, and messages that are refused
     $ printf 'deliver ann nothing\nscript ann examples/invoice.eml\ndeliver Ann examples/invoice.eml\n' > lines
     $ printf 'deliver ann %s\nlist ann\n' "$FILES/too-large" >> lines
@@ -264,12 +375,16 @@
     before
     $ depot export mail.depot ann 1 raw | cmp - examples/ticket.eml
 
-## nor the files beside it
+## nor the files beside it, or beside another depot
     $ printf 'deliver ann examples/ticket.eml\nexport ann 1 raw mail.depot-wal\n' > lines
     $ printf 'export ann 1 raw ./mail.depot-shm\nexport ann 1 raw mail.depot-journal\nlist ann\n' >> lines
+    $ depot list other.depot ann && sed -i 's/^list/export ann 1 raw other.depot-wal\n&/' lines
+    none
     $ depot batch mail.depot < lines
     1 message "INBOX"
     = 0
+    refused 45 Write
+    = 1
     refused 45 Write
     = 1
     refused 45 Write

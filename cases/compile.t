@@ -169,6 +169,33 @@ Only if: [ "$(id -u)" = 0 ] # this user can't give a file to another
     $ depot check same
     ok
 
+## not onto the files that a depot has beside it, by their names or by a link
+    $ depot deliver mail.depot ann examples/ticket.eml
+    1 message "INBOX"
+    $ ln -s mail.depot-wal link
+    $ for out in mail.depot-wal mail.depot-shm ./mail.depot-journal "$PWD/mail.depot-wal" link; do depot compile examples/documents.sieve "$out"; echo "$?"; done
+    1
+    1
+    1
+    1
+    1
+    2> refused 45 Write
+    2> refused 45 Write
+    2> refused 45 Write
+    2> refused 45 Write
+    2> refused 45 Write
+    $ echo 'version 1 variables 0 HALT' > listing && depot assemble listing mail.depot-shm
+    2> refused 45 Write
+    [1]
+    $ depot list mail.depot ann
+    1 message "INBOX" "" message/rfc822 3678
+
+## onto a file of such a name where no depot is, also beside the script
+    $ echo 'keep;' > script
+    $ depot compile script script-wal && depot compile script other-journal && cmp script-wal other-journal
+    wrote 31 octets
+    wrote 31 octets
+
 Nothing is written.
 
 ## a refused script makes no file

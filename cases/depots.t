@@ -1,4 +1,4 @@
-# Depots: script, code, deliver, list, export, remove and migrate
+# Depots: script, code, deliver, list, since, export, remove and migrate
 
 Filters.
 
@@ -202,6 +202,89 @@ What is listed, and for whom.
     000102
     [no line break]
 
+## what is listed after a number
+    $ depot script mail.depot ann examples/documents.sieve
+    stored
+    $ for mail in invoice newsletter ticket; do depot deliver mail.depot ann "examples/$mail.eml"; done
+    1 part "Documents"
+    2 message "INBOX"
+    3 message "INBOX"
+    4 part "Documents"
+    5 message "INBOX"
+    $ depot since mail.depot ann 0
+    1 part "Documents" "rechnung-2026-0417.pdf" application/pdf 9016
+    2 message "INBOX" "" message/rfc822 19165
+    3 message "INBOX" "" message/rfc822 66866
+    4 part "Documents" "contract 2025.pdf" application/pdf 508
+    5 message "INBOX" "" message/rfc822 3678
+    $ depot since mail.depot ann 1
+    2 message "INBOX" "" message/rfc822 19165
+    3 message "INBOX" "" message/rfc822 66866
+    4 part "Documents" "contract 2025.pdf" application/pdf 508
+    5 message "INBOX" "" message/rfc822 3678
+    $ depot since mail.depot ann +04
+    5 message "INBOX" "" message/rfc822 3678
+    $ depot since mail.depot ann 5
+    none
+    $ depot since mail.depot ann 4294967295
+    none
+    $ depot since mail.depot bob 0
+    none
+
+## what is listed after a number that is removed
+    $ printf foobar > message
+    $ for n in 1 2 3; do depot deliver mail.depot ann message; done
+    1 message "INBOX"
+    2 message "INBOX"
+    3 message "INBOX"
+    $ depot remove mail.depot ann 2
+    removed 2
+    $ depot since mail.depot ann 1
+    3 message "INBOX" "" message/rfc822 6
+    $ depot since mail.depot ann 2
+    3 message "INBOX" "" message/rfc822 6
+    $ depot remove mail.depot ann 3
+    removed 3
+    $ depot since mail.depot ann 0
+    1 message "INBOX" "" message/rfc822 6
+    $ depot since mail.depot ann 1
+    none
+    $ depot deliver mail.depot ann message
+    4 message "INBOX"
+    $ depot since mail.depot ann 3
+    4 message "INBOX" "" message/rfc822 6
+
+## numbers of one user after those of others
+    $ : > empty
+    $ for user in ann bob ann bob bob; do depot deliver mail.depot $user empty; done | wc -l
+    5
+    $ depot since mail.depot ann 1
+    2 message "INBOX" "" message/rfc822 0
+    $ depot since mail.depot bob 1
+    2 message "INBOX" "" message/rfc822 0
+    3 message "INBOX" "" message/rfc822 0
+
+## a list after a number makes the depot where there is none, and changes none
+    $ depot since mail.depot ann 7
+    none
+    $ depot deliver mail.depot ann examples/ticket.eml
+    1 message "INBOX"
+    $ depot inspect mail.depot > before && sha256sum mail.depot > sum
+    $ depot since mail.depot ann 0
+    1 message "INBOX" "" message/rfc822 3678
+    $ sha256sum -c --quiet sum && depot inspect mail.depot | cmp - before && rm before sum
+
+## a list after a number for what is no user's name
+    $ depot since mail.depot a/b 0
+    2> refused 44 UserName
+    [1]
+    $ depot since mail.depot '' 0
+    2> refused 44 UserName
+    [1]
+    $ depot since mail.depot Ann 4294967295
+    2> refused 44 UserName
+    [1]
+
 ## every octet that a user name may have
     $ depot list mail.depot abcdefghijklmnopqrstuvwxyz0123456789._-
     none
@@ -252,6 +335,25 @@ Entries by their numbers.
     foobar
     [no line break]
 
+## exports of lengths around those of pieces, in every encoding
+    $ printf "$(awk 'BEGIN { for (n = 0; n < 9200; n++) printf "\\%03o", n * 7 % 251 }')" > mixed; wc -c < mixed
+    9200
+    $ number=0; for length in 0 1 4559 4560 4561 9119 9120 9121 9200; do
+    >     number=$((number + 1)); head -c $length mixed > mail; depot deliver mail.depot ann mail
+    >     for encoding in raw base64 base64-mime base32 base32hex base16 qp; do
+    >         depot encode $encoding < mail > text; depot export mail.depot ann $number $encoding | cmp - text
+    >     done
+    > done
+    1 message "INBOX"
+    2 message "INBOX"
+    3 message "INBOX"
+    4 message "INBOX"
+    5 message "INBOX"
+    6 message "INBOX"
+    7 message "INBOX"
+    8 message "INBOX"
+    9 message "INBOX"
+
 ## a number that is spelt otherwise
     $ printf foobar > message
     $ depot deliver mail.depot ann message
@@ -287,6 +389,18 @@ Files that are no depot.
 ## a file of something else
     $ printf '%65536s' '' > spaces
     $ depot list spaces ann
+    2> refused 43 Database
+    [1]
+
+## a list after a number of what is no depot
+    $ printf '%65536s' '' > spaces
+    $ depot since spaces ann 0
+    2> refused 43 Database
+    [1]
+    $ depot since none/mail.depot ann 0
+    2> refused 43 Database
+    [1]
+    $ depot since none/mail.depot Ann 0
     2> refused 43 Database
     [1]
 

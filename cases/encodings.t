@@ -46,6 +46,10 @@ The texts of `foobar`, as RFC 4648 has them, and others.
     $ printf 'caf\303\251 =\r\naaaaaaaaaaaaaaaaaaaaaaaaaaaaaaaaaaaaaaaaaaaaaaaaaaaaaaaaaaaaaaaaaaaaaaaaaaaaa ' | depot encode qp > text
     $ printf 'caf=C3=A9 =3D=0D=0Aaaaaaaaaaaaaaaaaaaaaaaaaaaaaaaaaaaaaaaaaaaaaaaaaaaaaaaaa=\r\naaaaaaaaaaaaaaaaaaaaa=20' | cmp - text
 
+## a million octets, and back
+    $ yes f | tr -d '\n' | head -c 1000000 > octets; depot encode base16 < octets > text; wc -c < text; depot decode base16 < text | cmp - octets
+    2000000
+
 ## decode nothing
     $ depot decode base64
     $ depot decode base16

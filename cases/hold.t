@@ -16,16 +16,20 @@ Only if: command -v flock && [ -d /proc/self ] # there is no flock or no /proc
     2> refused 40 NoSuchEntry
     [1]
     $ "$TOP/contrib/ask" mail.depot check ann
-    2> ask: ? the commands are script, code, deliver, list, export, remove and migrate
+    2> ask: ? the commands are script, code, deliver, list, since, export, remove and migrate
     [64]
     $ "$TOP/contrib/ask" --once 'an id' ann@example.org mail.depot deliver ann examples/invoice.eml
     2> ask: an id has 1 to 128 visible characters of ASCII, and a recipient 1 to 1000 bytes
     [64]
-    $ printf 'deliver ann "examples/invoice.eml"\nlist ann\n' | "$TOP/contrib/ask" mail.depot -
+    $ printf 'deliver ann "examples/invoice.eml"\nlist ann\nsince ann 1\n' | "$TOP/contrib/ask" mail.depot -
     1 message "INBOX"
     = 0
     1 message "INBOX" "" message/rfc822 19165
     = 0
+    none
+    = 0
+    $ "$TOP/contrib/ask" mail.depot since ann 0
+    1 message "INBOX" "" message/rfc822 19165
     $ "$TOP/contrib/ask" mail.depot copy copy.depot
     copied
     $ depot list copy.depot ann

@@ -161,7 +161,7 @@ Only if: command -v flock # there is no flock
     mail.eml
     $ echo 'no database' > other
     $ python3 examples/attachments.py mail.depot 'no user' none
-    2> refused 44 UserName: list no user; depot inspect mail.depot says more
+    2> refused 44 UserName: since no user 0; depot inspect mail.depot says more
     [1]
     $ rm -r saved none other
 

@@ -392,6 +392,20 @@ By another path, by a link to the depot, and by one to the name.
     2> refused 45 Write
     [1]
 
+Nor over those beside another depot.
+
+    $ depot list other.depot ann
+    none
+    $ for out in other.depot-wal other.depot-shm other.depot-journal; do depot program mail.depot ann $out; echo "$?"; done
+    1
+    1
+    1
+    2> refused 45 Write
+    2> refused 45 Write
+    2> refused 45 Write
+    $ depot list other.depot ann
+    none
+
 The same names in another folder are those of any file.
 
     $ depot program mail.depot ann folder/mail.depot-journal

@@ -69,11 +69,11 @@ Only if: python3 -c 'import sqlite3' # there is no sqlite3 for python3
 
 ## forty commands, each a process of its own
     $ "$TOP/cases/forty_commands" depot
-    41 commands over one file, 0 answered otherwise
+    44 commands over one file, 0 answered otherwise
 
 ## many commands beside a plain model
     $ "$TOP/cases/history" depot
-    500 commands and as many lists, 0 differ
+    500 commands and two lists after each, 0 differ
 
 ## a batch answers as its commands do alone, and loses nothing where it is killed
     $ "$TOP/cases/batches" depot

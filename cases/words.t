@@ -162,6 +162,72 @@ Numbers of entries, which go from 1 to 4,294,967,295. The depot isn't opened, so
     $ depot remove mail.depot ann +001
     removed 1
 
+Numbers after which `since` lists, which go from 0 to 4,294,967,295. Here, too, no file is made.
+
+## a list after a number that is too large
+    $ depot since mail.depot ann 4294967296
+    2> error: invalid value '4294967296' for '<NUMBER>': 4294967296 is not in 0..=4294967295
+    2>
+    2> For more information, try '--help'.
+    [2]
+    $ depot since mail.depot ann 18446744073709551616
+    2> error: invalid value '18446744073709551616' for '<NUMBER>': number too large to fit in target type
+    2>
+    2> For more information, try '--help'.
+    [2]
+    $ test ! -e mail.depot
+
+## a list after a number below 0
+    $ depot since mail.depot ann -1
+    2> error: unexpected argument '-1' found
+    2>
+    2>   tip: to pass '-1' as a value, use '-- -1'
+    2>
+    2> Usage: depot since <DB> <USER> <NUMBER>
+    2>
+    2> For more information, try '--help'.
+    [2]
+    $ depot since -- mail.depot ann -1
+    2> error: invalid value '-1' for '<NUMBER>': invalid digit found in string
+    2>
+    2> For more information, try '--help'.
+    [2]
+    $ test ! -e mail.depot
+
+## a list after what is no number, or after none
+    $ depot since mail.depot ann one
+    2> error: invalid value 'one' for '<NUMBER>': invalid digit found in string
+    2>
+    2> For more information, try '--help'.
+    [2]
+    $ depot since mail.depot ann ''
+    2> error: invalid value '' for '<NUMBER>': cannot parse integer from empty string
+    2>
+    2> For more information, try '--help'.
+    [2]
+    $ depot since mail.depot ann
+    2> error: the following required arguments were not provided:
+    2>   <NUMBER>
+    2>
+    2> Usage: depot since <DB> <USER> <NUMBER>
+    2>
+    2> For more information, try '--help'.
+    [2]
+    $ depot since mail.depot ann 1 2
+    2> error: unexpected argument '2' found
+    2>
+    2> Usage: depot since <DB> <USER> <NUMBER>
+    2>
+    2> For more information, try '--help'.
+    [2]
+    $ test ! -e mail.depot
+
+## the smallest and the largest number after which entries are listed, with a plus sign and zeros
+    $ depot since mail.depot ann +000
+    none
+    $ depot since mail.depot ann 04294967295
+    none
+
 Other words that are no command.
 
 ## a word that isn't UTF-8
@@ -229,6 +295,7 @@ Help.
     2>   program      Write the filter of a user to a file, as a filter program (bytecode)
     2>   deliver      Run the filter of a user on a message, and file the result
     2>   list         List the entries of a user
+    2>   since        List the entries of a user with numbers above NUMBER
     2>   export       Write the bytes of an entry to standard output, in an encoding
     2>   remove       Remove an entry of a user
     2>   migrate      Convert the filters of all users to the latest version of the bytecode
@@ -656,6 +723,34 @@ Help.
     2> `depot inspect DB` reports what is wrong with DB.
     [2]
 
+## help since
+    $ depot help since
+    2> List the entries of a user with numbers above NUMBER
+    2>
+    2> Usage: depot since <DB> <USER> <NUMBER>
+    2>
+    2> Arguments:
+    2>   <DB>      The file of the depot; it is made if it is missing
+    2>   <USER>    The name of a user: 1 to 64 of a to z, 0 to 9, dot, underscore and hyphen
+    2>   <NUMBER>  Only entries above this number are listed: 0 to 4294967295
+    2>
+    2> Options:
+    2>   -h, --help  Print help
+    2>
+    2> Prints a line for each entry whose number is above NUMBER, as `list` does, or `none`; 0 lists all.
+    2> New entries get higher numbers, so a program that fetches new mail keeps the highest number that it
+    2> has seen.
+    2>
+    2> Example:
+    2>   depot since mail.depot ann 41
+    2>
+    2> Status 0: done. 1: refused, with the refusal's number and name on standard error.
+    2> 2: the words are not a command, or ask for help.
+    2> Refusals: 1, 43 to 45. `depot help NUMBER` explains each, and what to do.
+    2> DB comes first, then USER: the other way round a new depot is made, in a file with the user's name.
+    2> `depot inspect DB` reports what is wrong with DB.
+    [2]
+
 ## help export
     $ depot help export
     2> Write the bytes of an entry to standard output, in an encoding
@@ -796,7 +891,7 @@ Help.
     2>
     2> The lines are commands without DB:
     2>   script USER SCRIPT, code USER PROGRAM, deliver USER MESSAGE, list USER,
-    2>   export USER NUMBER ENCODING FILE, remove USER NUMBER, migrate
+    2>   since USER NUMBER, export USER NUMBER ENCODING FILE, remove USER NUMBER, migrate
     2> One space separates two words. A word with a space, a quotation mark or a line break is written in
     2> quotation marks; in these \22 is a quotation mark, \5c a backslash, \0a a line break.
     2> Each answer is on standard output, with a line after it: = 0 (done), = 1 (refused), or = 2 (not a

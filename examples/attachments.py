@@ -36,7 +36,7 @@ def deliver(depot, user, mails):
 def save(depot, user, folder, last, mail_of):
     """Saves the entries after the number `last`, and returns the last number."""
     parts, digests, sides = {}, {}, {}
-    for entry in (it for it in depot.list(user) if it.number > last):
+    for entry in depot.since(user, last):
         last = entry.number
         place = f"{folder}/{last}/mail.eml" if entry.kind == "message" else f"{folder}/new/{last}"
         os.makedirs(os.path.dirname(place), exist_ok=True)

@@ -23,8 +23,7 @@ ask() {
     flock "$db.lock" depot "$@"
 }
 
-ask list "$db" "$user" > "$made/list"
-awk -v last="$last" '$1 + 0 > last' "$made/list" > "$made/new"
+ask since "$db" "$user" "$last" > "$made/new"
 : > "$made/digests"
 : > "$made/stored"
 sed -n 's/^\([0-9]*\) message .*/\1/p' "$made/new" > "$made/mails"

@@ -6,9 +6,11 @@ r"""Files mail in a depot from Python, and reads it back. This is one file for P
 ...     depot.script("ann", b'require ["fileinto", "variables"]; if header :matches "Subject" "*" { fileinto "in/${1}"; }')
 ...     depot.deliver("ann", b"Subject: bills\n\nPay it.\n")
 ...     depot.list("ann")
+...     depot.since("ann", 1)
 ...     depot.export("ann", 1)
 [Filed(number=1, kind='message', folder=b'in/bills')]
 [Entry(number=1, kind='message', folder=b'in/bills', name=b'', media='message/rfc822', size=24)]
+[]
 b'Subject: bills\n\nPay it.\n'
 
 A Depot starts `depot batch FILE` and keeps it until it is closed; each call is a line of that batch. So a call that returns
@@ -250,8 +252,16 @@ class Depot:
 
     def list(self, user: str) -> List[Entry]:
         """What the user has, by number."""
+        return self._listed("list", user)
+
+    def since(self, user: str, number: int) -> List[Entry]:
+        """What the user has above a number, by number: all that is new, if this is the last number that you know; all, if it is 0."""
+        return self._listed("since", user, str(number))
+
+    def _listed(self, *words: str) -> List[Entry]:
+        """The entries that a command lists."""
         return [Entry(int(number), kind.decode(), _unquoted(folder), _unquoted(name), media.decode(), int(size))
-                for number, kind, folder, name, media, size in _entries(_LISTED, self._ask("list", user))]
+                for number, kind, folder, name, media, size in _entries(_LISTED, self._ask(*words))]
 
     @overload
     def export(self, user: str, number: int, file: None = None, encoding: str = "raw") -> bytes: ...

@@ -5,7 +5,6 @@ use crate::shelf::{Known, Shelf};
 use depot_jobs::{File, Job, Runner, Tool, answer};
 use devices::OfWrite;
 use encodings::Encoding;
-use std::io;
 
 const NOTHING: Known<'static> = Known {
     name: "",
@@ -124,32 +123,4 @@ fn refusals_that_break_off(rt: HostRuntime) {
     for calls in 0..25usize {
         assert!(rt; is_told_up_to(&rt, calls), "{calls}");
     }
-}
-
-// What a job writes, if its status is 0 and it tells nothing.
-fn written(rt: &HostRuntime, job: Job<'_>) -> Option<Vec<u8>> {
-    let mut host = Shelf::new(rt.alloc(), NOTHING, NOTHING, b"", 0);
-    let mut out = OfWrite::new(Vec::new(rt.alloc()));
-    let mut err = OfWrite::new(Vec::new(rt.alloc()));
-    let status = answer(rt.alloc(), job, &mut host, &mut out, &mut err);
-    (status == 0 && err.inner.is_empty()).then_some(out.inner)
-}
-
-// Whether a million octets are encoded to a text of two million, which is decoded to them.
-fn come_back(rt: &HostRuntime, octets: &[u8]) -> bool {
-    let encoding = Encoding::Base16;
-    let job = Job::OnFile(Tool::Encode { encoding }, file(octets));
-    let Some(text) = written(rt, job) else {
-        return false;
-    };
-    let job = Job::OnFile(Tool::Decode { encoding }, file(&text));
-    let read = written(rt, job);
-    text.len() == 2_000_000 && matches!(&read, Some(read) if read.as_slice() == octets)
-}
-
-#[test]
-fn large_octets(rt: HostRuntime) -> io::Result<()> {
-    let octets = vec![in rt.alloc(); b'f'; 1_000_000]?;
-    assert!(rt; come_back(&rt, &octets));
-    Ok(())
 }

@@ -2,7 +2,7 @@
 use crate::calls::Calls;
 use crate::known::{ANSWERS, EMPTY, MAIL, THREE, entries, served};
 use depot_actions::{Depot, Refusal};
-use sqlite::{Alter, MemStore};
+use sqlite::Alter;
 use std::alloc::Global;
 use std::io;
 use std::io::{Error, ErrorKind, Read};
@@ -136,18 +136,5 @@ fn an_input_that_goes_on_after_its_end(rt: HostRuntime) -> Result<(), Fail> {
     let mut depot = Depot::in_memory(rt.alloc());
     assert!(rt; ends_with_its_input(rt.alloc(), &mut depot)?);
     assert_eq!(rt; entries(&mut depot)?, 1);
-    Ok(())
-}
-
-// Whether a batch on a depot that can't be opened tells why, and answers nothing.
-fn tells_why<S: Alter>(alloc: Global, depot: &mut Result<Depot<S>, Refusal>) -> Result<bool, Fail> {
-    let seen = served(alloc, depot, [EMPTY, MAIL], 64, THREE, Vec::new(alloc))?;
-    Ok(seen.ends(1, b"refused 43 Database\n") && seen.out.is_empty())
-}
-
-#[test]
-fn a_depot_that_was_not_opened(rt: HostRuntime) -> Result<(), Fail> {
-    let mut depot: Result<Depot<MemStore>, Refusal> = Err(Refusal::Database);
-    assert!(rt; tells_why(rt.alloc(), &mut depot)?);
     Ok(())
 }

@@ -4,7 +4,6 @@ use depot_actions::{Depot, Refusal};
 use devices::OfWrite;
 use encodings::{Encoding, encode};
 use sqlite::{Alter, MemStore};
-use std::alloc::{AllocError, Global};
 use std::test::Fail;
 
 /// The text of 4,561 octets `a` in an encoding.
@@ -236,58 +235,6 @@ fn a_writer_that_fails_at_its_second_call(rt: HostRuntime) -> Result<(), Fail> {
             "a text of {}",
             text.length
         );
-    }
-    Ok(())
-}
-
-// Octets that look like chance.
-fn mixed(alloc: Global, length: usize) -> Result<Vec<u8>, AllocError> {
-    let mut octets = Vec::new(alloc);
-    for place in 0..length {
-        octets.push((place.wrapping_mul(7) % 251) as u8)?;
-    }
-    Ok(octets)
-}
-
-// Whether the entry is exported as the encoding of these octets.
-fn is_encoding<S: Alter>(
-    alloc: Global,
-    depot: &mut Depot<S>,
-    encoding: Encoding,
-    octets: &[u8],
-) -> Result<bool, Fail> {
-    let mut out = OfWrite::new(Vec::new(alloc));
-    depot.export(alloc, "ann", 1, encoding, &mut out)?;
-    let whole = encode(alloc, encoding, octets)?;
-    Ok(out.inner == whole)
-}
-
-// Whether the entry is exported as the encoding of these octets in each of the encodings.
-fn are_encodings<S: Alter>(
-    alloc: Global,
-    depot: &mut Depot<S>,
-    octets: &[u8],
-) -> Result<bool, Fail> {
-    for text in &TEXTS {
-        if !is_encoding(alloc, depot, text.encoding, octets)? {
-            return Ok(false);
-        }
-    }
-    Ok(true)
-}
-
-// Whether a message of these octets is.
-fn is_exported(rt: &HostRuntime, octets: &[u8]) -> Result<bool, Fail> {
-    let mut depot = holding(rt, octets)?;
-    are_encodings(rt.alloc(), &mut depot, octets)
-}
-
-#[test]
-fn lengths_around_pieces(rt: HostRuntime) -> Result<(), Fail> {
-    let message = mixed(rt.alloc(), 9_200)?;
-    for length in [0, 1, 4_559, 4_560, 4_561, 9_119, 9_120, 9_121, 9_200] {
-        let (octets, _) = message.split_at(length.min(message.len()));
-        assert!(rt; is_exported(&rt, octets)?, "{length}");
     }
     Ok(())
 }

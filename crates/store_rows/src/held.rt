@@ -59,17 +59,6 @@ fn note_rows<S: Alter>(
     Ok(rows.len())
 }
 
-/// The rows that a SELECT shows, one value after another.
-pub fn shown<S: Alter>(
-    alloc: Global,
-    conn: &mut Connection<S>,
-    sql: &str,
-) -> Result<Vec<u8>, Error> {
-    let mut octets = Vec::new(alloc);
-    note_rows(conn, &mut octets, sql)?;
-    Ok(octets)
-}
-
 /// What the tables hold.
 pub fn held_in<S: Alter>(alloc: Global, conn: &mut Connection<S>) -> Result<Held, Error> {
     let mut octets = Vec::new(alloc);

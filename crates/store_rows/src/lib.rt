@@ -2,8 +2,6 @@
 #![tactic(auto)]
 
 #[cfg(test)]
-mod altered_contents;
-#[cfg(test)]
 mod altered_programs;
 #[cfg(test)]
 mod failing_disks;

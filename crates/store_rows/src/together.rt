@@ -1,9 +1,7 @@
-// Deliveries that are committed together, beside the same one by one.
-use crate::held::{Held, held_in};
+// Deliveries that are committed together: if one is refused, all is as it was.
 use crate::samples::{MESSAGE, SCRIPT};
 use depot_actions::{Delivery, Depot, Refusal};
-use part_store::EntryRow;
-use sqlite::{Alter, Error, MemStore};
+use sqlite::{Alter, MemStore};
 use std::alloc::Global;
 use std::test::Fail;
 
@@ -37,87 +35,6 @@ fn deliveries_of(
         })?;
     }
     Ok(deliveries)
-}
-
-// Whether two lists show the same rows.
-fn are_same(one: &[EntryRow], other: &[EntryRow]) -> bool {
-    one.len() == other.len()
-        && one
-            .iter()
-            .zip(other.iter())
-            .all(|(row, same)| is_same(row, same))
-}
-
-// Whether two rows show the same.
-fn is_same(one: &EntryRow, other: &EntryRow) -> bool {
-    one.number == other.number
-        && one.octets == other.octets
-        && one.folder.as_slice() == other.folder.as_slice()
-        && one.name.as_slice() == other.name.as_slice()
-}
-
-// Makes deliveries one by one, and says whether each shows what it showed in the group.
-fn show_alike<S: Alter>(
-    alloc: Global,
-    depot: &mut Depot<S>,
-    deliveries: &[Delivery<'_>],
-    replies: &[Vec<EntryRow>],
-) -> Result<bool, Refusal> {
-    for (delivery, shown) in deliveries.iter().zip(replies.iter()) {
-        let rows = depot.deliver(alloc, delivery.user, delivery.message)?;
-        if !are_same(&rows, shown) {
-            return Ok(false);
-        }
-    }
-    Ok(replies.len() == deliveries.len())
-}
-
-// Makes deliveries to one depot one by one and to another together, and says whether they show the same.
-fn answer_alike<S: Alter>(
-    alloc: Global,
-    alone: &mut Depot<S>,
-    together: &mut Depot<S>,
-    deliveries: &[Delivery<'_>],
-) -> Result<bool, Refusal> {
-    match together.deliver_all(alloc, deliveries) {
-        Ok(replies) => show_alike(alloc, alone, deliveries, &replies),
-        Err(refused) => Err(refused.refusal),
-    }
-}
-
-// What a depot holds.
-fn held_by<S: Alter + Drop>(alloc: Global, depot: Depot<S>) -> Result<Held, Error> {
-    let mut conn = depot.release().release();
-    held_in(alloc, &mut conn)
-}
-
-// Whether deliveries do the same to two depots.
-fn are_alike<S: Alter + Drop>(
-    alloc: Global,
-    alone: Depot<S>,
-    together: Depot<S>,
-    deliveries: &[Delivery<'_>],
-) -> Result<bool, Fail> {
-    let mut alone = alone;
-    let mut together = together;
-    let alike = answer_alike(alloc, &mut alone, &mut together, deliveries)?;
-    let one = held_by(alloc, alone)?;
-    let other = held_by(alloc, together)?;
-    Ok(alike && one == other)
-}
-
-// Whether so many deliveries do the same one by one and together.
-fn are_alike_of(alloc: Global, count: usize) -> Result<bool, Fail> {
-    let deliveries = deliveries_of(alloc, count, count)?;
-    are_alike(alloc, depot_of(alloc)?, depot_of(alloc)?, &deliveries)
-}
-
-#[test]
-fn groups_are_as_one_by_one(rt: HostRuntime) -> Result<(), Fail> {
-    for count in [0, 1, 3, 64] {
-        assert!(rt; are_alike_of(rt.alloc(), count)?, "{count}");
-    }
-    Ok(())
 }
 
 // Whether a group is refused for the user of the delivery at this place.
