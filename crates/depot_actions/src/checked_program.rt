@@ -95,7 +95,7 @@ impl Model for CheckedPrograms {
 }
 
 impl CheckedPrograms {
-    /// Keeps no program yet.
+    /// Keeps no program.
     pub(crate) fn new(alloc: Global) -> CheckedPrograms
         ensures { result ≡ [] }
     {
@@ -111,6 +111,7 @@ impl CheckedPrograms {
     ///
     /// - `Database` if the program no longer reads and verifies.
     /// - `Memory` if memory is refused.
+    #[tactic(auto, using(crate::proofs::KeptPlaces::found_kept))]
     pub(crate) fn check(&mut self, alloc: Global, octets: Vec<u8>) -> Result<usize, Refusal>
         ensures same { IfOk result (λ place. slice_get self.new place ≡ Some octets.items) }
         ensures kept { OnOk result (self.new ≡ kept_with octets.items self.old) }
@@ -127,7 +128,7 @@ impl CheckedPrograms {
     ///
     /// # Requires
     ///
-    /// So many are kept.
+    /// More than `place` programs are kept.
     pub(crate) fn at(&self, place: usize) -> &CheckedProgram
         requires { place < length self.now }
         ensures { slice_get self.now place ≡ Some result.now }

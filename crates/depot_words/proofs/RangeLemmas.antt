@@ -1,5 +1,5 @@
 -- What a command's arguments are, where its words have no fault.
-use Rattle.std.proofs.Common.{◌≡◌, ◌∙◌, refl, sym, ap, subst, cond, codes, Bool, true, false, ◌||◌, ℕ, zero, suc, List, [], ◌∷◌, Option, Some, None, arith, eqb-true, length, leb-true, map, true≢false, inl, inr, unwrap_or}
+use Rattle.std.proofs.Common.{◌≡◌, ◌∙◌, refl, sym, ap, subst, cond, Bool, true, false, ◌||◌, ℕ, zero, suc, List, [], ◌∷◌, Option, Some, None, arith, eqb-true, length, leb-true, map, true≢false, inl, inr, unwrap_or}
 use Rattle.std.specs.Prelude.{IfSome, is_some, T, neg_ℤ, pos, ◌≤ℤ◌}
 use Rattle.std.specs.List.{find, list_all, list_any}
 use Rattle.std.specs.Option.{option_map, option_map_or}
@@ -94,11 +94,11 @@ entered_by app (Some p) plain none = go (named p.0 (built app).subs) refl none
 
 -- ---- the arguments of each command
 
-first : {X : Type 0} → X → List X → X
+abbrev first : {X : Type 0} → X → List X → X
 first none [] = none
 first none (x ∷ xs) = x
 
-others : {X : Type 0} → List X → List X
+abbrev others : {X : Type 0} → List X → List X
 others [] = []
 others (x ∷ xs) = xs
 
