@@ -1,10 +1,10 @@
 //! A host of two files.
 ghost use Rattle.std.specs.Prelude.{◌≡◌, false, IfOk, if◌then◌else◌};
 ghost use Rattle.std.specs.Option.{option_copied};
-ghost use Rattle.depot_jobs.specs.Host.{is_beside, makes, opens, origin_of, with_call, with_faults};
+ghost use Rattle.depot_jobs.specs.Host.{IsApart, made_from, makes, opens, origin_of, with_call, with_faults};
 ghost use Rattle.depot_rows.specs.Shelf.{call_of, state_of};
 
-use depot_jobs::{Host, Input, is_beside};
+use depot_jobs::{Host, Input, MadeFrom, is_beside};
 use devices::{DeviceFailed, OfRead, OfWrite};
 use refusals::Refusal;
 use std::alloc::{AllocError, Global};
@@ -135,21 +135,24 @@ fn opening(alloc: Global, input: Input<'_>) -> Result<Asked, AllocError>
 }
 
 // What is asked for by making a file.
-fn making(alloc: Global, name: &str, script: &str) -> Result<Asked, AllocError>
-    ensures { IfOk result (λ asked. call_of asked ≡ makes name.now script.now) }
+fn making(alloc: Global, name: &str, from: MadeFrom<'_>) -> Result<Asked, AllocError>
+    ensures { IfOk result (λ asked. call_of asked ≡ makes name.now (made_from from.entry)) }
 {
     Ok(Asked::Made(
         String::from_str(alloc, name)?,
-        String::from_str(alloc, script)?,
+        String::from_str(alloc, from.name())?,
     ))
 }
 
-// Whether no file of a name is made: it is the script's, or one that a database of that name has
-// beside it.
-fn is_kept_from(script: &str, name: &str) -> bool
-    ensures { result ≡ false → is_beside script.now name.now ≡ false }
+// Whether no file of a name is made: it is the file that it would be made from, or one that this depot's database has
+// next to its own.
+fn is_kept_from(from: MadeFrom<'_>, name: &str) -> bool
+    ensures { result ≡ false → IsApart from.entry name.now }
 {
-    name == script || is_beside(script, name)
+    match from {
+        MadeFrom::Source(source) => name == source,
+        MadeFrom::Depot(depot) => name == depot || is_beside(depot, name),
+    }
 }
 
 impl<'a> Host for Shelf<'a> {
@@ -184,15 +187,20 @@ impl<'a> Host for Shelf<'a> {
         self.faults = self.faults.saturating_add(reader.faults);
     }
 
-    fn create(&mut self, alloc: Global, name: &str, script: &str) -> Result<Self::Writer, Refusal> {
-        let asked = match making(alloc, name, script) {
+    fn create(
+        &mut self,
+        alloc: Global,
+        name: &str,
+        from: MadeFrom<'_>,
+    ) -> Result<Self::Writer, Refusal> {
+        let asked = match making(alloc, name, from) {
             Ok(asked) => asked,
             Err(_) => return Err(Refusal::Memory),
         };
         if !self.note(asked) {
             return Err(Refusal::Memory);
         }
-        if is_kept_from(script, name) {
+        if is_kept_from(from, name) {
             self.fail();
             return Err(Refusal::Write);
         }
