@@ -42,8 +42,9 @@
 //! ## Tasks
 //!
 //! A task is carried once to the depot that was opened for it, with the status and the texts of its command; or the
-//! refusal of opening is reported, with status 1. So is an inspection, with the reason why there is no depot, and a
-//! scrub, with `Database`. The words of the process are taken as they are, all of them and in their order.
+//! refusal of opening is reported, with status 1. If an inspection or a scrub finds no depot, the
+//! status is 1, too: the inspection prints the reason, the scrub reports `Database`, and each reports `Memory` if memory
+//! was refused. The words of the process are taken as they are, all of them and in their order.
 //!
 //! By `carry`, `look_opened`, `NoDepot::of`; `words`, `texts` of depot_jobs.
 //!
