@@ -5,7 +5,7 @@ use Rattle.std.proofs.Math.Logic.{∥∥₁_elim, ∥∥₁_map}
 use Rattle.sqlite.specs.Recovery.{Image}
 use Rattle.part_store.specs.Entries.{Entries}
 use Rattle.part_store.specs.Opening.{HoldsState}
-use Rattle.depot_actions.specs.DepotState.{Accepts, Command, Deliver, Export, ListAll, Migrate, ProgramOf, Remove, Reply, SetCode, SetScript}
+use Rattle.depot_actions.specs.DepotState.{Accepts, Command, Deliver, Export, ListAll, ListSince, Migrate, ProgramOf, Remove, Reply, SetCode, SetScript}
 use Rattle.depot_actions.specs.History.{IsStep}
 use Rattle.depot_actions.specs.Runs.{HoldsAfter, IsRunStep, IsSessionStep, Leads, NotOpened, Ran, Session}
 use Rattle.volumes.specs.Folders.{AreChanges, HasBegun, HoldAfter, HoldAfterAll, HoldVolumes, IsOver, IsOverOne, IsChange, Change}
@@ -24,11 +24,12 @@ module _ (es : List Entries) (v new : Entries) (ls : List Entries) where
   on_one : (command : Command) (reply : Reply) → IsDoneOn command es v ls → Accepts v command reply new → AcceptsOnOne before command reply after
   on_one command reply on accepts = record { earlier = es; old = v; new = new; later = ls; were = refl; on = on; accepts = accepts; are = refl }
 
-  on_volumes : (command : Command) (reply : Reply) → IsDoneOn command es v ls → Accepts v command reply new → AcceptOnVolumes before command reply after
+  pub on_volumes : (command : Command) (reply : Reply) → IsDoneOn command es v ls → Accepts v command reply new → AcceptOnVolumes before command reply after
   on_volumes (SetScript user script) reply on accepts = on_one (SetScript user script) reply on accepts
   on_volumes (SetCode user program) reply on accepts = on_one (SetCode user program) reply on accepts
   on_volumes (Deliver user message) reply on accepts = on_one (Deliver user message) reply on accepts
   on_volumes (ListAll user) reply on accepts = absurd on
+  on_volumes (ListSince user number) reply on accepts = absurd on
   on_volumes (ProgramOf user) reply on accepts = on_one (ProgramOf user) reply on accepts
   on_volumes (Export user number encoding) reply on accepts = on_one (Export user number encoding) reply on accepts
   on_volumes (Remove user number) reply on accepts = on_one (Remove user number) reply on accepts
@@ -134,10 +135,10 @@ past_folds (one ∷ others) images vs holds (led, more) = ∥∥₁_elim (led_st
     ∥∥₁_map (past_folds others one.left made.0 made.2 more) (λ fold. let r : HoldAfterAll images (one ∷ others) vs = (fold.0, (whole made.0, made.1, fold.1), fold.2) in r))
 
 -- a list leaves each volume as it is
-list_leaves : (v new : Entries) (user : List ℕ) (reply : Option Reply) (is_open : Bool) → IsRunStep (ListAll user) reply is_open v new → new ≡ v
-list_leaves v new user reply is_open step = elim step.either [ inl same ↦ same | inr (told, accepts) ↦ accepts.step.1 ]
+list_leaves : (command : Command) → ((v new : Entries) (told : Reply) → Accepts v command told new → new ≡ v) → (v new : Entries) (reply : Option Reply) (is_open : Bool) → IsRunStep command reply is_open v new → new ≡ v
+list_leaves command looks v new reply is_open step = elim step.either [ inl same ↦ same | inr (told, accepts) ↦ looks v new told accepts ]
 
-pub list_spares : (was is : Image) (user : List ℕ) (reply : Option Reply) (is_open : Bool) → Leads (Ran (ListAll user) reply is_open) was is → Leads NotOpened was is
-list_spares was is user reply is_open leads v holds =
+pub list_spares : (command : Command) → ((v new : Entries) (told : Reply) → Accepts v command told new → new ≡ v) → (was is : Image) (reply : Option Reply) (is_open : Bool) → Leads (Ran command reply is_open) was is → Leads NotOpened was is
+list_spares command looks was is reply is_open leads v holds =
     ∥∥₁_map (leads v holds) (λ made.
-    let r : HoldsAfter NotOpened v is = (made.0, list_leaves v made.0 user reply is_open made.1, made.2) in r)
+    let r : HoldsAfter NotOpened v is = (made.0, list_leaves command looks v made.0 reply is_open made.1, made.2) in r)

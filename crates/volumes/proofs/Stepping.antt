@@ -10,12 +10,12 @@ use Rattle.sqlite_trees.proofs.ListLemmas.{filter_all}
 use Rattle.part_store.specs.Entries.{Draft, Entries, Entry, is_at, no_entries, numbered, without_entry}
 use Rattle.part_store.specs.Standing.{HasNone, IsEntryAt}
 use Rattle.depot_actions.specs.Causes.{IsColliding, IsFull, IsHindered, NamesNone}
-use Rattle.depot_actions.specs.DepotState.{Accepts, Command, Deliver, Export, ListAll, Listed, Migrate, ProgramOf, Remove, Reply, SetCode, SetScript, filed}
+use Rattle.depot_actions.specs.DepotState.{Accepts, Command, Deliver, Export, ListAll, ListSince, Listed, Migrate, ProgramOf, Remove, Reply, SetCode, SetScript, filed}
 use Rattle.depot_actions.specs.History.{AreSteps, IsStep}
 use Rattle.volumes.specs.OnVolumes.{AcceptOnVolumes, AcceptsOnOne, Began, Called, Event, IsAnswered, IsDoneOn, MakeAll, calls_in}
 use Rattle.volumes.specs.Places.{IsFirstUpTo}
 use Rattle.volumes.specs.Volumes.{AreVolumes, ComeAfter, ComesAfter, current, newest_after, whole}
-use Rattle.volumes.proofs.Whole.{begins_after, begins_whole, bytes_same, join_after, newest_join, not_earlier, not_later, older_and, same_bytes, split_after, user_listings, whole_at}
+use Rattle.volumes.proofs.Whole.{begins_after, begins_whole, bytes_same, join_after, newest_join, not_earlier, not_later, older_and, same_bytes, since_listings, split_after, user_listings, whole_at}
 
 abbrev entries_in : List Entries → List Entry
 entries_in vs = flat_map (λ (w : Entries). w.entries) vs
@@ -213,6 +213,8 @@ accepts_whole before after (Deliver user message) reply are done =
     })
 accepts_whole before after (ListAll user) reply are done =
     record { named = done.0; step = (done.1 ∙ ap Listed (sym (user_listings user before)), ap whole done.2) }
+accepts_whole before after (ListSince user number) reply are done =
+    record { named = done.0; step = (done.1 ∙ ap Listed (sym (since_listings user number before)), ap whole done.2) }
 accepts_whole before after (ProgramOf user) reply are done =
     let step = done.accepts.step in
     newest_accepts before after (ProgramOf user) reply done done.on (record { named = done.accepts.named; step = (step.0, ap (older_and done.earlier) step.1) })
@@ -254,6 +256,7 @@ volumes_after before after (Deliver user message) reply are done =
     (λ n comes. subst (ComesAfter n) (sym done.accepts.step.filed) (filed_after n done.old user _ comes))
     (λ come. subst (ComeAfter done.new) (sym done.on) tt)
 volumes_after before after (ListAll user) reply are done = subst AreVolumes (sym done.2) are
+volumes_after before after (ListSince user number) reply are done = subst AreVolumes (sym done.2) are
 volumes_after before after (ProgramOf user) reply are done =
     kept_after before after (ProgramOf user) reply done are (ap (λ (e : Entries). e.entries) done.accepts.step.1) (ap (λ (e : Entries). e.lasts) done.accepts.step.1)
 volumes_after before after (Export user number encoding) reply are done =

@@ -11,9 +11,9 @@ use Rattle.sqlite_rules.specs.Lists.{Has}
 use Rattle.sqlite_rules.proofs.ListLemmas.{all_from, all_has, has_either, has_filtered}
 use Rattle.sqlite_trees.specs.Tree.{IsAscending}
 use Rattle.sqlite_trees.proofs.ListLemmas.{filter_all, filter_none}
-use Rattle.part_store.specs.Entries.{Entries, Entry, entries_of, listing_of, no_entries}
+use Rattle.part_store.specs.Entries.{Entries, Entry, entries_of, entries_since, listing_of, no_entries}
 use Rattle.part_store.specs.Standing.{HasNone, IsNumbered}
-use Rattle.volumes.specs.Volumes.{AreVolumes, ComeAfter, ComesAfter, begun, current, newest_after, since, whole, without_up_to}
+use Rattle.volumes.specs.Volumes.{AreVolumes, ComeAfter, ComesAfter, begun, current, newest_after, whole, without_up_to}
 
 pub same_bytes : (m n : List ℕ) → bytes_eq m n ≡ true → m ≡ n
 same_bytes m n h = (bytes_eq-Decides m n).0 h
@@ -84,7 +84,7 @@ begins_after vs are = join_after no_entries vs (begun (current vs) ∷ []) are (
 
 -- ---- the oldest are removed
 
-weaker_all : {X : Type 0} (P Q : X → Type 0) → ((x : X) → P x → Q x) → (xs : List X) → AllByRecursion P xs → AllByRecursion Q xs
+pub weaker_all : {X : Type 0} (P Q : X → Type 0) → ((x : X) → P x → Q x) → (xs : List X) → AllByRecursion P xs → AllByRecursion Q xs
 weaker_all P Q turn [] all = tt
 weaker_all P Q turn (x ∷ xs) all = (turn x all.0, weaker_all P Q turn xs all.1)
 
@@ -175,12 +175,12 @@ user_entries user (v ∷ vs) =
     filter-append (λ (x : Entry). bytes_eq x.user user) v.entries (flat_map (λ (w : Entries). w.entries) vs)
     ∙ ap (λ xs. entries_of user v ++ xs) (user_entries user vs)
 
+pub listed_each : (entries : Entries → List Entry) (vs : List Entries) → map listing_of (flat_map entries vs) ≡ flat_map (λ v. map listing_of (entries v)) vs
+listed_each entries [] = refl
+listed_each entries (v ∷ vs) = map-append listing_of (entries v) (flat_map entries vs) ∙ ap (λ xs. map listing_of (entries v) ++ xs) (listed_each entries vs)
+
 pub user_listings : (user : List ℕ) (vs : List Entries) → map listing_of (entries_of user (whole vs)) ≡ flat_map (λ v. map listing_of (entries_of user v)) vs
-user_listings user vs = ap (map listing_of) (user_entries user vs) ∙ mapped vs
-  where
-    mapped : (vs : List Entries) → map listing_of (flat_map (entries_of user) vs) ≡ flat_map (λ v. map listing_of (entries_of user v)) vs
-    mapped [] = refl
-    mapped (v ∷ vs) = map-append listing_of (entries_of user v) (flat_map (entries_of user) vs) ∙ ap (λ xs. map listing_of (entries_of user v) ++ xs) (mapped vs)
+user_listings user vs = ap (map listing_of) (user_entries user vs) ∙ listed_each (entries_of user) vs
 
 -- ---- which volume has a number
 
@@ -204,25 +204,31 @@ none_beyond user number vs are small x at =
 -- ---- entries above a number
 
 -- volumes whose last numbers aren't above it have none
-none_since : (user : List ℕ) (number : ℕ) (v : Entries) (vs : List Entries) → ComeAfter v vs → AllByRecursion (λ w. w.lasts user ≤ number) vs → flat_map (since user number) vs ≡ []
+none_since : (user : List ℕ) (number : ℕ) (v : Entries) (vs : List Entries) → ComeAfter v vs → AllByRecursion (λ w. w.lasts user ≤ number) vs → flat_map (entries_since user number) vs ≡ []
 none_since user number v [] come small = refl
 none_since user number v (w ∷ vs) come small =
-    ap (λ xs. xs ++ flat_map (since user number) vs)
+    ap (λ xs. xs ++ flat_map (entries_since user number) vs)
     (filter_none (λ (x : Entry). nat_lt number x.number) (entries_of user w) (all_from _ (entries_of user w) (λ x there.
     let his = has_filtered (λ (x : Entry). bytes_eq x.user user) w.entries x there in
     le-ltb number x.number (omega (arith, (all_has _ w.entries x come.0.numbers his.0).1, ap w.lasts (same_bytes x.user user his.1), small.0)))))
     ∙ none_since user number w vs come.1 small.1
 
-each_since : (user : List ℕ) (number : ℕ) (vs : List Entries) → filter (λ (x : Entry). nat_lt number x.number) (flat_map (entries_of user) vs) ≡ flat_map (since user number) vs
+each_since : (user : List ℕ) (number : ℕ) (vs : List Entries) → filter (λ (x : Entry). nat_lt number x.number) (flat_map (entries_of user) vs) ≡ flat_map (entries_since user number) vs
 each_since user number [] = refl
 each_since user number (v ∷ vs) =
     filter-append (λ (x : Entry). nat_lt number x.number) (entries_of user v) (flat_map (entries_of user) vs)
-    ∙ ap (λ xs. since user number v ++ xs) (each_since user number vs)
+    ∙ ap (λ xs. entries_since user number v ++ xs) (each_since user number vs)
 
 pub since_later : (user : List ℕ) (number : ℕ) (earlier later : List Entries) → AreVolumes (earlier ++ later) → AllByRecursion (λ w. w.lasts user ≤ number) earlier
-    → since user number (whole (earlier ++ later)) ≡ flat_map (since user number) later
+    → entries_since user number (whole (earlier ++ later)) ≡ flat_map (entries_since user number) later
 since_later user number earlier later are small =
     ap (filter (λ (x : Entry). nat_lt number x.number)) (user_entries user (earlier ++ later))
     ∙ each_since user number (earlier ++ later)
-    ∙ flat_map-append (since user number) earlier later
-    ∙ ap (λ xs. xs ++ flat_map (since user number) later) (none_since user number no_entries earlier (split_after no_entries earlier later are).0 small)
+    ∙ flat_map-append (entries_since user number) earlier later
+    ∙ ap (λ xs. xs ++ flat_map (entries_since user number) later) (none_since user number no_entries earlier (split_after no_entries earlier later are).0 small)
+
+pub since_listings : (user : List ℕ) (number : ℕ) (vs : List Entries) → map listing_of (entries_since user number (whole vs)) ≡ flat_map (λ v. map listing_of (entries_since user number v)) vs
+since_listings user number vs =
+    ap (λ xs. map listing_of (filter (λ (x : Entry). nat_lt number x.number) xs)) (user_entries user vs)
+    ∙ ap (map listing_of) (each_since user number vs)
+    ∙ listed_each (entries_since user number) vs

@@ -1,7 +1,7 @@
 -- A depot in volumes: depots that follow one another, and answer as one. A list of them has the oldest first.
 use Rattle.std.specs.Prelude.{ℕ, ◌<◌, ◌≤◌, List, [], ◌∷◌, filter, nat_lt}
 use Rattle.std.specs.List.{AllByRecursion, flat_map}
-use Rattle.part_store.specs.Entries.{Entries, Entry, entries_of, no_entries}
+use Rattle.part_store.specs.Entries.{Entries, no_entries}
 
 -- the newest of these, or the one before them, if there is none
 abbrev pub newest_after : Entries → List Entries → Entries
@@ -39,7 +39,3 @@ begun v = record v { entries = [] }
 -- without the entries that have numbers up to these last ones
 abbrev pub without_up_to : (List ℕ → ℕ) → Entries → Entries
 without_up_to lasts e = record e { entries = filter (λ x. nat_lt (lasts x.user) x.number) e.entries }
-
--- the user's entries with numbers above this one
-abbrev pub since : List ℕ → ℕ → Entries → List Entry
-since user number e = filter (λ x. nat_lt number x.number) (entries_of user e)

@@ -3,17 +3,17 @@ ghost use Rattle.std.specs.Prelude.{◌≡◌, ◌<◌, ◌≤◌, ℕ, Bool, Li
 ghost use Rattle.std.specs.List.{AllByRecursion, flat_map};
 ghost use Rattle.sqlite.specs.Recovery.{Image};
 ghost use Rattle.sqlite_trees.specs.Tree.{Trees};
-ghost use Rattle.part_store.specs.Entries.{Entries, Entry, entries_of, listing_of};
+ghost use Rattle.part_store.specs.Entries.{Entries, Entry, entries_of, entries_since, listing_of};
 ghost use Rattle.part_store.specs.Standing.{HasNone, IsEntryAt, IsNumbered};
 ghost use Rattle.depot_actions.specs.Causes.{IsColliding, IsFull, IsHindered, NamesNone};
-ghost use Rattle.depot_actions.specs.DepotState.{Accepts, Command, ListAll, Reply};
+ghost use Rattle.depot_actions.specs.DepotState.{Accepts, Command, ListAll, ListSince, Reply};
 ghost use Rattle.depot_actions.specs.History.{AreSteps};
 ghost use Rattle.depot_actions.specs.Runs.{Leads, NotOpened, Ran, Session};
 ghost use Rattle.volumes.specs.Beginning.{AreBegun, Count, MayBeBeginning};
 ghost use Rattle.volumes.specs.Folders.{AreChanges, HoldAfter, HoldAfterAll, HoldVolumes, IsChange, Change};
 ghost use Rattle.volumes.specs.OnVolumes.{AcceptOnVolumes, Event, IsDoneOn, MakeAll, calls_in};
 ghost use Rattle.volumes.specs.Places.{IsFirstAt, IsFirstUpTo, IsPlaceOf, NeverFall, lasts_of};
-ghost use Rattle.volumes.specs.Volumes.{AreVolumes, begun, current, since, whole, without_up_to};
+ghost use Rattle.volumes.specs.Volumes.{AreVolumes, begun, current, whole, without_up_to};
 
 /// Beginning the next volume changes nothing of what the volumes hold as one depot, and they are volumes of one depot
 /// afterwards, too.
@@ -39,11 +39,14 @@ pub fn removed_volumes_take_their_entries_alone()
     ensures volumes { (oldest vs : List Entries) → AreVolumes (oldest ++ vs) → AreVolumes vs }
 {}
 
-/// A user's list is the lists of the volumes, one after the other. If the numbers of each volume are in order, so are
+/// A user's list is the lists of the volumes, one after the other, also if only entries above a number are listed. If the numbers of each volume are in order, so are
 /// those of all volumes as one depot.
 pub fn volumes_are_listed_in_order()
     ensures listed { (user : List ℕ) (vs : List Entries) → map listing_of (entries_of user (whole vs))
         ≡ flat_map (λ v. map listing_of (entries_of user v)) vs }
+    ensures since { (user : List ℕ) (number : ℕ) (vs : List Entries)
+        → map listing_of (entries_since user number (whole vs))
+        ≡ flat_map (λ v. map listing_of (entries_since user number v)) vs }
     ensures numbered { (vs : List Entries) → AreVolumes vs → AllByRecursion IsNumbered vs → IsNumbered (whole vs) }
 {}
 
@@ -89,7 +92,7 @@ pub fn numbers_lead_to_their_volume()
         → IsPlaceOf number (lasts_of user vs) (length vs) → HasNone (whole vs) user number }
     ensures since { (user : List ℕ) (number : ℕ) (earlier later : List Entries) → AreVolumes (earlier ++ later)
         → AllByRecursion (λ v. v.lasts user ≤ number) earlier
-        → since user number (whole (earlier ++ later)) ≡ flat_map (since user number) later }
+        → entries_since user number (whole (earlier ++ later)) ≡ flat_map (entries_since user number) later }
 {}
 
 /// A session over the files of the volume that its command is done on is a session over those of all volumes: in
@@ -101,6 +104,8 @@ pub fn sessions_on_volumes_are_steps()
         → (before : List Entries) → HoldVolumes old before → ∥ HoldAfter session before new ∥₁ }
     ensures lists { (was is : Image) (user : List ℕ) (reply : Option Reply) (is_open : Bool)
         → Leads (Ran (ListAll user) reply is_open) was is → Leads NotOpened was is }
+    ensures since { (was is : Image) (user : List ℕ) (number : ℕ) (reply : Option Reply) (is_open : Bool)
+        → Leads (Ran (ListSince user number) reply is_open) was is → Leads NotOpened was is }
 {}
 
 /// What one session left is what the next one finds. Sessions over the files of volumes, one after another, and volumes
