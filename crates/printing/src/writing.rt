@@ -26,6 +26,7 @@ impl Printable for Refusal {
 }
 
 /// A file that was written, of which its length is printed: for example `wrote 31 octets`.
+#[derive(Clone, Copy)]
 pub struct WroteFile {
     /// How many bytes it has.
     pub octets: usize,
