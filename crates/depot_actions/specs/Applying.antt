@@ -10,15 +10,20 @@ use Rattle.part_store.specs.Standing.{LeavesUnchanged}
 use Rattle.refusals.specs.declared.refusal.Refusal.{Refusal}
 use Rattle.depot_actions.specs.Causes.{IsCause, IsFault, MayRefuse}
 use Rattle.depot_actions.specs.Deliveries.{AreRefused, DoesAll, MayLeaveAll, MayRefuseAll}
-use Rattle.depot_actions.specs.DepotState.{Command, Does, Export, ListAll, MayLeave, Migrate, ProgramOf, Reply}
+use Rattle.depot_actions.specs.DepotState.{Command, Deliver, Does, Export, ListAll, ListSince, MayLeave, Migrate, ProgramOf, Remove, Reply, SetCode, SetScript}
 use Rattle.depot_actions.specs.declared.deliveries.RefusedDelivery.{RefusedDelivery}
 
 -- the command changes nothing, whatever comes of it
 abbrev pub only_looks : Command → Bool
+only_looks (SetScript user script) = false
+only_looks (SetCode user program) = false
+only_looks (Deliver user message) = false
 only_looks (ListAll user) = true
+only_looks (ListSince user number) = true
 only_looks (ProgramOf user) = true
 only_looks (Export user number encoding) = true
-only_looks _ = false
+only_looks (Remove user number) = false
+only_looks Migrate = false
 
 -- the store is as it was: after a command that only looks always, after any other where it is refused
 abbrev pub Spares : Bool → {S : Type 0} → Ghosts S → Held S → Held S → {A : Type 0} → Result A Refusal → Type 0

@@ -13,7 +13,7 @@ use Rattle.mime_decode.specs.Mail.{Mail, IsReadable, mail_of}
 use Rattle.sieve_vm.specs.Ending.{IsOutcome}
 use Rattle.sieve_engine.specs.Execution.{IsChecked}
 use Rattle.sieve_engine.specs.Evaluation.{IsCompiled}
-use Rattle.part_store.specs.Entries.{AreProgramsOf, Draft, Entries, Entry, Listing, UserProgram, entries_of, listing_of, numbered, with_entries, with_program, without_entry}
+use Rattle.part_store.specs.Entries.{AreProgramsOf, Draft, Entries, Entry, Listing, UserProgram, entries_of, entries_since, listing_of, numbered, with_entries, with_program, without_entry}
 use Rattle.part_store.specs.Filing.{HasRoom}
 use Rattle.part_store.specs.Standing.{DiskFailed, IsEntryAt, IsStored, Stands}
 use Rattle.depot_actions.specs.Drafts.{drafts_of}
@@ -22,14 +22,15 @@ use Rattle.depot_actions.specs.Users.{is_user_name}
 use Rattle.encodings.specs.declared.encoding.Encoding.{Encoding}
 
 -- What a depot is asked for, by a user: to store the code of a script, or a program; to file a
--- message; for the list of his entries; for his program; for the text of an entry's octets in an
--- encoding; and to remove an entry. And what it is asked for by whoever keeps it: to give all
--- programs the latest version.
+-- message; for the list of his entries, or of those with numbers above a given one; for his program;
+-- for the text of an entry's octets in an encoding; and to remove an entry. And what it is asked for
+-- by whoever keeps it: to give all programs the latest version.
 pub data Command : Type 0 where
   SetScript : List ℕ → List ℕ → Command
   SetCode : List ℕ → List ℕ → Command
   Deliver : List ℕ → List ℕ → Command
   ListAll : List ℕ → Command
+  ListSince : List ℕ → ℕ → Command
   ProgramOf : List ℕ → Command
   Export : List ℕ → ℕ → Encoding → Command
   Remove : List ℕ → ℕ → Command
@@ -50,6 +51,7 @@ user_of (SetScript user script) = Some user
 user_of (SetCode user program) = Some user
 user_of (Deliver user message) = Some user
 user_of (ListAll user) = Some user
+user_of (ListSince user number) = Some user
 user_of (ProgramOf user) = Some user
 user_of (Export user number encoding) = Some user
 user_of (Remove user number) = Some user
@@ -111,6 +113,8 @@ Steps before (SetCode user program) reply after = (code : Code) × IsChecked pro
     × (after ≡ with_program user program before)
 Steps before (Deliver user message) reply after = Delivers before user message reply after
 Steps before (ListAll user) reply after = (reply ≡ Listed (map listing_of (entries_of user before))) × (after ≡ before)
+Steps before (ListSince user number) reply after =
+    (reply ≡ Listed (map listing_of (entries_since user number before))) × (after ≡ before)
 Steps before (ProgramOf user) reply after = (reply ≡ Program (before.programs user)) × (after ≡ before)
 Steps before (Export user number encoding) reply after =
     (entry : Entry) × IsEntryAt before user number entry × (reply ≡ Text (text_of encoding entry.octets))

@@ -17,7 +17,7 @@ ghost use Rattle.refusals.specs.declared.refusal.Refusal.TheVariants.{Memory, Da
 ghost use Rattle.depot_actions.specs.Applying.{Applies, AppliesAll};
 ghost use Rattle.depot_actions.specs.Causes.{IsCause, IsFault, IsStoreFault, MayRefuse};
 ghost use Rattle.depot_actions.specs.Deliveries.{command_of, reply_of};
-ghost use Rattle.depot_actions.specs.DepotState.{Deliver, Does, Done, Export, ListAll, Migrate, Migrated, Program, ProgramOf, Remove, SetCode, SetScript, Text};
+ghost use Rattle.depot_actions.specs.DepotState.{Deliver, Does, Done, Export, ListAll, ListSince, Migrate, Migrated, Program, ProgramOf, Remove, SetCode, SetScript, Text};
 ghost use Rattle.depot_actions.specs.Overviews.{IsOverview, LooksOver};
 ghost use Rattle.sqlite.specs.Files.{file_state, IsOpened};
 ghost use Rattle.part_store.specs.Looking.{are_tables};
@@ -197,6 +197,24 @@ impl<S: Alter> Depot<S> {
             return Err(Refusal::UserName);
         }
         self.store.entries_of(user).map_err(refused)
+    }
+
+    /// Returns the user's entries with numbers above `number`, without their contents, in the order of their numbers;
+    /// none if there are none. Numbers are given in order and never again, so these are the entries that were filed
+    /// after the one with this number; with 0 they are all.
+    ///
+    /// # Errors
+    ///
+    /// - `UserName` if the name isn't a user name.
+    /// - `Database` if the store fails.
+    /// - `Memory` if memory is refused.
+    pub fn list_since(&mut self, user: &str, number: u32) -> Result<Vec<EntryRow>, Refusal>
+        ensures { Applies S.Store self.old self.new result (ListSince user.now number) reply_of }
+    {
+        if !is_user_name(user) {
+            return Err(Refusal::UserName);
+        }
+        self.store.entries_since(user, number).map_err(refused)
     }
 
     /// Returns the bytes of the user's filter program, or `None` if the user has none.

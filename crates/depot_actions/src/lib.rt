@@ -92,9 +92,9 @@
 //! that. If the disk fails, the depot can be shut. It then accepts and commits nothing more, and what it held is what
 //! the accepted commands before make.
 //!
-//! By `Depot`: `set_script`, `set_code`, `deliver`, `deliver_all`, `list`, `program_of`, `export`, `remove`,
-//! `migrate`, `inspect`, `scrub`; laws `commands_are_a_fold`, `open_stores_leave_what_is_committed`, `sessions_are_steps`,
-//! `runs_are_a_fold`, `accepted_commands_have_no_cause`, `migrations_change_no_actions`,
+//! By `Depot`: `set_script`, `set_code`, `deliver`, `deliver_all`, `list`, `list_since`, `program_of`, `export`,
+//! `remove`, `migrate`, `inspect`, `scrub`; laws `commands_are_a_fold`, `open_stores_leave_what_is_committed`,
+//! `sessions_are_steps`, `runs_are_a_fold`, `accepted_commands_have_no_cause`, `migrations_change_no_actions`,
 //! `migrated_programs_run_as_before`, `deliveries_stay_within_their_limit`, `media_types_have_no_line_break`.
 #![tactic(auto)]
 

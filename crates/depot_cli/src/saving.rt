@@ -12,7 +12,7 @@ ghost use Rattle.depot_cli.specs.Saving.{HasNotSaved, HasSaved, HasSavedFile, Ha
 
 use crate::task::finish;
 use depot_actions::Depot;
-use depot_jobs::{Host, make_file, tell};
+use depot_jobs::{Host, MadeFrom, make_file, tell};
 use devices::{DeviceFailed, Page, Sink};
 use printing::print_wrote;
 use refusals::Refusal;
@@ -87,7 +87,8 @@ fn save_program<S: Alter, H: Host>(
 {
     match depot.program_of(saving.user)? {
         Some(program) => {
-            make_file(alloc, host, saving.out, saving.name, &program)?;
+            let depot = MadeFrom::Depot(saving.name);
+            make_file(alloc, host, saving.out, depot, &program)?;
             Ok(program.len())
         }
         None => Err(Refusal::NoSuchEntry),

@@ -33,7 +33,7 @@ pub enum Reply {
     Stored,
     /// A message was filed: its new entries.
     Filed(Vec<EntryRow>),
-    /// A user's entries.
+    /// A user's entries, all of them or those above a number.
     Listed(Vec<EntryRow>),
     /// The entry with this number was removed.
     Removed(u32),
@@ -119,6 +119,10 @@ pub fn reply_to<S: Alter>(
             Err(refusal) => Err(refusal),
         },
         Task::List { user } => match depot.list(user) {
+            Ok(rows) => Ok(Reply::Listed(rows)),
+            Err(refusal) => Err(refusal),
+        },
+        Task::Since { user, number } => match depot.list_since(user, *number) {
             Ok(rows) => Ok(Reply::Listed(rows)),
             Err(refusal) => Err(refusal),
         },

@@ -1,5 +1,5 @@
 -- What is known of a host, and what calls do to it.
-use Rattle.std.specs.Prelude.{◌≡◌, ◌⊎◌, ℕ, Bool, false, ◌||◌, List, [], ◌∷◌, ◌++◌, codes, Option, None, Some, IfSome, OnSome}
+use Rattle.std.specs.Prelude.{◌≡◌, ◌⊎◌, ℕ, Bool, false, ◌||◌, List, [], ◌∷◌, ◌++◌, codes, Option, None, Some, IfSome, OnSome, ⊤}
 use Rattle.std.specs.Str.{bytes_eq}
 use Rattle.std.specs.Option.{option_map}
 use Rattle.devices.specs.Device.{Output, counted}
@@ -8,6 +8,8 @@ use Rattle.refusals.specs.declared.refusal.Refusal.{Refusal}
 use Rattle.refusals.specs.declared.refusal.Refusal.TheVariants.{Memory, Read, Write}
 use Rattle.depot_jobs.specs.declared.host.Input.{Input}
 use Rattle.depot_jobs.specs.declared.host.Input.TheVariants.{Standard, File}
+use Rattle.depot_jobs.specs.declared.host.MadeFrom.{MadeFrom}
+use Rattle.depot_jobs.specs.declared.host.MadeFrom.TheVariants.{Source, Depot}
 
 -- where octets come from: standard input, or the file of a name
 pub data Origin : Type 0 where
@@ -25,9 +27,18 @@ is_beside database name =
     bytes_eq name (database ++ codes "-wal") || bytes_eq name (database ++ codes "-shm")
     || bytes_eq name (database ++ codes "-journal")
 
--- what a host is asked for: to open what gives octets; to make a file of a name, unless that is the
--- file of another name, or one that a database of that name has beside it; and to keep the file that
--- it made, with the octets that it took
+-- the name of what a file is made from
+abbrev pub made_from : MadeFrom → List ℕ
+made_from (Source name) = name.now
+made_from (Depot name) = name.now
+
+-- a file of this name isn't one that a database of the depot's name has beside it, where it is made from a depot
+abbrev pub IsApart : MadeFrom → List ℕ → Type 0
+IsApart (Source source) name = ⊤
+IsApart (Depot depot) name = is_beside depot.now name ≡ false
+
+-- what a host is asked for: to open what gives octets; to make a file of a name from the file of another
+-- name, unless it is that; and to keep the file that it made, with the octets that it took
 pub data Call : Type 0 where
   opens : Origin → Call
   makes : List ℕ → List ℕ → Call
@@ -85,9 +96,9 @@ pub record IsFreshOutput (state : HostState) (output : Output) : Type 0 where
 
 -- a file was not made, or what was to be written to it failed: memory was refused, or a call failed. No file was kept.
 abbrev pub HasNotMade : Refusal → List ℕ → List ℕ → HostState → HostState → Type 0
-HasNotMade Memory name script old new = MayHaveAsked (makes name script) old new
-HasNotMade Write name script old new = new ≡ with_faults 1 (with_call (makes name script) old)
-HasNotMade _ name script old new = ⊥
+HasNotMade Memory name source old new = MayHaveAsked (makes name source) old new
+HasNotMade Write name source old new = new ≡ with_faults 1 (with_call (makes name source) old)
+HasNotMade _ name source old new = ⊥
 
 -- the calls after a file with these octets was kept
 abbrev pub calls_after_keeping : Option (List ℕ) → Option (List Call) → Option (List Call)
@@ -100,10 +111,12 @@ pub record HasKept (output : Output) (old new : HostState) : Type 0 where
   pub given : new.given ≡ old.given
   pub faults : new.faults ≡ counted output.faults old.faults
 
--- a file was made, which isn't one that a database of the other name has beside it; it took these
--- octets, and was kept, and no call failed
-pub record HasMade (name script octets : List ℕ) (old new : HostState) : Type 0 where
-  pub apart : is_beside script name ≡ false
-  pub calls : new.calls ≡ (with_call (keeps octets) (with_call (makes name script) old)).calls
+-- a file was made from the file of another name; it took these octets, and was kept, and no call failed
+pub record HasMadeFile (name source octets : List ℕ) (old new : HostState) : Type 0 where
+  pub calls : new.calls ≡ (with_call (keeps octets) (with_call (makes name source) old)).calls
   pub given : new.given ≡ old.given
   pub faults : new.faults ≡ old.faults
+
+-- the same, from a depot: it isn't a file that a database of the depot's name has beside it
+abbrev pub HasMade : List ℕ → List ℕ → List ℕ → HostState → HostState → Type 0
+HasMade name depot octets old new = (is_beside depot name ≡ false) × HasMadeFile name depot octets old new

@@ -21,7 +21,7 @@ use Rattle.sieve_engine.specs.Execution as engine
 use Rattle.sieve_engine.specs.Execution.{IsChecked, IsExecution, IsProgramRefusal, IsRefusal, Spells}
 use Rattle.sieve_explain.specs.Explaining.{Explains, IsRemarked, listing_told}
 use Rattle.mime_decode.specs.Mail.{IsReadable, mail_of}
-use Rattle.depot_jobs.specs.Host.{HasMade, HasNotMade, HostState}
+use Rattle.depot_jobs.specs.Host.{HasMadeFile, HasNotMade, HostState}
 use Rattle.depot_jobs.specs.Limit.{limit_text}
 use Rattle.depot_jobs.specs.Printed.{ok_text, parts_text}
 use Rattle.depot_jobs.specs.Requests.{Job}
@@ -192,7 +192,7 @@ IsGiven unwritten quiet (finds text refusal) status old new =
     (new.host ≡ old.host)
     × (IsRefused (HasTaken text old.out new.out) refusal status old new ⊎ BreaksOff refusals.Write text status old new)
 IsGiven unwritten quiet (writes name source octets) status old new =
-    (HasMade name source octets old.host new.host
+    (HasMadeFile name source octets old.host new.host
     × (IsWritten quiet (line (wrote_text (length octets))) status old new
     ⊎ BreaksOff refusals.Write (line (wrote_text (length octets))) status old new))
     ⊎ ((refusal : Refusal) × HasNotMade refusal name source old.host new.host

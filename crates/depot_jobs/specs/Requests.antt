@@ -4,7 +4,7 @@ use Rattle.std.specs.Borrow.{Bor}
 use Rattle.std.specs.declared.alloc.Global.{Global}
 use Rattle.depot_jobs.specs.declared.host.Input.{Input}
 use Rattle.depot_jobs.specs.declared.request.OnDepot.{OnDepot}
-use Rattle.depot_jobs.specs.declared.request.OnDepot.TheVariants.{Script, Code, Deliver, List as ListEntries, Export, Remove, Migrate}
+use Rattle.depot_jobs.specs.declared.request.OnDepot.TheVariants.{Script, Code, Deliver, List as ListEntries, Since, Export, Remove, Migrate}
 use Rattle.depot_jobs.specs.declared.work.File.{File}
 use Rattle.depot_jobs.specs.declared.work.WithoutDepot.{WithoutDepot}
 
@@ -30,6 +30,7 @@ with_file file (Script user script) = Script user file
 with_file file (Code user program) = Code user file
 with_file file (Deliver user message) = Deliver user file
 with_file file (ListEntries user) = ListEntries user
+with_file file (Since user number) = Since user number
 with_file file (Export user number encoding) = Export user number encoding
 with_file file (Remove user number) = Remove user number
 with_file file Migrate = Migrate

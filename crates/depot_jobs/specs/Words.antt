@@ -1,7 +1,7 @@
 -- What a command line says.
 use Rattle.std.specs.Prelude.{◌≡◌, ◌≢◌, ℕ, ◌<◌, ◌^◌, List, [], Option, Some, IfSome, codes, unwrap_or, ⊤}
 use Rattle.std.specs.Str.Parse.{IsNumeral, digits_value, without_leading_plus}
-use Rattle.octets.specs.Limits.{max_message, max_parts}
+use Rattle.octets.specs.Limits.{max_entry_number, max_message, max_parts}
 use Rattle.clap.specs.Words.{App, Row, Text, fault_of, first_of, subcommand_of}
 use Rattle.depot_words.specs.Commands.{IsDepot, commands}
 use Rattle.depot_words.specs.Ranges.{AreComplete, IsEntryNumber, IsNumberFrom}
@@ -13,7 +13,7 @@ use Rattle.depot_jobs.specs.declared.line.CommandLine.TheVariants.{Alone, OnDepo
 use Rattle.depot_jobs.specs.Requests.{Request, Work}
 use Rattle.depot_jobs.specs.declared.host.Input.{Input}
 use Rattle.depot_jobs.specs.declared.host.Input.TheVariants.{Standard, File}
-use Rattle.depot_jobs.specs.declared.request.OnDepot.TheVariants.{Script, Code, Deliver, List as ListAll, Export, Remove, Migrate}
+use Rattle.depot_jobs.specs.declared.request.OnDepot.TheVariants.{Script, Code, Deliver, List as ListAll, Since, Export, Remove, Migrate}
 use Rattle.depot_jobs.specs.declared.work.Runner.TheVariants.{Run, Eval, Trace}
 use Rattle.depot_jobs.specs.declared.work.Tool.TheVariants.{KeepAll, Check, Explain, Compile, Verify, Limit, Disassemble, Assemble, Parts, Encode, Decode}
 use Rattle.depot_jobs.specs.declared.work.WithoutDepot.TheVariants.{OnFile, OnMessage}
@@ -51,7 +51,7 @@ IsNoWork name =
 abbrev pub IsNoRequest : Text → Type 0
 IsNoRequest name =
     (name ≢ codes "script") × (name ≢ codes "code") × (name ≢ codes "deliver") × (name ≢ codes "list")
-    × (name ≢ codes "export") × (name ≢ codes "remove") × (name ≢ codes "migrate")
+    × (name ≢ codes "since") × (name ≢ codes "export") × (name ≢ codes "remove") × (name ≢ codes "migrate")
 
 -- nor of any other command on a depot
 abbrev pub IsNoDepotCommand : Text → Type 0
@@ -115,6 +115,9 @@ SaysRequest (Deliver user message) matches rows =
     × (message.now ≡ argument (codes "MESSAGE") rows)
 SaysRequest (ListAll user) matches rows = IsCommand (codes "list") matches rows
     × (user.now ≡ argument (codes "USER") rows)
+SaysRequest (Since user number) matches rows =
+    IsCommand (codes "since") matches rows × (user.now ≡ argument (codes "USER") rows)
+    × IsNumber (argument (codes "NUMBER") rows) number
 SaysRequest (Export user number encoding) matches rows =
     IsCommand (codes "export") matches rows × (user.now ≡ argument (codes "USER") rows)
     × IsNumber (argument (codes "NUMBER") rows) number
@@ -170,6 +173,7 @@ AreSaid (Alone (OnFile (Limit octets parts) program)) matches =
     WritesFrom (codes "OCTETS") 0 max_message octets matches × WritesFrom (codes "PARTS") 1 max_parts parts matches
 AreSaid (Alone (OnFile (Encode encoding) octets)) matches = NamesEncoding encoding matches
 AreSaid (Alone (OnFile (Decode encoding) text)) matches = NamesEncoding encoding matches
+AreSaid (OnDepot depot (Since user number)) matches = WritesFrom (codes "NUMBER") 0 max_entry_number number matches
 AreSaid (OnDepot depot (Export user number encoding)) matches =
     WritesNumber number matches × NamesEncoding encoding matches
 AreSaid (OnDepot depot (Remove user number)) matches = WritesNumber number matches

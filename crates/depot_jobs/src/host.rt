@@ -1,6 +1,6 @@
 // What the surroundings give to the program.
 ghost use Rattle.std.specs.Prelude.{◌≡◌, false, suc, IfErr, IfOk, OnErr, OnOk};
-ghost use Rattle.depot_jobs.specs.Host.{HasKept, HasNotMade, HasNotOpened, HostState, IsFreshOutput, IsFreshSupply, is_beside, makes, opens, origin_of, with_call, with_faults, with_supply};
+ghost use Rattle.depot_jobs.specs.Host.{HasKept, HasNotMade, HasNotOpened, HostState, IsApart, IsFreshOutput, IsFreshSupply, made_from, makes, opens, origin_of, with_call, with_faults, with_supply};
 
 use devices::{DeviceFailed, Sink, Source};
 use refusals::Refusal;
@@ -13,6 +13,26 @@ pub enum Input<'a> {
     Standard,
     /// The file with this name.
     File(&'a str),
+}
+
+/// What a file is made from.
+#[derive(Clone, Copy)]
+pub enum MadeFrom<'a> {
+    /// The script or the listing in the file with this name.
+    Source(&'a str),
+    /// The depot in the file with this name.
+    Depot(&'a str),
+}
+
+impl<'a> MadeFrom<'a> {
+    /// Returns the name of the file.
+    pub fn name(self) -> &'a str
+        ensures { result.now ≡ made_from self.entry }
+    {
+        match self {
+            MadeFrom::Source(name) | MadeFrom::Depot(name) => name,
+        }
+    }
 }
 
 /// What opens and makes files for a command: [`crate::System`] in the program, a shelf of texts in tests. Commands that
@@ -54,16 +74,21 @@ pub trait Host {
     /// # Errors
     ///
     /// - `Memory` if memory is refused.
-    /// - `Write` if no file can be made; or if `name` is the file `script` itself, or a file that a database called
-    ///   `script` has next to its own. `script` is what the new file is made from: a script, a listing or a depot.
-    fn create(&mut self, alloc: Global, name: &str, script: &str) -> Result<Self::Writer, Refusal>
-        ensures apart { OnOk result (is_beside script.now name.now ≡ false) }
+    /// - `Write` if no file can be made; if `name` is the file that the new one is made from; or if that is a depot,
+    ///   and `name` is a file that a database called so has next to its own.
+    fn create(
+        &mut self,
+        alloc: Global,
+        name: &str,
+        from: MadeFrom<'_>,
+    ) -> Result<Self::Writer, Refusal>
+        ensures apart { OnOk result (IsApart from.entry name.now) }
         ensures fresh { IfOk result (λ writer. IsFreshOutput (state self.old)
             (Self.Writer.output writer)) }
         ensures ok { OnOk result (state self.new
-            ≡ with_call (makes name.now script.now) (state self.old)) }
-        ensures err { IfErr result (λ e. HasNotMade e name.now script.now (state self.old)
-            (state self.new)) };
+            ≡ with_call (makes name.now (made_from from.entry)) (state self.old)) }
+        ensures err { IfErr result (λ e. HasNotMade e name.now (made_from from.entry)
+            (state self.old) (state self.new)) };
 
     /// Gives a file that was made its name.
     ///

@@ -19,7 +19,7 @@ ghost use Rattle.depot_jobs.specs.declared.work.Tool.TheVariants.{Assemble, Expl
 ghost use Rattle.depot_jobs.specs.declared.work.WithoutDepot.TheVariants.{OnFile, OnMessage};
 ghost use Rattle.printing.specs.Printed.{line, refusal_line};
 
-use crate::host::Host;
+use crate::host::{Host, MadeFrom};
 use crate::limit::limit_lines;
 use crate::listing::parts_lines;
 use crate::making::make_file;
@@ -165,7 +165,7 @@ fn give<H: Host, O: Sink, E: Sink>(
             name,
             source,
             octets,
-        } => match make_file(alloc, host, name, source, octets) {
+        } => match make_file(alloc, host, name, MadeFrom::Source(*source), octets) {
             Ok(()) => put_lines(out, err, &Lines::Wrote(octets.len())),
             Err(refusal) => tell(err, &refusal),
         },

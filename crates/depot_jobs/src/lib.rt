@@ -66,8 +66,9 @@
 //! ## Files that are made
 //!
 //! The file of a program that was compiled or assembled is made whole or not at all, at the place where the given name
-//! leads. It is never made under the name of its source with `-wal`, `-shm` or `-journal` appended, because a database
-//! has files of these names.
+//! leads. A file that is made from a depot is never made under the name of the depot with `-wal`, `-shm` or `-journal`
+//! appended, because a database has files of these names. It is tested, not proved, that no file is made under such
+//! a name of any database that is there.
 //!
 //! By `answer`, `Host`, `System`, `make_file`; within the crate `NewFile`.
 #![tactic(auto)]
@@ -92,7 +93,7 @@ mod work;
 mod working;
 
 pub use beside::is_beside;
-pub use host::{Host, Input};
+pub use host::{Host, Input, MadeFrom};
 pub use inputs::read_file_of;
 pub use job::{REFUSED, SUCCESS, answer, tell};
 pub use line::{CommandLine, line_of};

@@ -172,6 +172,10 @@ fn request_in<'a>(name: &str, found: &ArgMatches<'a>) -> Option<Request<'a>>
             message: argument(found, "MESSAGE"),
         }),
         "list" => Some(Request::List { user }),
+        "since" => Some(Request::Since {
+            user,
+            number: number(argument(found, "NUMBER")),
+        }),
         "export" => Some(Request::Export {
             user,
             number: number(argument(found, "NUMBER")),

@@ -1,14 +1,14 @@
 // Making a file, whole or not at all.
 ghost use Rattle.std.specs.Prelude.{IfErr, OnOk};
-ghost use Rattle.depot_jobs.specs.Host.{HasMade, HasNotMade};
+ghost use Rattle.depot_jobs.specs.Host.{HasMadeFile, HasNotMade, IsApart, made_from};
 
-use crate::host::Host;
+use crate::host::{Host, MadeFrom};
 use devices::{DeviceFailed, put};
 use refusals::Refusal;
 use std::alloc::Global;
 
-/// Makes the file `name` from these bytes, whole or not at all. The name must not lead to the file `script`, or to a
-/// file that a database called `script` has next to its own.
+/// Makes the file `name` of these bytes, whole or not at all. The name must not lead to the file that they are made
+/// from, or, if that is a depot, to a file that the depot has next to its own.
 ///
 /// # Errors
 ///
@@ -20,15 +20,16 @@ pub fn make_file<H: Host>(
     alloc: Global,
     host: &mut H,
     name: &str,
-    script: &str,
+    from: MadeFrom<'_>,
     octets: &[u8],
 ) -> Result<(), Refusal>
-    ensures ok { OnOk result (HasMade name.now script.now octets.now (H.state host.old)
-        (H.state host.new)) }
-    ensures err { IfErr result (λ e. HasNotMade e name.now script.now (H.state host.old)
-        (H.state host.new)) }
+    ensures apart { OnOk result (IsApart from.entry name.now) }
+    ensures ok { OnOk result (HasMadeFile name.now (made_from from.entry) octets.now
+        (H.state host.old) (H.state host.new)) }
+    ensures err { IfErr result (λ e. HasNotMade e name.now (made_from from.entry)
+        (H.state host.old) (H.state host.new)) }
 {
-    let mut file = host.create(alloc, name, script)?;
+    let mut file = host.create(alloc, name, from)?;
     match put(&mut file, octets) {
         Ok(()) => match host.persist(file) {
             Ok(()) => Ok(()),

@@ -4,13 +4,17 @@
 // name at the end. If that fails, the old file stays. A device or a pipe can't be replaced, so it is written directly.
 // The program's bytes are made before the file is, so a refused script never makes a file. The script's own file is
 // never overwritten, also under another name or by a link; nor is a listing by `assemble`, nor a depot by `program`.
+//
+// A database has files next to its own, with its name and an ending. These names of a database that is there are
+// refused, and those of a depot that the words name, whatever is there.
 ghost use Rattle.std.specs.Prelude.{◌≡◌, false, IfOk, IfSome, OnOk};
 ghost use Rattle.std.specs.Path.{path_buf_bytes, path_with_file_name};
 ghost use Rattle.depot_jobs.specs.Files.{IsReached};
 ghost use Rattle.depot_jobs.specs.Private.{new_name};
-ghost use Rattle.depot_jobs.specs.Host.{is_beside};
+ghost use Rattle.depot_jobs.specs.Host.{IsApart, is_beside};
 
-use crate::beside::is_beside;
+use crate::beside::{is_beside, is_beside_database};
+use crate::host::MadeFrom;
 use devices::{DeviceFailed, OfWrite, Sink};
 use std::alloc::{AllocError, Global};
 use std::fs::{File, Files, Metadata, OpenFile, OpenOptions};
@@ -61,30 +65,30 @@ impl<F: Write + Drop> Sink for NewFile<F> {
 /// # Errors
 ///
 /// - A fault of the system if the file can't be made, or the one with that name can't be written.
-/// - A fault if the name leads to the script's own file, or to a file that a database with the script's name has next
-///   to its own.
+/// - A fault if the name leads to the file that the new one is made from, or to a file that a database has next to its
+///   own: the depot that the new file is made from, or any that is there.
 pub fn begin<R: Files>(
     rt: &R,
     alloc: Global,
     number: u32,
     name: &str,
-    script: &str,
+    from: MadeFrom<'_>,
 ) -> io::Result<NewFile<R::File>>
 where
     R::File: AsFd,
-    ensures apart { OnOk result (is_beside script.now name.now ≡ false) }
+    ensures apart { OnOk result (IsApart from.entry name.now) }
     ensures faults { IfOk result (λ file. file.sink.faults ≡ 0) }
     ensures stands { IfOk result (λ file. IfSome file.paths
         (λ paths. IsReached name.now (path_buf_bytes paths.kept))) }
 {
-    if is_beside(script, name) {
+    if is_named_beside(from, name) {
         return Err(Error::from(ErrorKind::InvalidInput));
     }
     match File::options().write(true).open(rt, name) {
         Ok(file) => {
             let old = file.metadata()?;
             if old.is_file() {
-                begin_in_place_of(rt, alloc, number, name, script, &old)
+                begin_in_place_of(rt, alloc, number, name, from, &old)
             } else {
                 Ok(NewFile {
                     sink: OfWrite::new(file),
@@ -94,7 +98,7 @@ where
         }
         Err(fault) if fault.kind() == ErrorKind::NotFound => {
             let kept = without_links(rt, alloc, name)?;
-            stay_apart(rt, alloc, script, &kept)?;
+            stay_apart(rt, alloc, from, &kept)?;
             begin_beside(rt, alloc, number, kept, NEW_FILE)
         }
         Err(fault) => Err(fault),
@@ -107,7 +111,7 @@ fn begin_in_place_of<R: Files>(
     alloc: Global,
     number: u32,
     name: &str,
-    script: &str,
+    from: MadeFrom<'_>,
     old: &Metadata,
 ) -> io::Result<NewFile<R::File>>
 where
@@ -117,10 +121,10 @@ where
         (λ paths. IsReached name.now (path_buf_bytes paths.kept))) }
 {
     let kept = without_links(rt, alloc, name)?;
-    if is_same_file(rt, script, old) || !is_same_file(rt, kept.as_str(), old) {
+    if is_same_file(rt, from.name(), old) || !is_same_file(rt, kept.as_str(), old) {
         return Err(Error::from(ErrorKind::InvalidInput));
     }
-    stay_apart(rt, alloc, script, &kept)?;
+    stay_apart(rt, alloc, from, &kept)?;
     let file = begin_beside(rt, alloc, number, kept, old.permissions().mode())?;
     match take_after(&file.sink.inner, old) {
         Ok(()) => Ok(file),
@@ -138,18 +142,46 @@ fn take_after<F: OpenFile + AsFd>(file: &F, old: &Metadata) -> io::Result<()> {
     file.set_permissions(old.permissions())
 }
 
-// Refuses a path that leads, by whatever names and links, to a file that the database with a name has next to its own.
-fn stay_apart<R: Files>(rt: &R, alloc: Global, script: &str, kept: &PathBuf) -> io::Result<()> {
-    let real = match rt.canonicalize(alloc, script) {
-        Ok(real) => real,
-        Err(fault) if fault.kind() == ErrorKind::OutOfMemory => return Err(fault),
-        // something without a path, such as a pipe, is no database
-        Err(_) => return Ok(()),
-    };
-    if are_beside(rt, &real, kept) {
+// Whether a name is that of a file that a database with the depot's name has next to its own, if it is made from one.
+fn is_named_beside(from: MadeFrom<'_>, name: &str) -> bool
+    ensures { result ≡ false → IsApart from.entry name.now }
+{
+    match from {
+        MadeFrom::Source(_) => false,
+        MadeFrom::Depot(depot) => is_beside(depot, name),
+    }
+}
+
+// Refuses a path that leads to a file that a database has next to its own.
+fn stay_apart<R: Files>(
+    rt: &R,
+    alloc: Global,
+    from: MadeFrom<'_>,
+    kept: &PathBuf,
+) -> io::Result<()> {
+    if is_beside_depot(rt, alloc, from, kept)? || is_beside_database(rt, alloc, kept)? {
         return Err(Error::from(ErrorKind::InvalidInput));
     }
     Ok(())
+}
+
+// Whether a path leads, by whatever names and links, to a file that the depot from which the new file is made has next
+// to its own.
+fn is_beside_depot<R: Files>(
+    rt: &R,
+    alloc: Global,
+    from: MadeFrom<'_>,
+    kept: &PathBuf,
+) -> io::Result<bool> {
+    let MadeFrom::Depot(depot) = from else {
+        return Ok(false);
+    };
+    match rt.canonicalize(alloc, depot) {
+        Ok(real) => Ok(are_beside(rt, &real, kept)),
+        Err(fault) if fault.kind() == ErrorKind::OutOfMemory => Err(fault),
+        // something without a path, such as a pipe, is no database
+        Err(_) => Ok(false),
+    }
 }
 
 // Whether a path leads to a file that the database at another path has next to its own.

@@ -28,6 +28,11 @@ pub enum OnDepot<'a, F> {
     List {
         user: &'a str,
     },
+    /// List the user's entries with numbers above `number`.
+    Since {
+        user: &'a str,
+        number: u32,
+    },
     /// Write the bytes of the user's entry in an encoding.
     Export {
         user: &'a str,
@@ -59,6 +64,7 @@ impl<'a> Request<'a> {
             Request::Code { program, .. } => Some(program),
             Request::Deliver { message, .. } => Some(message),
             Request::List { .. }
+            | Request::Since { .. }
             | Request::Export { .. }
             | Request::Remove { .. }
             | Request::Migrate => None,
@@ -83,6 +89,7 @@ impl<'a> Request<'a> {
                 message: octets,
             },
             Request::List { user } => Task::List { user },
+            Request::Since { user, number } => Task::Since { user, number },
             Request::Export {
                 user,
                 number,

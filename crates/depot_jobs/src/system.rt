@@ -2,11 +2,11 @@
 ghost use Rattle.std.specs.Prelude.{◌≡◌, ◌⊎◌, false, IfErr, IfOk, IfSome, OnOk};
 ghost use Rattle.std.specs.Path.{path_buf_bytes};
 ghost use Rattle.depot_jobs.specs.Files.{IsReached};
-ghost use Rattle.depot_jobs.specs.Host.{HasNotMade, IsFreshOutput, is_beside, makes, untold, with_call};
+ghost use Rattle.depot_jobs.specs.Host.{HasNotMade, IsApart, IsFreshOutput, made_from, makes, untold, with_call};
 ghost use Rattle.devices.specs.Device.{counted};
 ghost use Rattle.refusals.specs.declared.refusal.Refusal.TheVariants.{Memory};
 
-use crate::host::{Host, Input};
+use crate::host::{Host, Input, MadeFrom};
 use crate::new_file::{NewFile, begin, discard, persist};
 use devices::{DeviceFailed, OfRead};
 use refusals::Refusal;
@@ -17,6 +17,11 @@ use std::os::fd::AsFd;
 use std::{fs, io};
 
 /// The files and the standard input of a real system; `main` makes one. A contract knows nothing about what they hold.
+///
+/// No file is made under a name that a database has for its log, the log's index or its journal: its own name with
+/// `-wal`, `-shm` or `-journal` appended. Those are refused of each database in the same folder: of a file that begins
+/// as one does, or can't be read, or is empty next to the log of one. If a file is made from a depot, they are refused of
+/// that depot, whatever is there, and by whatever links it is reached.
 #[derive(Drop)]
 pub struct System<'a, R: Files + io::Input> {
     rt: &'a R,
@@ -99,18 +104,24 @@ where
         self.faults = self.faults.saturating_add(reader.faults);
     }
 
-    fn create(&mut self, alloc: Global, name: &str, script: &str) -> Result<Self::Writer, Refusal>
-        ensures apart { OnOk result (is_beside script.now name.now ≡ false) }
+    fn create(
+        &mut self,
+        alloc: Global,
+        name: &str,
+        from: MadeFrom<'_>,
+    ) -> Result<Self::Writer, Refusal>
+        ensures apart { OnOk result (IsApart from.entry name.now) }
         ensures fresh { IfOk result (λ file. IsFreshOutput (untold self.old.given self.old.faults)
             (record { written = R.File.contents file.sink.inner; faults = file.sink.faults })) }
         ensures ok { OnOk result (untold self.new.given self.new.faults
-            ≡ with_call (makes name.now script.now) (untold self.old.given self.old.faults)) }
-        ensures err { IfErr result (λ e. HasNotMade e name.now script.now
+            ≡ with_call (makes name.now (made_from from.entry))
+            (untold self.old.given self.old.faults)) }
+        ensures err { IfErr result (λ e. HasNotMade e name.now (made_from from.entry)
             (untold self.old.given self.old.faults) (untold self.new.given self.new.faults)) }
         ensures stands { IfOk result (λ file. IfSome file.paths
             (λ paths. IsReached name.now (path_buf_bytes paths.kept))) }
     {
-        match begin(self.rt, alloc, self.number, name, script) {
+        match begin(self.rt, alloc, self.number, name, from) {
             Ok(file) => Ok(file),
             Err(fault) => Err(self.refusal(&fault, Refusal::Write)),
         }

@@ -1,25 +1,26 @@
 -- What a command's arguments are, where its words have no fault.
-use Rattle.std.proofs.Common.{◌≡◌, ◌∙◌, refl, sym, ap, subst, cond, codes, Bool, true, false, ◌||◌, ℕ, zero, suc, List, [], ◌∷◌, Option, Some, None, arith, eqb-true, length, leb-true, true≢false, inl, inr, unwrap_or}
+use Rattle.std.proofs.Common.{◌≡◌, ◌∙◌, refl, sym, ap, subst, cond, Bool, true, false, ◌||◌, ℕ, zero, suc, List, [], ◌∷◌, Option, Some, None, arith, eqb-true, length, leb-true, map, true≢false, inl, inr, unwrap_or}
 use Rattle.std.specs.Prelude.{IfSome, is_some, T, neg_ℤ, pos, ◌≤ℤ◌}
 use Rattle.std.specs.List.{find, list_all, list_any}
 use Rattle.std.specs.Option.{option_map, option_map_or}
 use Rattle.std.specs.Borrow.{Bor}
 use Rattle.std.specs.Str.{bytes_eq}
 use Rattle.std.specs.Str.Parse.{starts_with_minus}
+use Rattle.std.proofs.lemmas.Option.{none-some}
 use Rattle.std.proofs.lemmas.Slice.Eq.{bytes_eq-Decides}
 use Rattle.clap.proofs.OnLiterals.{clap_on_literals}
 use Rattle.clap.proofs.ValueTestLemmas.{accepts-Accepts}
 use Rattle.clap.proofs.WalkLemmas.{list_any-map}
 use Rattle.clap.specs.Facts.{parser_of_value}
-use Rattle.clap.specs.Values.{Accepts, IsSignedIn, IsUnsignedIn}
+use Rattle.clap.specs.Values.{Accepts, IsSignedIn}
 use Rattle.clap.specs.Walk.{Held, Names, Row, Rule, Text, answers_to, arg_by_id, is_empty, nothing_held, stop_after}
 use Rattle.clap.specs.Simple.{App, Shape, argument_words, built, entered, label_of, names_of, rows_at, subcommand_of}
 use Rattle.clap.specs.Kinds.{Kinds}
 use Rattle.clap.specs.Faults.{entered_fault, fault_of, level_fault}
-use Rattle.clap.specs.declared.builder.value_parser.ValueParser.TheVariants as parsers
-use Rattle.depot_words.specs.Commands.{AreEncodings, IsDepot, Texts, any_text, commands, depot_app, encoding_name, encoding_names, entry_number, number_from}
-use Rattle.depot_words.specs.Ranges.{AreComplete, HasArgument, IsEntryNumber, IsNumberFrom, IsOneOf}
-use Rattle.octets.specs.Limits.{max_entry_number, max_message, max_parts}
+use Rattle.clap.specs.declared.builder.value_parser.ValueParser.{ValueParser}
+use Rattle.depot_words.specs.Commands.{AreEncodings, Argument, Arguments, IsDepot, Range, Texts, any_text, commands, depot_app, encoding_name, encoding_names, entry_number, number_from, parser_for}
+use Rattle.depot_words.specs.Ranges.{AreComplete, HasArgument, HasArguments, IsEntryNumber, IsInRange, IsOneOf}
+use Rattle.octets.specs.Limits.{max_entry_number}
 use Rattle.depot_words.proofs.Taking.{HasRequired, found, is_plain_shape, neither, required}
 
 -- ---- the range of a text
@@ -42,10 +43,6 @@ number_in_range text h = go (starts_with_minus text) refl
     go false is =
         let h = rw is at h in
         (h.0, leb-true _ _ (passed _ h.2.le), leb-true _ _ (passed _ h.3.le))
-
--- and so is its test of one between two others
-pub number_between : (least most : ℕ) (text : Text) → IsUnsignedIn least most text → IsNumberFrom least most text
-number_between least most text h = (h.0, h.2, h.3)
 
 one_of : (text : Text) (names : List Text) → list_any (λ name. bytes_eq name text) names ≡ true → IsOneOf text names
 one_of text [] e = true≢false (sym e)
@@ -97,76 +94,75 @@ entered_by app (Some p) plain none = go (named p.0 (built app).subs) refl none
 
 -- ---- the arguments of each command
 
-has_of : (app : App) (name command : Text) (rows : List Row) (s : Shape) → Entered app name rows → name ≡ command → named command (built app).subs ≡ Some s
-    → is_plain_shape s ≡ true → HasRequired s rows
-has_of app name command rows s e is at plain =
-    let one : e.shape ≡ s = ap (λ o. unwrap_or o s) (sym e.is_named ∙ ap (λ n. named n (built app).subs) is ∙ at) in
-    subst (λ t. HasRequired t rows) one (e.has (ap is_plain_shape one ∙ plain))
+abbrev first : {X : Type 0} → X → List X → X
+first none [] = none
+first none (x ∷ xs) = x
 
-module _ (rows : List Row) (s : Shape) (has : HasRequired s rows) where
-  any : (id : Text) (a : Rule) → arg_by_id s.rules id ≡ Some a → a.required ≡ true → HasArgument rows id any_text
-  any id a at wanted =
-      let it = has.passing id a at wanted in
-      (it.0, it.1, tt)
+abbrev others : {X : Type 0} → List X → List X
+others [] = []
+others (x ∷ xs) = xs
 
-  number : (id : Text) (a : Rule) → arg_by_id s.rules id ≡ Some a → a.required ≡ true → parser_of_value a.parser ≡ parsers.Signed (pos 1) (pos max_entry_number)
-      → HasArgument rows id entry_number
-  number id a at wanted parser =
-      let it = has.passing id a at wanted in
-      (it.0, it.1, number_in_range it.0 (subst (λ p. Accepts a.ignore_case p it.0) parser (accepts-Accepts a.ignore_case _ it.0 it.2)))
+-- what counts of an argument: whether it has to be there, whether the case of its text counts not, and how it is tested
+abbrev Facts : Type 0
+Facts = Bool × Bool × ValueParser
 
-  between : (least most : ℕ) (id : Text) (a : Rule) → arg_by_id s.rules id ≡ Some a → a.required ≡ true → parser_of_value a.parser ≡ parsers.Unsigned least most
-      → HasArgument rows id (number_from least most)
-  between least most id a at wanted parser =
-      let it = has.passing id a at wanted in
-      (it.0, it.1, number_between least most it.0 (subst (λ p. Accepts a.ignore_case p it.0) parser (accepts-Accepts a.ignore_case _ it.0 it.2)))
+abbrev facts_of : Rule → Facts
+facts_of a = (a.required, a.ignore_case, parser_of_value a.parser)
 
-  encoding : (names : Texts) → AreEncodings names → (id : Text) (a : Rule) → arg_by_id s.rules id ≡ Some a → a.required ≡ true → a.ignore_case ≡ false
-      → parser_of_value a.parser ≡ parsers.Names names → HasArgument rows id encoding_name
-  encoding names are id a at wanted exact parser =
-      let it = has.passing id a at wanted in
-      let accepted = accepts-Accepts a.ignore_case _ it.0 it.2 in
-      let as_name = subst (λ p. Accepts a.ignore_case p it.0) parser accepted in
-      (it.0, it.1, name_in_range names are it.0 (subst (λ b. Accepts b (parsers.Names names) it.0) exact as_name))
+abbrev facts_for : Texts → Argument → Facts
+facts_for names argument = (true, false, parser_of_value (parser_for names argument.1))
 
--- this, and what follows
-infixr 20 ◌▸◌
-◌▸◌ : {A B : Type 0} → A → B → A × B
-a ▸ b = (a, b)
+-- what clap's tables have of the arguments of a command
+abbrev found_in : Shape → Arguments → Bool × List (Option Facts)
+found_in s arguments = (is_plain_shape s, map (λ (argument : Argument). option_map facts_of (arg_by_id s.rules argument.0)) arguments)
 
-module _ (names : Texts) (name : Text) (rows : List Row) (e : Entered (depot_app names) name rows) where
-  asked : {P : Type 0} (command : Text) (s : Shape) → named command (built (depot_app names)).subs ≡ Some s → is_plain_shape s ≡ true
-      → (HasRequired s rows → P) → name ≡ command → P
-  asked command s at plain complete is = complete (has_of (depot_app names) name command rows s e is at plain)
+abbrev wanted_of : Texts → Arguments → Bool × List (Option Facts)
+wanted_of names arguments = (true, map (λ argument. Some (facts_for names argument)) arguments)
 
-each : (names : Texts) → AreEncodings names → (name : Text) (rows : List Row) → Entered (depot_app names) name rows → AreComplete commands name rows
+abbrev found_of : Texts → Text × Arguments → Option (Bool × List (Option Facts))
+found_of names command = option_map (λ s. found_in s command.1) (named command.0 (built (depot_app names)).subs)
+
+-- they have what the list of commands says
+as_listed : (names : Texts) → map (found_of names) commands ≡ map (λ (command : Text × Arguments). Some (wanted_of names command.1)) commands
 unfolding clap_on_literals
-each names are name rows e =
-    asked names name rows e (codes "check") _ refl refl (λ has. any rows _ has (codes "SCRIPT") _ refl refl ▸ tt)
-    ▸ asked names name rows e (codes "explain") _ refl refl (λ has. any rows _ has (codes "SCRIPT") _ refl refl ▸ tt)
-    ▸ asked names name rows e (codes "compile") _ refl refl (λ has. any rows _ has (codes "SCRIPT") _ refl refl ▸ any rows _ has (codes "OUT") _ refl refl ▸ tt)
-    ▸ asked names name rows e (codes "verify") _ refl refl (λ has. any rows _ has (codes "PROGRAM") _ refl refl ▸ tt)
-    ▸ asked names name rows e (codes "limit") _ refl refl (λ has. any rows _ has (codes "PROGRAM") _ refl refl ▸ between rows _ has 0 max_message (codes "OCTETS") _ refl refl refl ▸ between rows _ has 1 max_parts (codes "PARTS") _ refl refl refl ▸ tt)
-    ▸ asked names name rows e (codes "run") _ refl refl (λ has. any rows _ has (codes "PROGRAM") _ refl refl ▸ any rows _ has (codes "MESSAGE") _ refl refl ▸ tt)
-    ▸ asked names name rows e (codes "disassemble") _ refl refl (λ has. any rows _ has (codes "PROGRAM") _ refl refl ▸ tt)
-    ▸ asked names name rows e (codes "assemble") _ refl refl (λ has. any rows _ has (codes "LISTING") _ refl refl ▸ any rows _ has (codes "OUT") _ refl refl ▸ tt)
-    ▸ asked names name rows e (codes "eval") _ refl refl (λ has. any rows _ has (codes "SCRIPT") _ refl refl ▸ any rows _ has (codes "MESSAGE") _ refl refl ▸ tt)
-    ▸ asked names name rows e (codes "trace") _ refl refl (λ has. any rows _ has (codes "FILE") _ refl refl ▸ any rows _ has (codes "MESSAGE") _ refl refl ▸ tt)
-    ▸ asked names name rows e (codes "parts") _ refl refl (λ has. any rows _ has (codes "MESSAGE") _ refl refl ▸ tt)
-    ▸ asked names name rows e (codes "encode") _ refl refl (λ has. encoding rows _ has names are (codes "ENCODING") _ refl refl refl refl ▸ tt)
-    ▸ asked names name rows e (codes "decode") _ refl refl (λ has. encoding rows _ has names are (codes "ENCODING") _ refl refl refl refl ▸ tt)
-    ▸ asked names name rows e (codes "script") _ refl refl (λ has. any rows _ has (codes "DB") _ refl refl ▸ any rows _ has (codes "USER") _ refl refl ▸ any rows _ has (codes "SCRIPT") _ refl refl ▸ tt)
-    ▸ asked names name rows e (codes "code") _ refl refl (λ has. any rows _ has (codes "DB") _ refl refl ▸ any rows _ has (codes "USER") _ refl refl ▸ any rows _ has (codes "PROGRAM") _ refl refl ▸ tt)
-    ▸ asked names name rows e (codes "program") _ refl refl (λ has. any rows _ has (codes "DB") _ refl refl ▸ any rows _ has (codes "USER") _ refl refl ▸ any rows _ has (codes "OUT") _ refl refl ▸ tt)
-    ▸ asked names name rows e (codes "deliver") _ refl refl (λ has. any rows _ has (codes "DB") _ refl refl ▸ any rows _ has (codes "USER") _ refl refl ▸ any rows _ has (codes "MESSAGE") _ refl refl ▸ tt)
-    ▸ asked names name rows e (codes "list") _ refl refl (λ has. any rows _ has (codes "DB") _ refl refl ▸ any rows _ has (codes "USER") _ refl refl ▸ tt)
-    ▸ asked names name rows e (codes "export") _ refl refl (λ has. any rows _ has (codes "DB") _ refl refl ▸ any rows _ has (codes "USER") _ refl refl ▸ number rows _ has (codes "NUMBER") _ refl refl refl ▸ encoding rows _ has names are (codes "ENCODING") _ refl refl refl refl ▸ tt)
-    ▸ asked names name rows e (codes "remove") _ refl refl (λ has. any rows _ has (codes "DB") _ refl refl ▸ any rows _ has (codes "USER") _ refl refl ▸ number rows _ has (codes "NUMBER") _ refl refl refl ▸ tt)
-    ▸ asked names name rows e (codes "migrate") _ refl refl (λ has. any rows _ has (codes "DB") _ refl refl ▸ tt)
-    ▸ asked names name rows e (codes "inspect") _ refl refl (λ has. any rows _ has (codes "DB") _ refl refl ▸ tt)
-    ▸ asked names name rows e (codes "scrub") _ refl refl (λ has. any rows _ has (codes "DB") _ refl refl ▸ tt)
-    ▸ asked names name rows e (codes "batch") _ refl refl (λ has. any rows _ has (codes "DB") _ refl refl ▸ tt)
-    ▸ tt
+as_listed names = refl
+
+module _ (names : Texts) (are : AreEncodings names) (name : Text) (rows : List Row) where
+  -- what clap accepts for a range is in it
+  in_range : (range : Range) (text : Text) → Accepts false (parser_of_value (parser_for names range)) text → IsInRange range text
+  in_range any_text text h = tt
+  in_range entry_number text h = number_in_range text h
+  in_range (number_from least most) text h = (h.0, h.2, h.3)
+  in_range encoding_name text h = name_in_range names are text h
+
+  one : (s : Shape) → HasRequired s rows → (argument : Argument) → option_map facts_of (arg_by_id s.rules argument.0) ≡ Some (facts_for names argument)
+      → HasArgument rows argument.0 argument.1
+  one s has argument is = go (arg_by_id s.rules argument.0) refl is
+    where
+      go : (o : Option Rule) → arg_by_id s.rules argument.0 ≡ o → option_map facts_of o ≡ Some (facts_for names argument) → HasArgument rows argument.0 argument.1
+      go None at is = absurd (none-some _ is)
+      go (Some a) at is =
+          let facts : facts_of a ≡ facts_for names argument = ap (λ o. unwrap_or o (facts_of a)) is in
+          let it = has.passing argument.0 a at (ap (λ (f : Facts). f.0) facts) in
+          let accepted = accepts-Accepts a.ignore_case _ it.0 it.2 in
+          let exact = subst (λ b. Accepts b (parser_of_value a.parser) it.0) (ap (λ (f : Facts). f.1) facts) accepted in
+          (it.0, it.1, in_range argument.1 it.0 (subst (λ p. Accepts false p it.0) (ap (λ (f : Facts). f.2) facts) exact))
+
+  each_of : (s : Shape) → HasRequired s rows → (arguments : Arguments) → (found_in s arguments).1 ≡ (wanted_of names arguments).1 → HasArguments rows arguments
+  each_of s has [] is = tt
+  each_of s has (argument ∷ more) is = (one s has argument (ap (first None) is), each_of s has more (ap others is))
+
+  each : Entered (depot_app names) name rows → (listed : List (Text × Arguments)) → map (found_of names) listed ≡ map (λ (command : Text × Arguments). Some (wanted_of names command.1)) listed
+      → AreComplete listed name rows
+  each e [] is = tt
+  each e (command ∷ more) is = (complete_one, each e more (ap others is))
+    where
+      complete_one : name ≡ command.0 → HasArguments rows command.1
+      complete_one same =
+          let at = ap (λ n. named n (built (depot_app names)).subs) (sym same) ∙ e.is_named in
+          let found : found_in e.shape command.1 ≡ wanted_of names command.1 =
+          ap (λ o. unwrap_or o (wanted_of names command.1)) (sym (ap (option_map (λ s. found_in s command.1)) at) ∙ ap (first None) is) in
+          each_of e.shape (e.has (ap (λ (f : Bool × List (Option Facts)). f.0) found)) command.1 (ap (λ (f : Bool × List (Option Facts)). f.1) found)
 
 if_some : {X : Type 0} (o : Option X) (P Q : X → Type 0) → ((x : X) → P x → Q x) → IfSome o P → IfSome o Q
 if_some None P Q f h = tt
@@ -192,7 +188,7 @@ below_fault app words none =
 of_depot : (names : Texts) → AreEncodings names → (words : List Text) → fault_of (depot_app names) words ≡ []
     → IfSome (subcommand_of (depot_app names) words) (λ m. AreComplete commands m.0 m.1)
 of_depot names are words none =
-    if_some (subcommand_of (depot_app names) words) (λ m. Entered (depot_app names) m.0 m.1) (λ m. AreComplete commands m.0 m.1) (λ m e. each names are m.0 m.1 e)
+    if_some (subcommand_of (depot_app names) words) (λ m. Entered (depot_app names) m.0 m.1) (λ m. AreComplete commands m.0 m.1) (λ m e. each names are m.0 m.1 e commands (as_listed names))
     (entered_by (depot_app names) (stop_of (depot_app names) words) (simply_named names) (below_fault (depot_app names) words none))
 
 pub complete : (app : App) (words : List Text) → IsDepot app → fault_of app words ≡ [] → IfSome (subcommand_of app words) (λ m. AreComplete commands m.0 m.1)

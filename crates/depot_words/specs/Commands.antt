@@ -55,6 +55,9 @@ parts = (codes "PARTS", number_from 1 max_parts)
 abbrev pub number : Argument
 number = (codes "NUMBER", entry_number)
 
+abbrev pub last_seen : Argument
+last_seen = (codes "NUMBER", number_from 0 max_entry_number)
+
 abbrev pub encoding : Argument
 encoding = (codes "ENCODING", encoding_name)
 
@@ -79,6 +82,7 @@ commands =
     ∷ (codes "program", depot ∷ user ∷ out ∷ [])
     ∷ (codes "deliver", depot ∷ user ∷ message ∷ [])
     ∷ (codes "list", depot ∷ user ∷ [])
+    ∷ (codes "since", depot ∷ user ∷ last_seen ∷ [])
     ∷ (codes "export", depot ∷ user ∷ number ∷ encoding ∷ [])
     ∷ (codes "remove", depot ∷ user ∷ number ∷ [])
     ∷ (codes "migrate", depot ∷ [])

@@ -21,6 +21,8 @@ pub enum Argument {
     User,
     /// NUMBER: the number of an entry, from 1 to 4,294,967,295.
     Number,
+    /// NUMBER of `since`: the highest number of an entry that was seen, from 0 to 4,294,967,295.
+    LastSeen,
     /// ENCODING: the name of an encoding.
     Encoding,
     /// SCRIPT: the file of a Sieve script.
@@ -71,6 +73,12 @@ impl Argument {
                 "The number of an entry, as `list` prints it",
             )
             .value_parser(value_parser!(u32).range(1..)),
+            Argument::LastSeen => required(
+                alloc,
+                "NUMBER",
+                "Only entries above this number are listed: 0 to 4294967295",
+            )
+            .value_parser(value_parser!(u64).range(0..=4_294_967_295)),
             Argument::Encoding => required(alloc, "ENCODING", "The encoding").value_parser(
                 encodings.names,
             ),

@@ -133,6 +133,12 @@ const COMMANDS: &[Row] = &[
         ending: help::LIST,
     },
     Row {
+        word: "since",
+        arguments: &[Argument::Depot, Argument::User, Argument::LastSeen],
+        about: "List the entries of a user with numbers above NUMBER",
+        ending: help::SINCE,
+    },
+    Row {
         word: "export",
         arguments: &[
             Argument::Depot,

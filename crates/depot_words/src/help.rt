@@ -215,6 +215,15 @@ pub const LIST: &str = user_ending!(
     "1, 43 to 45"
 );
 
+/// The end of the help of `since`.
+pub const SINCE: &str = user_ending!(
+    "Prints a line for each entry whose number is above NUMBER, as `list` does, or `none`; 0 lists all.\n\
+     New entries get higher numbers, so a program that fetches new mail keeps the highest number that it\n\
+     has seen.",
+    "depot since mail.depot ann 41",
+    "1, 43 to 45"
+);
+
 /// The end of the help of `export`.
 pub const EXPORT: &str = user_ending!(
     "Writes the entry to standard output. `raw` gives its bytes as they are.",
@@ -265,7 +274,7 @@ pub const SCRUB: &str = concat!(
 pub const BATCH: &str = concat!(
     "The lines are commands without DB:\n",
     "  script USER SCRIPT, code USER PROGRAM, deliver USER MESSAGE, list USER,\n",
-    "  export USER NUMBER ENCODING FILE, remove USER NUMBER, migrate\n",
+    "  since USER NUMBER, export USER NUMBER ENCODING FILE, remove USER NUMBER, migrate\n",
     "One space separates two words. A word with a space, a quotation mark or a line break is written in\n",
     "quotation marks; in these \\22 is a quotation mark, \\5c a backslash, \\0a a line break.\n",
     "Each answer is on standard output, with a line after it: = 0 (done), = 1 (refused), or = 2 (not a\n",

@@ -9,6 +9,9 @@ returns-in-Ok-deliver-clause-done g c = rw (c.in-Deliver.is, sym c.deref-in-Deli
 pub returns-in-Ok-list-clause-done : goal.returns-in-Ok-list-clause-done
 returns-in-Ok-list-clause-done g c = rw c.in-List.is (Listed (map listed c.in-Ok-list.rows.items), c.in-Ok-list.ensures.done, refl)
 
+pub returns-in-Ok-list_since-clause-done : goal.returns-in-Ok-list_since-clause-done
+returns-in-Ok-list_since-clause-done g c = rw c.in-Since.is (Listed (map listed c.in-Ok-list_since.rows.items), c.in-Ok-list_since.ensures.done, refl)
+
 pub returns-in-Ok-migrate-clause-done : goal.returns-in-Ok-migrate-clause-done
 returns-in-Ok-migrate-clause-done g c = rw c.in-Migrate.is (Migrated c.in-Ok-migrate.count, c.in-Ok-migrate.ensures.done, refl)
 
