@@ -1,6 +1,7 @@
 pub mod Commands
 pub mod Numbering
 pub mod Keeping
+pub mod KeptPlaces
 pub mod Sharing
 pub mod Delivering
 pub mod Together

@@ -8,7 +8,7 @@
 // store writes: the tree of a message of empty header fields takes 5.3 times the mail, and the database takes five
 // buffers of an entry's length while it writes one. What is kept of a part borrows only the mail's bytes, so nothing
 // needs the tree then.
-ghost use Rattle.std.specs.Prelude.{◌≡◌, ◌<◌, [], ◌∷◌, All, IfErr, IfOk, length, map, option_map};
+ghost use Rattle.std.specs.Prelude.{◌≡◌, ◌<◌, [], ◌∷◌, All, IfErr, IfOk, OnOk, length, map, option_map};
 ghost use Rattle.bytecode_format.specs.declared.action.Action.TheVariants.{Keep};
 ghost use Rattle.sieve_vm.specs.Stores.{NamesPart};
 ghost use Rattle.part_store.specs.Access.{InTransaction};
@@ -20,6 +20,7 @@ ghost use Rattle.depot_actions.specs.Private.{IsUnusable};
 ghost use Rattle.part_store.specs.Refusals.{LackRoom};
 ghost use Rattle.depot_actions.specs.DepotState.{AreActions};
 ghost use Rattle.depot_actions.specs.Drafts.{drafts_of};
+ghost use Rattle.depot_actions.specs.KeptPrograms.{kept_after};
 ghost use Rattle.depot_actions.specs.Filing.{Adds, IfInside, IsUnfiled, MayUnfile};
 ghost use Rattle.part_store.specs.Calls.{IfDone, IfRefused, OnDone};
 ghost use Rattle.part_store.specs.Inside.{IsInside, KeepsTables};
@@ -53,6 +54,8 @@ pub(crate) fn actions_of(
     ensures actions { IfOk result
         (λ actions. AreActions (option_map (λ v. v.items) program) message.now actions.items) }
     ensures parts { IfOk result (λ actions. All (NamesPart message.now) actions.items) }
+    ensures kept { OnOk result
+        (kept.new ≡ kept_after (option_map (λ v. v.items) program) kept.old) }
     ensures refused { IfErr result (IsUnusable (option_map (λ v. v.items) program)) }
 {
     let Some(octets) = program else {
@@ -62,7 +65,8 @@ pub(crate) fn actions_of(
         Some(programs) => programs,
         None => CheckedPrograms::new(alloc),
     };
-    let actions = programs.check(alloc, octets)?.actions_on(alloc, message)?;
+    let place = programs.check(alloc, octets)?;
+    let actions = programs.at(place).actions_on(alloc, message)?;
     *kept = Some(programs);
     Ok(actions)
 }

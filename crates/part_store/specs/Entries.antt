@@ -1,5 +1,5 @@
 -- What the store holds, and the steps of its calls.
-use Rattle.std.specs.Prelude.{◌≡◌, ℕ, ◌+◌, ◌==◌, ◌&&◌, Bool, not, List, [], ◌∷◌, ◌++◌, filter, length, Option, Some, None, option_map, if◌then◌else◌, bytes_eq}
+use Rattle.std.specs.Prelude.{◌≡◌, ℕ, ◌+◌, ◌==◌, nat_lt, ◌&&◌, Bool, not, List, [], ◌∷◌, ◌++◌, filter, length, Option, Some, None, option_map, if◌then◌else◌, bytes_eq}
 use Rattle.std.specs.List.{AllByRecursion}
 use Rattle.std.specs.Ordering.{nat_cmp}
 use Rattle.std.specs.Cmp.Lexicographic.{slice_cmp}
@@ -100,3 +100,7 @@ listing_of x = record { number = x.number; kind = x.kind; folder = x.folder; nam
 -- the user's entries in the order in which they were made, which is that of their numbers
 abbrev pub entries_of : List ℕ → Entries → List Entry
 entries_of user e = filter (λ x. bytes_eq x.user user) e.entries
+
+-- those of them that have numbers above this one
+abbrev pub entries_since : List ℕ → ℕ → Entries → List Entry
+entries_since user number e = filter (λ x. nat_lt number x.number) (entries_of user e)

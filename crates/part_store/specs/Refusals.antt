@@ -13,11 +13,13 @@ use Rattle.sqlite.specs.declared.error.ErrorCode.TheVariants.{OutOfMemory}
 use Rattle.sqlite.specs.declared.error.Error.{Error}
 use Rattle.sqlite.specs.declared.error.Error.TheVariants.{SqliteFailure}
 use Rattle.sqlite.specs.State.{State}
+use Rattle.octets.specs.Limits.{max_entry_number}
 use Rattle.sha2.specs.Sha256.{sha256}
 use Rattle.part_store.specs.Entries.{Draft, Entries, UserProgram, entry_of, with_entries}
 use Rattle.part_store.specs.Filing.{HasRoom, entry_values}
 use Rattle.part_store.specs.Standing.{DiskFailed, Stands}
 use Rattle.part_store.specs.Tables.{store_schema, users_table, contents_table, entries_table, users_tree, contents_tree, entries_tree}
+use Rattle.part_store.specs.UserLines.{UserLine}
 use Rattle.part_store.specs.declared.error.StoreError.{StoreError}
 use Rattle.part_store.specs.declared.error.StoreError.TheVariants.{Memory, Database}
 
@@ -76,6 +78,17 @@ HaveNoUserRoom pairs before db =
     RunsOut (db users_tree) (length pairs)
     ⊎ ((pair : UserProgram) × Has pairs pair
     × IsTooBig users_table (user_values pair.0 (before.lasts pair.0) (Some pair.1)))
+
+-- the rows of these users have no room
+abbrev pub HaveNoLineRoom : List UserLine → Entries → Trees → Type 0
+HaveNoLineRoom lines before db =
+    RunsOut (db users_tree) (length lines)
+    ⊎ ((line : UserLine) × Has lines line × (last : ℕ) × (last ≤ max_entry_number)
+    × IsTooBig users_table (user_values line.user last line.program))
+
+-- where the tables stand for a state, users are refused only by a database that can't work or has no room for a row
+abbrev pub OnlyWhenFailedOrNoLineRoom : List UserLine → State → State → StoreError → Type 0
+OnlyWhenFailedOrNoLineRoom lines = OnlyWhenFailedOr (HaveNoLineRoom lines)
 
 -- where the tables stand for a state, programs are refused only by a database that can't work or has no room for a row
 abbrev pub OnlyWhenFailedOrNoProgramRoom : List UserProgram → State → State → StoreError → Type 0

@@ -1,5 +1,5 @@
--- All users of a store.
-use Rattle.std.specs.Prelude.{◌≡◌, ℕ, true, List, Option, None, option_map, string_bytes}
+-- All users of a store, and the step that puts users in.
+use Rattle.std.specs.Prelude.{◌≡◌, ℕ, max, true, List, [], ◌∷◌, Option, None, option_map, string_bytes, bytes_eq, if◌then◌else◌}
 use Rattle.std.specs.List.{AllByRecursion}
 use Rattle.std.specs.Ordering.{nat_cmp}
 use Rattle.std.specs.Cmp.Lexicographic.{slice_cmp}
@@ -41,3 +41,19 @@ pub record AreUsersOf (table : List Row) (e : Entries) (lines : List UserLine) :
   pub all : (user : List ℕ) → HasRow table user → Has lines (user_line e user)
   pub strangers : (user : List ℕ) → (HasRow table user → ⊥) → (e.lasts user ≡ 0) × (e.programs user ≡ None)
   pub rising : IsAscending IsBeforeLine lines
+
+-- ---- putting users in
+
+-- the program of the user in these lines, or none where his line has none, the last line where he has several, or else this one
+abbrev pub program_among : List UserLine → List ℕ → Option (List ℕ) → Option (List ℕ)
+program_among [] user program = program
+program_among (line ∷ lines) user program = program_among lines user (if bytes_eq user line.user then line.program else program)
+
+-- the largest last number of the user in these lines, or this one where it is larger
+abbrev pub last_among : List UserLine → List ℕ → ℕ → ℕ
+last_among [] user last = last
+last_among (line ∷ lines) user last = last_among lines user (if bytes_eq user line.user then max last line.last else last)
+
+-- These users have the programs of their lines, or none, and at least the last numbers: nobody's falls. All others stay.
+abbrev pub with_users : List UserLine → Entries → Entries
+with_users lines e = record e { programs = λ user. program_among lines user (e.programs user); lasts = λ user. last_among lines user (e.lasts user) }

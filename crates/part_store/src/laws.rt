@@ -3,7 +3,7 @@
 //! A crash is a disk that fails from some call on, so what a crash can leave in the middle of a call is what it can
 //! leave once that call has ended. Each call says in `survives` which stores these are, and `open_from` opens files by
 //! what they hold.
-ghost use Rattle.std.specs.Prelude.{◌≡◌, ◌⊎◌, [], IsTrue};
+ghost use Rattle.std.specs.Prelude.{◌≡◌, ◌⊎◌, List, [], IsTrue};
 ghost use Rattle.sqlite.specs.Effect.{Database};
 ghost use Rattle.sqlite.specs.Files.{file_state};
 ghost use Rattle.sqlite.specs.FileStore.{view};
@@ -11,6 +11,7 @@ ghost use Rattle.sqlite.specs.Held.{Held, state};
 ghost use Rattle.sqlite.specs.Recovery.{Image};
 ghost use Rattle.sqlite.specs.State.{HasCleanDisk, Survives};
 ghost use Rattle.sqlite_trees.specs.Tree.{Trees};
+ghost use Rattle.sqlite_value.specs.Order.{Row};
 ghost use Rattle.sqlite_trees.specs.View.{IsClean};
 ghost use Rattle.part_store.specs.Crashes.{HasNumberedTrees, HoldsOneLeft, IsCutOff, IsRefusedOpen, LeavesStores, MayLeaveClosing, MayLeaveFiles};
 ghost use Rattle.part_store.specs.Entries.{Entries, no_entries};
@@ -18,6 +19,7 @@ ghost use Rattle.part_store.specs.Opening.{HasOtherTables, Holds, HoldsState, Ho
 ghost use Rattle.part_store.specs.Standing.{AddsVerified, HaveDigests, MayMake, Stands, StandsFor};
 ghost use Rattle.part_store.specs.Tables.{store_schema};
 ghost use Rattle.part_store.specs.Scrubbing.{IsScrubbed};
+ghost use Rattle.part_store.specs.UserLines.{AreUsersOf, UserLine, with_users};
 ghost use Rattle.part_store.specs.declared.scrubbing.Scrubbed.{Scrubbed};
 
 use crate::store::PartStore;
@@ -82,6 +84,13 @@ pub fn scrubs_report_all_damage()
         → IsScrubbed db e x → (x.damaged ≡ 0) × (x.entries.items ≡ []) }
     ensures sound { (db : Trees) (e : Entries) (x : Scrubbed) → StandsFor db e → IsScrubbed db e x
         → x.damaged ≡ 0 → HaveDigests db }
+{}
+
+/// Users that one store returned ([`PartStore::users`]), put into an empty store ([`PartStore::put_users`]), give it
+/// exactly the programs and last numbers of the first store, and no entries.
+pub fn users_carry_over()
+    ensures { (table : List Row) (e : Entries) (lines : List UserLine) → AreUsersOf table e lines
+        → with_users lines no_entries ≡ record e { entries = [] } }
 {}
 
 /// If the disk is clean, files that hold a store are never reported to have other tables (`look_from`).

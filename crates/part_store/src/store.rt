@@ -13,18 +13,18 @@ ghost use Rattle.sha2.specs.Sha256.{sha256};
 ghost use Rattle.sqlite.specs.Held.{state};
 ghost use Rattle.sqlite.specs.State.{HasCleanDisk, KeepsCommit};
 ghost use Rattle.part_store.specs.Tables.{no_schema, store_schema, contents_tree, users_tree};
-ghost use Rattle.part_store.specs.Entries.{AreProgramsOf, entries_of, listing_of, no_entries, with_entries, with_program, with_programs, without_entry};
+ghost use Rattle.part_store.specs.Entries.{AreProgramsOf, entries_of, entries_since, listing_of, no_entries, with_entries, with_program, with_programs, without_entry};
 ghost use Rattle.part_store.specs.Access.{AddsEntries, InTransaction, IsFailure, IsFailureOrAbsence, IsFailureOrObstacle, IsRefusedAs, MayMakeOpen, ReadsStore, WritesStore};
 ghost use Rattle.part_store.specs.Blaming.{AsRefusal, AsRefusalInside};
 ghost use Rattle.part_store.specs.Inside.{Brings, Stays, IsInside, KeepsStored, StaysInside};
 ghost use Rattle.part_store.specs.Standing.{AddsVerified, HaveDigests, IsStored, Makes, MayMake, Stands, HasContent, IsEntryAt, HasNone, draft_of, listed, pair_of};
 ghost use Rattle.part_store.specs.Readings.{NamesDigest};
-ghost use Rattle.part_store.specs.Refusals.{refusal_of, HasFailed, OnlyWhenFailed, OnlyWhenFailedOrNoEntryRoom, OnlyWhenUnnamed, OnlyWhenFailedOr, OnlyWhenFailedOrNoProgramRoom, OnlyWhenFailedOrNoUserRoom};
+ghost use Rattle.part_store.specs.Refusals.{refusal_of, HasFailed, OnlyWhenFailed, OnlyWhenFailedOrNoEntryRoom, OnlyWhenUnnamed, OnlyWhenFailedOr, OnlyWhenFailedOrNoLineRoom, OnlyWhenFailedOrNoProgramRoom, OnlyWhenFailedOrNoUserRoom};
 ghost use Rattle.part_store.specs.declared.error.StoreError.TheVariants.{Memory, NoSuchEntry, NumberFull, Collision, Database};
 ghost use Rattle.part_store.specs.Crashes.{KeepsState};
 ghost use Rattle.part_store.specs.Looking.{are_tables};
 ghost use Rattle.part_store.specs.Totals.{IsTotalOf, octets_of};
-ghost use Rattle.part_store.specs.UserLines.{AreUsersOf, line_of};
+ghost use Rattle.part_store.specs.UserLines.{AreUsersOf, line_of, with_users};
 ghost use Rattle.part_store.specs.Scrubbing.{IsScrubbed, OnlyWhenUncounted};
 ghost use Rattle.sqlite.specs.Files.{file_state, IsClosed, IsOpened};
 ghost use Rattle.sqlite.specs.FileStore.{files as files_of};
@@ -413,6 +413,46 @@ impl<S: Alter> PartStore<S> {
         list_users(&mut tx)
     }
 
+    /// Puts users in, all in one transaction: each listed user has the listed program afterwards, or none, and at least
+    /// the listed last number. A last number never falls: if the store has a larger one, that one stays. If a user is
+    /// listed twice, the later program and the larger last number count.
+    ///
+    /// If the list is what [`PartStore::users`] returned for one store, and this store is empty, it has the programs
+    /// and last numbers of that store afterwards, and no entries ([`crate::laws::users_carry_over`]).
+    ///
+    /// # Errors
+    ///
+    /// - `Memory` if memory is refused.
+    /// - `Database` if the database fails (see [`PartStore`]), or a user's row has no room.
+    pub fn put_users(&mut self, users: &[UserRow]) -> Result<(), StoreError>
+        ensures writes { WritesStore S.Store self.old self.new result
+            (with_users (map line_of users.now))
+            (λ old trees. (0 < length users.now → IsTrue old.is_open)
+            × MayMake (with_users (map line_of users.now)) old trees) }
+        ensures refused { IsRefusedAs S.Store self.old self.new result IsFailure
+            (OnlyWhenFailedOrNoLineRoom (map line_of users.now)) }
+    {
+        let _stub = (&self.conn, users);
+        Err(StoreError::Memory)
+    }
+
+    /// Returns the last number that the user was given, or 0 if the user was given none. The user's next entry gets the
+    /// number after it.
+    ///
+    /// # Errors
+    ///
+    /// - `Memory` if memory is refused.
+    /// - `Database` if the database fails (see [`PartStore`]).
+    pub fn last_of(&mut self, user: &str) -> Result<u32, StoreError>
+        ensures answer { Tells S.Store self.old self.new result
+            (λ before last. last ≡ before.lasts user.now) }
+        ensures reads { ReadsStore S.Store self.old self.new result }
+        ensures refused { IsRefusedAs S.Store self.old self.new result IsFailure OnlyWhenFailed }
+    {
+        let _stub = (&self.conn, user);
+        Err(StoreError::Memory)
+    }
+
     /// Returns how many contents there are, and how many bytes they have together. A content that several entries share
     /// counts once.
     ///
@@ -557,6 +597,24 @@ impl<S: Alter> PartStore<S> {
     {
         let mut tx = begin(&mut self.conn);
         list_all(&mut tx, user)
+    }
+
+    /// Returns the user's entries with numbers above `number`, without their contents, in the order of their numbers; for
+    /// 0 all entries, and none for an unknown user.
+    ///
+    /// # Errors
+    ///
+    /// - `Memory` if memory is refused.
+    /// - `Database` if the database fails (see [`PartStore`]).
+    pub fn entries_since(&mut self, user: &str, number: u32) -> Result<Vec<EntryRow>, StoreError>
+        ensures answer { Tells S.Store self.old self.new result
+            (λ before rows. map listed rows.items
+            ≡ map listing_of (entries_since user.now number before)) }
+        ensures reads { ReadsStore S.Store self.old self.new result }
+        ensures refused { IsRefusedAs S.Store self.old self.new result IsFailure OnlyWhenFailed }
+    {
+        let _stub = (&self.conn, user, number);
+        Err(StoreError::Memory)
     }
 
     /// Returns the bytes of the user's entry with this number. Their SHA-256 is the digest that they are stored under
