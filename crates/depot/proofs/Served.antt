@@ -1,5 +1,5 @@
 -- A batch from the open of its files to their close.
-use Rattle.std.proofs.Common.{◌≡◌, ◌⊎◌, ◌<◌, inl, inr, IsTrue, List, length, Option, Some, None, Result, Ok, Err, refl, sym, subst, arith}
+use Rattle.std.proofs.Common.{◌≡◌, ◌⊎◌, ◌<◌, inl, inr, IsTrue, ℕ, List, length, Option, Some, None, Result, Ok, Err, refl, sym, subst, arith}
 use Rattle.sqlite_disk.specs.declared.Disk.{Ghosts}
 use Rattle.sqlite_disk.specs.declared.Files.{Files}
 use Rattle.sqlite_trees.specs.Tree.{Trees}
@@ -22,7 +22,7 @@ use Rattle.depot_batch.specs.Effects.{DepotAndOutput, HasHappened, MayMakeAll, d
 use Rattle.depot_batch.specs.Turns.{Alone, Broken, Together, Turn, Whole, Withdrawn, Writing}
 use Rattle.depot_batch.specs.declared.asked.Asked.TheVariants.{Reply as ToReply, Export as IntoFile}
 use Rattle.depot_batch.proofs.Grouping.{as_many}
-use Rattle.depot.specs.Batches.{Batch, Happens, HasEnded, IsKept, IsServed, MakeAll, MakesIn, MakesOf}
+use Rattle.depot.specs.Batches.{Batch, Did, Happens, HasEnded, IsKept, IsServed, MakeAll, MakesIn, MakesOf}
 use Rattle.depot.specs.Ending.{HasCounted, IsToldAs}
 use Rattle.depot.specs.Private.{IsFound, IsLeftOf, IsShut}
 use Rattle.depot.proofs.Chained.{Follows, both, sound_first}
@@ -112,7 +112,7 @@ module _ {D : Type 0} (g : Ghosts D) where
             (omega (arith, it.outlasts.clean, sound.0), fewer g (file_state old.depot).faults (file_state new.depot).faults left it.outlasts.counts sound.1);
         widen = widen;
         step = λ Made turn writing old new before track sound it.
-            let one = turn_leads old new before (effect_leads g left old.depot new.depot before track.works sound.0 it.outlasts.counts sound.1) name turn writing it.come in
+            let one = turn_leads (batch.Did over_files) (Did left) old new before (effect_leads g left old.depot new.depot before track.works sound.0 it.outlasts.counts sound.1) name turn writing it.come in
             let was = depot_and_output before old.host old.out in
             let is = depot_and_output one.after new.host new.out in
             record {

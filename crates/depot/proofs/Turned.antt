@@ -68,18 +68,18 @@ module _ {A : Type 0} {One : Effect → Type 0} {Other : A → Effect → Type 0
   come_leads line Wrong text come = let still = come.3 in so (leads NotAsked still.0) (λ after is. (come.0, come.1, come.2, (is, still.1)))
 
 -- so does what happens in a turn
-pub turn_leads : {A B : Type 0} {One : B → B → Effect → Type 0} {Other : A → A → Effect → Type 0} {Fits : A → Type 0} (old new : DepotAndOutput B) (before : A)
+pub turn_leads : {A B : Type 0} (One : B → B → Effect → Type 0) (Other : A → A → Effect → Type 0) {Fits : A → Type 0} (old new : DepotAndOutput B) (before : A)
     → ((effect : Effect) → One old.depot new.depot effect → Fitting Fits (λ after. Other before after effect)) → (name : Text) (turn : Turn) (writing : Writing)
     → HasHappened One name turn writing old new
     → Fitting Fits (λ after. HasHappened Other name turn writing (depot_and_output before old.host old.out) (depot_and_output after new.host new.out))
-turn_leads old new before leads name (Alone line outcome) writing it =
+turn_leads One Other old new before leads name (Alone line outcome) writing it =
     so (come_leads leads name old.host new.host line outcome it.text it.come) (λ after is. record { text = it.text; come = is; written = it.written })
-turn_leads old new before leads name (Together lines) writing it =
+turn_leads One Other old new before leads name (Together lines) writing it =
     so (leads (AcceptedAll it.commands (map Listed it.filed)) it.done)
     (λ after is. record { few = it.few; commands = it.commands; files = it.files; filed = it.filed; done = is; written = it.written })
-turn_leads old new before leads name (Withdrawn lines) Whole it =
+turn_leads One Other old new before leads name (Withdrawn lines) Whole it =
     so (leads Unchanged it.unchanged) (λ after is. record { some = it.some; few = it.few; files = it.files; unchanged = is; out = it.out })
-turn_leads old new before leads name (Withdrawn lines) Broken it = absurd it
+turn_leads One Other old new before leads name (Withdrawn lines) Broken it = absurd it
 
 -- ---- from the store to the state
 

@@ -73,18 +73,18 @@ broken_after text s0 s1 s2 taken failed = record {
   faults = failed.faults ∙ ap (counted 1) taken.faults;
 }
 
-come_of : {Had : Effect → Type 0} (name octets : List ℕ) (asked : Asked) (report : Report) (host host2 : HostState) → IsAsked octets asked → HasComeOf Had name asked report host host2
+come_of : (Had : Effect → Type 0) (name octets : List ℕ) (asked : Asked) (report : Report) (host host2 : HostState) → IsAsked octets asked → HasComeOf Had name asked report host host2
     → HasCome Had name octets (outcome_of report) (report_text report) host host2
-come_of name octets asked (Done answer) host host2 is come = (asked, is, come)
-come_of name octets asked (Refused refusal) host host2 is come = (refl, inr (asked, is, come))
-come_of name octets asked (Wrong fault) host host2 is come = absurd come
+come_of Had name octets asked (Done answer) host host2 is come = (asked, is, come)
+come_of Had name octets asked (Refused refusal) host host2 is come = (refl, inr (asked, is, come))
+come_of Had name octets asked (Wrong fault) host host2 is come = absurd come
 
 module _ {S : Type 0} (g : Ghosts S) (name octets : List ℕ) where
   -- what is asked was done, or refused
   pub asked_reported : (asked : Asked) (report : Report) (old new : Held S) (host host2 : HostState) → IsAsked octets asked → HasComeOf (Did g old new) name asked report host host2
       → Survives (state g old) (state g new) (MayMake (λ command. MayAdd command (state g old)) asked host host2) → IsReportOn g name octets report old new host host2
   asked_reported asked report old new host host2 is come survives = record {
-    come = come_of name octets asked report host host2 is come;
+    come = come_of (Did g old new) name octets asked report host host2 is come;
     outlasts = more_left (state g old) (state g new) (λ db made. (asked, is, made)) survives;
   }
 

@@ -10,4 +10,4 @@ invariant-turns g l =
     × StandsAfter g.S.Store l.initial.desk.name.now l.counter l.alone
     (record { left = g.R.Read.remaining l.initial.input.inner; given = l.initial.input.given; has_ended = l.initial.input.has_ended; faults = l.initial.input.faults })
     (record { left = g.R.Read.remaining l.input.inner; given = l.input.given; has_ended = l.input.has_ended; faults = l.input.faults })
-    (on g.S.Store g.H.Host.state g.W.Write.contents l.initial.desk) (on g.S.Store g.H.Host.state g.W.Write.contents l.desk)
+    (on g.H.Host.state g.W.Write.contents l.initial.desk) (on g.H.Host.state g.W.Write.contents l.desk)
