@@ -127,20 +127,20 @@ list_contents_answered limit db e has h = elim (over limit db list_contents_quer
 pub list_contents_faults : (old new : State) (e : Error) → Refused list_contents_text [] old new e → Faults old new e
 list_contents_faults old new e = query_faults list_contents_text [] list_contents_query _ list_contents_is list_contents_asked list_contents_answered old new e
 
-list_entries_asked : IsAsked (understood store_schema list_entries_text) list_entries_text 1
+list_entries_asked : IsAsked (understood store_schema list_entries_text) list_entries_text 2
 unfolding understood everything
 list_entries_asked = (omega arith, refl)
 
-list_entries_answered : (user : List ℕ) → IsAnswered list_entries_query (Text user ∷ [])
+list_entries_answered : (user : List ℕ) (number : ℕ) → IsAnswered list_entries_query (Text user ∷ Int (pos number) ∷ [])
 unfolding everything
-list_entries_answered user limit db e has h = elim (over limit db list_entries_query (Text user ∷ []) e has h) [
+list_entries_answered user number limit db e has h = elim (over limit db list_entries_query (Text user ∷ Int (pos number) ∷ []) e has h) [
   | inl untyped ↦ absurd (true≢false untyped.1)
   | inr (inl sum) ↦ elim sum.1 [ inl none ↦ absurd none | inr more ↦ absurd more.4 ]
   | inr (inr steps) ↦ steps.1
 ]
 
-pub list_entries_faults : (old new : State) (user : List ℕ) (e : Error) → Refused list_entries_text (Text user ∷ []) old new e → Faults old new e
-list_entries_faults old new user e = query_faults list_entries_text (Text user ∷ []) list_entries_query _ list_entries_is list_entries_asked (list_entries_answered user) old new e
+pub list_entries_faults : (old new : State) (user : List ℕ) (number : ℕ) (e : Error) → Refused list_entries_text (Text user ∷ Int (pos number) ∷ []) old new e → Faults old new e
+list_entries_faults old new user number e = query_faults list_entries_text (Text user ∷ Int (pos number) ∷ []) list_entries_query _ list_entries_is list_entries_asked (list_entries_answered user number) old new e
 
 find_entry_asked : IsAsked (understood store_schema find_entry_text) find_entry_text 2
 unfolding understood everything

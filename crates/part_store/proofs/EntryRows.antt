@@ -6,8 +6,8 @@ use Rattle.sqlite_sql.specs.Term.{lit, col}
 use Rattle.sqlite.specs.State.{State, ExecutesInside, Shown}
 use Rattle.part_store.specs.Tables.{entry_columns, entry_references, entries_tree, equals}
 use Rattle.part_store.specs.Statements.{list_entries_text, find_entry_text, add_entry_text, drop_entry_text}
-use Rattle.part_store.specs.Changes.{Steps, Reads, IsFound, IsListed, IsAdded, IsTaken, is_entry, columns}
-use Rattle.part_store.proofs.Meaning.{is_given, list_entries_query, list_entries_is, find_entry_query, find_entry_is, add_entry_is, drop_entry_is}
+use Rattle.part_store.specs.Changes.{Steps, Reads, IsFound, IsListed, IsAdded, IsTaken, is_entry, is_since, columns}
+use Rattle.part_store.proofs.Meaning.{is_above, is_given, list_entries_query, list_entries_is, find_entry_query, find_entry_is, add_entry_is, drop_entry_is}
 use Rattle.part_store.proofs.Ordered.{ordered}
 use Rattle.part_store.proofs.Writes.{inserted, deleted, cast_null, cast_int}
 use Rattle.part_store.proofs.Runs.{ran_as, stepped, read, found, found_as, taken_as, and_true}
@@ -38,9 +38,10 @@ entry_added old new user number folder kind name media digest count h =
     (lit Null ∷ col 0 0 ∷ col 0 1 ∷ col 0 2 ∷ col 0 3 ∷ col 0 4 ∷ col 0 5 ∷ col 0 6 ∷ []) 8 (Null ∷ params) params refl
     (rw (cast_null, cast_int (pos number), cast_int (pos kind))) (ran_as add_entry_text params old new _ count add_entry_is h has))
 
-pub entries_listed : (old new : State) (user : List ℕ) (rows : List Row) → Shown list_entries_text (Text user ∷ []) old new rows
-    → Steps (Reads (IsListed entries_tree (equals 1 (Text user)) (columns (2 ∷ 4 ∷ 3 ∷ 5 ∷ 6 ∷ 7 ∷ [])) rows)) old new
-entries_listed old new user rows h =
-    read list_entries_text (Text user ∷ []) old new list_entries_query _ list_entries_is rows h _ (λ a.
-    ordered 4 2 (is_given 1 0 ∷ []) (col 1 4 ∷ col 1 3 ∷ col 1 5 ∷ col 1 6 ∷ col 1 7 ∷ []) old.now.trees (Text user ∷ []) (equals 1 (Text user)) (columns (2 ∷ 4 ∷ 3 ∷ 5 ∷ 6 ∷ 7 ∷ [])) rows a
-    (λ r. and_true _) (λ r. refl))
+pub entries_listed : (old new : State) (user : List ℕ) (number : ℕ) (rows : List Row) → Shown list_entries_text (Text user ∷ Int (pos number) ∷ []) old new rows
+    → Steps (Reads (IsListed entries_tree (is_since user number) (columns (2 ∷ 4 ∷ 3 ∷ 5 ∷ 6 ∷ 7 ∷ [])) rows)) old new
+entries_listed old new user number rows h =
+    let params : Row = Text user ∷ Int (pos number) ∷ [] in
+    read list_entries_text params old new list_entries_query _ list_entries_is rows h _ (λ a.
+    ordered 4 2 (is_given 1 0 ∷ is_above 2 1 ∷ []) (col 1 4 ∷ col 1 3 ∷ col 1 5 ∷ col 1 6 ∷ col 1 7 ∷ []) old.now.trees params (is_since user number) (columns (2 ∷ 4 ∷ 3 ∷ 5 ∷ 6 ∷ 7 ∷ [])) rows a
+    (λ r. ap (λ b. equals 1 (Text user) r && b) (and_true _)) (λ r. refl))

@@ -27,6 +27,8 @@ mod UserList
 mod Looks
 mod Sums
 mod Replacing
+mod Putting
+mod Carrying
 mod Showing
 mod ListedFailing
 mod Opened

@@ -4,7 +4,7 @@ use Rattle.sqlite_sql.specs.Term.{Term, lit, col, op1, op2}
 use Rattle.sqlite_sql.specs.Query.{Query, inner, end}
 use Rattle.sqlite_sql.specs.declared.ops.UnaryOp.TheVariants.{Length, Not}
 use Rattle.sqlite_sql.specs.declared.ops.BinaryOp.TheVariants.{Compare, Is}
-use Rattle.sqlite_sql.specs.declared.ops.CompareOp.TheVariants.{Eq}
+use Rattle.sqlite_sql.specs.declared.ops.CompareOp.TheVariants.{Eq, Gt}
 use Rattle.sqlite_value.specs.declared.keys.Collation.TheVariants.{Binary}
 use Rattle.sqlite_value.specs.declared.keys.Key.{Key}
 use Rattle.sqlite_value.specs.declared.value.Value.TheVariants.{Null, Int}
@@ -24,6 +24,10 @@ use Rattle.part_store.specs.Statements.{users_text, contents_text, entries_text,
 -- a column of the table equals a parameter
 abbrev pub is_given : ℕ → ℕ → Term
 is_given column parameter = op2 (Compare Eq Binary) (col 1 column) (col 0 parameter)
+
+-- it is above a parameter
+abbrev pub is_above : ℕ → ℕ → Term
+is_above column parameter = op2 (Compare Gt Binary) (col 1 column) (col 0 parameter)
 
 -- a query on one table
 abbrev pub picked : ℕ → List Term → List Term → List (Term × Key) → Query
@@ -138,7 +142,7 @@ unfolding understood everything
 drop_content_is = (refl, (refl, refl), refl)
 
 abbrev pub list_entries_query : Query
-list_entries_query = picked 4 (is_given 1 0 ∷ []) (col 1 2 ∷ col 1 4 ∷ col 1 3 ∷ col 1 5 ∷ col 1 6 ∷ col 1 7 ∷ []) ((col 1 2, ascending Binary) ∷ [])
+list_entries_query = picked 4 (is_given 1 0 ∷ is_above 2 1 ∷ []) (col 1 2 ∷ col 1 4 ∷ col 1 3 ∷ col 1 5 ∷ col 1 6 ∷ col 1 7 ∷ []) ((col 1 2, ascending Binary) ∷ [])
 
 pub list_entries_is : Means store_schema list_entries_text (Select (alone list_entries_query) (codes "number" ∷ codes "kind" ∷ codes "folder" ∷ codes "name" ∷ codes "media" ∷ codes "digest" ∷ []))
 unfolding understood everything

@@ -8,20 +8,16 @@ use Rattle.sqlite_value.specs.Order.{Row, column}
 use Rattle.sqlite_trees.specs.Tree.{Trees, rowid, IsTable}
 use Rattle.sqlite_trees.specs.View.{is_int}
 use Rattle.sqlite_rules.specs.Lists.{Has}
-use Rattle.sqlite_rules.specs.Edit.{next_rowid}
 use Rattle.sqlite_rules.proofs.ListLemmas.{all_has, all_from, has_filtered, has_kept}
 use Rattle.sqlite.specs.Values.{or_null}
 use Rattle.sqlite.specs.State.{State}
 use Rattle.part_store.specs.Tables.{users_tree, contents_tree, entries_tree, equals}
-use Rattle.part_store.specs.Changes.{columns, Steps, Reads, IsFound, IsAdded, IsPut, IsTaken}
+use Rattle.part_store.specs.Changes.{columns, Steps, Reads, IsFound, IsPut, IsTaken}
 use Rattle.part_store.specs.UserLines.{HasRow}
-use Rattle.part_store.specs.Entries.{Entries, with_program}
-use Rattle.part_store.specs.Readings.{last_in}
-use Rattle.part_store.specs.Inside.{Brings}
+use Rattle.part_store.specs.Entries.{Entries}
 use Rattle.part_store.specs.Standing.{Stands, IsUserRow, IsContentRow, IsNumbered, HasContent, StandsFor, IsEntryRow}
 pub use Rattle.part_store.proofs.Apart.{bytes_same, same_bytes}
 use Rattle.part_store.proofs.Apart.{apart_put}
-use Rattle.part_store.proofs.Digests.{same_verified}
 use Rattle.part_store.proofs.Equals.{equal_texts, same_number}
 use Rattle.part_store.proofs.Gaining.{filter_rises, has_put_row, keyed_all, put_or_was, rises_with, stays_beside}
 
@@ -39,12 +35,6 @@ module _ (db : Trees) (e : Entries) (stands : StandsFor db e) (user : List ℕ) 
       let h = all_has (IsUserRow e) (db users_tree) r stands.users there in
       let same = same_bytes h.1 user (sym (of_user e r user h) ∙ is) in
       (h.0, subst (λ n. r ≡ Int h.0 ∷ Text n ∷ Int (pos (e.lasts n)) ∷ or_null Blob (e.programs n) ∷ []) same h.2)
-
-  pub last_read : (found : Option Row) (n : ℕ) → IsFound users_tree (equals 1 (Text user)) (columns (2 ∷ 3 ∷ [])) db found → last_in found n → n ≡ e.lasts user
-  last_read None n found last = last ∙ sym (stands.strangers user found).0
-  last_read (Some row) n found last =
-      let r = found_user found.0 found.1 found.2 in
-      same_number n (e.lasts user) (sym last ∙ ap (λ (x : Row). column x 0) found.3 ∙ ap (λ (x : Row). column x 2) r.1)
 
 -- The user's row is put anew, with this number and this value for his program. So a state stands there that has these of
 -- him, and of all others what there was.
@@ -104,27 +94,6 @@ module _ (db mid new : Trees) (user : List ℕ) (n : ℕ) (value : Value) (taken
       named = subst₂ (λ c rows. (digest octets : List ℕ) → HasContent c digest octets → (r : Row) × Has rows r × (column r 7 ≡ Blob digest)) (sym contents_stay) (sym entries_stay) stands.named;
       numbers = numbers;
     }
-
--- with his last number and another program
-program_put : (db mid new : Trees) (e : Entries) → StandsFor db e → (user program : List ℕ) (n : ℕ) → n ≡ e.lasts user → IsTaken users_tree (equals 1 (Text user)) db mid
-    → IsAdded users_tree (Text user ∷ Int (pos n) ∷ Blob program ∷ []) mid new → StandsFor new (with_program user program e)
-program_put db mid new e stands user program n last taken added =
-    user_put db mid new user n (Blob program) taken (next_rowid (mid users_tree)) added e (with_program user program e) stands last (rw (bytes_same user)) (λ name other. (refl, rw other)) refl
-    (record { limit = stands.numbers.limit; given = stands.numbers.given; rising = stands.numbers.rising })
-
-pub program_brought : (old one two new : State) (user program : List ℕ) (n : ℕ) (found : Option Row)
-    → Steps (Reads (λ db. IsFound users_tree (equals 1 (Text user)) (columns (2 ∷ 3 ∷ [])) db found)) old one → last_in found n
-    → Steps (IsTaken users_tree (equals 1 (Text user))) one two → Steps (IsAdded users_tree (Text user ∷ Int (pos n) ∷ Blob program ∷ [])) two new → Brings (with_program user program) old new
-program_brought old one two new user program n found reads last takes adds before stands =
-    let a = reads stands.schema in
-    let b = takes a.schema in
-    let c = adds b.schema in
-    let number = last_read old.now.trees before stands.tables user found n a.change.1 last in
-    let taken = subst (λ t. IsTaken users_tree (equals 1 (Text user)) t two.now.trees) a.change.0 b.change in (
-      record { schema = c.schema; listed = c.listed (b.listed (a.listed stands.listed)); tables = program_put old.now.trees two.now.trees new.now.trees before stands.tables user program n number taken c.change },
-      c.committed ∙ b.committed ∙ a.committed,
-      same_verified old.now.trees new.now.trees (c.change.others.1.0 (λ h. absurd (omega (arith, h))) ∙ taken.others.1.0 (λ h. absurd (omega (arith, h)))),
-    )
 
 -- a program that was read
 no_program : (program : Option (List ℕ)) → or_null Blob program ≡ Null → program ≡ None

@@ -1,10 +1,10 @@
 -- Which entries a scrub lists.
-use Rattle.std.proofs.Common.{◌≡◌, ◌⊎◌, inl, inr, ℕ, zero, suc, ◌<◌, ◌≤◌, ◌+◌, ◌^◌, pos, Bool, true, false, ◌&&◌, cond, List, [], ◌∷◌, ◌++◌, length, map, filter, take, get_or, Vec, string_bytes, refl, sym, ap, ap₂, subst, ◌∙◌, bytes_eq, Less, arith}
+use Rattle.std.proofs.Common.{◌≡◌, inl, inr, ℕ, zero, suc, ◌<◌, ◌≤◌, ◌+◌, ◌^◌, pos, Bool, true, ◌&&◌, List, [], ◌∷◌, ◌++◌, length, map, filter, take, get_or, Vec, string_bytes, refl, sym, ap, ap₂, subst, ◌∙◌, bytes_eq, Less, IsPermutation, lt-ltb, arith}
 use Rattle.std.specs.declared.alloc.Global.{Global}
 use Rattle.std.specs.List.{AllByRecursion, AllZip, list_any}
 use Rattle.std.specs.Ordering.{nat_cmp}
 use Rattle.std.specs.Cmp.Lexicographic.{slice_cmp}
-use Rattle.std.proofs.lemmas.Bool.{cases_Bool, true≢false, and_parts, eq-eqb}
+use Rattle.std.proofs.lemmas.Bool.{cases_Bool, true≢false, eq-eqb}
 use Rattle.std.proofs.lemmas.List.{map-append, take_more}
 use Rattle.std.proofs.lemmas.List.Elements.{filter-append}
 use Rattle.sqlite_value.specs.declared.keys.Collation.TheVariants.{Binary}
@@ -15,7 +15,7 @@ use Rattle.sqlite_trees.specs.Tree.{Trees, IsAscending}
 use Rattle.sqlite_rules.specs.Lists.{Has}
 use Rattle.sqlite_rules.proofs.ListLemmas.{all_has, all_from, some_has, some_from, has_filtered, has_kept, has_left, has_right, has_either, has_at}
 use Rattle.sqlite_rules.proofs.ProbeLemmas.{has_mapped, mapped_has}
-use Rattle.part_store.specs.Changes.{columns, is_entry, IsListed}
+use Rattle.part_store.specs.Changes.{columns, is_since, IsListed}
 use Rattle.part_store.specs.Entries.{Entry, Entries, entries_of}
 use Rattle.part_store.specs.Readings.{IsReadable, Shows, number_of}
 use Rattle.part_store.specs.Scanning.{AreDamagedAmong, AreDamagedDigests, is_one_of, line_shown, lines_shown}
@@ -33,8 +33,10 @@ use Rattle.part_store.proofs.Finding.{zip_found, zip_has}
 use Rattle.part_store.proofs.Listed.{all_weaker}
 use Rattle.part_store.proofs.Removing.{same_row}
 use Rattle.part_store.proofs.Rows.{has_permuted}
-use Rattle.part_store.proofs.Showing.{rises_mine}
+use Rattle.part_store.proofs.Runs.{and_true}
+use Rattle.part_store.proofs.Showing.{is_late, rises_mine}
 use Rattle.part_store.proofs.Shown.{from_table}
+use Rattle.part_store.proofs.Writes.{filter_same}
 
 abbrev shown : Row → Row
 shown = columns (2 ∷ 4 ∷ 3 ∷ 5 ∷ 6 ∷ 7 ∷ [])
@@ -75,6 +77,15 @@ rows_readable db e user rows stands shows =
     let given = all_has (λ (y : Entry). (1 ≤ y.number) × (y.number ≤ e.lasts y.user)) e.entries x stands.numbers.given kept.0 in
     let low : x.number < 2 ^ 32 = omega (arith, given.1, stands.numbers.limit x.user) in
     low))
+
+-- no number is 0, so a listing of those above it is of all the user's entries
+pub listed_all : (db : Trees) (e : Entries) (user : List ℕ) (rows : List Row) → StandsFor db e → IsListed entries_tree (is_since user 0) shown rows db → IsListed entries_tree (equals 1 (Text user)) shown rows db
+listed_all db e user rows stands listed =
+    let kept = filter_same (is_since user 0) (equals 1 (Text user)) (db entries_tree) (λ r there.
+    let x = zip_found (IsEntryRow (db contents_tree)) (db entries_tree) e.entries r stands.entries there in
+    let given = all_has (λ (y : Entry). (1 ≤ y.number) × (y.number ≤ e.lasts y.user)) e.entries x.0 stands.numbers.given x.1 in
+    ap (λ b. equals 1 (Text user) r && b) (is_late (db contents_tree) r x.0 0 x.2 ∙ lt-ltb 0 x.0.number (omega (arith, given.0))) ∙ and_true _) in
+    record { same = subst (λ rs. IsPermutation (map shown rs) rows) kept listed.same; sorted = listed.sorted }
 
 -- ---- the entries of one user
 

@@ -1,5 +1,5 @@
 -- Programs are replaced one after another.
-use Rattle.std.proofs.Common.{◌≡◌, ℕ, ◌+◌, ◌<◌, Bool, true, false, List, [], ◌∷◌, ◌++◌, length, map, take, get_or, drop, inl, inr, length-append, IsTrue, Option, Some, None, option_map, if◌then◌else◌, refl, sym, ap, subst, ◌∙◌, bytes_eq, arith}
+use Rattle.std.proofs.Common.{◌≡◌, ℕ, ◌+◌, ◌<◌, Bool, true, false, List, [], ◌∷◌, ◌++◌, length, map, take, get_or, drop, ◌⊎◌, inl, inr, length-append, IsTrue, Option, Some, None, option_map, if◌then◌else◌, refl, sym, ap, subst, ◌∙◌, bytes_eq, arith}
 use Rattle.std.specs.Prelude.{String, Vec, string_bytes}
 use Rattle.std.specs.declared.alloc.Global.{Global}
 use Rattle.std.proofs.lemmas.List.{drop_more, map-append, map_more, take-append-drop}
@@ -12,7 +12,7 @@ use Rattle.part_store.specs.Tables.{store_schema, contents_tree, users_table, us
 use Rattle.part_store.specs.Entries.{Entries, UserProgram, program_named, with_program, with_programs}
 use Rattle.part_store.specs.Inside.{Brings, Stays}
 use Rattle.part_store.specs.Standing.{AddsVerified, Stands, pair_of}
-use Rattle.part_store.specs.Refusals.{refusal_of, user_values, OnlyWhenFailedOrNoProgramRoom, OnlyWhenFailedOrNoUserRoom, IsTooBig, RunsOut}
+use Rattle.part_store.specs.Refusals.{refusal_of, user_values, OnlyWhenFailedOr, OnlyWhenFailedOrNoProgramRoom, OnlyWhenFailedOrNoUserRoom, IsTooBig, RunsOut}
 use Rattle.part_store.specs.Causes.{RisesFrom}
 use Rattle.part_store.proofs.Apart.{bytes_same, same_bytes}
 use Rattle.part_store.proofs.Digests.{same_verified, then_verified}
@@ -56,46 +56,68 @@ none_replaced user program e has = λ i. record e { programs = λ name. pick (by
 
 -- ---- one after another
 
--- so far these were replaced
-pub record Replacing (pairs : List UserProgram) (old now : State) : Type 0 where
+-- so far these were put in, by a step that goes over a list
+pub record Replacing {X : Type 0} (step : List X → Entries → Entries) (items : List X) (old now : State) : Type 0 where
   pub survives : Survives old now (λ _. ⊥)
-  pub brought : HasCleanDisk now → Brings (with_programs pairs) old now
+  pub brought : HasCleanDisk now → Brings (step items) old now
   pub inside : HasCleanDisk now → old.now.schema ≡ store_schema → IsTrue old.in_transaction → IsTrue now.in_transaction
   pub schema : HasCleanDisk now → old.now.schema ≡ store_schema → now.now.schema ≡ store_schema
-  pub opened : HasCleanDisk now → 0 < length pairs → IsTrue old.is_open
+  pub opened : HasCleanDisk now → 0 < length items → IsTrue old.is_open
   pub stays_closed : HasCleanDisk now → IsTrue now.is_open → IsTrue old.is_open
   pub kept : HasCleanDisk now → old.now.schema ≡ store_schema → KeepsCommit old now
-  pub rowids : HasCleanDisk now → (before : Entries) → Stands old.now before → RisesFrom (length pairs) (old.now.trees users_tree) (now.now.trees users_tree)
+  pub rowids : HasCleanDisk now → (before : Entries) → Stands old.now before → RisesFrom (length items) (old.now.trees users_tree) (now.now.trees users_tree)
 
-pub replaced_more : (pairs : List UserProgram) (pair : UserProgram) (old mid new : State) → Replacing pairs old mid → Survives mid new (λ _. ⊥) → (HasCleanDisk new → Brings (with_programs (pair ∷ [])) mid new)
-    → (HasCleanDisk new → mid.now.schema ≡ store_schema → IsTrue mid.in_transaction → IsTrue new.in_transaction) → (HasCleanDisk new → mid.now.schema ≡ store_schema → new.now.schema ≡ store_schema)
-    → (HasCleanDisk new → IsTrue mid.is_open) → (HasCleanDisk new → IsTrue new.is_open → IsTrue mid.is_open) → (HasCleanDisk new → mid.now.schema ≡ store_schema → KeepsCommit mid new)
-    → (HasCleanDisk new → (before : Entries) → Stands mid.now before → RisesFrom 1 (mid.now.trees users_tree) (new.now.trees users_tree)) → Replacing (pairs ++ pair ∷ []) old new
-replaced_more pairs pair old mid new so_far survives brings inside schema opened shut kept rowids =
-    let early = λ (clean : HasCleanDisk new). let e : HasCleanDisk mid = omega (arith, survives.clean) in e in
-    record {
-      survives = survives_then old mid new (λ _. ⊥) (λ _. ⊥) (λ _. ⊥) (λ _ _ h. h) (λ _ _ h. h) so_far.survives survives;
-      brought = λ clean before stands.
-          let first = so_far.brought (early clean) before stands in
-          let second = brings clean (with_programs pairs before) first.0 in
-          (subst (Stands new.now) (programs_push pairs pair before) second.0, second.1 ∙ first.1, then_verified old.now.trees mid.now.trees new.now.trees first.2 second.2);
-      inside = λ clean has h. inside clean (so_far.schema (early clean) has) (so_far.inside (early clean) has h);
-      schema = λ clean has. schema clean (so_far.schema (early clean) has);
-      opened = λ clean some. so_far.stays_closed (early clean) (opened clean);
-      stays_closed = λ clean h. so_far.stays_closed (early clean) (shut clean h);
-      kept = λ clean has. kept_then old mid new (so_far.kept (early clean) has) (kept clean (so_far.schema (early clean) has));
-      rowids = λ clean before stands.
-          subst (λ n. RisesFrom n (old.now.trees users_tree) (new.now.trees users_tree)) (sym (length-append pairs (pair ∷ [])))
-          (rises_after (length pairs) 1 (old.now.trees users_tree) (mid.now.trees users_tree) (new.now.trees users_tree) (so_far.rowids (early clean) before stands)
-          (rowids clean (with_programs pairs before) (so_far.brought (early clean) before stands).0));
-    }
+module _ {X : Type 0} (step : List X → Entries → Entries) (items : List X) (item : X) (old mid new : State) (so_far : Replacing step items old mid) (survives : Survives mid new (λ _. ⊥)) where
+  pub replaced_more : ((e : Entries) → step (item ∷ []) (step items e) ≡ step (items ++ item ∷ []) e) → (HasCleanDisk new → Brings (step (item ∷ [])) mid new)
+      → (HasCleanDisk new → mid.now.schema ≡ store_schema → IsTrue mid.in_transaction → IsTrue new.in_transaction) → (HasCleanDisk new → mid.now.schema ≡ store_schema → new.now.schema ≡ store_schema)
+      → (HasCleanDisk new → IsTrue mid.is_open) → (HasCleanDisk new → IsTrue new.is_open → IsTrue mid.is_open) → (HasCleanDisk new → mid.now.schema ≡ store_schema → KeepsCommit mid new)
+      → (HasCleanDisk new → (before : Entries) → Stands mid.now before → RisesFrom 1 (mid.now.trees users_tree) (new.now.trees users_tree)) → Replacing step (items ++ item ∷ []) old new
+  replaced_more push brings inside schema opened shut kept rowids =
+      let early = λ (clean : HasCleanDisk new). let e : HasCleanDisk mid = omega (arith, survives.clean) in e in
+      record {
+        survives = survives_then old mid new (λ _. ⊥) (λ _. ⊥) (λ _. ⊥) (λ _ _ h. h) (λ _ _ h. h) so_far.survives survives;
+        brought = λ clean before stands.
+            let first = so_far.brought (early clean) before stands in
+            let second = brings clean (step items before) first.0 in
+            (subst (Stands new.now) (push before) second.0, second.1 ∙ first.1, then_verified old.now.trees mid.now.trees new.now.trees first.2 second.2);
+        inside = λ clean has h. inside clean (so_far.schema (early clean) has) (so_far.inside (early clean) has h);
+        schema = λ clean has. schema clean (so_far.schema (early clean) has);
+        opened = λ clean some. so_far.stays_closed (early clean) (opened clean);
+        stays_closed = λ clean h. so_far.stays_closed (early clean) (shut clean h);
+        kept = λ clean has. kept_then old mid new (so_far.kept (early clean) has) (kept clean (so_far.schema (early clean) has));
+        rowids = λ clean before stands.
+            subst (λ n. RisesFrom n (old.now.trees users_tree) (new.now.trees users_tree)) (sym (length-append items (item ∷ [])))
+            (rises_after (length items) 1 (old.now.trees users_tree) (mid.now.trees users_tree) (new.now.trees users_tree) (so_far.rowids (early clean) before stands)
+            (rowids clean (step items before) (so_far.brought (early clean) before stands).0));
+      }
 
--- one pair more
-pub pairs_more : (programs : List (String Global × Vec ℕ Global)) (place : ℕ) (item : String Global × Vec ℕ Global) (user program : List ℕ) → place < length programs → item ≡ get_or programs place item
-    → user ≡ string_bytes item.0 → program ≡ item.1.items → map pair_of (take place programs) ++ (user, program) ∷ [] ≡ map pair_of (take (place + 1) programs)
-pairs_more programs place item user program lt is named code =
-    let pair : (user, program) ≡ pair_of item = λ i. (named i, code i) in
-    ap (λ p. map pair_of (take place programs) ++ p ∷ []) (pair ∙ ap pair_of is) ∙ sym (map_more pair_of programs place item lt)
+  -- one that has no room among all, where it has none once those before it were put in
+  pub items_refused : (Big : X → Entries → Type 0) → ((before : Entries) → Big item (step items before) → Big item before) → (later whole : List X) (e : Error) → whole ≡ items ++ item ∷ later → HasCleanDisk new
+      → (IsTrue mid.in_transaction → OnlyWhenFailedOr (λ before db. RunsOut (db users_tree) 1 ⊎ ((x : X) × Has (item ∷ []) x × Big x before)) mid new (refusal_of e))
+      → IsTrue old.in_transaction → OnlyWhenFailedOr (λ before db. RunsOut (db users_tree) (length whole) ⊎ ((x : X) × Has whole x × Big x before)) old new (refusal_of e)
+  items_refused Big keeps later whole e place clean cause begun is before stands =
+      let early : HasCleanDisk mid = omega (arith, clean, survives.clean) in
+      let brought = so_far.brought early before stands in
+      let there : Has whole item = subst (λ l. Has l item) (sym place) (has_right items (item ∷ later) item (inl refl)) in
+      elim (cause (so_far.inside early stands.schema begun) is (step items before) brought.0) [
+        | inl failed ↦ inl (later_failed old mid new so_far.survives survives clean failed)
+        | inr (inl full) ↦ inr (inl (ran_out (length items) (length whole) (old.now.trees users_tree) (mid.now.trees users_tree) (omega (arith, ap length place, length-append items (item ∷ later))) (so_far.rowids early before stands) full))
+        | inr (inr (other, inl is, big)) ↦ inr (inr (item, there, keeps before (subst (λ x. Big x (step items before)) is big)))
+        | inr (inr (other, inr none, big)) ↦ absurd none
+      ]
+
+-- one more of a list that is mapped
+pub mapped_more : {A X : Type 0} (f : A → X) (all : List A) (place : ℕ) (item : A) → place < length all → item ≡ get_or all place item → map f (take place all) ++ f item ∷ [] ≡ map f (take (place + 1) all)
+mapped_more f all place item lt is = ap (λ x. map f (take place all) ++ x ∷ []) (ap f is) ∙ sym (map_more f all place item lt)
+
+pub mapped_split : {A X : Type 0} (f : A → X) (all : List A) (place : ℕ) (item : A) → place < length all → item ≡ get_or all place item → map f all ≡ map f (take place all) ++ f item ∷ map f (drop (place + 1) all)
+mapped_split f all place item lt is =
+    ap (map f) (sym (take-append-drop place all) ∙ ap (λ rest. take place all ++ rest) (drop_more all place item lt))
+    ∙ map-append f (take place all) (get_or all place item ∷ drop (place + 1) all) ∙ ap (λ x. map f (take place all) ++ f x ∷ map f (drop (place + 1) all)) (sym is)
+
+-- the pair of a user and a program that were read in place
+pub same_pair : (item : String Global × Vec ℕ Global) (user program : List ℕ) → user ≡ string_bytes item.0 → program ≡ item.1.items → pair_of item ≡ (user, program)
+same_pair item user program named code = λ i. (sym named i, sym code i)
 
 -- ---- one of them
 
@@ -135,22 +157,6 @@ one_refused old mid new user program e stays one two clean inside cause begun is
       | inr (inr big) ↦ inr (inr ((user, program), inl refl, subst (λ p. IsTooBig users_table (user_values user (before.lasts user) p)) (own_program user program before) big))
     ]
 
-pub pairs_refused : (pairs later whole : List UserProgram) (pair : UserProgram) (old mid new : State) (e : Error) → whole ≡ pairs ++ pair ∷ later → Replacing pairs old mid → Survives mid new (λ _. ⊥) → HasCleanDisk new
-    → (IsTrue mid.in_transaction → OnlyWhenFailedOrNoProgramRoom (pair ∷ []) mid new (refusal_of e)) → IsTrue old.in_transaction → OnlyWhenFailedOrNoProgramRoom whole old new (refusal_of e)
-pairs_refused pairs later whole pair old mid new e place so_far survives clean cause begun is before stands =
-    let early : HasCleanDisk mid = omega (arith, clean, survives.clean) in
-    let brought = so_far.brought early before stands in
-    let there : Has whole pair = subst (λ l. Has l pair) (sym place) (has_right pairs (pair ∷ later) pair (inl refl)) in
-    elim (cause (so_far.inside early stands.schema begun) is (with_programs pairs before) brought.0) [
-      | inl failed ↦ inl (later_failed old mid new so_far.survives survives clean failed)
-      | inr (inl full) ↦ inr (inl (ran_out (length pairs) (length whole) (old.now.trees users_tree) (mid.now.trees users_tree) (omega (arith, ap length place, length-append pairs (pair ∷ later))) (so_far.rowids early before stands) full))
-      | inr (inr (other, inl is, big)) ↦ inr (inr (pair, there, subst (λ (p : UserProgram). IsTooBig users_table (user_values p.0 (before.lasts p.0) (Some p.1))) is big))
-      | inr (inr (other, inr none, big)) ↦ absurd none
-    ]
-
-pub pairs_split : (programs : List (String Global × Vec ℕ Global)) (place : ℕ) (item : String Global × Vec ℕ Global) (user program : List ℕ) → place < length programs → item ≡ get_or programs place item
-    → user ≡ string_bytes item.0 → program ≡ item.1.items → map pair_of programs ≡ map pair_of (take place programs) ++ (user, program) ∷ map pair_of (drop (place + 1) programs)
-pairs_split programs place item user program lt is named code =
-    let pair : pair_of item ≡ (user, program) = λ i. (sym named i, sym code i) in
-    ap (map pair_of) (sym (take-append-drop place programs) ∙ ap (λ rest. take place programs ++ rest) (drop_more programs place item lt))
-    ∙ map-append pair_of (take place programs) (get_or programs place item ∷ drop (place + 1) programs) ∙ ap (λ p. map pair_of (take place programs) ++ p ∷ map pair_of (drop (place + 1) programs)) (ap pair_of (sym is) ∙ pair)
+-- the row of a user with a program is too big, whatever was replaced before
+abbrev pub IsPairTooBig : UserProgram → Entries → Type 0
+IsPairTooBig pair before = IsTooBig users_table (user_values pair.0 (before.lasts pair.0) (Some pair.1))

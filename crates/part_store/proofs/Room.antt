@@ -1,5 +1,5 @@
 -- Where a user's row has no room.
-use Rattle.std.proofs.Common.{◌≡◌, ◌⊎◌, inl, inr, ℕ, ℤ, ◌+ℤ◌, ◌+◌, ◌<◌, ◌≤◌, pos, false, not, List, [], ◌∷◌, filter, fold, Option, None, Some, refl, sym, ap, subst, ◌∙◌, IsTrue, arith}
+use Rattle.std.proofs.Common.{◌≡◌, ◌⊎◌, inl, inr, ℕ, ℤ, ◌+ℤ◌, ◌+◌, ◌<◌, ◌≤◌, pos, false, not, List, [], ◌∷◌, filter, fold, Option, None, refl, sym, ap, subst, ◌∙◌, IsTrue, arith}
 use Rattle.std.specs.List.{AllByRecursion}
 use Rattle.std.proofs.lemmas.Bool.{not-true}
 use Rattle.std.proofs.lemmas.Int.{ints}
@@ -13,15 +13,13 @@ use Rattle.sqlite_rules.specs.Lists.{Has}
 use Rattle.sqlite_rules.proofs.ListLemmas.{all_from, all_has, has_filtered}
 use Rattle.sqlite.specs.State.{State, HasCleanDisk, Survives}
 use Rattle.sqlite.specs.Values.{or_null}
-use Rattle.sqlite.proofs.StateLemmas.{survives_then}
 use Rattle.sqlite.specs.declared.error.Error.{Error}
 use Rattle.part_store.specs.Tables.{store_schema, users_table, users_tree, equals}
-use Rattle.part_store.specs.Changes.{columns, user_row, IsAdded, IsFound, IsOnlyRow, IsTaken, Reads, Steps, IsTableIn}
-use Rattle.part_store.specs.Entries.{Entries, with_last, with_program}
-use Rattle.part_store.specs.Refusals.{refusal_of, user_values, OnlyWhenFailedOrNoUserRoom, HasFailed, HasNoUserRoom, IsRowidIn, RunsOut}
+use Rattle.part_store.specs.Changes.{user_row, IsAdded, IsOnlyRow, IsTaken, Steps, IsTableIn}
+use Rattle.part_store.specs.Entries.{Entries, with_last}
+use Rattle.part_store.specs.Refusals.{refusal_of, user_values, HasFailed, HasNoUserRoom, IsRowidIn, RunsOut}
 use Rattle.part_store.specs.Causes.{AddFaults, HasNoRow, PutFaults, RisesFrom}
-use Rattle.part_store.specs.Readings.{ShowsLast, last_in}
-use Rattle.part_store.specs.Standing.{IsUserRow, Stands, StandsFor}
+use Rattle.part_store.specs.Standing.{IsUserRow, Stands}
 use Rattle.part_store.specs.UserLines.{HasRow}
 use Rattle.part_store.specs.declared.error.StoreError.TheVariants.{Database}
 use Rattle.part_store.proofs.Apart.{bytes_same}
@@ -29,8 +27,6 @@ use Rattle.part_store.proofs.Causes.{stands_writable, writable_then}
 use Rattle.part_store.proofs.Failing.{later_failed}
 use Rattle.part_store.proofs.Gaining.{added_has, filter_rises, keyed_all}
 use Rattle.part_store.proofs.Numbers.{only_row}
-use Rattle.part_store.proofs.Programs.{last_read}
-use Rattle.part_store.proofs.Readable.{user_readable}
 
 abbrev after_row : ℤ → Row → ℤ
 after_row n r = id_in (rowid r) +ℤ pos 1
@@ -55,7 +51,7 @@ runs_out all rows there full =
 same_id : (id : ℤ) → id ≡ id +ℤ pos 0
 same_id id = omega (arith, ints)
 
-user_keys : (s : State) (before : Entries) → Stands s.now before → AllByRecursion (λ r. IsTrue (is_int (rowid r))) (s.now.trees users_tree)
+pub user_keys : (s : State) (before : Entries) → Stands s.now before → AllByRecursion (λ r. IsTrue (is_int (rowid r))) (s.now.trees users_tree)
 user_keys s before stands = keyed_all (IsUserRow before) (s.now.trees users_tree) (λ r h. rw h.2) stands.tables.users
 
 module _ (old mid new : State) (user : List ℕ) (takes : Steps (IsTaken users_tree (equals 1 (Text user))) old mid) (one : Survives old mid (λ _. ⊥)) (two : Survives mid new (λ _. ⊥))
@@ -110,37 +106,10 @@ row_unrenewed old new user last e is inside before stands known puts =
       | inr (inr big) ↦ inr (inr (row.0, rw (bytes_same user) big))
     ]
 
--- what was found of a user shows his last number
-pub last_shown : (old new : State) (before : Entries) (user : List ℕ) (found : Option Row) → Stands old.now before
-    → Steps (Reads (λ db. IsFound users_tree (equals 1 (Text user)) (columns (2 ∷ 3 ∷ [])) db found)) old new → ShowsLast found
-last_shown old new before user None stands reads = tt
-last_shown old new before user (Some row) stands reads = (user_readable old new before stands row user reads).0
-
--- the row that is put in for a user who had none, and the one with a program
+-- the row that is put in for a user who had none
 pub first_values : (user : List ℕ) (last : ℕ) (before : Entries) → before.programs user ≡ None
     → Text user ∷ Int (pos last) ∷ Null ∷ [] ≡ user_values user ((with_last user last before).lasts user) ((with_last user last before).programs user)
 first_values user last before none = rw (bytes_same user) (ap (λ (p : Option (List ℕ)). Text user ∷ Int (pos last) ∷ or_null Blob p ∷ []) (sym none))
-
-pub program_values : (user : List ℕ) (last : ℕ) (program : List ℕ) (before : Entries) → last ≡ before.lasts user
-    → Text user ∷ Int (pos last) ∷ Blob program ∷ [] ≡ user_values user ((with_program user program before).lasts user) ((with_program user program before).programs user)
-program_values user last program before same = rw (bytes_same user) (ap (λ n. Text user ∷ Int (pos n) ∷ Blob program ∷ []) same)
-
--- a user's program isn't put
-pub program_unplaced : (old one two new : State) (user program : List ℕ) (last : ℕ) (found : Option Row) (e : Error)
-    → Steps (Reads (λ db. IsFound users_tree (equals 1 (Text user)) (columns (2 ∷ 3 ∷ [])) db found)) old one → last_in found last → Steps (IsTaken users_tree (equals 1 (Text user))) one two
-    → Survives old one (λ _. ⊥) → Survives one two (λ _. ⊥) → Survives two new (λ _. ⊥) → HasCleanDisk new
-    → (IsTableIn users_tree two.now.trees → HasNoRow user two.now.trees → AddFaults users_table (Text user ∷ Int (pos last) ∷ Blob program ∷ []) two new e)
-    → IsTrue old.in_transaction → OnlyWhenFailedOrNoUserRoom user (with_program user program) old new (refusal_of e)
-program_unplaced old one two new user program last found e reads number takes first second third clean adds inside is before stands =
-    let early : HasCleanDisk two = omega (arith, clean, third.clean) in
-    let a = reads stands.schema in
-    let still : Stands one.now before = record { schema = a.schema; listed = a.listed stands.listed; tables = subst (λ t. StandsFor t before) (sym a.change.0) stands.tables } in
-    let same = program_values user last program before (last_read old.now.trees before stands.tables user found last a.change.1 number) in
-    let later = survives_then one two new (λ _. ⊥) (λ _. ⊥) (λ _. ⊥) (λ _ _ h. h) (λ _ _ h. h) second third in
-    elim (row_unplaced one two new user takes second third clean e is (a.inside inside) before still (Text user ∷ Int (pos last) ∷ Blob program ∷ []) (with_program user program before) same adds) [
-      | inl failed ↦ inl (later_failed old one new first later clean failed)
-      | inr none ↦ inr (subst (HasNoUserRoom user (with_program user program before)) a.change.0 none)
-    ]
 
 -- ---- rowids
 
@@ -168,17 +137,6 @@ rises_put old mid new values there added id (inr (r, h, is)) = elim (added_has u
       (first.0, wider (old users_tree) (mid users_tree) first.0 there first.1, 1, omega arith, is ∙ ap (λ (x : Row). id_in (rowid x)) put ∙ first.2)
   | inr was ↦ (id, inr (r, there r was, is), 0, omega arith, same_id id)
 ]
-
-pub program_rises : (old one two new : State) (user : List ℕ) (found : Option Row) (values : Row) → Steps (Reads (λ db. IsFound users_tree (equals 1 (Text user)) (columns (2 ∷ 3 ∷ [])) db found)) old one
-    → Steps (IsTaken users_tree (equals 1 (Text user))) one two → Steps (IsAdded users_tree values) two new
-    → (before : Entries) → Stands old.now before → RisesFrom 1 (old.now.trees users_tree) (new.now.trees users_tree)
-program_rises old one two new user found values reads takes adds before stands =
-    let a = reads stands.schema in
-    let b = takes a.schema in
-    let c = adds b.schema in
-    let rows = b.change.rows (subst (λ (t : Trees). IsTable (t users_tree)) (sym a.change.0) stands.tables.users_rise) (subst (λ (t : Trees). AllByRecursion (λ r. IsTrue (is_int (rowid r))) (t users_tree)) (sym a.change.0) (user_keys old before stands)) in
-    rises_put old.now.trees two.now.trees new.now.trees values (λ r h.
-    subst (λ (t : Trees). Has (t users_tree) r) a.change.0 (has_filtered (λ r. not (equals 1 (Text user) r)) (one.now.trees users_tree) r (subst (λ l. Has l r) rows h)).0) c.change
 
 -- so many rows later the rowids had run out before
 pub ran_out : (m n : ℕ) (old mid : List Row) → m < n → RisesFrom m old mid → RunsOut mid 1 → RunsOut old n

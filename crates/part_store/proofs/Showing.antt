@@ -1,5 +1,5 @@
--- A listing shows the user's entries.
-use Rattle.std.proofs.Common.{◌≡◌, inl, inr, ℕ, suc, zero, ◌+◌, ◌<◌, ◌≤◌, pos, List, [], ◌∷◌, ◌++◌, length, map, filter, get_or, take, refl, sym, ap, subst, ◌∙◌, bytes_eq, arith}
+-- A listing shows the user's entries with numbers above one.
+use Rattle.std.proofs.Common.{◌≡◌, inl, inr, ℕ, suc, zero, ◌+◌, ◌<◌, ◌≤◌, pos, List, [], ◌∷◌, ◌++◌, length, map, filter, get_or, take, refl, sym, ap, subst, ◌∙◌, bytes_eq, nat_lt, lt-ltb, arith}
 use Rattle.std.specs.List.{AllByRecursion, AllZip}
 use Rattle.std.proofs.lemmas.Bool.{cases_Bool}
 use Rattle.std.proofs.lemmas.List.{map_more, take_all}
@@ -7,18 +7,24 @@ use Rattle.sqlite_value.specs.declared.keys.Collation.TheVariants.{Binary}
 use Rattle.sqlite_value.specs.declared.value.Value.TheVariants.{Int, Text}
 use Rattle.sqlite_value.specs.Order.{Row, column}
 use Rattle.sqlite_schema.specs.Rules.{equal}
+use Rattle.sqlite_sql.specs.declared.ops.BinaryOp.TheVariants.{Compare}
+use Rattle.sqlite_sql.specs.declared.ops.CompareOp.TheVariants.{Gt}
+use Rattle.sqlite_sql.specs.Ops.{binary, is_true}
 use Rattle.sqlite_trees.specs.Tree.{Trees, IsAscending}
+use Rattle.sqlite_rules.proofs.ListLemmas.{all_has, has_filtered}
+use Rattle.sqlite_catalog.proofs.ListFacts.{filter_all}
 use Rattle.sqlite.specs.State.{State, HasCleanDisk, KeepsCommit, Survives}
 use Rattle.sqlite.proofs.StateLemmas.{survives_then}
 use Rattle.part_store.specs.Tables.{store_schema, contents_tree, entries_tree, equals}
-use Rattle.part_store.specs.Changes.{columns, IsListed, Reads, Steps}
-use Rattle.part_store.specs.Entries.{Entry, Entries, entries_of, listing_of}
-use Rattle.part_store.specs.Standing.{IsEntryRow, Stands, StandsFor, listed}
+use Rattle.part_store.specs.Changes.{columns, is_since, IsListed, Reads, Steps}
+use Rattle.part_store.specs.Entries.{Entry, Entries, entries_of, entries_since, listing_of}
+use Rattle.part_store.specs.Standing.{IsEntryRow, IsNumbered, Stands, StandsFor, listed}
 use Rattle.part_store.specs.Readings.{Shows}
 use Rattle.part_store.specs.Inside.{Stays}
 use Rattle.part_store.specs.declared.entry.EntryRow.{EntryRow}
 use Rattle.part_store.proofs.Entering.{kept_then, stands_still}
-use Rattle.part_store.proofs.Equals.{equal_texts}
+use Rattle.part_store.proofs.Equals.{above_numbers, equal_texts}
+use Rattle.part_store.proofs.Gaining.{filter_rises}
 use Rattle.part_store.proofs.Listed.{HasNumber, Rises, listed_so, number_in}
 use Rattle.part_store.proofs.Programs.{same_bytes}
 
@@ -27,17 +33,25 @@ use Rattle.part_store.proofs.Programs.{same_bytes}
 abbrev shown : Row → Row
 shown = columns (2 ∷ 4 ∷ 3 ∷ 5 ∷ 6 ∷ 7 ∷ [])
 
-zip_shown : (db : Trees) (user : List ℕ) (rows : List Row) (es : List Entry) → AllZip (IsEntryRow (db contents_tree)) rows es
-    → AllZip (Shows db) (map shown (filter (equals 1 (Text user)) rows)) (filter (λ x. bytes_eq x.user user) es)
-zip_shown db user [] [] all = tt
-zip_shown db user [] (x ∷ es) all = absurd all
-zip_shown db user (r ∷ rows) [] all = absurd all
-zip_shown db user (r ∷ rows) (x ∷ es) all =
+-- the row of an entry passes where its number is above
+pub is_late : (contents : List Row) (r : Row) (x : Entry) (number : ℕ) → IsEntryRow contents r x → is_true (binary (Compare Gt Binary) (column r 2) (Int (pos number))) ≡ nat_lt number x.number
+is_late contents r x number h = ap (λ (row : Row). is_true (binary (Compare Gt Binary) (column row 2) (Int (pos number)))) h.2 ∙ above_numbers x.number number
+
+zip_shown : (db : Trees) (user : List ℕ) (number : ℕ) (rows : List Row) (es : List Entry) → AllZip (IsEntryRow (db contents_tree)) rows es
+    → AllZip (Shows db) (map shown (filter (is_since user number) rows)) (filter (λ x. nat_lt number x.number) (filter (λ x. bytes_eq x.user user) es))
+zip_shown db user number [] [] all = tt
+zip_shown db user number [] (x ∷ es) all = absurd all
+zip_shown db user number (r ∷ rows) [] all = absurd all
+zip_shown db user number (r ∷ rows) (x ∷ es) all =
     let h = all.0 in
     let test : equals 1 (Text user) r ≡ bytes_eq x.user user = ap (λ (row : Row). equal Binary (column row 1) (Text user)) h.2 ∙ equal_texts x.user user in
-    let more = zip_shown db user rows es all.1 in
+    let late = is_late (db contents_tree) r x number h in
+    let more = zip_shown db user number rows es all.1 in
     elim (cases_Bool (bytes_eq x.user user)) [
-      | inl mine ↦ rw (test, mine) ((h.1, ap shown h.2, h.3), more)
+      | inl mine ↦ elim (cases_Bool (nat_lt number x.number)) [
+        | inl above ↦ rw (test, mine, late, above) ((h.1, ap shown h.2, h.3), more)
+        | inr below ↦ rw (test, mine, late, below) more
+      ]
       | inr other ↦ rw (test, other) more
     ]
 
@@ -82,16 +96,24 @@ rises_mine user (x ∷ es) up =
       | inr other ↦ rw other more
     ]
 
--- the rows of the answer show the user's entries
-pub answer_shows : (old new : State) (user : List ℕ) (rows : List Row) → Steps (Reads (IsListed entries_tree (equals 1 (Text user)) shown rows)) old new → (before : Entries) → Stands old.now before
-    → AllZip (Shows old.now.trees) rows (entries_of user before)
-answer_shows old new user rows reads before stands =
+-- the rows of the answer show the user's entries with numbers above this one
+pub answer_shows : (old new : State) (user : List ℕ) (number : ℕ) (rows : List Row) → Steps (Reads (IsListed entries_tree (is_since user number) shown rows)) old new → (before : Entries) → Stands old.now before
+    → AllZip (Shows old.now.trees) rows (entries_since user number before)
+answer_shows old new user number rows reads before stands =
     let db = old.now.trees in
     let found = (reads stands.schema).change.1 in
-    let all = zip_shown db user (db entries_tree) before.entries stands.tables.entries in
-    let up = rises_shown db (map shown (filter (equals 1 (Text user)) (db entries_tree))) (entries_of user before) all (rises_mine user before.entries stands.tables.numbers.rising) in
-    let same = listed_so (map shown (filter (equals 1 (Text user)) (db entries_tree))) rows up (numbers_shown db _ (entries_of user before) all) found.same found.sorted in
-    subst (λ rs. AllZip (Shows db) rs (entries_of user before)) (sym same) all
+    let all = zip_shown db user number (db entries_tree) before.entries stands.tables.entries in
+    let up = rises_shown db (map shown (filter (is_since user number) (db entries_tree))) (entries_since user number before) all
+    (filter_rises _ (λ (x : Entry). nat_lt number x.number) (entries_of user before) (rises_mine user before.entries stands.tables.numbers.rising)) in
+    let same = listed_so (map shown (filter (is_since user number) (db entries_tree))) rows up (numbers_shown db _ (entries_since user number before) all) found.same found.sorted in
+    subst (λ rs. AllZip (Shows db) rs (entries_since user number before)) (sym same) all
+
+-- no number is 0
+pub all_since : (user : List ℕ) (e : Entries) → IsNumbered e → entries_since user 0 e ≡ entries_of user e
+all_since user e numbers = filter_all (λ (x : Entry). nat_lt 0 x.number) (entries_of user e) (λ x there.
+    let kept = has_filtered (λ (y : Entry). bytes_eq y.user user) e.entries x there in
+    let given = all_has (λ (y : Entry). (1 ≤ y.number) × (y.number ≤ e.lasts y.user)) e.entries x numbers.given kept.0 in
+    lt-ltb 0 x.number (omega (arith, given.0)))
 
 -- ---- row by row
 
@@ -148,13 +170,13 @@ one_read rows place row out more one old mid new lt is all so_far survives stays
     })
 
 -- all rows were read
-pub all_read : (old mid new : State) (user : List ℕ) (rows : List Row) (place : ℕ) (out : List EntryRow) → Steps (Reads (IsListed entries_tree (equals 1 (Text user)) shown rows)) old mid → length rows ≤ place → HasCleanDisk new → Reading rows place out mid new
-    → (before : Entries) → Stands old.now before → map listed out ≡ map listing_of (entries_of user before)
-all_read old mid new user rows place out reads whole clean reading before stands =
+pub all_read : (old mid new : State) (user : List ℕ) (number : ℕ) (rows : List Row) (place : ℕ) (out : List EntryRow) → Steps (Reads (IsListed entries_tree (is_since user number) shown rows)) old mid → length rows ≤ place → HasCleanDisk new → Reading rows place out mid new
+    → (before : Entries) → Stands old.now before → map listed out ≡ map listing_of (entries_since user number before)
+all_read old mid new user number rows place out reads whole clean reading before stands =
     let step = reads stands.schema in
     let same = step.change.0 in
     let there : Stands mid.now before = record { schema = step.schema; listed = step.listed stands.listed; tables = subst (λ t. StandsFor t before) (sym same) stands.tables } in
-    let shows = answer_shows old mid user rows reads before stands in
-    let zipped = subst (λ t. AllZip (Shows t) rows (entries_of user before)) (sym same) shows in
-    reading.read clean before there (entries_of user before) zipped
-    ∙ ap (map listing_of) (take_all place (entries_of user before) (omega (arith, whole, zip_length old.now.trees rows (entries_of user before) shows)))
+    let shows = answer_shows old mid user number rows reads before stands in
+    let zipped = subst (λ t. AllZip (Shows t) rows (entries_since user number before)) (sym same) shows in
+    reading.read clean before there (entries_since user number before) zipped
+    ∙ ap (map listing_of) (take_all place (entries_since user number before) (omega (arith, whole, zip_length old.now.trees rows (entries_since user number before) shows)))

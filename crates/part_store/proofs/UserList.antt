@@ -63,7 +63,7 @@ same_program None (Some y) h = absurd (cc)
 same_program (Some x) None h = absurd (cc)
 same_program (Some x) (Some y) h = let e : x ≡ y = cc in ap Some e
 
-same_fields : (x y : UserLine) → x.user ≡ y.user → x.last ≡ y.last → x.program ≡ y.program → x ≡ y
+pub same_fields : (x y : UserLine) → x.user ≡ y.user → x.last ≡ y.last → x.program ≡ y.program → x ≡ y
 same_fields x y user last program = λ i. record { user = user i; last = last i; program = program i }
 
 same_line : (x y : UserLine) → row_of_line x ≡ row_of_line y → x ≡ y

@@ -2,8 +2,11 @@
 use Rattle.std.specs.Prelude.{◌≡◌, ◌≢◌, ℕ, ℤ, pos, Bool, true, false, not, ◌&&◌, List, [], ◌∷◌, map, filter, Option, Some, None, IsTrue, IsPermutation, IsSorted, ◌⊎◌}
 use Rattle.std.specs.Ordering.{on}
 use Rattle.sqlite_sql.specs.declared.ops.UnaryOp.TheVariants.{Length}
-use Rattle.sqlite_sql.specs.Ops.{is_null, unary}
+use Rattle.sqlite_sql.specs.declared.ops.BinaryOp.TheVariants.{Compare}
+use Rattle.sqlite_sql.specs.declared.ops.CompareOp.TheVariants.{Gt}
+use Rattle.sqlite_sql.specs.Ops.{binary, is_null, is_true, unary}
 use Rattle.std.specs.List.{AllByRecursion}
+use Rattle.sqlite_value.specs.declared.keys.Collation.TheVariants.{Binary}
 use Rattle.sqlite_value.specs.declared.value.Value.TheVariants.{Int, Text, Blob}
 use Rattle.sqlite_value.specs.Order.{Row, column, value_cmp}
 use Rattle.sqlite_trees.specs.Tree.{Trees, rowid, IsTable, put_row, with_tree}
@@ -12,8 +15,10 @@ use Rattle.sqlite_rules.specs.Lists.{Has}
 use Rattle.sqlite_rules.specs.Edit.{next_rowid, is_taken}
 use Rattle.sqlite.specs.Effect.{IsDatabase, Database}
 use Rattle.sqlite.specs.State.{State}
+use Rattle.part_store.specs.Entries.{Entries}
 use Rattle.part_store.specs.Refusals.{user_values}
 use Rattle.part_store.specs.Tables.{users_tree, store_schema, contents_tree, entries_tree, equals}
+use Rattle.part_store.specs.UserLines.{with_users}
 use Rattle.sqlite_schema.specs.declared.schema.Schema.{Schema}
 
 -- what a query shows of a row
@@ -31,6 +36,10 @@ has_program r = not (is_null (column r 3))
 -- the row is the user's entry of that number
 abbrev pub is_entry : List ℕ → ℕ → Row → Bool
 is_entry user number r = equals 1 (Text user) r && equals 2 (Int (pos number)) r
+
+-- the row is an entry of the user with a number above this one
+abbrev pub is_since : List ℕ → ℕ → Row → Bool
+is_since user number r = equals 1 (Text user) r && is_true (binary (Compare Gt Binary) (column r 2) (Int (pos number)))
 
 -- how many octets a column has
 abbrev pub length_at : ℕ → Row → Row
@@ -75,6 +84,10 @@ without tree test db = with_tree db tree (filter (λ r. not (test r)) (db tree))
 -- a row of the table of users
 abbrev pub user_row : ℤ → List ℕ → ℕ → Option (List ℕ) → Row
 user_row id user last program = Int id ∷ user_values user last program
+
+-- the user has this program, or none, and at least this last number
+abbrev pub with_line : List ℕ → ℕ → Option (List ℕ) → Entries → Entries
+with_line user last program = with_users (record { user = user; last = last; program = program } ∷ [])
 
 -- the table of users has this row of the user, and no other
 abbrev pub IsOnlyRow : List ℕ → Row → Trees → Type 0

@@ -1,5 +1,5 @@
 -- Private: what the rows of an answer show, and what is read of them.
-use Rattle.std.specs.Prelude.{◌≡◌, ℕ, ◌^◌, ◌<◌, pos, List, [], ◌∷◌, length, Option, None, Some, IsUtf8, true, String, Vec, string_bytes, nat_abs}
+use Rattle.std.specs.Prelude.{◌≡◌, ℕ, ◌^◌, ◌<◌, pos, List, [], ◌∷◌, Option, IsUtf8, true, String, Vec, string_bytes, nat_abs}
 use Rattle.std.specs.declared.alloc.Global.{Global}
 use Rattle.sqlite.specs.Values.{or_null}
 use Rattle.sqlite_rules.specs.Lists.{Has}
@@ -18,11 +18,6 @@ use Rattle.part_store.specs.declared.user_row.UserRow.{UserRow}
 abbrev pub ShowsProgram : Row → Type 0
 ShowsProgram r = (user : List ℕ) × IsUtf8 user × (program : List ℕ) × (r ≡ Text user ∷ Blob program ∷ [])
 
--- the row that was found for a user, if any, begins with a last number
-abbrev pub ShowsLast : Option Row → Type 0
-ShowsLast None = Unit {0}
-ShowsLast (Some r) = (0 < length r) × ((last : ℕ) × (column r 0 ≡ Int (pos last)) × (last < 2 ^ 32))
-
 -- a user, his last number and his program
 abbrev pub ShowsUser : Row → Type 0
 ShowsUser r =
@@ -39,11 +34,6 @@ IsReadable r =
     (number : ℕ) × (kind : ℕ) × (folder : List ℕ) × (name : List ℕ) × (media : List ℕ) × (digest : List ℕ)
     × (number < 2 ^ 32) × (kind < 2 ^ 32)
     × (r ≡ Int (pos number) ∷ Int (pos kind) ∷ Blob folder ∷ Blob name ∷ Blob media ∷ Blob digest ∷ [])
-
--- the last number in a user's row
-abbrev pub last_in : Option Row → ℕ → Type 0
-last_in None n = n ≡ 0
-last_in (Some row) n = column row 0 ≡ Int (pos n)
 
 -- a row of the user's entry of that number names the digest
 abbrev pub NamesDigest : Trees → List ℕ → ℕ → List ℕ → Type 0

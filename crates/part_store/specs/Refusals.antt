@@ -83,8 +83,8 @@ HaveNoUserRoom pairs before db =
 abbrev pub HaveNoLineRoom : List UserLine → Entries → Trees → Type 0
 HaveNoLineRoom lines before db =
     RunsOut (db users_tree) (length lines)
-    ⊎ ((line : UserLine) × Has lines line × (last : ℕ) × (last ≤ max_entry_number)
-    × IsTooBig users_table (user_values line.user last line.program))
+    ⊎ ((line : UserLine) × Has lines line
+    × ((last : ℕ) × (last ≤ max_entry_number) × IsTooBig users_table (user_values line.user last line.program)))
 
 -- where the tables stand for a state, users are refused only by a database that can't work or has no room for a row
 abbrev pub OnlyWhenFailedOrNoLineRoom : List UserLine → State → State → StoreError → Type 0

@@ -38,7 +38,7 @@ abbrev pub drop_content_text : List ℕ
 drop_content_text = codes "DELETE FROM contents WHERE digest = ?1"
 
 abbrev pub list_entries_text : List ℕ
-list_entries_text = codes "SELECT number, kind, folder, name, media, digest FROM entries WHERE user = ?1 ORDER BY number"
+list_entries_text = codes "SELECT number, kind, folder, name, media, digest FROM entries WHERE user = ?1 AND number > ?2 ORDER BY number"
 
 abbrev pub find_entry_text : List ℕ
 find_entry_text = codes "SELECT digest FROM entries WHERE user = ?1 AND number = ?2"

@@ -119,7 +119,10 @@ fn claim_and_file<S: Alter>(
 }
 
 /// A user's last number, and whether the user has a row.
-fn last_of<S: Alter>(tx: &mut Transaction<'_, S>, user: &str) -> Result<(u32, bool), Error>
+pub(crate) fn last_of<S: Alter>(
+    tx: &mut Transaction<'_, S>,
+    user: &str,
+) -> Result<(u32, bool), Error>
     ensures same_reference { tx.new.conn.ghost_name ≡ tx.old.conn.ghost_name }
     ensures answer { IfDone S.Store tx.old.conn.now tx.new.conn.now result
         (λ found old _. (before : _) → Stands old.now before

@@ -1,17 +1,20 @@
-//! All users that a store knows.
-ghost use Rattle.std.specs.Prelude.{◌≡◌, ◌⊎◌, ◌∷◌, [], map, IfOk, IfErr};
+//! All users that a store knows, and how users are put in.
+ghost use Rattle.std.specs.Prelude.{◌≡◌, ◌⊎◌, ◌∷◌, ◌<◌, [], length, map, option_map, IsTrue, IfOk, IfErr};
 ghost use Rattle.part_store.specs.Access.{InTransaction};
-ghost use Rattle.part_store.specs.Changes.{columns};
+ghost use Rattle.part_store.specs.Blaming.{AsRefusalInside};
+ghost use Rattle.part_store.specs.Causes.{RisesFrom};
+ghost use Rattle.part_store.specs.Changes.{columns, with_line};
 ghost use Rattle.part_store.specs.Tables.{users_tree};
 ghost use Rattle.part_store.specs.Standing.{Stands};
-ghost use Rattle.part_store.specs.UserLines.{AreUsersOf, line_of};
+ghost use Rattle.part_store.specs.UserLines.{AreUsersOf, line_of, with_users};
 ghost use Rattle.part_store.specs.Readings.{answer_of, ShowsUser};
 ghost use Rattle.std.specs.List.{AllByRecursion};
-ghost use Rattle.part_store.specs.Refusals.{refusal_of, OnlyWhenUnnamed};
+ghost use Rattle.part_store.specs.Refusals.{refusal_of, OnlyWhenUnnamed, OnlyWhenFailedOrNoLineRoom, OnlyWhenFailedOrNoUserRoom};
 ghost use Rattle.part_store.specs.declared.error.StoreError.TheVariants.{Memory, Database};
-ghost use Rattle.part_store.specs.Calls.{IfDone, IfRefused, OnDone};
-ghost use Rattle.part_store.specs.Inside.{Stays};
+ghost use Rattle.part_store.specs.Calls.{Always, CommitsNothing, IfDone, IfRefused, OnDone, StaysClosed};
+ghost use Rattle.part_store.specs.Inside.{Brings, Stays, IsInside, KeepsStored, KeepsTables, StaysInside};
 
+use crate::adding::last_of;
 use crate::error::StoreError;
 use crate::user_row::UserRow;
 use crate::users;
@@ -57,4 +60,68 @@ fn user_in(row: &Row) -> Result<UserRow, Error>
         last: row.get(1)?,
         program: row.get(2)?,
     })
+}
+
+/// Puts users in, one after another.
+pub(crate) fn put_all<S: Alter>(tx: &mut Transaction<'_, S>, rows: &[UserRow]) -> Result<(), Error>
+    ensures same_reference { tx.new.conn.ghost_name ≡ tx.old.conn.ghost_name }
+    ensures step { OnDone S.Store tx.old.conn.now tx.new.conn.now result
+        (Brings (with_users (map line_of rows.now))) }
+    ensures open { OnDone S.Store tx.old.conn.now tx.new.conn.now result
+        (λ old _. 0 < length rows.now → IsTrue old.is_open) }
+    ensures inside { OnDone S.Store tx.old.conn.now tx.new.conn.now result StaysInside }
+    ensures stays_closed { Always S.Store tx.old.conn.now tx.new.conn.now StaysClosed }
+    ensures kept { Always S.Store tx.old.conn.now tx.new.conn.now KeepsStored }
+    ensures cause { IfRefused S.Store tx.old.conn.now tx.new.conn.now result
+        (AsRefusalInside (OnlyWhenFailedOrNoLineRoom (map line_of rows.now))) }
+    ensures survives { CommitsNothing S.Store tx.old.conn.now tx.new.conn.now }
+{
+    for row in rows {
+        put_user(tx, row)?;
+    }
+    Ok(())
+}
+
+/// Puts a user in.
+fn put_user<S: Alter>(tx: &mut Transaction<'_, S>, row: &UserRow) -> Result<(), Error>
+    ensures same_reference { tx.new.conn.ghost_name ≡ tx.old.conn.ghost_name }
+    ensures step { OnDone S.Store tx.old.conn.now tx.new.conn.now result
+        (Brings (with_users (line_of row.now ∷ []))) }
+    ensures inside { OnDone S.Store tx.old.conn.now tx.new.conn.now result IsInside }
+    ensures schema { OnDone S.Store tx.old.conn.now tx.new.conn.now result KeepsTables }
+    ensures cause { IfRefused S.Store tx.old.conn.now tx.new.conn.now result
+        (AsRefusalInside (OnlyWhenFailedOrNoLineRoom (line_of row.now ∷ []))) }
+    ensures rowids { OnDone S.Store tx.old.conn.now tx.new.conn.now result
+        (λ old new. (before : _) → Stands old.now before
+        → RisesFrom 1 (old.now.trees users_tree) (new.now.trees users_tree)) }
+    ensures within { InTransaction S.Store tx.old.conn.now tx.new.conn.now result }
+{
+    put_line(tx, row.user.as_str(), row.last, row.program.as_deref())
+}
+
+/// Puts a row of a user in, in the place of the one before, if there is one. The last number is the larger one of this
+/// and the one before.
+pub(crate) fn put_line<S: Alter>(
+    tx: &mut Transaction<'_, S>,
+    user: &str,
+    last: u32,
+    program: Option<&[u8]>,
+) -> Result<(), Error>
+    ensures same_reference { tx.new.conn.ghost_name ≡ tx.old.conn.ghost_name }
+    ensures step { OnDone S.Store tx.old.conn.now tx.new.conn.now result
+        (Brings (with_line user.now last (option_map (λ octets. octets.now) program.entry))) }
+    ensures inside { OnDone S.Store tx.old.conn.now tx.new.conn.now result IsInside }
+    ensures schema { OnDone S.Store tx.old.conn.now tx.new.conn.now result KeepsTables }
+    ensures cause { IfRefused S.Store tx.old.conn.now tx.new.conn.now result
+        (AsRefusalInside (OnlyWhenFailedOrNoUserRoom user.now
+        (with_line user.now last (option_map (λ octets. octets.now) program.entry)))) }
+    ensures rowids { OnDone S.Store tx.old.conn.now tx.new.conn.now result
+        (λ old new. (before : _) → Stands old.now before
+        → RisesFrom 1 (old.now.trees users_tree) (new.now.trees users_tree)) }
+    ensures within { InTransaction S.Store tx.old.conn.now tx.new.conn.now result }
+{
+    let (before, _is_known) = last_of(tx, user)?;
+    users::remove(tx, user)?;
+    users::add(tx, user, before.max(last), program)?;
+    Ok(())
 }

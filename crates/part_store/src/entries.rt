@@ -3,8 +3,8 @@
 ghost use Rattle.std.specs.Prelude.{◌≡◌, [], ◌∷◌, pos, IfErr};
 ghost use Rattle.sqlite_value.specs.declared.value.Value.TheVariants.{Int, Text, Blob};
 ghost use Rattle.sqlite.specs.State.{KeepsCommit};
-ghost use Rattle.part_store.specs.Changes.{Steps, Reads, IsFound, IsListed, IsAdded, IsTaken, is_entry, columns, IsTableIn};
-ghost use Rattle.part_store.specs.Tables.{entries_tree, equals, entries_table};
+ghost use Rattle.part_store.specs.Changes.{Steps, Reads, IsFound, IsListed, IsAdded, IsTaken, is_entry, is_since, columns, IsTableIn};
+ghost use Rattle.part_store.specs.Tables.{entries_tree, entries_table};
 ghost use Rattle.part_store.specs.Causes.{AddFaults, HasSome, IsFree, WriteFaults};
 ghost use Rattle.part_store.specs.Asking.{AsksTables};
 ghost use Rattle.part_store.specs.Calls.{Always, CommitsNothing, IfDone, IfRefused, OnDone, OnRefused};
@@ -13,18 +13,22 @@ ghost use Rattle.part_store.specs.Inside.{IsInside};
 use crate::users::first_of;
 use sqlite::{Alter, Error, Row, Transaction, params};
 
-/// A user's entries, in the order of their numbers.
-pub(crate) fn list<S: Alter>(tx: &mut Transaction<'_, S>, user: &str) -> Result<Vec<Row>, Error>
+/// A user's entries with numbers above one, in the order of their numbers.
+pub(crate) fn list<S: Alter>(
+    tx: &mut Transaction<'_, S>,
+    user: &str,
+    number: u32,
+) -> Result<Vec<Row>, Error>
     ensures same_reference { tx.new.conn.ghost_name ≡ tx.old.conn.ghost_name }
     ensures step { IfDone S.Store tx.old.conn.now tx.new.conn.now result
         (λ found. Steps (Reads
-        (IsListed entries_tree (equals 1 (Text user.now))
+        (IsListed entries_tree (is_since user.now number)
         (columns (2 ∷ 4 ∷ 3 ∷ 5 ∷ 6 ∷ 7 ∷ [])) found.items))) }
     ensures asks { AsksTables S.Store tx.old.conn.now tx.new.conn.now result }
 {
     tx.query_all(
-        "SELECT number, kind, folder, name, media, digest FROM entries WHERE user = ?1 ORDER BY number",
-        params![user],
+        "SELECT number, kind, folder, name, media, digest FROM entries WHERE user = ?1 AND number > ?2 ORDER BY number",
+        params![user, number],
     )
 }
 

@@ -24,9 +24,15 @@
 //! ### Calls of the store
 //!
 //! The store's tables represent a state of programs, entries and last numbers. If the disk returns what was written,
-//! `set_program`, `replace_programs`, `add_entries`, `add_sharing_entries` and `remove_entry` are exactly their steps
-//! on it, committed once, and `program_of`, `programs`, `users`, `contents`, `entries_of` and `bytes_of` give exactly
-//! what is there.
+//! `set_program`, `replace_programs`, `put_users`, `add_entries`, `add_sharing_entries` and `remove_entry` are exactly
+//! their steps on it, committed once, and `program_of`, `programs`, `users`, `last_of`, `contents`, `entries_of`,
+//! `entries_since` and `bytes_of` give exactly what is there.
+//!
+//! ### Users that are put in
+//!
+//! `put_users` gives each listed user the listed program, or none, and the listed last number if that is larger than
+//! the one before; a last number never falls. Users that one store returned, put into an empty store, give it exactly
+//! the programs and last numbers of the first store, and no entries (`users_carry_over`).
 //!
 //! ### Open stores and transactions
 //!
@@ -66,7 +72,7 @@
 //! ### A crash in a call of the store
 //!
 //! A crash leaves what it could have left before the call, or the state after it. A call that finds the store shut
-//! commits nothing; `replace_programs` promises that only if its list isn't empty.
+//! commits nothing; `replace_programs` and `put_users` promise that only if their list isn't empty.
 //!
 //! ### Taking a connection
 //!
@@ -75,10 +81,10 @@
 //! call, a crash leaves what it could have left before, or these tables; one that was shut before commits nothing. No
 //! connection is taken inside of a transaction.
 //!
-//! By `PartStore`: `set_program`, `replace_programs`, `add_entries`, `add_sharing_entries`, `remove_entry`,
-//! `program_of`, `programs`, `users`, `contents`, `entries_of`, `bytes_of`, `scrub`, `adopt`, `in_memory`, `release`; and
-//! `begin`, `program_within`, `add_within`; laws `open_stores_list_their_tables`, `calls_leave_what_was_or_is`,
-//! `contents_keep_their_digests`, `scrubs_report_all_damage`.
+//! By `PartStore`: `set_program`, `replace_programs`, `put_users`, `add_entries`, `add_sharing_entries`, `remove_entry`,
+//! `program_of`, `programs`, `users`, `last_of`, `contents`, `entries_of`, `entries_since`, `bytes_of`, `scrub`, `adopt`,
+//! `in_memory`, `release`; and `begin`, `program_within`, `add_within`; laws `open_stores_list_their_tables`,
+//! `calls_leave_what_was_or_is`, `contents_keep_their_digests`, `scrubs_report_all_damage`, `users_carry_over`.
 //!
 //! ## Connections that are taken as they are
 //!

@@ -1,13 +1,13 @@
 //! How a user's entries are listed.
 //!
-//! `list` asks for each entry's length with a statement of its own. A join of both tables would be one statement, but
+//! `list_since` asks for each entry's length with a statement of its own. A join of both tables would be one statement, but
 //! what is proved about statements here is about one table.
 ghost use Rattle.std.specs.Prelude.{◌≡◌, ◌⊎◌, ◌≤◌, ℕ, pos, List, length, map, IfOk, IfErr};
 ghost use Rattle.sqlite_value.specs.declared.value.Value.TheVariants.{Int};
 ghost use Rattle.sqlite_value.specs.Order.{column};
 ghost use Rattle.part_store.specs.Access.{InTransaction};
 ghost use Rattle.part_store.specs.Tables.{contents_tree};
-ghost use Rattle.part_store.specs.Entries.{entries_of, listing_of};
+ghost use Rattle.part_store.specs.Entries.{entries_of, entries_since, listing_of};
 ghost use Rattle.part_store.specs.Standing.{HasContent, Stands, kind_number, listed};
 ghost use Rattle.part_store.specs.Readings.{IsParts, Shows, IsReadable};
 ghost use Rattle.part_store.specs.Inside.{Stays, KeepsStored};
@@ -123,7 +123,24 @@ pub(crate) fn list_all<S: Alter>(
     ensures cause { IfRefused S.Store tx.old.conn.now tx.new.conn.now result OnlyWhenFailed }
     ensures within { InTransaction S.Store tx.old.conn.now tx.new.conn.now result }
 {
-    let rows = entries::list(tx, user)?;
+    list_since(tx, user, 0)
+}
+
+/// A user's entries with numbers above one, in the order of their numbers.
+pub(crate) fn list_since<S: Alter>(
+    tx: &mut Transaction<'_, S>,
+    user: &str,
+    number: u32,
+) -> Result<Vec<EntryRow>, StoreError>
+    ensures same_reference { tx.new.conn.ghost_name ≡ tx.old.conn.ghost_name }
+    ensures answer { Tells S.Store tx.old.conn.now tx.new.conn.now result
+        (λ before rows. map listed rows.items
+        ≡ map listing_of (entries_since user.now number before)) }
+    ensures refused { IfErr result (λ e. (e ≡ Memory) ⊎ (e ≡ Database)) }
+    ensures cause { IfRefused S.Store tx.old.conn.now tx.new.conn.now result OnlyWhenFailed }
+    ensures within { InTransaction S.Store tx.old.conn.now tx.new.conn.now result }
+{
+    let rows = entries::list(tx, user, number)?;
     let mut listed = Vec::new(*rows.allocator());
     for row in &rows {
         let entry = read_row(tx, row)?;

@@ -163,7 +163,7 @@ fn add_naming<S: Alter>(
     ensures cause { IfRefused S.Store tx.old.conn.now tx.new.conn.now result OnlyWhenFailed }
     ensures survives { CommitsNothing S.Store tx.old.conn.now tx.new.conn.now }
 {
-    let rows = entries::list(tx, user)?;
+    let rows = entries::list(tx, user, 0)?;
     add_rows(user, &rows, digests, found)
 }
 

@@ -40,10 +40,11 @@ ghost use Rattle.part_store.specs.Calls.{Always, CommitsNothing, DoneWhere, IfDo
 
 mod connections;
 
-use crate::all_users::list_users;
+use crate::adding::last_of;
+use crate::all_users::{list_users, put_all};
 use crate::entry::{EntryRow, NewEntry};
 use crate::error::StoreError;
-use crate::listing::list_all;
+use crate::listing::{list_all, list_since};
 use crate::looking::{Unopened, has_tables};
 use crate::opening::open_database;
 use crate::scrubbing::{Scrubbed, scrub_all};
@@ -77,7 +78,7 @@ use std::time::Duration;
 /// cause is found.
 ///
 /// A store that a failure has shut stays shut: its calls fail with `Memory` or `Database`, and commit nothing (for
-/// `replace_programs` the latter is promised only if its list isn't empty).
+/// `replace_programs` and `put_users` the latter is promised only if the list isn't empty).
 ///
 /// Which errors a call can return is promised whatever the disk does. What it returns and leaves, and the cause of an
 /// error, are promised as long as the disk returns what was written.
@@ -432,8 +433,10 @@ impl<S: Alter> PartStore<S> {
         ensures refused { IsRefusedAs S.Store self.old self.new result IsFailure
             (OnlyWhenFailedOrNoLineRoom (map line_of users.now)) }
     {
-        let _stub = (&self.conn, users);
-        Err(StoreError::Memory)
+        let mut tx = begin(&mut self.conn);
+        put_all(&mut tx, users)?;
+        tx.commit()?;
+        Ok(())
     }
 
     /// Returns the last number that the user was given, or 0 if the user was given none. The user's next entry gets the
@@ -449,8 +452,9 @@ impl<S: Alter> PartStore<S> {
         ensures reads { ReadsStore S.Store self.old self.new result }
         ensures refused { IsRefusedAs S.Store self.old self.new result IsFailure OnlyWhenFailed }
     {
-        let _stub = (&self.conn, user);
-        Err(StoreError::Memory)
+        let mut tx = begin(&mut self.conn);
+        let (last, _is_known) = last_of(&mut tx, user)?;
+        Ok(last)
     }
 
     /// Returns how many contents there are, and how many bytes they have together. A content that several entries share
@@ -613,8 +617,8 @@ impl<S: Alter> PartStore<S> {
         ensures reads { ReadsStore S.Store self.old self.new result }
         ensures refused { IsRefusedAs S.Store self.old self.new result IsFailure OnlyWhenFailed }
     {
-        let _stub = (&self.conn, user, number);
-        Err(StoreError::Memory)
+        let mut tx = begin(&mut self.conn);
+        list_since(&mut tx, user, number)
     }
 
     /// Returns the bytes of the user's entry with this number. Their SHA-256 is the digest that they are stored under

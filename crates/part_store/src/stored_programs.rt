@@ -7,27 +7,17 @@ ghost use Rattle.part_store.specs.Entries.{AreProgramsOf, with_program, with_pro
 ghost use Rattle.part_store.specs.Blaming.{AsRefusal, AsRefusalInside};
 ghost use Rattle.part_store.specs.Inside.{Brings, Stays, IsInside, KeepsStored, KeepsTables, StaysInside};
 ghost use Rattle.part_store.specs.Standing.{Stands, pair_of};
-ghost use Rattle.part_store.specs.Readings.{last_in, row_of, ShowsLast, ShowsProgram};
+ghost use Rattle.part_store.specs.Readings.{row_of, ShowsProgram};
 ghost use Rattle.std.specs.List.{AllByRecursion};
-ghost use Rattle.part_store.specs.Refusals.{refusal_of, OnlyWhenFailed, OnlyWhenUnnamed, OnlyWhenFailedOrNoProgramRoom, OnlyWhenFailedOrNoUserRoom};
+ghost use Rattle.part_store.specs.Refusals.{OnlyWhenFailed, OnlyWhenUnnamed, OnlyWhenFailedOrNoProgramRoom, OnlyWhenFailedOrNoUserRoom};
 ghost use Rattle.part_store.specs.Causes.{RisesFrom};
 ghost use Rattle.part_store.specs.declared.error.StoreError.TheVariants.{Memory, Database};
 ghost use Rattle.part_store.specs.Calls.{Always, CommitsNothing, IfRefused, OnDone, StaysClosed, Tells};
 
+use crate::all_users::put_line;
 use crate::error::StoreError;
 use crate::users;
 use sqlite::{Alter, Error, Row, Transaction};
-
-/// The last number in a user's row, or 0 if there is no row.
-fn last_in(found: &Option<Row>) -> Result<u32, Error>
-    ensures last { IfOk result (last_in found.now) }
-    ensures cause { IfErr result (λ e. refusal_of e ≡ Database → ShowsLast found.now → ⊥) }
-{
-    match found {
-        Some(row) => row.get(0),
-        None => Ok(0),
-    }
-}
 
 /// Stores a user's program and replaces the one before.
 pub(crate) fn put_program<S: Alter>(
@@ -47,11 +37,7 @@ pub(crate) fn put_program<S: Alter>(
         → RisesFrom 1 (old.now.trees users_tree) (new.now.trees users_tree)) }
     ensures within { InTransaction S.Store tx.old.conn.now tx.new.conn.now result }
 {
-    let found = users::find(tx, user)?;
-    let last = last_in(&found)?;
-    users::remove(tx, user)?;
-    users::add(tx, user, last, Some(program))?;
-    Ok(())
+    put_line(tx, user, 0, Some(program))
 }
 
 /// A user's program, or `None` if the user has none.

@@ -2,8 +2,8 @@
 //!
 //! A delivery changes only its user's last number, by an UPDATE, or an INSERT if there is no row. It neither reads the
 //! user's program for that nor binds it to the statement.
-/// A user that the store knows, because a program or an entry was stored under that name. [`crate::PartStore::users`]
-/// returns one for each row of the table of users.
+/// A user that a store knows, because a program or an entry was stored under that name. [`crate::PartStore::users`]
+/// returns one for each row of the table of users, and [`crate::PartStore::put_users`] puts such users in.
 #[derive(Drop)]
 pub struct UserRow {
     /// The user's name.

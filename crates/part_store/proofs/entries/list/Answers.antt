@@ -1,5 +1,5 @@
-use Rattle.std.proofs.Common.{[], ◌∷◌}
-use Rattle.sqlite_value.specs.declared.value.Value.TheVariants.{Text}
+use Rattle.std.proofs.Common.{[], ◌∷◌, pos}
+use Rattle.sqlite_value.specs.declared.value.Value.TheVariants.{Int, Text}
 use Rattle.sqlite.specs.Held.{state}
 use Rattle.part_store.specs.Statements.{list_entries_text}
 use Rattle.part_store.proofs.Asked.{list_entries_faults}
@@ -10,10 +10,10 @@ use Rattle.part_store.proofs.entries.list.Goals as goal
 
 pub returns-clause-step : goal.returns-clause-step
 returns-clause-step g c clean =
-    if_ok c.query_all.result _ _ (λ rows shown. entries_listed (state g.S.Store c.args.tx.now.conn.now) (state g.S.Store c.query_all.new.self.conn.now) c.args.user.now rows.items (rw c.params-to_sql.ensures at shown)) (c.query_all.ensures.ok clean)
+    if_ok c.query_all.result _ _ (λ rows shown. entries_listed (state g.S.Store c.args.tx.now.conn.now) (state g.S.Store c.query_all.new.self.conn.now) c.args.user.now c.args.number rows.items (rw (c.params-to_sql.ensures, c.params-to_sql-2.ensures) at shown)) (c.query_all.ensures.ok clean)
 
 pub returns-clause-asks : goal.returns-clause-asks
 returns-clause-asks g c =
     let old = c.args.tx.now.conn.now in
     let new = c.query_all.new.self.conn.now in
-    asks g.S.Store old new list_entries_text (Text c.args.user.now ∷ []) c.query_all.ensures.survives (list_entries_faults (state g.S.Store old) (state g.S.Store new) c.args.user.now) c.query_all.result (rw c.params-to_sql.ensures at c.query_all.ensures.ok) (rw c.params-to_sql.ensures at c.query_all.ensures.err)
+    asks g.S.Store old new list_entries_text (Text c.args.user.now ∷ Int (pos c.args.number) ∷ []) c.query_all.ensures.survives (list_entries_faults (state g.S.Store old) (state g.S.Store new) c.args.user.now c.args.number) c.query_all.result (rw (c.params-to_sql.ensures, c.params-to_sql-2.ensures) at c.query_all.ensures.ok) (rw (c.params-to_sql.ensures, c.params-to_sql-2.ensures) at c.query_all.ensures.err)

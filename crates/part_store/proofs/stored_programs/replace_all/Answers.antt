@@ -1,10 +1,10 @@
-use Rattle.std.proofs.Common.{map, take, drop, ◌≡◌, ◌+◌, ◌∙◌, arith, subst}
+use Rattle.std.proofs.Common.{map, take, drop, ◌≡◌, ◌+◌, [], ◌∷◌, ◌++◌, ◌∙◌, ap, sym, arith, subst}
 use Rattle.std.proofs.lemmas.List.{take_all}
 use Rattle.sqlite.specs.Held.{state}
 use Rattle.part_store.specs.Entries.{with_programs}
 use Rattle.part_store.specs.Inside.{Brings}
 use Rattle.part_store.specs.Standing.{pair_of}
-use Rattle.part_store.proofs.Replacing.{Replacing, pairs_more, pairs_refused, pairs_split, replaced_more}
+use Rattle.part_store.proofs.Replacing.{Replacing, IsPairTooBig, items_refused, mapped_more, mapped_split, programs_push, replaced_more, same_pair}
 use Rattle.part_store.proofs.Runs.{passed}
 use Rattle.part_store.proofs.stored_programs.replace_all.Goals as goal
 
@@ -17,11 +17,13 @@ loop-user-preserved g c =
     let place = c.loop-user.user-index in
     let user = c.deref.result.now in
     let program = c.deref-in-loop-user.result.now in
-    let whole = pairs_more programs place c.loop-user-item.result user program c.loop-user-test.true c.loop-user-item.is c.deref.ensures c.deref-in-loop-user.ensures.value in
+    let pair = same_pair c.loop-user-item.result user program c.deref.ensures c.deref-in-loop-user.ensures.value in
+    let whole = mapped_more pair_of programs place c.loop-user-item.result c.loop-user-test.true c.loop-user-item.is in
     record {
       same_reference = c.replace_program.ensures.same_reference ∙ c.loop-user.invariant.same_reference;
-      so_far = subst (λ pairs. Replacing pairs old new) whole (replaced_more (map pair_of (take place programs)) (user, program) old mid new c.loop-user.invariant.so_far
-          c.replace_program.ensures.within.survives c.in_ok-replace_program.ensures.step c.in_ok-replace_program.ensures.inside c.in_ok-replace_program.ensures.schema c.in_ok-replace_program.ensures.within.was_open c.replace_program.ensures.within.stays_closed c.replace_program.ensures.within.kept c.in_ok-replace_program.ensures.rowids);
+      so_far = subst (λ pairs. Replacing with_programs pairs old new) (ap (λ p. map pair_of (take place programs) ++ p ∷ []) (sym pair) ∙ whole)
+          (replaced_more with_programs (map pair_of (take place programs)) (user, program) old mid new c.loop-user.invariant.so_far c.replace_program.ensures.within.survives
+          (programs_push (map pair_of (take place programs)) (user, program)) c.in_ok-replace_program.ensures.step c.in_ok-replace_program.ensures.inside c.in_ok-replace_program.ensures.schema c.in_ok-replace_program.ensures.within.was_open c.replace_program.ensures.within.stays_closed c.replace_program.ensures.within.kept c.in_ok-replace_program.ensures.rowids);
     }
 
 pub returns-clause-step : goal.returns-clause-step
@@ -39,7 +41,11 @@ returns-in_err-replace_program-clause-cause g c clean =
     let place = c.loop-user.user-index in
     let user = c.deref.result.now in
     let program = c.deref-in-loop-user.result.now in
-    let whole = pairs_split programs place c.loop-user-item.result user program c.loop-user-test.true c.loop-user-item.is c.deref.ensures c.deref-in-loop-user.ensures.value in
+    let pair = same_pair c.loop-user-item.result user program c.deref.ensures c.deref-in-loop-user.ensures.value in
+    let done = map pair_of (take place programs) in
+    let later = map pair_of (drop (place + 1) programs) in
+    let whole : map pair_of programs ≡ done ++ (user, program) ∷ later =
+    mapped_split pair_of programs place c.loop-user-item.result c.loop-user-test.true c.loop-user-item.is ∙ ap (λ p. done ++ p ∷ later) pair in
     passed c.from_residual.result _ _ c.from_residual.ensures.1
-    (pairs_refused (map pair_of (take place programs)) (map pair_of (drop (place + 1) programs)) (map pair_of programs) (user, program) old mid new _ whole c.loop-user.invariant.so_far c.replace_program.ensures.within.survives
-    clean (c.in_err-replace_program.ensures.cause clean))
+    (items_refused with_programs done (user, program) old mid new c.loop-user.invariant.so_far c.replace_program.ensures.within.survives IsPairTooBig (λ _ big. big) later (map pair_of programs) _ whole clean
+    (c.in_err-replace_program.ensures.cause clean))

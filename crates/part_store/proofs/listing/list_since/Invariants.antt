@@ -1,7 +1,7 @@
 use Rattle.std.proofs.Common.{◌≡◌}
 use Rattle.sqlite.specs.Held.{state}
 use Rattle.part_store.proofs.Showing.{Reading}
-use Rattle.part_store.proofs.listing.list_all.Given as goal
+use Rattle.part_store.proofs.listing.list_since.Given as goal
 
 abbrev pub invariant-loop-row : goal.invariant-loop-row
 invariant-loop-row g l = record {

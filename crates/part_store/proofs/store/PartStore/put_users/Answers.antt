@@ -1,0 +1,61 @@
+use Rattle.std.proofs.Common.{◌<◌, IfErr, IsTrue, arith, length, map, rules, subst}
+use Rattle.sqlite.specs.Held.{state}
+use Rattle.sqlite.specs.State.{HasCleanDisk, Survives}
+use Rattle.part_store.specs.Refusals.{refusal_of, OnlyWhenFailedOrNoLineRoom, HaveNoLineRoom}
+use Rattle.part_store.specs.Standing.{Makes, MayMake}
+use Rattle.part_store.proofs.Failing.{dropped}
+use Rattle.part_store.specs.Calls.{StaysClosed}
+use Rattle.part_store.specs.Inside.{Brings}
+use Rattle.part_store.specs.UserLines.{line_of, with_users}
+use Rattle.part_store.proofs.Runs.{passed}
+use Rattle.part_store.proofs.Commits.{commits_shown, committed_made, brought_store}
+use Rattle.part_store.proofs.store.PartStore.put_users.Goals as goal
+
+pub returns-in_err-put_all-clause-refused : goal.returns-in_err-put_all-clause-refused
+returns-in_err-put_all-clause-refused g c = record {
+  which = search rules;
+  cause = λ clean.
+      let mid = state g.S.Store c.put_all.new.tx.conn.now in
+      let new = state g.S.Store c.drop-tx.new.self.0 in
+      let lines = map line_of c.args.users.now in
+      let early : HasCleanDisk mid = omega (arith, clean, c.drop-tx.ensures.survives.clean) in
+      let cause = subst (λ h. IsTrue (state g.S.Store h).in_transaction → OnlyWhenFailedOrNoLineRoom lines (state g.S.Store h) mid (refusal_of c.in_err-put_all.field-0.0)) c.begin-tx.ensures.begun (c.in_err-put_all.ensures.cause early) in
+      subst (λ h. IfErr c.from_residual.result (OnlyWhenFailedOrNoLineRoom lines (state g.S.Store h) new)) c.self.view_is
+      (passed c.from_residual.result _ _ c.from_residual.ensures.1 (dropped g.S.Store c.self.inside.conn mid new (HaveNoLineRoom lines) (refusal_of c.in_err-put_all.field-0.0) c.drop-tx.ensures.survives cause));
+}
+
+pub returns-in_err-commit-clause-writes : goal.returns-in_err-commit-clause-writes
+returns-in_err-commit-clause-writes g c =
+    let mid = state g.S.Store c.put_all.new.tx.conn.now in
+    let new = state g.S.Store c.commit.new.self.0 in
+    let users = c.args.users.now in
+    let change = with_users (map line_of users) in
+    let begun = c.begin-tx.ensures.begun in
+    let brings = λ (clean : HasCleanDisk mid). subst (λ h. Brings change (state g.S.Store h) mid) begun (c.in_ok-put_all.ensures.step clean) in
+    let is_open = λ (clean : HasCleanDisk mid). subst (λ h. 0 < length users → IsTrue (state g.S.Store h).is_open) begun (c.in_ok-put_all.ensures.open clean) in
+    let survives = subst (λ h. Survives (state g.S.Store h) new (λ trees. (0 < length users → IsTrue (state g.S.Store h).is_open) × MayMake change (state g.S.Store h) trees)) c.self.view_is
+    (commits_shown g.S.Store c.self.inside.conn mid new (λ trees. (0 < length users → IsTrue (state g.S.Store c.self.inside.conn).is_open) × MayMake change (state g.S.Store c.self.inside.conn) trees)
+    (subst (λ h. Survives (state g.S.Store h) mid (λ _. ⊥)) begun c.put_all.ensures.survives) (λ clean. (is_open clean, brought_store g.S.Store c.self.inside.conn mid new change (brings clean))) c.commit.ensures.survives) in
+    record { made = search rules; unchanged = search rules; survives = survives }
+
+pub returns-clause-writes : goal.returns-clause-writes
+returns-clause-writes g c =
+    let mid = state g.S.Store c.put_all.new.tx.conn.now in
+    let new = state g.S.Store c.commit.new.self.0 in
+    let users = c.args.users.now in
+    let change = with_users (map line_of users) in
+    let begun = c.begin-tx.ensures.begun in
+    let brings = λ (clean : HasCleanDisk mid). subst (λ h. Brings change (state g.S.Store h) mid) begun (c.in_ok-put_all.ensures.step clean) in
+    let is_open = λ (clean : HasCleanDisk mid). subst (λ h. 0 < length users → IsTrue (state g.S.Store h).is_open) begun (c.in_ok-put_all.ensures.open clean) in
+    let survives = subst (λ h. Survives (state g.S.Store h) new (λ trees. (0 < length users → IsTrue (state g.S.Store h).is_open) × MayMake change (state g.S.Store h) trees)) c.self.view_is
+    (commits_shown g.S.Store c.self.inside.conn mid new (λ trees. (0 < length users → IsTrue (state g.S.Store c.self.inside.conn).is_open) × MayMake change (state g.S.Store c.self.inside.conn) trees)
+    (subst (λ h. Survives (state g.S.Store h) mid (λ _. ⊥)) begun c.put_all.ensures.survives) (λ clean. (is_open clean, brought_store g.S.Store c.self.inside.conn mid new change (brings clean))) c.commit.ensures.survives) in
+    record {
+      made = λ clean.
+          let early : HasCleanDisk mid = omega (arith, clean, c.commit.ensures.survives.clean) in
+          let shows = (c.in_ok-commit.ensures.ok clean).1 in
+          subst (λ h. Makes change (state g.S.Store h) new) c.self.view_is (committed_made g.S.Store c.self.inside.conn mid new change
+          (subst (λ h. StaysClosed (state g.S.Store h) mid) begun (c.put_all.ensures.stays_closed early) shows.was_open) (brings early) shows);
+      unchanged = search rules;
+      survives = survives;
+    }
