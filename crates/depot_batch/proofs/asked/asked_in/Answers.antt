@@ -21,7 +21,7 @@ returns-in-None-default-clause-nothing c =
       _,
       _,
       ap (λ t. name_of c.args.form ∷ t) (two c.args.rest.now (record { ref_ptr = (0, 0); now = [] }) (omega (arith, c.in-Export-len4.len_at_least))),
-      subst (λ (o : Option ℕ). MatchOption o ((number : ℕ) → IsNumberFrom (least_number c.args.form) digits number → ⊥) (IsNumberFrom (least_number c.args.form) digits)) c.in-None-default.is-0 c.number_of.ensures,
+      subst (λ (o : Option ℕ). MatchOption o ((number : ℕ) → IsNumberFrom (least_number c.args.form) digits number → ⊥) (IsNumberFrom (least_number c.args.form) digits)) c.in-None-default.is-0 c.number_of-in-Export-len4.ensures,
     )
 
 pub returns-in-None-clause-nothing : goal.returns-in-None-clause-nothing
@@ -29,6 +29,15 @@ returns-in-None-clause-nothing c = (
   _,
   _,
   _,
-  ap (λ t. name_of c.args.form ∷ t) (two c.args.rest.now (record { ref_ptr = (0, 0); now = [] }) c.in-Remove-len2.len_at_least),
+  ap (λ t. name_of c.args.form ∷ t) (two c.args.rest.now (record { ref_ptr = (0, 0); now = [] }) c.in-Since-len2.len_at_least),
   c.in-None.ensures,
+)
+
+pub returns-in-None-number_of-clause-nothing : goal.returns-in-None-number_of-clause-nothing
+returns-in-None-number_of-clause-nothing c = (
+  _,
+  _,
+  _,
+  ap (λ t. name_of c.args.form ∷ t) (two c.args.rest.now (record { ref_ptr = (0, 0); now = [] }) c.in-Remove-len2.len_at_least),
+  c.in-None-number_of.ensures,
 )
