@@ -1,9 +1,9 @@
 -- Turns that a depot is taken through are turns of something else that goes beside it.
-use Rattle.std.proofs.Common.{◌≡◌, ◌⊎◌, ap, inl, inr, ℕ, List, [], ◌∷◌, length, refl, sym, subst}
+use Rattle.std.proofs.Common.{◌≡◌, ◌⊎◌, ap, inl, inr, ℕ, List, [], ◌∷◌, length, sym, subst}
 use Rattle.devices.specs.Device.{Output}
 use Rattle.devices.specs.Supply.{Supply}
 use Rattle.depot_batch.specs.Effects.{DepotAndOutput, depot_and_output}
-use Rattle.depot_batch.specs.Turns.{AreTakenBy, EndsBy, HasServedBy, HasServedLastBy, Turn, Writing}
+use Rattle.depot_batch.specs.Turns.{AreTakenBy, EndsBy, HasServedBy, Turn, Writing}
 use Rattle.depot.specs.Batches.{LastIs, OneIs}
 
 -- How turns go on a depot, and on what goes beside it, with the same host and output; when the depot is sound; what a

@@ -7,7 +7,7 @@ use Rattle.sqlite.specs.State.{HasCleanDisk, State, Survives}
 use Rattle.part_store.specs.Standing.{LeavesUnchanged}
 use Rattle.depot_actions.specs.Applying.{MayAdd}
 use Rattle.depot_actions.specs.Deliveries.{DoesAll, MayLeaveAll}
-use Rattle.depot_actions.specs.DepotState.{Command, Export as Exports, Reply as DepotReply, Text as Written}
+use Rattle.depot_actions.specs.DepotState.{Export as Exports, Reply as DepotReply, Text as Written}
 use Rattle.depot_actions.specs.History.{Call}
 use Rattle.devices.specs.Device.{Output}
 use Rattle.devices.specs.Supply.{Supply}
