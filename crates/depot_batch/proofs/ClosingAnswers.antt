@@ -1,12 +1,12 @@
 -- No line of an answer begins with `= `.
 use Rattle.std.proofs.Common.{◌≡◌, ◌∙◌, refl, sym, ap, cond, codes, Bool, true, false, ◌++◌, ℕ, List, [], ◌∷◌, map, Option, Some, None, true≢false}
-use Rattle.std.specs.Prelude.{filter, bytes_eq}
+use Rattle.std.specs.Prelude.{filter}
 use Rattle.std.specs.List.{list_all}
 use Rattle.std.specs.Fmt.{decimal}
 use Rattle.sqlite_trees.specs.declared.store.Store.{Ghosts}
 use Rattle.sqlite.specs.Held.{Held, state}
 use Rattle.sqlite.specs.State.{HasCleanDisk, State}
-use Rattle.part_store.specs.Entries.{Entries, Entry, Listing, entries_of, listing_of}
+use Rattle.part_store.specs.Entries.{Entries, Entry, Listing, entries_of, entries_since, listing_of}
 use Rattle.part_store.specs.Standing.{Stands}
 use Rattle.part_store.specs.declared.entry.Kind.{Kind}
 use Rattle.part_store.specs.declared.entry.Kind.TheVariants.{Message, Part}
@@ -18,7 +18,7 @@ use Rattle.refusals.specs.declared.refusal.Refusal.{Refusal}
 use Rattle.refusals.specs.declared.refusal.Refusal.TheVariants.{Memory}
 use Rattle.printing.specs.Printed.{line, quoted, refusal_line}
 use Rattle.depot_jobs.specs.Requests.{Request}
-use Rattle.depot_jobs.specs.declared.request.OnDepot.TheVariants.{Script, Code, Deliver, List as ListEntries, Export, Remove, Migrate}
+use Rattle.depot_jobs.specs.declared.request.OnDepot.TheVariants.{Script, Code, Deliver, List as ListEntries, Since, Export, Remove, Migrate}
 use Rattle.depot_cli.specs.Printed.{entries_text, entry_text, kind_text, reply_text}
 use Rattle.depot_cli.specs.Requests.{request_command}
 use Rattle.depot_cli.specs.Tasks.{HasDone}
@@ -91,19 +91,23 @@ full_closes_none [] plain = refl
 full_closes_none (e ∷ es) plain =
     lines_pass (entry_text Full) (e ∷ es) (λ x. is_one_line x.media) plain (λ x fit. (full_safe x fit).0) (λ x fit. (full_safe x fit).1)
 
--- the entries of a user have the media types of all entries
-plain_listed : (user : List ℕ) (entries : List Entry) → list_all (λ x. is_one_line x.media) entries ≡ true
-    → list_all (λ (x : Listing). is_one_line x.media) (map listing_of (filter (λ (x : Entry). bytes_eq x.user user) entries)) ≡ true
-plain_listed user [] plain = refl
-plain_listed user (x ∷ xs) plain = go (bytes_eq x.user user) (plain_listed user xs (both _ _ plain).1)
+-- some of the entries have the media types of all
+plain_some : (fit : Entry → Bool) (entries : List Entry) → list_all (λ x. is_one_line x.media) entries ≡ true → list_all (λ x. is_one_line x.media) (filter fit entries) ≡ true
+plain_some fit [] plain = refl
+plain_some fit (x ∷ xs) plain = go (fit x) (plain_some fit xs (both _ _ plain).1)
   where
-    go : (b : Bool) → list_all (λ (x : Listing). is_one_line x.media) (map listing_of (filter (λ (x : Entry). bytes_eq x.user user) xs)) ≡ true
-        → list_all (λ (x : Listing). is_one_line x.media)
-        (map listing_of (cond b (x ∷ filter (λ (x : Entry). bytes_eq x.user user) xs) (filter (λ (x : Entry). bytes_eq x.user user) xs))) ≡ true
+    go : (b : Bool) → list_all (λ x. is_one_line x.media) (filter fit xs) ≡ true → list_all (λ x. is_one_line x.media) (cond b (x ∷ filter fit xs) (filter fit xs)) ≡ true
     go true rest =
         let here : is_one_line x.media ≡ true = (both (is_one_line x.media) _ plain).0 in
         rw here rest
     go false rest = rest
+
+-- and so have their listings
+plain_listed : (entries : List Entry) → list_all (λ x. is_one_line x.media) entries ≡ true → list_all (λ (x : Listing). is_one_line x.media) (map listing_of entries) ≡ true
+plain_listed [] plain = refl
+plain_listed (x ∷ xs) plain =
+    let here : is_one_line x.media ≡ true = (both (is_one_line x.media) _ plain).0 in
+    rw here (plain_listed xs (both _ _ plain).1)
 
 numbered_safe : (words : List ℕ) (number : ℕ) → Safe words → has_closing true (line (words ++ decimal number)) ≡ false
 numbered_safe words number safe = safe_line (words ++ decimal number) (safe_both words (decimal number) safe (decimal_one_line number))
@@ -127,7 +131,15 @@ listed : (user : List ℕ) (reply : DepotReply) (old new : State) (before : Entr
 listed user reply old new before done clean stands plain =
     let accepted = (done clean).1 before stands in
     let is : reply ≡ depot.Listed (map listing_of (entries_of user before)) = accepted.1.step.0 in
-    ap (λ r. has_closing true (reply_text (depot.ListAll user) r)) is ∙ full_closes_none _ (plain_listed user before.entries plain)
+    ap (λ r. has_closing true (reply_text (depot.ListAll user) r)) is ∙ full_closes_none _ (plain_listed (entries_of user before) (plain_some _ before.entries plain))
+
+listed_since : (user : List ℕ) (number : ℕ) (reply : DepotReply) (old new : State) (before : Entries) → HasDone (depot.ListSince user number) reply old new → HasCleanDisk new
+    → Stands old.now before → HavePlainMedia before → has_closing true (reply_text (depot.ListSince user number) reply) ≡ false
+listed_since user number reply old new before done clean stands plain =
+    let accepted = (done clean).1 before stands in
+    let is : reply ≡ depot.Listed (map listing_of (entries_since user number before)) = accepted.1.step.0 in
+    ap (λ r. has_closing true (reply_text (depot.ListSince user number) r)) is
+    ∙ full_closes_none _ (plain_listed (entries_since user number before) (plain_some _ (entries_of user before) (plain_some _ before.entries plain)))
 
 replied : (request : Request) (octets : List ℕ) (words : List Text) (reply : DepotReply) (old new : State) (before : Entries) → Asks words (Reply request)
     → HasDone (request_command request octets) reply old new → HasCleanDisk new → Stands old.now before → HavePlainMedia before
@@ -136,6 +148,7 @@ replied (Script user script) octets words reply old new before asks done clean s
 replied (Code user program) octets words reply old new before asks done clean stands plain = refl
 replied (Deliver user message) octets words reply old new before asks done clean stands plain = delivered reply user.now octets
 replied (ListEntries user) octets words reply old new before asks done clean stands plain = listed user.now reply old new before done clean stands plain
+replied (Since user number) octets words reply old new before asks done clean stands plain = listed_since user.now number reply old new before done clean stands plain
 replied (Export user number encoding) octets words reply old new before asks done clean stands plain = absurd asks
 replied (Remove user number) octets words reply old new before asks done clean stands plain = numbered_safe (codes "removed ") number (refl, refl)
 replied Migrate octets words reply old new before asks done clean stands plain = migrated reply
@@ -169,10 +182,12 @@ wrong_closes_none (faults.Form forms.Script) = refl
 wrong_closes_none (faults.Form forms.Code) = refl
 wrong_closes_none (faults.Form forms.Deliver) = refl
 wrong_closes_none (faults.Form forms.List) = refl
+wrong_closes_none (faults.Form forms.Since) = refl
 wrong_closes_none (faults.Form forms.Export) = refl
 wrong_closes_none (faults.Form forms.Remove) = refl
 wrong_closes_none (faults.Form forms.Migrate) = refl
-wrong_closes_none faults.Number = refl
+wrong_closes_none (faults.Number forms.Since) = refl
+wrong_closes_none (faults.Number form) = refl
 wrong_closes_none faults.Encoding = refl
 
 -- ---- answers

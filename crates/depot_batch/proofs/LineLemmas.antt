@@ -52,7 +52,7 @@ wrong_words octets words faults.Words has nothing = absurd nothing
 wrong_words octets words faults.NotText has nothing = absurd nothing
 wrong_words octets words faults.NoCommand has nothing = (words, has, nothing)
 wrong_words octets words (faults.Form form) has nothing = (words, has, nothing)
-wrong_words octets words faults.Number has nothing = (words, has, nothing)
+wrong_words octets words (faults.Number form) has nothing = (words, has, nothing)
 wrong_words octets words faults.Encoding has nothing = (words, has, nothing)
 
 -- so are words that aren't all texts

@@ -14,7 +14,7 @@ ghost use Rattle.depot_batch.specs.Effects.{HasExported, HasNotExported, HasNotR
 use crate::asked::{Asked, Export};
 use depot_actions::Depot;
 use depot_cli::{Reply, reply_to};
-use depot_jobs::{Host, Request, Task, read_file_of};
+use depot_jobs::{Host, MadeFrom, Request, Task, read_file_of};
 use devices::{DeviceFailed, Sink};
 use refusals::Refusal;
 use sqlite::Alter;
@@ -122,7 +122,7 @@ fn export<S: Alter, H: Host>(
         wanted.entry e (H.state host.old) (H.state host.new)) }
     ensures survives { Survives (state S.Store depot.old) (state S.Store depot.new) (λ _. ⊥) }
 {
-    let mut file = host.create(alloc, wanted.file, name)?;
+    let mut file = host.create(alloc, wanted.file, MadeFrom::Depot(name))?;
     match depot.export(
         alloc,
         wanted.user,

@@ -4,7 +4,7 @@
 // where they end. The file is made like that of a compiled program, whole or not at all, and never overwrites the
 // depot.
 ghost use Rattle.std.specs.Prelude.{◌≡◌, ◌∷◌, [], ℕ, MatchOption, IfErr, IfOk, map};
-ghost use Rattle.depot_batch.specs.Asked.{Asks, AskNothing, IsEntryNumber, name_of};
+ghost use Rattle.depot_batch.specs.Asked.{Asks, AskNothing, IsNumberFrom, least_number, name_of};
 ghost use Rattle.depot_batch.specs.declared.fault.Form.{Form};
 
 use crate::fault::{Form, LineFault};
@@ -40,7 +40,7 @@ pub struct Export<'a> {
 ///
 /// - [`LineFault::NoCommand`] if the first word isn't the name of a command, or there is no word.
 /// - [`LineFault::Form`] if the command takes more or fewer words after its name.
-/// - [`LineFault::Number`] if a word that should be the number of an entry isn't one.
+/// - [`LineFault::Number`] if a word that should be a number isn't one that the command takes.
 /// - [`LineFault::Encoding`] if a word that should be the name of an encoding isn't one.
 pub fn asked_by<'a>(words: &[&'a str]) -> Result<Asked<'a>, LineFault>
     ensures asks { IfOk result (Asks (map (λ w. w.now) words.now)) }
@@ -76,6 +76,7 @@ fn form_of(name: &str) -> Option<Form>
         "code" => Some(Form::Code),
         "deliver" => Some(Form::Deliver),
         "list" => Some(Form::List),
+        "since" => Some(Form::Since),
         "export" => Some(Form::Export),
         "remove" => Some(Form::Remove),
         "migrate" => Some(Form::Migrate),
@@ -93,34 +94,39 @@ fn asked_in<'a>(form: Form, rest: &[&'a str]) -> Result<Asked<'a>, LineFault>
         (Form::Code, [user, program]) => Ok(Asked::Reply(Request::Code { user, program })),
         (Form::Deliver, [user, message]) => Ok(Asked::Reply(Request::Deliver { user, message })),
         (Form::List, [user]) => Ok(Asked::Reply(Request::List { user })),
+        (Form::Since, [user, digits]) => match number_of(form, digits) {
+            Some(number) => Ok(Asked::Reply(Request::Since { user, number })),
+            None => Err(LineFault::Number(form)),
+        },
         (Form::Export, [user, digits, name, file]) => {
-            match (number_of(digits), Encoding::named(name)) {
+            match (number_of(form, digits), Encoding::named(name)) {
                 (Some(number), Some(encoding)) => Ok(Asked::Export(Export {
                     user,
                     number,
                     encoding,
                     file,
                 })),
-                (None, _) => Err(LineFault::Number),
+                (None, _) => Err(LineFault::Number(form)),
                 (_, None) => Err(LineFault::Encoding),
             }
         }
-        (Form::Remove, [user, digits]) => match number_of(digits) {
+        (Form::Remove, [user, digits]) => match number_of(form, digits) {
             Some(number) => Ok(Asked::Reply(Request::Remove { user, number })),
-            None => Err(LineFault::Number),
+            None => Err(LineFault::Number(form)),
         },
         (Form::Migrate, []) => Ok(Asked::Reply(Request::Migrate)),
         _ => Err(LineFault::Form(form)),
     }
 }
 
-// The number of an entry.
-fn number_of(digits: &str) -> Option<u32>
-    ensures { MatchOption result ((number : ℕ) → IsEntryNumber digits.now number → ⊥)
-        (IsEntryNumber digits.now) }
+// The number that digits are, if a command of this form takes it.
+fn number_of(form: Form, digits: &str) -> Option<u32>
+    ensures { MatchOption result
+        ((number : ℕ) → IsNumberFrom (least_number form) digits.now number → ⊥)
+        (IsNumberFrom (least_number form) digits.now) }
 {
     match digits.parse::<u32>() {
-        Ok(number) if number > 0 => Some(number),
+        Ok(number) if number >= form.least_number() => Some(number),
         _ => None,
     }
 }
