@@ -120,6 +120,7 @@ fn deliveries_of<'a>(alloc: Global, mails: &'a [Mail]) -> Result<Vec<Delivery<'a
 }
 
 // The new entries of deliveries, which are answered one after the other.
+#[derive(Drop)]
 struct Filed {
     replies: Vec<Vec<EntryRow>>,
 }
