@@ -3,14 +3,20 @@
 //! Volumes are depots that follow one another and answer as one. Each begins with the programs and last numbers of the
 //! one before it. From then on only the newest is changed, except by removals. `specs/Volumes` defines when depots are
 //! volumes of one depot, and what they hold together; `specs/OnVolumes` which volume a command is done on;
-//! `specs/Beginning` which files count while a volume begins; `specs/Folders` sessions over files. The calls that open
-//! volumes are not here: [`place_of`] asks them through a trait.
+//! `specs/Beginning` which files count while a volume begins; `specs/Folders` sessions over files. The trait
+//! [`Volumes`] opens volumes one by one, and calls on the newest are functions over it; `specs/Holding` and
+//! `specs/Applying` say what both promise. The calls on other volumes, deliveries, which begin volumes, and lists are not
+//! here; [`place_of`] asks volumes for a number through a trait of its own.
+//!
+//! What a crash leaves of volumes is not in the contracts of the calls, and neither is what they hold after a failure
+//! has shut a depot. The laws have both for sessions over files.
 //!
 //! # Promises
 //!
 //! ## Depots in volumes
 //!
-//! No command of `depot` makes or opens volumes: these are laws about the definitions, and one search.
+//! No command of `depot` makes or opens volumes: these are laws about the definitions, calls on the newest volume, and
+//! one search.
 //!
 //! ### What volumes hold together
 //!
@@ -31,6 +37,13 @@
 //! hold what the accepted commands make, one after another. The same holds for sessions over the files of volumes, each
 //! over the files of one, also if crashes end them.
 //!
+//! ### Calls on the newest volume
+//!
+//! Each of these calls is, with its reply, a step of all volumes as one depot; or it is refused, and what they hold
+//! together is as it was. They stay volumes of one depot. That holds whatever volumes there are, as long as no depot is
+//! shut by a failure. Besides the refusals that its command can get, a call can be refused `Memory` or `Database`,
+//! because the volume can't be opened.
+//!
 //! ### The volume of a number
 //!
 //! Only the first volume in which a user's last number is at least a number can have his entry of that number.
@@ -38,13 +51,17 @@
 //! logarithm of n to base 2, rounded down, and 1. It is refused only if a question is, with its refusal. Volumes in which
 //! the user's last number isn't above a number have none of his entries above it.
 //!
-//! By `place_of`; laws `begun_volumes_change_nothing`, `unfinished_volumes_change_nothing`,
+//! By `set_script`, `set_code`, `program_of`, `migrate`, `place_of`; laws `begun_volumes_change_nothing`, `unfinished_volumes_change_nothing`,
 //! `removed_volumes_take_their_entries_alone`, `volumes_are_listed_in_order`, `commands_on_volumes_are_steps`,
 //! `commands_on_volumes_are_a_fold`, `sessions_on_volumes_are_steps`, `runs_on_volumes_are_a_fold`,
 //! `numbers_lead_to_their_volume`.
 #![tactic(auto)]
 
+mod commands;
+mod holding;
 pub mod laws;
 mod searching;
 
+pub use commands::{migrate, program_of, set_code, set_script};
+pub use holding::Volumes;
 pub use searching::{LastNumbers, place_of};

@@ -1,0 +1,14 @@
+use Rattle.std.proofs.Common.{refl}
+use Rattle.sqlite.proofs.StateLemmas.{clean_if_open}
+use Rattle.depot_actions.specs.DepotState.{Done, SetScript}
+use Rattle.volumes.proofs.Applied.{newest_applied, passed}
+use Rattle.volumes.proofs.commands.set_script.Goals as goal
+
+pub returns-in_err-place : goal.returns-in_err-place
+returns-in_err-place g c =
+    passed g.V.Volumes.holding c.args.volumes.now c.open_newest.new.volumes c.in_err-place.ensures.keeps (SetScript c.args.user.now c.args.script.now) (λ _. Done) c.from_residual.result _ c.from_residual.ensures.1 c.in_err-place.ensures.which
+
+pub returns : goal.returns
+returns g c =
+    newest_applied g.S.Store (λ h is_open. clean_if_open (g.S.Store.view h.store) (g.met.S.Store.shut_if_dirty h.store) is_open) g.V.Volumes.holding c.in_ok-place.place c.args.volumes.now c.open_newest.new.volumes c.close.new.self c.in_ok-place.depot c.set_script-result.new.self
+    c.in_ok-place.ensures.opened c.close.ensures.closed (SetScript c.args.user.now c.args.script.now) (λ _. Done) (λ earlier v. refl) c.set_script-result.result c.set_script-result.ensures
