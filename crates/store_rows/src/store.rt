@@ -1,5 +1,5 @@
-// The store, in memory: programs of users, and a connection that can't be taken.
-use part_store::{PartStore, StoreError};
+// The store, in memory: programs of users, users that are put in, and a connection that can't be taken.
+use part_store::{Kind, NewEntry, PartStore, StoreError};
 use sqlite::Alter;
 use std::alloc::Global;
 use std::test::Fail;
@@ -107,6 +107,50 @@ fn programs(rt: HostRuntime) -> Result<(), Fail> {
 #[test]
 fn users_that_are_replaced(rt: HostRuntime) -> Result<(), Fail> {
     assert_eq!(rt; taken(rt.alloc(), &REPLACED)?, None);
+    Ok(())
+}
+
+// An entry.
+const ENTRY: NewEntry<'static> = NewEntry {
+    folder: b"INBOX",
+    kind: Kind::Message,
+    name: b"",
+    media: b"message/rfc822",
+    octets: b"mail",
+};
+
+// Puts the users of one store into another.
+fn carry_over<S: Alter>(from: &mut PartStore<S>, to: &mut PartStore<S>) -> Result<(), StoreError> {
+    let users = from.users()?;
+    to.put_users(&users)
+}
+
+// Whether this is the last number that a user was given.
+fn has_last<S: Alter>(store: &mut PartStore<S>, user: &str, last: u32) -> bool {
+    matches!(store.last_of(user), Ok(found) if found == last)
+}
+
+// Whether a store has exactly what is kept of two users: the program of one, and the last number of the other.
+fn has_users<S: Alter>(store: &mut PartStore<S>) -> bool {
+    has_program(store, "ann", Some(b"program"))
+        && has_last(store, "ann", 0)
+        && has_program(store, "bob", None)
+        && has_last(store, "bob", 2)
+}
+
+// Whether the users of a store are in an empty one once they were put in.
+fn are_carried_over(alloc: Global) -> Result<bool, StoreError> {
+    let mut from = PartStore::in_memory(alloc)?;
+    from.set_program("ann", b"program")?;
+    let _first = from.add_entries("bob", &[ENTRY, ENTRY])?;
+    let mut to = PartStore::in_memory(alloc)?;
+    carry_over(&mut from, &mut to)?;
+    Ok(has_users(&mut to))
+}
+
+#[test]
+fn users_that_are_put_in(rt: HostRuntime) -> Result<(), Fail> {
+    assert!(rt; are_carried_over(rt.alloc())?);
     Ok(())
 }
 
