@@ -39,8 +39,8 @@ pub fn removed_volumes_take_their_entries_alone()
     ensures volumes { (oldest vs : List Entries) → AreVolumes (oldest ++ vs) → AreVolumes vs }
 {}
 
-/// A user's list is the lists of the volumes, one after the other, also if only entries above a number are listed. If the numbers of each volume are in order, so are
-/// those of all volumes as one depot.
+/// A user's list is the lists of the volumes, one after the other, also if only entries above a number are listed. If the
+/// numbers of each volume are in order, so are those of all volumes as one depot.
 pub fn volumes_are_listed_in_order()
     ensures listed { (user : List ℕ) (vs : List Entries) → map listing_of (entries_of user (whole vs))
         ≡ flat_map (λ v. map listing_of (entries_of user v)) vs }

@@ -1,4 +1,4 @@
-//! A depot in volumes: what it is, its laws, and the search for the volume of a number.
+//! A depot in volumes: what it is, its laws, calls on the newest volume, and the search for the volume of a number.
 //!
 //! Volumes are depots that follow one another and answer as one. Each begins with the programs and last numbers of the
 //! one before it. From then on only the newest is changed, except by removals. `specs/Volumes` defines when depots are
@@ -17,6 +17,9 @@
 //!
 //! No command of `depot` makes or opens volumes: these are laws about the definitions, calls on the newest volume, and
 //! one search.
+//!
+//! Nothing implements the trait over which the calls are written. So no test has run them, and nothing shows that a folder
+//! of files, or stores in memory, can keep what the trait promises.
 //!
 //! ### What volumes hold together
 //!
