@@ -35,9 +35,10 @@
 //!
 //! ## Operations
 //!
-//! Each operation has its byte, and readers give the parts of an operation.
+//! Each operation has its byte. The calls of a program return its parts: how many variables it has, its numbers,
+//! strings and instructions.
 //!
-//! By `Operation::of`, `octet`, `variables`, `numbers`, `strings`, `instructions`.
+//! By `Operation::of`, `octet`; `Program::variables`, `numbers`, `strings`, `instructions`.
 //!
 //! ## Final actions
 //!

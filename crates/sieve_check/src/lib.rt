@@ -46,7 +46,8 @@
 //! ### What a script lacks
 //!
 //! Every capability that a command or test needs but the script didn't require is reported, and so is every string in
-//! a `require` that isn't a capability. A loop whose arguments can't be read can have any name.
+//! a `require` that isn't a capability. A loop whose arguments can't be read counts as a loop of every name, so no
+//! `break` in it is reported for a name.
 //!
 //! By `reasons_of`, `ReasonKind::fault`; within the crate `Signature::read`.
 //!
