@@ -2,7 +2,8 @@
 """Delivers mails, then saves new mail and its stored parts as attachments.sh does: attachments.py DB USER FOLDER [MAIL ..]
 
 Which mail a part belongs to, the answer of `deliver` says. For what others delivered it is found by SHA-256, as in attachments.sh.
-The status is 0; 65 if mails were put aside, which standard error names, and the others are filed; or 1 if nothing more was done.
+The status is 0; 65 if mails were put aside, which standard error names, and the others are filed; or 1 after an error:
+mails before it are filed.
 """
 import hashlib
 import os

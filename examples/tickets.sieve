@@ -1,4 +1,4 @@
-# A mail to a help desk: each attachment goes into the folder of its ticket, under its name. Pictures in a signature are left
+# A mail to a help desk: each attachment with a plain name goes into the folder of its ticket. Pictures in a signature are left
 # out, and a part that contains parts isn't stored.
 require ["foreverypart", "mime", "variables", "vnd.depot"];
 
