@@ -62,7 +62,7 @@ A run that was killed before its last number was on the disk writes no mail twic
     7.depot-ann
     
     Mail/tmp:
-    7
+    7 18
     $ rm -r Mail Mail-parts
 
 ## a depot whose first entry is a part
@@ -78,6 +78,30 @@ A run that was killed before its last number was on the disk writes no mail twic
     $ depot export mail.depot ann 1 raw | cmp - Mail-parts/Documents/1-rechnung-2026-0417.pdf
     $ cmp examples/invoice.eml Mail/new/2.depot-ann
     $ rm -r Mail Mail-parts
+
+## another depot of the same user isn't taken for the one that was written
+    $ printf 'Subject: one\n\none\n' > one && printf 'Subject: two\n\nlonger\n' > two
+    $ depot deliver a.depot ann one && depot deliver b.depot ann two && depot deliver b.depot ann two
+    1 message "INBOX"
+    1 message "INBOX"
+    2 message "INBOX"
+    $ "$TOP/contrib/to_maildir" a.depot ann Mail
+    1 Mail/new/1.depot-ann
+    $ "$TOP/contrib/to_maildir" b.depot ann Mail; ls Mail/new
+    2> to_maildir: Mail has entries up to 1 of another depot or of a newer copy: give each depot a Maildir of its own
+    1.depot-ann
+    $ "$TOP/contrib/to_maildir" b.depot ann Other
+    1 Other/new/1.depot-ann
+    2 Other/new/2.depot-ann
+
+Nor is an older copy, in which the last number wasn't given.
+
+    $ "$TOP/contrib/to_maildir" a.depot ann Other
+    2> to_maildir: Other has entries up to 2 of another depot or of a newer copy: give each depot a Maildir of its own
+    [65]
+    $ depot remove b.depot ann 2 && "$TOP/contrib/to_maildir" b.depot ann Other
+    removed 2
+    $ rm -r Mail Other
 
 ## a user without entries makes no Maildir
     $ "$TOP/contrib/to_maildir" mail.depot ann Mail
@@ -205,14 +229,14 @@ The batch ends after so many lines, and the script is killed then.
     > END
     $ chmod +x killed && DEPOT=./killed sh -c '"$TOP/contrib/to_maildir" mail.depot ann Mail > said' 2> told; ls Mail/new | wc -l; cat Mail/depot-ann; tail -n 1 said
     200
-    200
+    200 24
     200 Mail/new/200.depot-ann
     $ "$TOP/contrib/to_maildir" mail.depot ann Mail > said && sed -n '1p;$p' said && "$TOP/contrib/to_maildir" mail.depot ann Mail
     201 Mail/new/201.depot-ann
     450 Mail/new/450.depot-ann
     $ ls Mail/new | wc -l; ls Mail/tmp; cat Mail/depot-ann
     450
-    450
+    450 24
     $ rm -r Mail
 
 ## words that to_maildir, refilter and refile don't take
@@ -356,13 +380,13 @@ A second run names them again, and adds what is new; the file of the journal has
     2> to_maildir: the content of entry 4 of ann was altered on the disk: restore it from a backup
     [65]
     $ cat Mail/depot-ann && ls Mail/tmp && rm Mail/new/* && depot remove mail.depot ann 4
-    5
+    5 14
     2
     4
     removed 4
     $ "$TOP/contrib/to_maildir" mail.depot ann Mail; "$TOP/contrib/to_maildir" mail.depot ann Mail; cat Mail/depot-ann; ls Mail/new && rm -r Mail
     2 Mail/new/2.depot-ann
-    5
+    5 14
     2.depot-ann
     $ REFUSED='export "ann" 2 *' DEPOT=./altered "$TOP/contrib/refilter" mail.depot ann script --apply new.depot; echo "$?"; depot list new.depot ann
     1 "INBOX": 1 message "INBOX"
@@ -812,7 +836,8 @@ Only if: command -v flock && command -v timeout && [ -d /proc/self ] # there is 
 Only if: command -v flock && command -v sqlite3 # there is no flock or no sqlite3
     $ sed -n '/# gives a user a filter, unless/,/^    }/s/^    //p' "$TOP/docs/OPERATING.md" > admit
     $ printf 'require ["foreverypart", "fileinto"];\nforeverypart { foreverypart { foreverypart { fileinto "Found"; } } }\n' > greedy
-    $ . ./admit; admit mail.depot ann examples/documents.sieve; admit mail.depot ann greedy; echo $?; admit mail.depot ann none; echo $?
+    $ PATH=$TOP/contrib:$PATH && . ./admit; depot list mail.depot ann; admit mail.depot ann examples/documents.sieve; admit mail.depot ann greedy; echo $?; admit mail.depot ann none; echo $?
+    none
     wrote 129 octets
     stored
     wrote 94 octets
