@@ -19,13 +19,13 @@ of_utf8 octets u = rw (is_utf8-from_IsUtf8 octets u) refl
 pub of_others : (octets : List ℕ) → ¬ (IsUtf8 octets) → text_value octets ≡ base64_value octets
 of_others octets n = rw (from_not_true (is_utf8 octets) (λ e. n (IsUtf8-from_is_utf8 octets e))) refl
 
+either_form : (P : Data → Type 0) (octets : List ℕ) (b : Bool) → P (string octets) → P (base64_value octets) → P (if b then string octets else base64_value octets)
+either_form P octets true p q = p
+either_form P octets false p q = q
+
 -- what holds of both forms holds of the value
 pub of_both : (P : Data → Type 0) (octets : List ℕ) → P (string octets) → P (base64_value octets) → P (text_value octets)
-of_both P octets p q = either (is_utf8 octets)
-  where
-  either : (b : Bool) → P (if b then string octets else base64_value octets)
-  either true = p
-  either false = q
+of_both P octets p q = either_form P octets (is_utf8 octets) p q
 
 base64_read : (octets : List ℕ) → IsBytes octets → octets_in (base64_value octets) ≡ Some octets
 unfolding decoded_of
