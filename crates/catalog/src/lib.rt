@@ -30,6 +30,8 @@ mod fields;
 pub mod laws;
 mod line;
 mod stored;
+#[cfg(test)]
+mod tests;
 mod text;
 
 pub use entry::{Entry, PartEntry, Place};
