@@ -79,7 +79,7 @@ fn add_place(
     ensures { OnOk result (places.new.items
         ≡ places.old.items ++ stored_in digests.now (entry.now ∷ [])) }
 {
-    match place_of(digests, &entry.digest) {
+    match place_of(digests, entry.digest.as_slice()) {
         Some(part) => places.push(Place {
             number: entry.number,
             part,
@@ -89,10 +89,10 @@ fn add_place(
 }
 
 // The first place of a digest among others.
-fn place_of(digests: &[[u8; 32]], digest: &[u8; 32]) -> Option<usize>
+fn place_of(digests: &[[u8; 32]], digest: &[u8]) -> Option<usize>
     ensures { result ≡ place_of digests.now digest.now }
 {
     digests
         .iter()
-        .position(|other| other.as_slice() == digest.as_slice())
+        .position(|other| other.as_slice() == digest)
 }
