@@ -79,13 +79,11 @@ fn add_place(
     ensures { OnOk result (places.new.items
         ≡ places.old.items ++ stored_in digests.now (entry.now ∷ [])) }
 {
-    match place_of(digests, entry.digest.as_slice()) {
-        Some(part) => places.push(Place {
-            number: entry.number,
-            part,
-        }),
-        None => Ok(()),
+    if let Some(part) = place_of(digests, entry.digest.as_slice()) {
+        let number = entry.number;
+        places.push(Place { number, part })?;
     }
+    Ok(())
 }
 
 // The first place of a digest among others.
