@@ -23,23 +23,23 @@ of_first_part fields (part ∷ parts) some h = h part
 is_other : (q n : List ℕ) → bytes_eq q n ≡ false → q ≡ n → ⊥
 is_other q n apart same = true≢false (sym ((bytes_eq-Decides q n).1 same) ∙ apart)
 
-with_none : (q : List ℕ) (members : Members) (value : Option (List ℕ)) → get_member q members ≡ None
-    → get_member q (option_map_or (λ v. put q (text_value v) members) value members) ≡ option_map text_value value
-with_none q members None absent = absent
-with_none q members (Some v) absent = get_member-put q (text_value v) members
+with_none : (q : List ℕ) (ms : Members) (value : Option (List ℕ)) → get_member q ms ≡ None
+    → get_member q (option_map_or (λ v. put q (text_value v) ms) value ms) ≡ option_map text_value value
+with_none q ms None absent = absent
+with_none q ms (Some v) absent = get_member-put q (text_value v) ms
 
-with_other : (q n : List ℕ) (members : Members) (value : Option (List ℕ)) → (q ≡ n → ⊥)
-    → get_member q (option_map_or (λ v. put n (text_value v) members) value members) ≡ get_member q members
-with_other q n members None other = refl
-with_other q n members (Some v) other = get_member-put_other q n (text_value v) members other
+with_other : (q n : List ℕ) (ms : Members) (value : Option (List ℕ)) → (q ≡ n → ⊥)
+    → get_member q (option_map_or (λ v. put n (text_value v) ms) value ms) ≡ get_member q ms
+with_other q n ms None other = refl
+with_other q n ms (Some v) other = get_member-put_other q n (text_value v) ms other
 
 -- names that aren't this one leave what is under it
-pub passed : (fields : List Field) (q : List ℕ) (names : List (List ℕ)) (members : Members) → list_any (λ n. bytes_eq q n) names ≡ false
-    → get_member q (fold (with_field fields) members names) ≡ get_member q members
-passed fields q [] members apart = refl
-passed fields q (n ∷ names) members apart =
+pub passed : (fields : List Field) (q : List ℕ) (names : List (List ℕ)) (ms : Members) → list_any (λ n. bytes_eq q n) names ≡ false
+    → get_member q (fold (with_field fields) ms names) ≡ get_member q ms
+passed fields q [] ms apart = refl
+passed fields q (n ∷ names) ms apart =
     let parts = or_parts (bytes_eq q n) (list_any (λ m. bytes_eq q m) names) apart in
-    passed fields q names (with_field fields members n) parts.1 ∙ with_other q n members (first_value n fields) (is_other q n parts.0)
+    passed fields q names (with_field fields ms n) parts.1 ∙ with_other q n ms (first_value n fields) (is_other q n parts.0)
 
 -- a name that comes once among the names
 found : (fields : List Field) (q : List ℕ) (before after : List (List ℕ)) → list_any (λ n. bytes_eq q n) before ≡ false → list_any (λ n. bytes_eq q n) after ≡ false
@@ -61,14 +61,28 @@ names_after_date = codes "Message-ID" ∷ codes "In-Reply-To" ∷ codes "Referen
 pub each_found : (fields : List Field) → AllByRecursion (λ name. get name (fields_value fields) ≡ option_map text_value (first_value name fields)) field_names
 each_found fields = (
   found fields (codes "From") [] (codes "To" ∷ codes "Cc" ∷ codes "Subject" ∷ codes "Date" ∷ names_after_date) refl refl,
-  (found fields (codes "To") (codes "From" ∷ []) (codes "Cc" ∷ codes "Subject" ∷ codes "Date" ∷ names_after_date) refl refl,
-  (found fields (codes "Cc") names_before_cc (codes "Subject" ∷ codes "Date" ∷ names_after_date) refl refl,
-  (found fields (codes "Subject") (names_before_cc ++ codes "Cc" ∷ []) (codes "Date" ∷ names_after_date) refl refl,
-  (found fields (codes "Date") names_before_date names_after_date refl refl,
-  (found fields (codes "Message-ID") (names_before_date ++ codes "Date" ∷ []) (codes "In-Reply-To" ∷ codes "References" ∷ []) refl refl,
-  (found fields (codes "In-Reply-To") (names_before_date ++ codes "Date" ∷ codes "Message-ID" ∷ []) (codes "References" ∷ []) refl refl,
-  (found fields (codes "References") (names_before_date ++ codes "Date" ∷ codes "Message-ID" ∷ codes "In-Reply-To" ∷ []) [] refl refl,
-  tt)))))))
+  (
+    found fields (codes "To") (codes "From" ∷ []) (codes "Cc" ∷ codes "Subject" ∷ codes "Date" ∷ names_after_date) refl refl,
+    (
+      found fields (codes "Cc") names_before_cc (codes "Subject" ∷ codes "Date" ∷ names_after_date) refl refl,
+      (
+        found fields (codes "Subject") (names_before_cc ++ codes "Cc" ∷ []) (codes "Date" ∷ names_after_date) refl refl,
+        (
+          found fields (codes "Date") names_before_date names_after_date refl refl,
+          (
+            found fields (codes "Message-ID") (names_before_date ++ codes "Date" ∷ []) (codes "In-Reply-To" ∷ codes "References" ∷ []) refl refl,
+            (
+              found fields (codes "In-Reply-To") (names_before_date ++ codes "Date" ∷ codes "Message-ID" ∷ []) (codes "References" ∷ []) refl refl,
+              (
+                found fields (codes "References") (names_before_date ++ codes "Date" ∷ codes "Message-ID" ∷ codes "In-Reply-To" ∷ []) [] refl refl,
+                tt,
+              ),
+            ),
+          ),
+        ),
+      ),
+    ),
+  ),
 )
 
 pub none_other : (fields : List Field) (name : List ℕ) → list_any (λ n. bytes_eq name n) field_names ≡ false → get name (fields_value fields) ≡ None

@@ -20,16 +20,16 @@ text_plain levels octets =
     of_both (IsPlain (suc levels)) octets (string_plain (suc levels) octets)
     (object_plain levels (member (codes "base64") (string (encode_of standard octets)) no_members) (string_plain levels (encode_of standard octets), tt))
 
-with_plain : (levels : ℕ) (name : List ℕ) (members : Members) (value : Option (List ℕ)) → ArePlain (suc levels) members
-    → ArePlain (suc levels) (option_map_or (λ v. put name (text_value v) members) value members)
-with_plain levels name members None p = p
-with_plain levels name members (Some v) p = put_plain (suc levels) name (text_value v) members (text_plain levels v) p
+with_plain : (levels : ℕ) (name : List ℕ) (ms : Members) (value : Option (List ℕ)) → ArePlain (suc levels) ms
+    → ArePlain (suc levels) (option_map_or (λ v. put name (text_value v) ms) value ms)
+with_plain levels name ms None p = p
+with_plain levels name ms (Some v) p = put_plain (suc levels) name (text_value v) ms (text_plain levels v) p
 
-named_plain : (levels : ℕ) (fields : List Field) (names : List (List ℕ)) (members : Members) → ArePlain (suc levels) members
-    → ArePlain (suc levels) (fold (with_field fields) members names)
-named_plain levels fields [] members p = p
-named_plain levels fields (name ∷ names) members p =
-    named_plain levels fields names (with_field fields members name) (with_plain levels name members (first_value name fields) p)
+named_plain : (levels : ℕ) (fields : List Field) (names : List (List ℕ)) (ms : Members) → ArePlain (suc levels) ms
+    → ArePlain (suc levels) (fold (with_field fields) ms names)
+named_plain levels fields [] ms p = p
+named_plain levels fields (name ∷ names) ms p =
+    named_plain levels fields names (with_field fields ms name) (with_plain levels name ms (first_value name fields) p)
 
 fields_plain : (levels : ℕ) (fields : List Field) → IsPlain (suc (suc levels)) (fields_value fields)
 fields_plain levels fields =
@@ -50,13 +50,25 @@ places_plain levels places = array_plain (suc levels) (map place_value places) (
 common_plain : (levels : ℕ) (row : Row) (kind : List ℕ) → ArePlain (suc levels) (common_members row kind)
 common_plain levels row kind = (
   text_plain levels row.folder,
-  (string_plain (suc levels) kind,
-  (text_plain levels row.media,
-  (text_plain levels row.name,
-  (number_plain (suc levels) row.number,
-  (number_plain (suc levels) row.octets,
-  (string_plain (suc levels) (encode_lower row.digest),
-  tt))))))
+  (
+    string_plain (suc levels) kind,
+    (
+      text_plain levels row.media,
+      (
+        text_plain levels row.name,
+        (
+          number_plain (suc levels) row.number,
+          (
+            number_plain (suc levels) row.octets,
+            (
+              string_plain (suc levels) (encode_lower row.digest),
+              tt,
+            ),
+          ),
+        ),
+      ),
+    ),
+  ),
 )
 
 pub message_plain : (row : Row) (mail : Mail) (stored : List Place) → IsPlain 3 (message_value row mail stored)

@@ -76,11 +76,7 @@ fn message_value(
 }
 
 // The object of a part.
-fn part_value(
-    alloc: Global,
-    entry: &Entry<'_>,
-    messages: &[Place],
-) -> Result<Value, AllocError>
+fn part_value(alloc: Global, entry: &Entry<'_>, messages: &[Place]) -> Result<Value, AllocError>
     ensures { IfOk result (λ value. view value
         ≡ part_value (row_of entry.now) messages.now) }
 {
@@ -100,10 +96,25 @@ fn common_members(
 {
     let mut members = Map::new(alloc);
     put(&mut members, alloc, "number", Value::from(entry.number))?;
-    put(&mut members, alloc, "kind", Value::try_from_str(alloc, kind)?)?;
-    put(&mut members, alloc, "folder", text_value(alloc, entry.folder)?)?;
+    put(
+        &mut members,
+        alloc,
+        "kind",
+        Value::try_from_str(alloc, kind)?,
+    )?;
+    put(
+        &mut members,
+        alloc,
+        "folder",
+        text_value(alloc, entry.folder)?,
+    )?;
     put(&mut members, alloc, "name", text_value(alloc, entry.name)?)?;
-    put(&mut members, alloc, "media", text_value(alloc, entry.media)?)?;
+    put(
+        &mut members,
+        alloc,
+        "media",
+        text_value(alloc, entry.media)?,
+    )?;
     put(&mut members, alloc, "octets", Value::from(entry.octets))?;
     let digest = hex::encode(alloc, entry.digest.as_slice())?;
     put(&mut members, alloc, "sha256", Value::from(digest))?;

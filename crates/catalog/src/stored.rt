@@ -90,7 +90,5 @@ fn add_place(
 fn place_of(digests: &[[u8; 32]], digest: &[u8]) -> Option<usize>
     ensures { result ≡ place_of digests.now digest.now }
 {
-    digests
-        .iter()
-        .position(|other| other.as_slice() == digest)
+    digests.iter().position(|other| other.as_slice() == digest)
 }
