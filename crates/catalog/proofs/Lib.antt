@@ -1,0 +1,6 @@
+pub mod TextLemmas
+pub mod FieldLemmas
+pub mod Plain
+pub mod PlainLines
+pub mod StoredLemmas
+mod Examples

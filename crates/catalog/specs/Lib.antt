@@ -1,0 +1,10 @@
+-- an entry, and the place of a part
+pub mod Rows
+-- text that people chose, as JSON
+pub mod Texts
+-- the header fields of a message
+pub mod Fields
+-- which entries have the content of a part
+pub mod Stored
+-- the objects and their lines
+pub mod Lines

@@ -1,0 +1,39 @@
+//! The lines of a catalog, which describe the entries of a user for other programs, in JSON (RFC 8259).
+//!
+//! [`message_line`] gives the line of a message, [`part_line`] that of a part, and [`stored_in`] finds the parts of a
+//! message among a user's entries. `specs/Lines` defines the lines, `specs/Texts` what they have for bytes that people
+//! chose, `specs/Fields` the header fields, and `specs/Stored` which entries are parts of a message.
+//!
+//! No command uses this crate.
+//!
+//! # Promises
+//!
+//! ## Lines of a catalog
+//!
+//! No command prints these lines.
+//!
+//! A line is one JSON object with exactly the members of its definition, without blanks and without a line break. It is
+//! UTF-8, and a JSON reader finds the object that was written. Its members are in the order of their names, byte by
+//! byte. Folders, names, media types and the values of fields can have any bytes: if they are UTF-8, they are a string,
+//! and otherwise an object whose member `base64` encodes them, so a reader finds the same bytes. Nothing else is
+//! decoded. Of the header fields that a line has, a value is that of the first field with its name, unfolded.
+//!
+//! The parts of a message are found among a user's entries by the SHA-256 of their contents, each entry at the first part
+//! that has its content.
+//!
+//! By `message_line`, `part_line`, `stored_in`; laws `texts_are_read_back`, `lines_have_no_line_break`,
+//! `fields_are_the_first_of_their_names`.
+#![tactic(auto)]
+
+mod entry;
+mod fields;
+pub mod laws;
+mod line;
+mod stored;
+#[cfg(test)]
+mod tests;
+mod text;
+
+pub use entry::{Entry, PartEntry, Place};
+pub use line::{message_line, part_line};
+pub use stored::stored_in;

@@ -1,0 +1,131 @@
+// Lines next to texts that Python's `json` and `base64` wrote.
+use crate::{Entry, PartEntry, Place, message_line, part_line, stored_in};
+use mime_decode::Message;
+use sha2::{Digest, Sha256};
+use std::alloc::{AllocError, Global};
+use std::test::Fail;
+
+const BEFORE_NAME: &[u8] =
+    b"{\"folder\":\"Documents\",\"kind\":\"part\",\"media\":\"application/pdf\",\"name\":";
+
+const AFTER_NAME: &[u8] =
+    b",\"number\":2,\"octets\":9016,\"of\":[{\"number\":1,\"part\":4}],\"sha256\":\"abababababababababababababababababababababababababababababababab\"}";
+
+// Names, and what lines have for them.
+const NAMES: [(&[u8], &[u8]); 8] = [
+    (b"", b"\"\""),
+    (
+        b"\x00\x01\x02\x03\x04\x05\x06\x07\x08\x09\x0a\x0b\x0c\x0d\x0e\x0f\x10\x11\x12\x13\x14\x15\x16\x17\x18\x19\x1a\x1b\x1c\x1d\x1e\x1f !\"#$%&'()*+,-./0123456789:;<=>?@ABCDEFGHIJKLMNOPQRSTUVWXYZ[\\]^_`abcdefghijklmnopqrstuvwxyz{|}~\x7f",
+        b"\"\\u0000\\u0001\\u0002\\u0003\\u0004\\u0005\\u0006\\u0007\\b\\t\\n\\u000b\\f\\r\\u000e\\u000f\\u0010\\u0011\\u0012\\u0013\\u0014\\u0015\\u0016\\u0017\\u0018\\u0019\\u001a\\u001b\\u001c\\u001d\\u001e\\u001f !\\\"#$%&'()*+,-./0123456789:;<=>?@ABCDEFGHIJKLMNOPQRSTUVWXYZ[\\\\]^_`abcdefghijklmnopqrstuvwxyz{|}~\x7f\"",
+    ),
+    (
+        b"\x00\x01\x02\x03\x04\x05\x06\x07\x08\x09\x0a\x0b\x0c\x0d\x0e\x0f\x10\x11\x12\x13\x14\x15\x16\x17\x18\x19\x1a\x1b\x1c\x1d\x1e\x1f !\"#$%&'()*+,-./0123456789:;<=>?@ABCDEFGHIJKLMNOPQRSTUVWXYZ[\\]^_`abcdefghijklmnopqrstuvwxyz{|}~\x7f\x80\x81\x82\x83\x84\x85\x86\x87\x88\x89\x8a\x8b\x8c\x8d\x8e\x8f\x90\x91\x92\x93\x94\x95\x96\x97\x98\x99\x9a\x9b\x9c\x9d\x9e\x9f\xa0\xa1\xa2\xa3\xa4\xa5\xa6\xa7\xa8\xa9\xaa\xab\xac\xad\xae\xaf\xb0\xb1\xb2\xb3\xb4\xb5\xb6\xb7\xb8\xb9\xba\xbb\xbc\xbd\xbe\xbf\xc0\xc1\xc2\xc3\xc4\xc5\xc6\xc7\xc8\xc9\xca\xcb\xcc\xcd\xce\xcf\xd0\xd1\xd2\xd3\xd4\xd5\xd6\xd7\xd8\xd9\xda\xdb\xdc\xdd\xde\xdf\xe0\xe1\xe2\xe3\xe4\xe5\xe6\xe7\xe8\xe9\xea\xeb\xec\xed\xee\xef\xf0\xf1\xf2\xf3\xf4\xf5\xf6\xf7\xf8\xf9\xfa\xfb\xfc\xfd\xfe\xff",
+        b"{\"base64\":\"AAECAwQFBgcICQoLDA0ODxAREhMUFRYXGBkaGxwdHh8gISIjJCUmJygpKissLS4vMDEyMzQ1Njc4OTo7PD0+P0BBQkNERUZHSElKS0xNTk9QUVJTVFVWV1hZWltcXV5fYGFiY2RlZmdoaWprbG1ub3BxcnN0dXZ3eHl6e3x9fn+AgYKDhIWGh4iJiouMjY6PkJGSk5SVlpeYmZqbnJ2en6ChoqOkpaanqKmqq6ytrq+wsbKztLW2t7i5uru8vb6/wMHCw8TFxsfIycrLzM3Oz9DR0tPU1dbX2Nna29zd3t/g4eLj5OXm5+jp6uvs7e7v8PHy8/T19vf4+fr7/P3+/w==\"}",
+    ),
+    (b"\xed\xa0\x80\xed\xbf\xbf", b"{\"base64\":\"7aCA7b+/\"}"),
+    (b"a\x00b", b"\"a\\u0000b\""),
+    (
+        b"\xc3\xbcber \xf0\x9f\x98\x80 \xe2\x80\xa8",
+        b"\"\xc3\xbcber \xf0\x9f\x98\x80 \xe2\x80\xa8\"",
+    ),
+    (b"\xc3", b"{\"base64\":\"ww==\"}"),
+    (b"\"\\/", b"\"\\\"\\\\/\""),
+];
+
+const NO_FIELDS: &[u8] =
+    b"{\"fields\":{},\"folder\":\"INBOX\",\"kind\":\"message\",\"media\":\"message/rfc822\",\"name\":\"\",\"number\":1,\"octets\":1,\"parts\":1,\"sha256\":\"abababababababababababababababababababababababababababababababab\",\"stored\":[]}";
+
+const MESSAGE: &[u8] =
+    b"Subject: =?utf-8?q?a?=\x0d\x0a\x09 b \x0d\x0afrom : \xe9@x\x0aBcc: n\x0asubject: second\x0aMESSAGE-ID:<1>\x0aReferences:\x0aContent-Type: multipart/mixed; boundary=b\x0a\x0a--b\x0a\x0aone\x0a--b\x0aContent-Transfer-Encoding: base64\x0a\x0ab25l\x0a--b--\x0a";
+
+const LINE: &[u8] =
+    b"{\"fields\":{\"From\":{\"base64\":\"6UB4\"},\"Message-ID\":\"<1>\",\"References\":\"\",\"Subject\":\"=?utf-8?q?a?=\\t b\"},\"folder\":{\"base64\":\"/w==\"},\"kind\":\"message\",\"media\":\"message/rfc822\",\"name\":\"\",\"number\":1,\"octets\":193,\"parts\":3,\"sha256\":\"abababababababababababababababababababababababababababababababab\",\"stored\":[{\"number\":7,\"part\":1}]}";
+
+// Whether the line of a part with this name has this text for it, and nothing else is different.
+fn is_written(alloc: Global, name: &[u8], want: &[u8]) -> Result<bool, AllocError> {
+    let entry = Entry {
+        number: 2,
+        folder: b"Documents",
+        name,
+        media: b"application/pdf",
+        octets: 9016,
+        digest: [0xab; 32],
+    };
+    let messages = [Place { number: 1, part: 4 }];
+    let line = part_line(alloc, &entry, &messages)?;
+    let mut whole = Vec::new(alloc);
+    whole.extend_from_slice(BEFORE_NAME)?;
+    whole.extend_from_slice(want)?;
+    whole.extend_from_slice(AFTER_NAME)?;
+    Ok(line.as_slice() == whole.as_slice())
+}
+
+#[test]
+fn names_of_any_bytes(rt: HostRuntime) -> Result<(), Fail> {
+    for (name, want) in NAMES {
+        assert!(rt; is_written(rt.alloc(), name, want)?);
+    }
+    Ok(())
+}
+
+// Whether a name of 16,384 such bytes is written as so many other bytes between these texts.
+fn is_long_written(
+    alloc: Global,
+    octet: u8,
+    before: &[u8],
+    filler: (u8, usize),
+    after: &[u8],
+) -> Result<bool, AllocError> {
+    let name = vec![in alloc; octet; 16384]?;
+    let middle = vec![in alloc; filler.0; filler.1]?;
+    let mut want = Vec::new(alloc);
+    want.extend_from_slice(before)?;
+    want.extend_from_slice(&middle)?;
+    want.extend_from_slice(after)?;
+    is_written(alloc, &name, &want)
+}
+
+#[test]
+fn long_names(rt: HostRuntime) -> Result<(), Fail> {
+    let alloc = rt.alloc();
+    assert!(rt; is_long_written(alloc, b'a', b"\"", (b'a', 16384), b"\"")?);
+    assert!(rt; is_long_written(alloc, 255, b"{\"base64\":\"", (b'/', 21844), b"/w==\"}")?);
+    Ok(())
+}
+
+// The line of a message in a folder, if there is memory. The entries are those of parts.
+fn line_of(alloc: Global, octets: &[u8], folder: &[u8], entries: &[PartEntry]) -> Option<Vec<u8>> {
+    let message = Message::read(alloc, octets).ok()?;
+    let stored = stored_in(alloc, &message, entries).ok()?;
+    let entry = Entry {
+        number: 1,
+        folder,
+        name: b"",
+        media: b"message/rfc822",
+        octets: message.size() as u64,
+        digest: [0xab; 32],
+    };
+    message_line(alloc, &entry, &message, &stored).ok()
+}
+
+// A message without fields.
+#[test]
+fn no_fields(rt: HostRuntime) {
+    let line = line_of(rt.alloc(), b"x", b"INBOX", &[]);
+    assert!(rt; line.is_some_and(|line| line.as_slice() == NO_FIELDS));
+}
+
+// Folded, repeated and empty fields, one that is no UTF-8, and one that lines don't have; and two parts with one content.
+#[test]
+fn fields_and_parts(rt: HostRuntime) {
+    let digest = Sha256::digest(b"one".as_slice());
+    let entries = [
+        PartEntry {
+            number: 5,
+            digest: [0; 32],
+        },
+        PartEntry { number: 7, digest },
+    ];
+    let line = line_of(rt.alloc(), MESSAGE, b"\xff", &entries);
+    assert!(rt; line.is_some_and(|line| line.as_slice() == LINE));
+}
