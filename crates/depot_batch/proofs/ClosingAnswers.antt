@@ -18,21 +18,22 @@ use Rattle.refusals.specs.declared.refusal.Refusal.{Refusal}
 use Rattle.refusals.specs.declared.refusal.Refusal.TheVariants.{Memory}
 use Rattle.printing.specs.Printed.{line, quoted, refusal_line}
 use Rattle.depot_jobs.specs.Requests.{Request}
-use Rattle.depot_jobs.specs.declared.request.OnDepot.TheVariants.{Script, Code, Deliver, List as ListEntries, Since, Export, Remove, Migrate}
+use Rattle.depot_jobs.specs.declared.request.Access.TheVariants as accesses
+use Rattle.depot_jobs.specs.declared.request.Deposit.TheVariants as deposits
+use Rattle.depot_jobs.specs.declared.request.OnDepot.TheVariants.{FromFile, OnUser, Export, Migrate}
 use Rattle.depot_cli.specs.Printed.{entries_text, entry_text, kind_text, reply_text}
 use Rattle.depot_cli.specs.Requests.{request_command}
 use Rattle.depot_cli.specs.Tasks.{HasDone}
 use Rattle.depot_cli.specs.declared.entries.Detail.TheVariants.{Brief, Full}
 use Rattle.depot_batch.specs.Batch.{Did}
 use Rattle.depot_batch.specs.Effects.{DepotAndOutput, HasCome, IsDone}
-use Rattle.depot_batch.specs.Asked.{Asks, Text}
+use Rattle.depot_batch.specs.Asked.{Asks, Text, wrong_line}
 use Rattle.depot_batch.specs.Closings.{has_closing}
-use Rattle.depot_batch.specs.Sentences.{wrong_line}
 use Rattle.depot_batch.specs.declared.asked.Asked.{Asked}
 use Rattle.depot_batch.specs.declared.asked.Asked.TheVariants.{Reply, Export as IntoFile}
-use Rattle.depot_batch.specs.declared.fault.Form.TheVariants as forms
-use Rattle.depot_batch.specs.declared.fault.LineFault.{LineFault}
-use Rattle.depot_batch.specs.declared.fault.LineFault.TheVariants as faults
+use Rattle.depot_batch.specs.declared.asked.Form.TheVariants as forms
+use Rattle.depot_batch.specs.declared.asked.LineFault.{LineFault}
+use Rattle.depot_batch.specs.declared.asked.LineFault.TheVariants as faults
 use Rattle.depot_batch.specs.declared.outcome.Outcome.{Outcome}
 use Rattle.depot_batch.specs.declared.outcome.Outcome.TheVariants.{Done, Refused, Wrong}
 use Rattle.depot_batch.proofs.Closing.{begins_otherwise, both, decimal_begins, decimal_one_line, line_alone, lines_pass, one_line_both, quoted_one_line}
@@ -144,13 +145,13 @@ listed_since user number reply old new before done clean stands plain =
 replied : (request : Request) (octets : List ℕ) (words : List Text) (reply : DepotReply) (old new : State) (before : Entries) → Asks words (Reply request)
     → HasDone (request_command request octets) reply old new → HasCleanDisk new → Stands old.now before → HavePlainMedia before
     → has_closing true (reply_text (request_command request octets) reply) ≡ false
-replied (Script user script) octets words reply old new before asks done clean stands plain = refl
-replied (Code user program) octets words reply old new before asks done clean stands plain = refl
-replied (Deliver user message) octets words reply old new before asks done clean stands plain = delivered reply user.now octets
-replied (ListEntries user) octets words reply old new before asks done clean stands plain = listed user.now reply old new before done clean stands plain
-replied (Since user number) octets words reply old new before asks done clean stands plain = listed_since user.now number reply old new before done clean stands plain
+replied (FromFile deposits.Script user file) octets words reply old new before asks done clean stands plain = refl
+replied (FromFile deposits.Code user file) octets words reply old new before asks done clean stands plain = refl
+replied (FromFile deposits.Message user file) octets words reply old new before asks done clean stands plain = delivered reply user.now octets
+replied (OnUser accesses.List user) octets words reply old new before asks done clean stands plain = listed user.now reply old new before done clean stands plain
+replied (OnUser (accesses.Since number) user) octets words reply old new before asks done clean stands plain = listed_since user.now number reply old new before done clean stands plain
 replied (Export user number encoding) octets words reply old new before asks done clean stands plain = absurd asks
-replied (Remove user number) octets words reply old new before asks done clean stands plain = numbered_safe (codes "removed ") number (refl, refl)
+replied (OnUser (accesses.Remove number) user) octets words reply old new before asks done clean stands plain = numbered_safe (codes "removed ") number (refl, refl)
 replied Migrate octets words reply old new before asks done clean stands plain = migrated reply
 
 -- ---- what is refused, or wrong
@@ -178,14 +179,9 @@ wrong_closes_none faults.Unfinished = refl
 wrong_closes_none faults.Words = refl
 wrong_closes_none faults.NotText = refl
 wrong_closes_none faults.NoCommand = refl
-wrong_closes_none (faults.Form forms.Script) = refl
-wrong_closes_none (faults.Form forms.Code) = refl
-wrong_closes_none (faults.Form forms.Deliver) = refl
-wrong_closes_none (faults.Form forms.List) = refl
-wrong_closes_none (faults.Form forms.Since) = refl
-wrong_closes_none (faults.Form forms.Export) = refl
-wrong_closes_none (faults.Form forms.Remove) = refl
-wrong_closes_none (faults.Form forms.Migrate) = refl
+wrong_closes_none (faults.Form (forms.FromFile deposits.Script)) = refl
+wrong_closes_none (faults.Form (forms.FromFile deposit)) = refl
+wrong_closes_none (faults.Form form) = refl
 wrong_closes_none (faults.Number forms.Since) = refl
 wrong_closes_none (faults.Number form) = refl
 wrong_closes_none faults.Encoding = refl

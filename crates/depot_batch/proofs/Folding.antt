@@ -13,7 +13,8 @@ use Rattle.depot_actions.specs.History.{AreSteps, Call}
 use Rattle.depot_jobs.specs.Host.{HostState}
 use Rattle.depot_cli.specs.Requests.{request_command}
 use Rattle.depot_batch.specs.Asked.{Text}
-use Rattle.depot_jobs.specs.declared.request.OnDepot.TheVariants as requests
+use Rattle.depot_jobs.specs.declared.request.Deposit.TheVariants.{Message}
+use Rattle.depot_jobs.specs.declared.request.OnDepot.TheVariants.{FromFile}
 use Rattle.refusals.specs.declared.refusal.Refusal.{Refusal}
 use Rattle.depot_batch.specs.Batch.{AreCallsIn, AreCallsOf, AreTaken, Did, IsCallFor, IsMadeAtOne}
 use Rattle.depot_batch.specs.Effects.{AreDeliveries, DepotAndOutput, HasCome, HasHappened, IsAsked, IsDone, IsRefused}
@@ -43,7 +44,7 @@ delivered name (line ∷ lines) [] replies host host2 are each = absurd are
 delivered name (line ∷ lines) (command ∷ commands) [] host host2 are each = absurd (omega (arith, each))
 delivered name (line ∷ lines) (command ∷ commands) (reply ∷ replies) host host2 are each =
     let one = are.1 in (
-      Reply (requests.Deliver one.0 one.1),
+      Reply (FromFile Message one.0 one.1),
       one.2,
       are.0,
       (one.3, one.4, reply, ap (λ (c : Command). record { command = c; reply = Some reply }) one.5),

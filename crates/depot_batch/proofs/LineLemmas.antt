@@ -15,8 +15,8 @@ use Rattle.depot_batch.specs.Batch.{Did, Happens}
 use Rattle.depot_batch.specs.Effects.{Effect, HasCome, HasWords, HasWritten, IsAsked, IsWrong, MayMake, depot_and_output}
 use Rattle.depot_batch.specs.Turns.{Alone, Broken, Whole, Writing}
 use Rattle.depot_batch.specs.declared.asked.Asked.{Asked}
-use Rattle.depot_batch.specs.declared.fault.LineFault.{LineFault}
-use Rattle.depot_batch.specs.declared.fault.LineFault.TheVariants as faults
+use Rattle.depot_batch.specs.declared.asked.LineFault.{LineFault}
+use Rattle.depot_batch.specs.declared.asked.LineFault.TheVariants as faults
 use Rattle.depot_batch.specs.declared.line.Unasked.{Unasked}
 use Rattle.depot_batch.specs.declared.line.Unasked.TheVariants as unasked
 use Rattle.depot_batch.specs.declared.outcome.Outcome.{Outcome}

@@ -7,17 +7,17 @@ use Rattle.sqlite.specs.Held.{Held, state}
 use Rattle.sqlite.specs.State.{Survives}
 use Rattle.printing.specs.Printed.{refusal_line}
 use Rattle.depot_jobs.specs.Host.{HostState}
-use Rattle.depot_cli.specs.Tasks.{text_in as reply_text}
+use Rattle.depot_cli.specs.Printed.{text_in as reply_text}
 use Rattle.refusals.specs.declared.refusal.Refusal.TheVariants.{Memory}
+use Rattle.depot_batch.specs.Asked.{wrong_line}
 use Rattle.depot_batch.specs.Batch.{Did, MayLeaveIn}
 use Rattle.depot_batch.specs.Effects.{Effect, HasCome, IsDone, IsRefused, IsWrong, closing, exported_text}
-use Rattle.depot_batch.specs.Sentences.{wrong_line}
 use Rattle.depot_batch.specs.Turns.{Alone}
 use Rattle.depot_batch.specs.Words.{words_of}
 use Rattle.depot_batch.specs.declared.answering.Answer.{Answer}
 use Rattle.depot_batch.specs.declared.answering.Answer.TheVariants.{Replied, Exported}
 use Rattle.depot_batch.specs.declared.asked.Asked.{Asked}
-use Rattle.depot_batch.specs.declared.fault.LineFault.TheVariants.{NotText}
+use Rattle.depot_batch.specs.declared.asked.LineFault.TheVariants.{NotText}
 use Rattle.depot_batch.specs.declared.line.Unasked.{Unasked}
 use Rattle.depot_batch.specs.declared.line.Unasked.TheVariants.{Wrong, NoMemory}
 use Rattle.depot_batch.specs.declared.outcome.Outcome.{Outcome}

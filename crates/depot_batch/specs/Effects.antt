@@ -15,18 +15,18 @@ use Rattle.depot_cli.specs.Printed.{entries_text, reply_text}
 use Rattle.depot_cli.specs.Requests.{request_command}
 use Rattle.depot_cli.specs.declared.entries.Detail.TheVariants.{Brief}
 use Rattle.depot_jobs.specs.Requests.{Request}
-use Rattle.depot_jobs.specs.declared.request.OnDepot.TheVariants.{Deliver}
+use Rattle.depot_jobs.specs.declared.request.Deposit.TheVariants.{Message}
+use Rattle.depot_jobs.specs.declared.request.OnDepot.TheVariants.{FromFile}
 use Rattle.refusals.specs.declared.refusal.Refusal.{Refusal}
 use Rattle.refusals.specs.declared.refusal.Refusal.TheVariants.{Memory, Write}
-use Rattle.depot_batch.specs.Asked.{AskNothing, Asks, Text}
-use Rattle.depot_batch.specs.Sentences.{wrong_line}
+use Rattle.depot_batch.specs.Asked.{AskNothing, Asks, Text, wrong_line}
 use Rattle.depot_batch.specs.Turns.{Alone, Broken, Together, Turn, Whole, Withdrawn, Writing}
 use Rattle.depot_batch.specs.Words.{words_of}
 use Rattle.depot_batch.specs.declared.asked.Asked.{Asked}
 use Rattle.depot_batch.specs.declared.asked.Asked.TheVariants.{Reply, Export as IntoFile}
 use Rattle.depot_batch.specs.declared.asked.Export.{Export}
-use Rattle.depot_batch.specs.declared.fault.LineFault.{LineFault}
-use Rattle.depot_batch.specs.declared.fault.LineFault.TheVariants as faults
+use Rattle.depot_batch.specs.declared.asked.LineFault.{LineFault}
+use Rattle.depot_batch.specs.declared.asked.LineFault.TheVariants as faults
 use Rattle.depot_batch.specs.declared.outcome.Outcome.{Outcome}
 use Rattle.depot_batch.specs.declared.outcome.Outcome.TheVariants.{Done, Refused, Wrong}
 
@@ -140,9 +140,9 @@ module _ (Did : Effect → Type 0) where
 -- A line asks for a delivery, and its file was read: this is what it asks of the depot.
 abbrev pub IsDelivery : List ℕ → Command → HostState → HostState → Type 0
 IsDelivery line command host host2 =
-    (user file : Bor Text) × IsAsked line (Reply (Deliver user file))
+    (user file : Bor Text) × IsAsked line (Reply (FromFile Message user file))
     × (octets : List ℕ) × HasReadFile (Some file.now) octets host host2
-    × (command ≡ request_command (Deliver user file) octets)
+    × (command ≡ request_command (FromFile Message user file) octets)
 
 -- each line does, and the files were read in turn
 abbrev pub AreDeliveries : List (List ℕ) → List Command → HostState → HostState → Type 0
@@ -154,7 +154,7 @@ AreDeliveries lines commands host host2 = ⊥
 -- a line asks for a delivery, and its file was not read
 abbrev pub IsUnread : List ℕ → HostState → HostState → Type 0
 IsUnread line host host2 =
-    (user file : Bor Text) × IsAsked line (Reply (Deliver user file))
+    (user file : Bor Text) × IsAsked line (Reply (FromFile Message user file))
     × (refusal : Refusal) × HasNotReadFile refusal (Some file.now) host host2
 
 -- of a beginning of the lines, each asks for a delivery, and the files were read in turn; that of the

@@ -1,7 +1,6 @@
 pub mod Words
 pub mod Asked
 pub mod Lines
-pub mod Sentences
 pub mod Turns
 pub mod Effects
 pub mod Batch

@@ -5,7 +5,7 @@ ghost use Rattle.sqlite.specs.State.{Survives};
 ghost use Rattle.depot_jobs.specs.Host.{with_faults};
 ghost use Rattle.depot_actions.specs.Applying.{MayAdd};
 ghost use Rattle.depot_cli.specs.Requests.{command_of, request_command};
-ghost use Rattle.depot_cli.specs.Tasks.{text_in as reply_text};
+ghost use Rattle.depot_cli.specs.Printed.{text_in as reply_text};
 ghost use Rattle.depot_batch.specs.Answers.{text_in};
 ghost use Rattle.depot_batch.specs.Asked.{Asks, Text};
 ghost use Rattle.depot_batch.specs.Batch.{Did};

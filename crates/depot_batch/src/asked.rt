@@ -1,14 +1,14 @@
-// What a line asks for.
+// What a line asks for, or why it asks for nothing.
 //
 // An export in a batch makes a file: the bytes of an entry can look like answers, and only their number would show
 // where they end. The file is made like that of a compiled program, whole or not at all, and never overwrites the
 // depot.
 ghost use Rattle.std.specs.Prelude.{◌≡◌, ◌∷◌, [], ℕ, MatchOption, IfErr, IfOk, map};
-ghost use Rattle.depot_batch.specs.Asked.{Asks, AskNothing, IsNumberFrom, least_number, name_of};
-ghost use Rattle.depot_batch.specs.declared.fault.Form.{Form};
+ghost use Rattle.depot_jobs.specs.Words.{IsNoRequest};
+ghost use Rattle.depot_batch.specs.Asked.{Asks, AskNothing, IsNumberFrom, least_number, name_of, sentence_of, usage_of};
+ghost use Rattle.depot_batch.specs.declared.asked.LineFault.TheVariants as faults;
 
-use crate::fault::{Form, LineFault};
-use depot_jobs::Request;
+use depot_jobs::{Access, Deposit, Request};
 use encodings::Encoding;
 
 /// The command that a line asks for. [`asked_by`] makes it from the line's words, and a batch does it.
@@ -31,6 +31,45 @@ pub struct Export<'a> {
     pub encoding: Encoding,
     /// The name of the file.
     pub file: &'a str,
+}
+
+/// The commands that a line can have, each with a fixed number of words. [`LineFault::Form`] names the one whose words
+/// were too many or too few, so that the answer can show how the command is written; [`LineFault::Number`] the one whose
+/// number isn't one, because the numbers of `since` begin with 0.
+#[derive(Clone, Copy)]
+pub enum Form {
+    /// `script USER SCRIPT`, `code USER PROGRAM` or `deliver USER MESSAGE`
+    FromFile(Deposit),
+    /// `list USER`
+    List,
+    /// `since USER NUMBER`
+    Since,
+    /// `export USER NUMBER ENCODING FILE`
+    Export,
+    /// `remove USER NUMBER`
+    Remove,
+    /// `migrate`
+    Migrate,
+}
+
+/// Why a line is no command. [`asked_by`] and the reading of lines return it, and the answer is its sentence after a
+/// `?`.
+#[derive(Clone, Copy)]
+pub enum LineFault {
+    /// The input ended within the line.
+    Unfinished,
+    /// The line doesn't consist of words with one space between each two.
+    Words,
+    /// A word isn't UTF-8.
+    NotText,
+    /// The first word isn't the name of a command.
+    NoCommand,
+    /// The command takes more or fewer words after its name.
+    Form(Form),
+    /// A word that should be a number isn't one that this command takes.
+    Number(Form),
+    /// A word that should be the name of an encoding isn't one.
+    Encoding,
 }
 
 /// Returns the command that the words of a line ask for. For example, `deliver`, `ann` and `examples/invoice.eml` ask
@@ -68,13 +107,12 @@ fn split<'w, 'a>(words: &'w [&'a str]) -> Option<(&'a str, &'w [&'a str])>
 
 // The form of the command with this name.
 fn form_of(name: &str) -> Option<Form>
-    ensures { MatchOption result ((form : Form) → name.now ≡ name_of form → ⊥)
-        (λ form. name.now ≡ name_of form) }
+    ensures { MatchOption result (IsNoRequest name.now) (λ form. name.now ≡ name_of form) }
 {
     match name {
-        "script" => Some(Form::Script),
-        "code" => Some(Form::Code),
-        "deliver" => Some(Form::Deliver),
+        "script" => Some(Form::FromFile(Deposit::Script)),
+        "code" => Some(Form::FromFile(Deposit::Code)),
+        "deliver" => Some(Form::FromFile(Deposit::Message)),
         "list" => Some(Form::List),
         "since" => Some(Form::Since),
         "export" => Some(Form::Export),
@@ -90,12 +128,12 @@ fn asked_in<'a>(form: Form, rest: &[&'a str]) -> Result<Asked<'a>, LineFault>
     ensures nothing { IfErr result (AskNothing (name_of form ∷ map (λ w. w.now) rest.now)) }
 {
     match (form, rest) {
-        (Form::Script, [user, script]) => Ok(Asked::Reply(Request::Script { user, script })),
-        (Form::Code, [user, program]) => Ok(Asked::Reply(Request::Code { user, program })),
-        (Form::Deliver, [user, message]) => Ok(Asked::Reply(Request::Deliver { user, message })),
-        (Form::List, [user]) => Ok(Asked::Reply(Request::List { user })),
+        (Form::FromFile(deposit), [user, file]) => {
+            Ok(Asked::Reply(Request::FromFile(deposit, user, file)))
+        }
+        (Form::List, [user]) => Ok(Asked::Reply(Request::OnUser(Access::List, user))),
         (Form::Since, [user, digits]) => match number_of(form, digits) {
-            Some(number) => Ok(Asked::Reply(Request::Since { user, number })),
+            Some(number) => Ok(Asked::Reply(Request::OnUser(Access::Since { number }, user))),
             None => Err(LineFault::Number(form)),
         },
         (Form::Export, [user, digits, name, file]) => {
@@ -111,7 +149,7 @@ fn asked_in<'a>(form: Form, rest: &[&'a str]) -> Result<Asked<'a>, LineFault>
             }
         }
         (Form::Remove, [user, digits]) => match number_of(form, digits) {
-            Some(number) => Ok(Asked::Reply(Request::Remove { user, number })),
+            Some(number) => Ok(Asked::Reply(Request::OnUser(Access::Remove { number }, user))),
             None => Err(LineFault::Number(form)),
         },
         (Form::Migrate, []) => Ok(Asked::Reply(Request::Migrate)),
@@ -128,5 +166,64 @@ fn number_of(form: Form, digits: &str) -> Option<u32>
     match digits.parse::<u32>() {
         Ok(number) if number >= form.least_number() => Some(number),
         _ => None,
+    }
+}
+
+impl Form {
+    // How a line with the command is written.
+    fn usage(self) -> &'static str
+        ensures { result.now ≡ usage_of self }
+    {
+        match self {
+            Form::FromFile(Deposit::Script) => "script USER SCRIPT",
+            Form::FromFile(Deposit::Code) => "code USER PROGRAM",
+            Form::FromFile(Deposit::Message) => "deliver USER MESSAGE",
+            Form::List => "list USER",
+            Form::Since => "since USER NUMBER",
+            Form::Export => "export USER NUMBER ENCODING FILE",
+            Form::Remove => "remove USER NUMBER",
+            Form::Migrate => "migrate",
+        }
+    }
+
+    // The numbers that the command takes, in words.
+    fn numbers(self) -> &'static str
+        ensures { result.now ≡ sentence_of (faults.Number self) }
+    {
+        match self {
+            Form::Since => "NUMBER is 0 to 4294967295",
+            _ => "NUMBER is 1 to 4294967295",
+        }
+    }
+
+    // The least number that the command takes.
+    fn least_number(self) -> u32
+        ensures { result ≡ least_number self }
+    {
+        match self {
+            Form::Since => 0,
+            _ => 1,
+        }
+    }
+}
+
+impl LineFault {
+    /// Returns the mistake in words, as the answer to the line has it.
+    pub fn sentence(self) -> &'static str
+        ensures { result.now ≡ sentence_of self }
+    {
+        match self {
+            LineFault::Unfinished => "the input ended within this line",
+            LineFault::Words => "words have one space between them, and others stand in quotes",
+            LineFault::NotText => "a word isn't UTF-8",
+            LineFault::NoCommand => {
+                "the commands are script, code, deliver, list, since, export, remove and migrate"
+            }
+            LineFault::Form(form) => form.usage(),
+            LineFault::Number(form) => form.numbers(),
+            LineFault::Encoding => {
+                "ENCODING is raw, base64, base64-mime, base32, base32hex, base16 or qp"
+            }
+        }
     }
 }

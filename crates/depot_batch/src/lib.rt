@@ -74,7 +74,6 @@ mod ahead;
 mod answering;
 mod asked;
 mod desk;
-mod fault;
 pub mod laws;
 mod line;
 mod mails;
@@ -85,7 +84,6 @@ mod serving;
 mod together;
 mod words;
 
-pub use asked::{Asked, Export, asked_by};
-pub use fault::{Form, LineFault};
+pub use asked::{Asked, Export, Form, LineFault, asked_by};
 pub use serving::batch;
 pub use words::words_of;

@@ -18,9 +18,8 @@ ghost use Rattle.depot_batch.specs.Turns.{Alone, Broken, Whole};
 ghost use Rattle.depot_batch.specs.declared.outcome.Outcome.{Outcome};
 
 use crate::answering::answer_to;
-use crate::asked::{Asked, asked_by};
+use crate::asked::{Asked, LineFault, asked_by};
 use crate::desk::Desk;
-use crate::fault::LineFault;
 use crate::outcome::Outcome;
 use crate::report::Report;
 use crate::words::words_of;

@@ -7,7 +7,7 @@ ghost use Rattle.depot_batch.specs.Private.{IsPassedOver, command_of, lines_of};
 
 use crate::asked::{Asked, asked_by};
 use crate::line::{line_words, texts};
-use depot_jobs::{Host, Request, read_file_of};
+use depot_jobs::{Deposit, Host, Request, read_file_of};
 use std::alloc::Global;
 
 /// How many bytes of messages are read for lines that are done together; after that, no further message is read.
@@ -67,7 +67,7 @@ fn read_mail<H: Host>(alloc: Global, line: &[u8], host: &mut H) -> Option<Mail>
         return None;
     };
     match asked_by(&texts) {
-        Ok(Asked::Reply(Request::Deliver { user, message })) => {
+        Ok(Asked::Reply(Request::FromFile(Deposit::Message, user, message))) => {
             mail_for(alloc, user, message, host)
         }
         _ => None,
@@ -86,10 +86,7 @@ fn mail_for<H: Host>(alloc: Global, user: &str, file: &str, host: &mut H) -> Opt
     let Ok(name) = String::from_str(alloc, user) else {
         return None;
     };
-    let request = Request::Deliver {
-        user,
-        message: file,
-    };
+    let request = Request::FromFile(Deposit::Message, user, file);
     match read_file_of(alloc, request, host) {
         Ok(message) => Some(Mail {
             user: name,

@@ -6,11 +6,11 @@ ghost use Rattle.std.specs.Prelude.{◌≡◌};
 ghost use Rattle.devices.specs.Pages.{Wrote};
 ghost use Rattle.printing.specs.Printed.{line as line_of};
 ghost use Rattle.depot_batch.specs.Answers.{answer_text, outcome_of, report_text, text_in};
+ghost use Rattle.depot_batch.specs.Asked.{wrong_line};
 ghost use Rattle.depot_batch.specs.Effects.{closing, exported_text};
-ghost use Rattle.depot_batch.specs.Sentences.{wrong_line};
 
 use crate::answering::Answer;
-use crate::fault::LineFault;
+use crate::asked::LineFault;
 use crate::outcome::Outcome;
 use devices::{Page, Sink};
 use printing::{Piece, Printable, print, print_line, print_refusal};

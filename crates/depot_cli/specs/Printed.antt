@@ -1,8 +1,9 @@
 -- What is printed of a depot.
-use Rattle.std.specs.Prelude.{ℕ, List, [], ◌∷◌, ◌++◌, codes, Option, None, Some, string_bytes}
+use Rattle.std.specs.Prelude.{ℕ, List, [], ◌∷◌, ◌++◌, codes, map, Option, None, Some, string_bytes}
 use Rattle.std.specs.List.{flat_map}
 use Rattle.std.specs.Fmt.{decimal}
 use Rattle.part_store.specs.Entries.{Listing}
+use Rattle.part_store.specs.Standing.{listed}
 use Rattle.part_store.specs.declared.entry.Kind.{Kind}
 use Rattle.part_store.specs.declared.entry.Kind.TheVariants.{Message, Part as Piece}
 use Rattle.part_store.specs.declared.scrubbing.DamagedEntry.{DamagedEntry}
@@ -22,6 +23,8 @@ use Rattle.depot_cli.specs.declared.looks.Seen.{Seen}
 use Rattle.depot_cli.specs.declared.looks.Seen.TheVariants as seen
 use Rattle.depot_cli.specs.declared.no_depot.NoDepot.{NoDepot}
 use Rattle.depot_cli.specs.declared.no_depot.NoDepot.TheVariants as why
+use Rattle.depot_cli.specs.declared.task.Reply.{Reply as Replied}
+use Rattle.depot_cli.specs.declared.task.Reply.TheVariants as replies
 
 -- ---- what a depot replies
 
@@ -65,6 +68,14 @@ reply_text (Export user number encoding) (Written text) = text
 reply_text (Remove user number) reply = removed_text number
 reply_text Migrate (Migrated number) = migrated_text number
 reply_text _ reply = []
+
+-- a reply of the code, as what is printed of it
+abbrev pub text_in : Replied → List ℕ
+text_in replies.Stored = stored_text
+text_in (replies.Filed rows) = entries_text Brief (map listed rows.items)
+text_in (replies.Listed rows) = entries_text Full (map listed rows.items)
+text_in (replies.Removed number) = removed_text number
+text_in (replies.Migrated count) = migrated_text count
 
 -- ---- what a file is
 

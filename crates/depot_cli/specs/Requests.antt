@@ -3,18 +3,30 @@ use Rattle.std.specs.Prelude.{ℕ, List}
 use Rattle.depot_actions.specs.DepotState.{Command}
 use Rattle.depot_actions.specs.DepotState as depot
 use Rattle.depot_jobs.specs.Requests.{Request, Task}
+use Rattle.depot_jobs.specs.declared.request.Access.{Access}
+use Rattle.depot_jobs.specs.declared.request.Access.TheVariants.{List as ListEntries, Since, Remove}
+use Rattle.depot_jobs.specs.declared.request.Deposit.{Deposit}
+use Rattle.depot_jobs.specs.declared.request.Deposit.TheVariants.{Script, Code, Message}
 use Rattle.depot_jobs.specs.declared.request.OnDepot.{OnDepot}
-use Rattle.depot_jobs.specs.declared.request.OnDepot.TheVariants.{Script, Code, Deliver, List as ListEntries, Since, Export, Remove, Migrate}
+use Rattle.depot_jobs.specs.declared.request.OnDepot.TheVariants.{FromFile, OnUser, Export, Migrate}
+
+-- what the depot is asked to do for a user with a file of these octets
+abbrev pub deposit_command : Deposit → List ℕ → List ℕ → Command
+deposit_command Script user octets = depot.SetScript user octets
+deposit_command Code user octets = depot.SetCode user octets
+deposit_command Message user octets = depot.Deliver user octets
+
+-- what it is asked to do with a user's entries
+abbrev pub access_command : Access → List ℕ → Command
+access_command ListEntries user = depot.ListAll user
+access_command (Since number) user = depot.ListSince user number
+access_command (Remove number) user = depot.Remove user number
 
 -- what a command asks of the depot, with the octets of what stands for its file
 abbrev pub asked : {F : Type 0} → (F → List ℕ) → OnDepot F → Command
-asked octets (Script user script) = depot.SetScript user.now (octets script)
-asked octets (Code user program) = depot.SetCode user.now (octets program)
-asked octets (Deliver user message) = depot.Deliver user.now (octets message)
-asked octets (ListEntries user) = depot.ListAll user.now
-asked octets (Since user number) = depot.ListSince user.now number
+asked octets (FromFile deposit user file) = deposit_command deposit user.now (octets file)
+asked octets (OnUser access user) = access_command access user.now
 asked octets (Export user number encoding) = depot.Export user.now number encoding
-asked octets (Remove user number) = depot.Remove user.now number
 asked octets Migrate = depot.Migrate
 
 -- where it has the name of its file, which has these octets

@@ -1,7 +1,7 @@
 -- What performing a task does.
-use Rattle.std.specs.Prelude.{◌≡◌, ◌≢◌, ◌⊎◌, ℕ, List, map}
+use Rattle.std.specs.Prelude.{◌≡◌, ◌≢◌, ◌⊎◌, ℕ, List}
 use Rattle.sqlite.specs.State.{HasCleanDisk, State}
-use Rattle.part_store.specs.Standing.{LeavesUnchanged, listed}
+use Rattle.part_store.specs.Standing.{LeavesUnchanged}
 use Rattle.depot_actions.specs.Applying.{HasFault}
 use Rattle.depot_actions.specs.Causes.{HasCause, IsExport, MayRefuse}
 use Rattle.depot_actions.specs.DepotState.{Command, Does, Reply}
@@ -9,10 +9,7 @@ use Rattle.devices.specs.Device.{HasBegun, HasBroken, HasTaken, Output}
 use Rattle.refusals.specs.declared.refusal.Refusal.{Refusal}
 use Rattle.refusals.specs.declared.refusal.Refusal.TheVariants.{Memory, Write}
 use Rattle.depot_jobs.specs.Jobs.{HasTold}
-use Rattle.depot_cli.specs.Printed.{entries_text, migrated_text, removed_text, reply_text, stored_text}
-use Rattle.depot_cli.specs.declared.entries.Detail.TheVariants.{Brief, Full}
-use Rattle.depot_cli.specs.declared.task.Reply.{Reply as Replied}
-use Rattle.depot_cli.specs.declared.task.Reply.TheVariants.{Stored, Filed, Listed, Removed, Migrated}
+use Rattle.depot_cli.specs.Printed.{reply_text}
 
 -- ---- what performing does
 
@@ -28,14 +25,6 @@ store_and_outputs store out err = record { store = store; out = out; err = err }
 -- the depot did the command with this reply, as long as its disk returns what was written
 abbrev pub HasDone : Command → Reply → State → State → Type 0
 HasDone command reply old new = HasCleanDisk new → Does command reply old new
-
--- a reply of the code, as what is printed of it
-abbrev pub text_in : Replied → List ℕ
-text_in Stored = stored_text
-text_in (Filed rows) = entries_text Brief (map listed rows.items)
-text_in (Listed rows) = entries_text Full (map listed rows.items)
-text_in (Removed number) = removed_text number
-text_in (Migrated count) = migrated_text count
 
 -- the depot did the command, and this is what is printed of its reply
 abbrev pub HasAnswered : Command → List ℕ → State → State → Type 0

@@ -10,13 +10,13 @@ ghost use Rattle.depot_actions.specs.Causes.{IsExport};
 ghost use Rattle.devices.specs.Pages.{Wrote};
 ghost use Rattle.refusals.specs.declared.refusal.Refusal.TheVariants.{Write};
 ghost use Rattle.depot_jobs.specs.Jobs.{HasTold};
-ghost use Rattle.depot_cli.specs.Printed.{migrated_text, removed_text};
+ghost use Rattle.depot_cli.specs.Printed.{migrated_text, removed_text, text_in};
 ghost use Rattle.depot_cli.specs.Requests.{command_of};
-ghost use Rattle.depot_cli.specs.Tasks.{HasAnswered, HasPerformed, HasRefused, store_and_outputs, text_in};
+ghost use Rattle.depot_cli.specs.Tasks.{HasAnswered, HasPerformed, HasRefused, store_and_outputs};
 
 use crate::entries::{Detail, print_entries};
 use depot_actions::Depot;
-use depot_jobs::{SUCCESS, Task, tell};
+use depot_jobs::{Access, Deposit, SUCCESS, Task, tell};
 use devices::{DeviceFailed, Page, Sink};
 use part_store::EntryRow;
 use printing::{Piece, Printable, print, print_line, put_printed};
@@ -105,29 +105,33 @@ pub fn reply_to<S: Alter>(
         (MayAdd (command_of task.now) (state S.Store depot.old)) }
 {
     match task {
-        Task::Script { user, script } => match depot.set_script(alloc, user, script) {
-            Ok(()) => Ok(Reply::Stored),
-            Err(refusal) => Err(refusal),
+        Task::FromFile(deposit, user, file) => match deposit {
+            Deposit::Script => match depot.set_script(alloc, user, file) {
+                Ok(()) => Ok(Reply::Stored),
+                Err(refusal) => Err(refusal),
+            },
+            Deposit::Code => match depot.set_code(alloc, user, file) {
+                Ok(()) => Ok(Reply::Stored),
+                Err(refusal) => Err(refusal),
+            },
+            Deposit::Message => match depot.deliver(alloc, user, file) {
+                Ok(rows) => Ok(Reply::Filed(rows)),
+                Err(refusal) => Err(refusal),
+            },
         },
-        Task::Code { user, program } => match depot.set_code(alloc, user, program) {
-            Ok(()) => Ok(Reply::Stored),
-            Err(refusal) => Err(refusal),
-        },
-        Task::Deliver { user, message } => match depot.deliver(alloc, user, message) {
-            Ok(rows) => Ok(Reply::Filed(rows)),
-            Err(refusal) => Err(refusal),
-        },
-        Task::List { user } => match depot.list(user) {
-            Ok(rows) => Ok(Reply::Listed(rows)),
-            Err(refusal) => Err(refusal),
-        },
-        Task::Since { user, number } => match depot.list_since(user, *number) {
-            Ok(rows) => Ok(Reply::Listed(rows)),
-            Err(refusal) => Err(refusal),
-        },
-        Task::Remove { user, number } => match depot.remove(user, *number) {
-            Ok(()) => Ok(Reply::Removed(*number)),
-            Err(refusal) => Err(refusal),
+        Task::OnUser(access, user) => match access {
+            Access::List => match depot.list(user) {
+                Ok(rows) => Ok(Reply::Listed(rows)),
+                Err(refusal) => Err(refusal),
+            },
+            Access::Since { number } => match depot.list_since(user, *number) {
+                Ok(rows) => Ok(Reply::Listed(rows)),
+                Err(refusal) => Err(refusal),
+            },
+            Access::Remove { number } => match depot.remove(user, *number) {
+                Ok(()) => Ok(Reply::Removed(*number)),
+                Err(refusal) => Err(refusal),
+            },
         },
         Task::Migrate => match depot.migrate(alloc) {
             Ok(count) => Ok(Reply::Migrated(count)),

@@ -13,7 +13,8 @@ use Rattle.depot_words.specs.Ranges.{AreComplete, HasArgument, HasArguments, IsO
 use Rattle.depot_jobs.specs.Words.{AreSaid, IsLine, IsNumber, WritesFrom, WritesNumber, argument, encoding_named}
 use Rattle.depot_jobs.specs.declared.line.CommandLine.{CommandLine}
 use Rattle.depot_jobs.specs.declared.line.CommandLine.TheVariants.{Alone, OnDepot}
-use Rattle.depot_jobs.specs.declared.request.OnDepot.TheVariants.{Since, Export, Remove}
+use Rattle.depot_jobs.specs.declared.request.Access.TheVariants.{Since, Remove}
+use Rattle.depot_jobs.specs.declared.request.OnDepot.TheVariants.{OnUser, Export}
 use Rattle.depot_jobs.specs.declared.work.Tool.TheVariants.{Limit, Encode, Decode}
 use Rattle.depot_jobs.specs.declared.work.WithoutDepot.TheVariants.{OnFile}
 
@@ -85,7 +86,7 @@ said words (Alone (OnFile (Limit octets parts) program)) is =
       back _ (codes "limit", rows) _ is.says.1 (from_said rows (codes "OCTETS") 0 max_message octets (omega arith) has.1.0 is.says.3),
       back _ (codes "limit", rows) _ is.says.1 (from_said rows (codes "PARTS") 1 max_parts parts (omega arith) has.1.1.0 is.says.4),
     )
-said words (OnDepot depot (Since user number)) is =
+said words (OnDepot depot (OnUser (Since number) user)) is =
     let rows = is.says.0 in
     let request = is.says.1 in
     let has = has_of (codes "since") rows request.0 is.complete refl in
@@ -97,7 +98,7 @@ said words (OnDepot depot (Export user number encoding)) is =
       back _ (codes "export", rows) _ request.0 (number_said rows number has.1.1.0 request.2),
       back _ (codes "export", rows) (λ m. first_of (codes "ENCODING") m.1 ≡ Some (name_of encoding)) request.0 (encoding_said rows encoding has.1.1.1.0 request.3),
     )
-said words (OnDepot depot (Remove user number)) is =
+said words (OnDepot depot (OnUser (Remove number) user)) is =
     let rows = is.says.0 in
     let request = is.says.1 in
     let has = has_of (codes "remove") rows request.0 is.complete refl in

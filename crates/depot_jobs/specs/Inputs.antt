@@ -7,18 +7,14 @@ use Rattle.refusals.specs.declared.refusal.Refusal.TheVariants.{Memory, MessageT
 use Rattle.depot_jobs.specs.Host.{HostState, Origin, file as of_file, opens, origin_of, with_call, with_faults}
 use Rattle.depot_jobs.specs.Limits.{max_input}
 use Rattle.depot_jobs.specs.Requests.{Request, Work}
-use Rattle.depot_jobs.specs.declared.request.OnDepot.TheVariants.{Script, Code, Deliver, List as ListEntries, Since, Export, Remove, Migrate}
+use Rattle.depot_jobs.specs.declared.request.OnDepot.TheVariants.{FromFile, OnUser, Export, Migrate}
 use Rattle.depot_jobs.specs.declared.work.WithoutDepot.TheVariants.{OnFile, OnMessage}
 
 -- the file that a request reads
 abbrev pub file_of : Request → Option (List ℕ)
-file_of (Script user script) = Some script.now
-file_of (Code user program) = Some program.now
-file_of (Deliver user message) = Some message.now
-file_of (ListEntries user) = None
-file_of (Since user number) = None
+file_of (FromFile deposit user file) = Some file.now
+file_of (OnUser access user) = None
 file_of (Export user number encoding) = None
-file_of (Remove user number) = None
 file_of Migrate = None
 
 -- the host opened what gives octets, and it gave so many

@@ -4,7 +4,7 @@ use Rattle.std.specs.Borrow.{Bor}
 use Rattle.std.specs.declared.alloc.Global.{Global}
 use Rattle.depot_jobs.specs.declared.host.Input.{Input}
 use Rattle.depot_jobs.specs.declared.request.OnDepot.{OnDepot}
-use Rattle.depot_jobs.specs.declared.request.OnDepot.TheVariants.{Script, Code, Deliver, List as ListEntries, Since, Export, Remove, Migrate}
+use Rattle.depot_jobs.specs.declared.request.OnDepot.TheVariants.{FromFile, OnUser, Export, Migrate}
 use Rattle.depot_jobs.specs.declared.work.File.{File}
 use Rattle.depot_jobs.specs.declared.work.WithoutDepot.{WithoutDepot}
 
@@ -26,11 +26,7 @@ Job = WithoutDepot File
 
 -- the same command on a depot, with this for its file
 abbrev pub with_file : {F G : Type 0} → G → OnDepot F → OnDepot G
-with_file file (Script user script) = Script user file
-with_file file (Code user program) = Code user file
-with_file file (Deliver user message) = Deliver user file
-with_file file (ListEntries user) = ListEntries user
-with_file file (Since user number) = Since user number
+with_file file (FromFile deposit user old) = FromFile deposit user file
+with_file file (OnUser access user) = OnUser access user
 with_file file (Export user number encoding) = Export user number encoding
-with_file file (Remove user number) = Remove user number
 with_file file Migrate = Migrate

@@ -13,7 +13,10 @@ use Rattle.depot_jobs.specs.declared.line.CommandLine.TheVariants.{Alone, OnDepo
 use Rattle.depot_jobs.specs.Requests.{Request, Work}
 use Rattle.depot_jobs.specs.declared.host.Input.{Input}
 use Rattle.depot_jobs.specs.declared.host.Input.TheVariants.{Standard, File}
-use Rattle.depot_jobs.specs.declared.request.OnDepot.TheVariants.{Script, Code, Deliver, List as ListAll, Since, Export, Remove, Migrate}
+use Rattle.depot_jobs.specs.declared.request.Access.TheVariants.{List as ListAll, Since, Remove}
+use Rattle.depot_jobs.specs.declared.request.Deposit.{Deposit}
+use Rattle.depot_jobs.specs.declared.request.Deposit.TheVariants.{Script, Code, Message}
+use Rattle.depot_jobs.specs.declared.request.OnDepot.TheVariants.{FromFile, OnUser, Export, Migrate}
 use Rattle.depot_jobs.specs.declared.work.Runner.TheVariants.{Run, Eval, Trace}
 use Rattle.depot_jobs.specs.declared.work.Tool.TheVariants.{KeepAll, Check, Explain, Compile, Verify, Limit, Disassemble, Assemble, Parts, Encode, Decode}
 use Rattle.depot_jobs.specs.declared.work.WithoutDepot.TheVariants.{OnFile, OnMessage}
@@ -102,29 +105,34 @@ SaysWork (OnMessage Trace file message) matches =
     (rows : List Row) × IsCommand (codes "trace") matches rows × IsFile (codes "FILE") rows file
     × IsFile (codes "MESSAGE") rows message
 
+-- the word of a command with a file, and the name of the file's argument
+abbrev pub word_of : Deposit → Text
+word_of Script = codes "script"
+word_of Code = codes "code"
+word_of Message = codes "deliver"
+
+abbrev pub file_argument : Deposit → Text
+file_argument Script = codes "SCRIPT"
+file_argument Code = codes "PROGRAM"
+file_argument Message = codes "MESSAGE"
+
 -- the request is what the matches say: which command there is, and these arguments of it, but for the depot
 abbrev pub SaysRequest : Request → Option (Text × List Row) → List Row → Type 0
-SaysRequest (Script user script) matches rows =
-    IsCommand (codes "script") matches rows × (user.now ≡ argument (codes "USER") rows)
-    × (script.now ≡ argument (codes "SCRIPT") rows)
-SaysRequest (Code user program) matches rows =
-    IsCommand (codes "code") matches rows × (user.now ≡ argument (codes "USER") rows)
-    × (program.now ≡ argument (codes "PROGRAM") rows)
-SaysRequest (Deliver user message) matches rows =
-    IsCommand (codes "deliver") matches rows × (user.now ≡ argument (codes "USER") rows)
-    × (message.now ≡ argument (codes "MESSAGE") rows)
-SaysRequest (ListAll user) matches rows = IsCommand (codes "list") matches rows
+SaysRequest (FromFile deposit user file) matches rows =
+    IsCommand (word_of deposit) matches rows × (user.now ≡ argument (codes "USER") rows)
+    × (file.now ≡ argument (file_argument deposit) rows)
+SaysRequest (OnUser ListAll user) matches rows = IsCommand (codes "list") matches rows
     × (user.now ≡ argument (codes "USER") rows)
-SaysRequest (Since user number) matches rows =
+SaysRequest (OnUser (Since number) user) matches rows =
     IsCommand (codes "since") matches rows × (user.now ≡ argument (codes "USER") rows)
+    × IsNumber (argument (codes "NUMBER") rows) number
+SaysRequest (OnUser (Remove number) user) matches rows =
+    IsCommand (codes "remove") matches rows × (user.now ≡ argument (codes "USER") rows)
     × IsNumber (argument (codes "NUMBER") rows) number
 SaysRequest (Export user number encoding) matches rows =
     IsCommand (codes "export") matches rows × (user.now ≡ argument (codes "USER") rows)
     × IsNumber (argument (codes "NUMBER") rows) number
     × (encoding ≡ encoding_named (argument (codes "ENCODING") rows))
-SaysRequest (Remove user number) matches rows =
-    IsCommand (codes "remove") matches rows × (user.now ≡ argument (codes "USER") rows)
-    × IsNumber (argument (codes "NUMBER") rows) number
 SaysRequest Migrate matches rows = IsCommand (codes "migrate") matches rows
 
 -- the command line says what the matches say
@@ -173,8 +181,8 @@ AreSaid (Alone (OnFile (Limit octets parts) program)) matches =
     WritesFrom (codes "OCTETS") 0 max_message octets matches × WritesFrom (codes "PARTS") 1 max_parts parts matches
 AreSaid (Alone (OnFile (Encode encoding) octets)) matches = NamesEncoding encoding matches
 AreSaid (Alone (OnFile (Decode encoding) text)) matches = NamesEncoding encoding matches
-AreSaid (OnDepot depot (Since user number)) matches = WritesFrom (codes "NUMBER") 0 max_entry_number number matches
+AreSaid (OnDepot depot (OnUser (Since number) user)) matches = WritesFrom (codes "NUMBER") 0 max_entry_number number matches
+AreSaid (OnDepot depot (OnUser (Remove number) user)) matches = WritesNumber number matches
 AreSaid (OnDepot depot (Export user number encoding)) matches =
     WritesNumber number matches × NamesEncoding encoding matches
-AreSaid (OnDepot depot (Remove user number)) matches = WritesNumber number matches
 AreSaid line matches = ⊤

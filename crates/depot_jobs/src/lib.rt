@@ -73,6 +73,7 @@
 //! By `answer`, `Host`, `System`, `make_file`; within the crate `NewFile`.
 #![tactic(auto)]
 
+mod arguments;
 mod beside;
 mod host;
 mod inputs;
@@ -100,7 +101,7 @@ pub use line::{CommandLine, line_of};
 pub use making::make_file;
 pub use process_words::{tell_no_words, texts, words};
 pub use reading::read_limited;
-pub use request::{OnDepot, Request, Task};
+pub use request::{Access, Deposit, OnDepot, Request, Task};
 pub use system::System;
 pub use usage::{tell_fault, tell_usage};
 pub use work::{File, Job, Runner, Tool, WithoutDepot, Work};

@@ -6,14 +6,14 @@ ghost use Rattle.std.specs.Prelude.{◌≡◌, IfOk, IfErr, MatchOption, Some, m
 ghost use Rattle.clap.specs.Words.{App, FailsBy, fault_of, found_of, kind_of, rows_of, subcommand_rows_of, takes};
 ghost use Rattle.clap.specs.declared.error.kind.ErrorKind.TheVariants.{OutOfMemory};
 ghost use Rattle.depot_words.specs.Commands.{AreEncodings, IsDepot};
-ghost use Rattle.depot_jobs.specs.Words.{IsFile, IsLine, IsNoWork, IsNoRequest, IsNumber, Says, SaysRequest, SaysWork, argument as text_of, encoding_named};
+ghost use Rattle.depot_jobs.specs.Words.{IsFile, IsLine, IsNoWork, Says, SaysWork};
 
+use crate::arguments::{argument, encoding_named, number};
 use crate::host::Input;
-use crate::request::Request;
+use crate::request::{Request, request_in};
 use crate::work::{Runner, Tool, Work};
 use clap::{ArgMatches, Error};
 use depot_words::depot_command;
-use encodings::Encoding;
 use std::alloc::Global;
 
 /// A command with its arguments, as the words of a command line say it. [`line_of`] makes it; every argument is there,
@@ -151,74 +151,11 @@ fn depot_line_in<'a>(name: &str, found: &ArgMatches<'a>) -> CommandLine<'a>
     }
 }
 
-// The request that the matches of a command make to their depot, if they make one.
-fn request_in<'a>(name: &str, found: &ArgMatches<'a>) -> Option<Request<'a>>
-    ensures { MatchOption result (IsNoRequest name.now)
-        (λ request. SaysRequest request (Some (name.now, rows_of (found_of found.now)))
-        (rows_of (found_of found.now))) }
-{
-    let user = argument(found, "USER");
-    match name {
-        "script" => Some(Request::Script {
-            user,
-            script: argument(found, "SCRIPT"),
-        }),
-        "code" => Some(Request::Code {
-            user,
-            program: argument(found, "PROGRAM"),
-        }),
-        "deliver" => Some(Request::Deliver {
-            user,
-            message: argument(found, "MESSAGE"),
-        }),
-        "list" => Some(Request::List { user }),
-        "since" => Some(Request::Since {
-            user,
-            number: number(argument(found, "NUMBER")),
-        }),
-        "export" => Some(Request::Export {
-            user,
-            number: number(argument(found, "NUMBER")),
-            encoding: encoding_named(argument(found, "ENCODING")),
-        }),
-        "remove" => Some(Request::Remove {
-            user,
-            number: number(argument(found, "NUMBER")),
-        }),
-        "migrate" => Some(Request::Migrate),
-        _ => None,
-    }
-}
-
-// The number that a text spells. Only numbers of entries, and numbers of bytes and parts, come here.
-fn number(text: &str) -> u32
-    ensures { IsNumber text.now result }
-{
-    match text.parse::<u32>() {
-        Ok(number) => number,
-        Err(_) => 0,
-    }
-}
-
-// The text of an argument. There is one, because each argument is required.
-fn argument<'a>(matches: &ArgMatches<'a>, name: &str) -> &'a str
-    ensures { result.now ≡ text_of name.now (rows_of (found_of matches.now)) }
-{
-    matches.get_str(name).unwrap_or("")
-}
-
 // The file whose name is an argument.
 fn file<'a>(matches: &ArgMatches<'a>, name: &str) -> Input<'a>
     ensures { IsFile name.now (rows_of (found_of matches.now)) result }
 {
     Input::File(argument(matches, name))
-}
-
-// The encoding with this name. Only names of encodings come here.
-fn encoding_named(name: &str) -> Encoding
-    ensures { result ≡ encoding_named name.now }
-{
-    Encoding::named(name).unwrap_or(Encoding::Raw)
 }
 
 // The names of the encodings.

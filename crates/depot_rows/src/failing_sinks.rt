@@ -2,7 +2,7 @@
 use crate::calls::Calls;
 use depot_actions::{Depot, Refusal};
 use depot_cli::perform;
-use depot_jobs::Task;
+use depot_jobs::{Access, Deposit, Task};
 use devices::{OfWrite, Sink};
 use encodings::{Encoding, encode};
 use sqlite::{Alter, MemStore};
@@ -106,23 +106,11 @@ fn laid(alloc: Global) -> Result<Depot<MemStore>, Refusal> {
 // The task of a row.
 fn task_of(alloc: Global, kind: Kind) -> Result<Task<'static>, AllocError> {
     match kind {
-        Kind::Script => Ok(Task::Script {
-            user: "bob",
-            script: SCRIPT.to_vec(alloc)?,
-        }),
-        Kind::Code => Ok(Task::Code {
-            user: "bob",
-            program: KEEP.to_vec(alloc)?,
-        }),
-        Kind::Deliver => Ok(Task::Deliver {
-            user: "ann",
-            message: MESSAGE.to_vec(alloc)?,
-        }),
-        Kind::List => Ok(Task::List { user: "ann" }),
-        Kind::Remove => Ok(Task::Remove {
-            user: "ann",
-            number: 1,
-        }),
+        Kind::Script => Ok(Task::FromFile(Deposit::Script, "bob", SCRIPT.to_vec(alloc)?)),
+        Kind::Code => Ok(Task::FromFile(Deposit::Code, "bob", KEEP.to_vec(alloc)?)),
+        Kind::Deliver => Ok(Task::FromFile(Deposit::Message, "ann", MESSAGE.to_vec(alloc)?)),
+        Kind::List => Ok(Task::OnUser(Access::List, "ann")),
+        Kind::Remove => Ok(Task::OnUser(Access::Remove { number: 1 }, "ann")),
     }
 }
 

@@ -4,13 +4,13 @@ use Rattle.depot_actions.specs.DepotState.{Listed, Migrated}
 use Rattle.depot_cli.proofs.task.reply_to.Goals as goal
 
 pub returns-in-Ok-deliver-clause-done : goal.returns-in-Ok-deliver-clause-done
-returns-in-Ok-deliver-clause-done g c = rw (c.in-Deliver.is, sym c.deref-in-Deliver.ensures.value) (Listed (map listed c.in-Ok-deliver.rows.items), c.in-Ok-deliver.ensures.done, refl)
+returns-in-Ok-deliver-clause-done g c = rw (c.in-FromFile.is, c.in-Message.is, sym c.deref-in-Message.ensures.value) (Listed (map listed c.in-Ok-deliver.rows.items), c.in-Ok-deliver.ensures.done, refl)
 
 pub returns-in-Ok-list-clause-done : goal.returns-in-Ok-list-clause-done
-returns-in-Ok-list-clause-done g c = rw c.in-List.is (Listed (map listed c.in-Ok-list.rows.items), c.in-Ok-list.ensures.done, refl)
+returns-in-Ok-list-clause-done g c = rw (c.in-OnUser.is, c.in-List.is) (Listed (map listed c.in-Ok-list.rows.items), c.in-Ok-list.ensures.done, refl)
 
 pub returns-in-Ok-list_since-clause-done : goal.returns-in-Ok-list_since-clause-done
-returns-in-Ok-list_since-clause-done g c = rw c.in-Since.is (Listed (map listed c.in-Ok-list_since.rows.items), c.in-Ok-list_since.ensures.done, refl)
+returns-in-Ok-list_since-clause-done g c = rw (c.in-OnUser.is, c.in-Since.is) (Listed (map listed c.in-Ok-list_since.rows.items), c.in-Ok-list_since.ensures.done, refl)
 
 pub returns-in-Ok-migrate-clause-done : goal.returns-in-Ok-migrate-clause-done
 returns-in-Ok-migrate-clause-done g c = rw c.in-Migrate.is (Migrated c.in-Ok-migrate.count, c.in-Ok-migrate.ensures.done, refl)
@@ -21,28 +21,28 @@ returns-in-Err-migrate-clause-refused g c =
     rw c.in-Migrate.is (all.which, λ clean. (all.refused clean, all.cause clean, all.unchanged clean))
 
 pub returns-in-Ok-clause-survives : goal.returns-in-Ok-clause-survives
-returns-in-Ok-clause-survives g c = rw (c.in-Script.is, sym c.deref.ensures.value) c.in-Ok.ensures.survives
+returns-in-Ok-clause-survives g c = rw (c.in-FromFile.is, c.in-Script.is, sym c.deref.ensures.value) c.in-Ok.ensures.survives
 
 pub returns-in-Err-clause-survives : goal.returns-in-Err-clause-survives
-returns-in-Err-clause-survives g c = rw (c.in-Script.is, sym c.deref.ensures.value) c.in-Err.ensures.survives
+returns-in-Err-clause-survives g c = rw (c.in-FromFile.is, c.in-Script.is, sym c.deref.ensures.value) c.in-Err.ensures.survives
 
 pub returns-in-Ok-set_code-clause-survives : goal.returns-in-Ok-set_code-clause-survives
-returns-in-Ok-set_code-clause-survives g c = rw (c.in-Code.is, sym c.deref-in-Code.ensures.value) c.in-Ok-set_code.ensures.survives
+returns-in-Ok-set_code-clause-survives g c = rw (c.in-FromFile.is, c.in-Code.is, sym c.deref-in-Code.ensures.value) c.in-Ok-set_code.ensures.survives
 
 pub returns-in-Err-set_code-clause-survives : goal.returns-in-Err-set_code-clause-survives
-returns-in-Err-set_code-clause-survives g c = rw (c.in-Code.is, sym c.deref-in-Code.ensures.value) c.in-Err-set_code.ensures.survives
+returns-in-Err-set_code-clause-survives g c = rw (c.in-FromFile.is, c.in-Code.is, sym c.deref-in-Code.ensures.value) c.in-Err-set_code.ensures.survives
 
 pub returns-in-Ok-deliver-clause-survives : goal.returns-in-Ok-deliver-clause-survives
-returns-in-Ok-deliver-clause-survives g c = rw (c.in-Deliver.is, sym c.deref-in-Deliver.ensures.value) c.in-Ok-deliver.ensures.survives
+returns-in-Ok-deliver-clause-survives g c = rw (c.in-FromFile.is, c.in-Message.is, sym c.deref-in-Message.ensures.value) c.in-Ok-deliver.ensures.survives
 
 pub returns-in-Err-deliver-clause-survives : goal.returns-in-Err-deliver-clause-survives
-returns-in-Err-deliver-clause-survives g c = rw (c.in-Deliver.is, sym c.deref-in-Deliver.ensures.value) c.in-Err-deliver.ensures.survives
+returns-in-Err-deliver-clause-survives g c = rw (c.in-FromFile.is, c.in-Message.is, sym c.deref-in-Message.ensures.value) c.in-Err-deliver.ensures.survives
 
 pub returns-in-Ok-remove-clause-survives : goal.returns-in-Ok-remove-clause-survives
-returns-in-Ok-remove-clause-survives g c = rw c.in-Remove.is c.in-Ok-remove.ensures.survives
+returns-in-Ok-remove-clause-survives g c = rw (c.in-OnUser.is, c.in-Remove.is) c.in-Ok-remove.ensures.survives
 
 pub returns-in-Err-remove-clause-survives : goal.returns-in-Err-remove-clause-survives
-returns-in-Err-remove-clause-survives g c = rw c.in-Remove.is c.in-Err-remove.ensures.survives
+returns-in-Err-remove-clause-survives g c = rw (c.in-OnUser.is, c.in-Remove.is) c.in-Err-remove.ensures.survives
 
 pub returns-in-Ok-migrate-clause-survives : goal.returns-in-Ok-migrate-clause-survives
 returns-in-Ok-migrate-clause-survives g c = rw c.in-Migrate.is c.in-Ok-migrate.ensures.survives

@@ -2,7 +2,7 @@ use Rattle.std.proofs.Common.{◌≡◌, ◌∙◌, ap, refl, List, ℕ, Option,
 use Rattle.std.specs.Borrow.{Bor}
 use Rattle.clap.proofs.WalkLemmas.{first_value-rows}
 use Rattle.clap.specs.Words.{found_of}
-use Rattle.depot_jobs.proofs.line.argument.Goals as goal
+use Rattle.depot_jobs.proofs.arguments.argument.Goals as goal
 
 text_or_empty : (o : Option (Bor (List ℕ))) (e : Bor (List ℕ)) (t : Option (List ℕ)) → e.now ≡ [] → option_map (λ s. s.now) o ≡ t → (unwrap_or o e).now ≡ unwrap_or t []
 text_or_empty None e t empty is = empty ∙ ap (λ (x : Option (List ℕ)). unwrap_or x []) is
