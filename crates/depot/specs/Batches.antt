@@ -97,11 +97,12 @@ IsKept it left before after served held =
     (depot_and_output before it.old.host it.old.out) served.mid served.taken
     ⊎ LastIs (MakesOf after held) served.last served.mid (depot_and_output after it.new.host it.new.out))
 
--- no depot was opened: that was told, and nothing was read or done
+-- no depot was opened: the refusal was told, and nothing was read or done
 abbrev pub IsNotBegun : (Refusal → Type 0) → Batch → Type 0
 IsNotBegun Gave it = IsUnopened Gave it.status it.old.out it.old.err it.new.out it.new.err
     × (it.input_after ≡ it.input) × (it.new.host ≡ it.old.host)
 
--- a batch ended, by which refusals opening the files gave, and by what is left of them, which held the image
+-- a batch ended, by the refusals that opening its files gave, and by what is left of them; they held
+-- the image
 abbrev pub HasEnded : {D : Type 0} {g : Ghosts D} → Batch → (Refusal → Type 0) → Image → Option (Result (Files D) (FileStore D g)) → Type 0
 HasEnded {D} {g} it Gave image left = EndsSo g (IsServed it) (IsKept it) (IsNotBegun Gave it) (HoldsState image) left

@@ -85,7 +85,7 @@ IsToldAs refusal status out err out_after err_after =
     (status ≡ 1) × HasTold refusal err err_after × (out_after ≡ out)
 
 -- No depot was opened: opening the files gave such a refusal, for which no clause has a cause, and this
--- refusal was told.
+-- was told.
 abbrev pub IsUnopened : (Refusal → Type 0) → ℕ → Output → Output → Output → Output → Type 0
 IsUnopened Gave status out err out_after err_after =
     (refusal : Refusal) × Gave refusal × ((refusal ≡ Memory) ⊎ (refusal ≡ Database))

@@ -55,7 +55,8 @@ abbrev pub IsKept : Command → Entries → Entries → Entries → Type 0
 IsKept command before after held =
     (held ≡ after) ⊎ ((after ≡ before) × (reply : Reply) × Accepts before command reply held)
 
--- a task ended, by which refusals opening the files gave, and by what is left of them, which held the image
+-- a task ended, by the refusals that opening its files gave, and by what is left of them; they held
+-- the image
 abbrev pub HasEnded : {D : Type 0} {g : Ghosts D} → Answer → (Refusal → Type 0) → Image → Option (Result (Files D) (FileStore D g)) → Type 0
 HasEnded {D} {g} it Gave image left =
     EndsSo g (IsAnswered it image) (λ left before after answered held. IsKept it.command before after held)

@@ -27,7 +27,7 @@ pub fn look_from<D: Disk + Drop, P: Opener<D>, O: Sink, E: Sink>(
     ensures ended { HasEnded
         (answer look result.0 (O.output out.old) (E.output err.old)
         (O.output out.new) (E.output err.new))
-        (P.hides name.now) (P.image name.now) result.1 }
+        (P.refuses_look name.now) (P.image name.now) result.1 }
 {
     let mut opened = opener.look(name);
     let status = look_opened(alloc, look, &mut opened, out, err);

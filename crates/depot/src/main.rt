@@ -11,14 +11,14 @@
 //! even after a crash. A refused task reports its refusal, and if the close succeeded the files hold the state as it
 //! was.
 //!
-//! If opening the files is refused, this refusal is reported and nothing else is written; a batch then reads none of
-//! its input, and neither it nor the saving of a program asks the host for a file. These theorems do not say what the
-//! files hold then: see "If closing or opening fails".
+//! If opening the files is refused, that refusal is reported and nothing else is written; a batch then reads none of its
+//! input, and neither it nor the saving of a program asks the host for a file. These theorems do not say what the files
+//! hold then: see "If closing or opening fails".
 //!
-//! In no other case do they return no files. Their contracts hold for every `Opener`, which opens files once, and a
-//! refusal to open is known only from the call that was refused. So no call opens a depot, changes it, and then reports
-//! that it couldn't be opened. The program passes `OnDisk`; that this opens the files at the path and does nothing else
-//! is shown only by its two bodies, of one call each.
+//! Only then are no files returned. The theorems hold for every `Opener`. It opens the files once, and that it refused
+//! is known only from the call that it refused. So no task, batch, saved program or look can open a depot, change it,
+//! and then report that it could not be opened. The program passes `OnDisk`; only its two bodies, of one call each, show
+//! that it opens the files at the path and does nothing else.
 //!
 //! ### Why it is refused
 //!

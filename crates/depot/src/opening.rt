@@ -22,7 +22,7 @@ pub trait Opener<D: Disk + Drop> {
 
     ghost refuses: { List ℕ → Refusal → Type 0 };
 
-    ghost hides: { List ℕ → Unopened → Type 0 };
+    ghost refuses_look: { List ℕ → Unopened → Type 0 };
 
     /// Opens the depot in the file with a name; a file that doesn't exist, is empty or has no tables becomes the empty
     /// depot.
@@ -41,7 +41,7 @@ pub trait Opener<D: Disk + Drop> {
     /// Why the file isn't opened as a depot, as `part_store` says it of `look_from`.
     fn look(self, name: &str) -> Result<Depot<FileStore<D>>, Unopened>
         ensures seen { IsSeen (image name.now) result }
-        ensures hidden { IfErr result (hides name.now) };
+        ensures refused { IfErr result (refuses_look name.now) };
 }
 
 /// Opens files of the system by their path, and does nothing else; `B` describes what they held. No clause ties `B` to
@@ -59,7 +59,7 @@ impl<B: Start + Again> Opener<FileFrom<B>> for OnDisk<'_, B> {
 
     ghost refuses = { λ name refusal. ⊤ };
 
-    ghost hides = { λ name why. ⊤ };
+    ghost refuses_look = { λ name why. ⊤ };
 
     fn open(self, name: &str) -> Result<Depot<FileStore<FileFrom<B>>>, Refusal> {
         let OnDisk { rt, start } = self;
